@@ -1,0 +1,38 @@
+-- Laws of filtered lists: a list that passes a test whole, or nowhere, and a part in the middle of a list. Assumes nothing.
+use mathlib.Core.Path.{_≡_, refl, sym, ap, ap₂, _∙_}
+use mathlib.Core.Bool.{Bool, true, false, cond, not, false≢true}
+use mathlib.Core.List.{List, [], _∷_, _++_, append-nil}
+use Rattle.laws.specs.Lists.{all, filter}
+use Rattle.laws.proofs.Bools.{left, right}
+
+module _ {A : Type 0} (p : A → Bool) where
+  pub filter-all : (xs : List A) → all p xs ≡ true → filter p xs ≡ xs
+  filter-all [] h = refl
+  filter-all (x ∷ xs) h = by (p x) (left (p x) (all p xs) h) ∙ ap (λ (r : List A). x ∷ r) (filter-all xs (right (p x) (all p xs) h))
+    where
+      by : (t : Bool) → t ≡ true → cond t (x ∷ filter p xs) (filter p xs) ≡ x ∷ filter p xs
+      by true e = refl
+      by false e = absurd (false≢true e)
+
+  pub filter-none : (xs : List A) → all (λ x. not (p x)) xs ≡ true → filter p xs ≡ []
+  filter-none [] h = refl
+  filter-none (x ∷ xs) h = by (p x) (left (not (p x)) (all (λ y. not (p y)) xs) h) ∙ filter-none xs (right (not (p x)) (all (λ y. not (p y)) xs) h)
+    where
+      by : (t : Bool) → not t ≡ true → cond t (x ∷ filter p xs) (filter p xs) ≡ filter p xs
+      by true e = absurd (false≢true e)
+      by false e = refl
+
+  pub filter-append : (xs ys : List A) → filter p (xs ++ ys) ≡ filter p xs ++ filter p ys
+  filter-append [] ys = refl
+  filter-append (x ∷ xs) ys = ap (λ (r : List A). cond (p x) (x ∷ r) r) (filter-append xs ys) ∙ out (p x)
+    where
+      out : (t : Bool) → cond t (x ∷ (filter p xs ++ filter p ys)) (filter p xs ++ filter p ys) ≡ cond t (x ∷ filter p xs) (filter p xs) ++ filter p ys
+      out true = refl
+      out false = refl
+
+  -- what passes is one part in the middle
+  pub filter-middle : (xs ys zs : List A) → all (λ x. not (p x)) xs ≡ true → all p ys ≡ true → all (λ x. not (p x)) zs ≡ true → filter p (xs ++ (ys ++ zs)) ≡ ys
+  filter-middle xs ys zs a b c =
+      filter-append xs (ys ++ zs)
+      ∙ ap₂ _++_ (filter-none xs a) (filter-append ys zs ∙ ap₂ _++_ (filter-all ys b) (filter-none zs c))
+      ∙ append-nil ys

@@ -1,0 +1,125 @@
+-- Laws of sums over filtered lists. Assumes nothing.
+use mathlib.Core.Path.{_≡_, refl, sym, ap, ap₂, _∙_}
+use mathlib.Core.Bool.{Bool, true, false, cond, _&&_, false≢true}
+use mathlib.Core.List.{List, [], _∷_, _++_}
+use Prim.Native.Nat.{ℕ, _+_, _*_, _≤_, _<_}
+use native.Mathlib.Omega.{arith}
+use native.Mathlib.Numerals.{add-one}
+use lib.IntN.{ℤ, pos, negℤ, natAbs, _+ℤ_, +ℤ-idl, +ℤ-assoc, +ℤ-comm, negℤ-+ℤ}
+use lib.ListN.{length, getD, take, drop, take-append-drop, drop-of-length-le}
+use lib.Seq.{drop-cons}
+use Rattle.laws.specs.Sum.{sumBy, sumℤ, sumℕ}
+use Rattle.laws.specs.Lists.{all, filter}
+use Rattle.laws.proofs.Parts.{added, equal}
+use Rattle.laws.proofs.Bools.{left, right}
+
+module _ {A : Type 0} (add : A → A → A) (z : A) where
+  -- what is left of a list, a word at a time: how a loop over a slice goes
+  pub sum-step : (p : ℕ → Bool) (f : ℕ → A) (l : List ℕ) (i : ℕ) → i < length l → sumBy add z p f (drop i l) ≡ add (cond (p (getD l i 0)) (f (getD l i 0)) z) (sumBy add z p f (drop (i + 1) l))
+  sum-step p f l i h = rw add-one (ap (sumBy add z p f) (drop-cons l i 0 h))
+
+  pub sum-end : (p : ℕ → Bool) (f : ℕ → A) (l : List ℕ) (i : ℕ) → length l ≤ i → sumBy add z p f (drop i l) ≡ z
+  sum-end p f l i h = ap (sumBy add z p f) (drop-of-length-le l h)
+
+  -- two tests that agree on a list's elements, and two summands
+  pub sum-ext : (p q : ℕ → Bool) (f g : ℕ → A) (xs : List ℕ) → ((w : ℕ) → cond (p w) (f w) z ≡ cond (q w) (g w) z) → sumBy add z p f xs ≡ sumBy add z q g xs
+  sum-ext p q f g [] h = refl
+  sum-ext p q f g (x ∷ xs) h = ap₂ add (h x) (sum-ext p q f g xs h)
+
+  -- the same, of the elements that pass a test which all of the list pass
+  pub sum-ext-on : (on : ℕ → Bool) (p q : ℕ → Bool) (f : ℕ → A) (xs : List ℕ) → all on xs ≡ true → ((w : ℕ) → on w ≡ true → p w ≡ q w) → sumBy add z p f xs ≡ sumBy add z q f xs
+  sum-ext-on on p q f [] a h = refl
+  sum-ext-on on p q f (x ∷ xs) a h =
+      ap₂ add (ap (λ (t : Bool). cond t (f x) z) (h x (left (on x) (all on xs) a)))
+      (sum-ext-on on p q f xs (right (on x) (all on xs) a) h)
+
+  module _ (idl : (a : A) → add z a ≡ a) where
+    -- a test that nothing passes
+    pub sum-none : (p : ℕ → Bool) (f : ℕ → A) (xs : List ℕ) → all (λ w. cond (p w) false true) xs ≡ true → sumBy add z p f xs ≡ z
+    sum-none p f [] h = refl
+    sum-none p f (x ∷ xs) h =
+        ap₂ add (missed (p x) (left (cond (p x) false true) (all (λ w. cond (p w) false true) xs) h))
+        (sum-none p f xs (right (cond (p x) false true) (all (λ w. cond (p w) false true) xs) h))
+        ∙ idl z
+      where
+        missed : (t : Bool) → cond t false true ≡ true → cond t (f x) z ≡ z
+        missed true e = absurd (false≢true e)
+        missed false e = refl
+
+    -- the elements that fail a wider test add nothing
+    pub sum-filter : (p q : ℕ → Bool) (f : ℕ → A) (xs : List ℕ) → sumBy add z (λ w. p w && q w) f xs ≡ sumBy add z q f (filter p xs)
+    sum-filter p q f [] = refl
+    sum-filter p q f (x ∷ xs) = ap (add (cond (p x && q x) (f x) z)) (sum-filter p q f xs) ∙ join (p x)
+      where
+        join : (t : Bool) → add (cond (t && q x) (f x) z) (sumBy add z q f (filter p xs)) ≡ sumBy add z q f (cond t (x ∷ filter p xs) (filter p xs))
+        join true = refl
+        join false = idl (sumBy add z q f (filter p xs))
+
+    module _ (assoc : (a b c : A) → add (add a b) c ≡ add a (add b c)) where
+      -- the sum of two lists joined is the sum of their sums
+      pub sum-append : (p : ℕ → Bool) (f : ℕ → A) (xs ys : List ℕ) → sumBy add z p f (xs ++ ys) ≡ add (sumBy add z p f xs) (sumBy add z p f ys)
+      sum-append p f [] ys = sym (idl (sumBy add z p f ys))
+      sum-append p f (x ∷ xs) ys =
+          ap (add (cond (p x) (f x) z)) (sum-append p f xs ys)
+          ∙ sym (assoc (cond (p x) (f x) z) (sumBy add z p f xs) (sumBy add z p f ys))
+
+-- ---- sums of whole numbers
+
+pub sumℤ-append : (p : ℕ → Bool) (f : ℕ → ℤ) (xs ys : List ℕ) → sumℤ p f (xs ++ ys) ≡ sumℤ p f xs +ℤ sumℤ p f ys
+sumℤ-append = sum-append _+ℤ_ (pos 0) +ℤ-idl +ℤ-assoc
+
+-- in either order
+pub sumℤ-swap : (p : ℕ → Bool) (f : ℕ → ℤ) (xs ys : List ℕ) → sumℤ p f (xs ++ ys) ≡ sumℤ p f (ys ++ xs)
+sumℤ-swap p f xs ys =
+    sumℤ-append p f xs ys ∙ +ℤ-comm (sumℤ p f xs) (sumℤ p f ys) ∙ sym (sumℤ-append p f ys xs)
+
+cond-neg : (t : Bool) (a : ℤ) → cond t (negℤ a) (pos 0) ≡ negℤ (cond t a (pos 0))
+cond-neg true a = refl
+cond-neg false a = refl
+
+-- the sum of opposites is the opposite
+pub sumℤ-neg : (p : ℕ → Bool) (f : ℕ → ℤ) (xs : List ℕ) → sumℤ p (λ w. negℤ (f w)) xs ≡ negℤ (sumℤ p f xs)
+sumℤ-neg p f [] = refl
+sumℤ-neg p f (x ∷ xs) =
+    ap₂ _+ℤ_ (cond-neg (p x) (f x)) (sumℤ-neg p f xs)
+    ∙ sym (negℤ-+ℤ (cond (p x) (f x) (pos 0)) (sumℤ p f xs))
+
+-- (a + b) + (c + d) is (a + c) + (b + d)
+shuffle : (a b c d : ℤ) → a +ℤ b +ℤ (c +ℤ d) ≡ a +ℤ c +ℤ (b +ℤ d)
+shuffle a b c d =
+    equal (a +ℤ b +ℤ (c +ℤ d)) (a +ℤ c +ℤ (b +ℤ d))
+    (omega (arith, added a b, added c d, added (a +ℤ b) (c +ℤ d), added a c, added b d, added (a +ℤ c) (b +ℤ d)))
+
+-- a test that is one of two others, never both
+pub sumℤ-split : (p q r : ℕ → Bool) (f : ℕ → ℤ) (xs : List ℕ) → ((w : ℕ) → cond (p w) (f w) (pos 0) ≡ cond (q w) (f w) (pos 0) +ℤ cond (r w) (f w) (pos 0)) → sumℤ p f xs ≡ sumℤ q f xs +ℤ sumℤ r f xs
+sumℤ-split p q r f [] h = refl
+sumℤ-split p q r f (x ∷ xs) h =
+    ap₂ _+ℤ_ (h x) (sumℤ-split p q r f xs h)
+    ∙ shuffle (cond (q x) (f x) (pos 0)) (cond (r x) (f x) (pos 0)) (sumℤ q f xs) (sumℤ r f xs)
+
+-- ---- bounds
+
+-- a number that is counted or not, by its absolute value
+pub abs-cond : (t : Bool) (a : ℤ) → natAbs (cond t a (pos 0)) ≡ cond t (natAbs a) 0
+abs-cond true a = refl
+abs-cond false a = refl
+
+-- the triangle inequality
+pub abs-add : (a b : ℤ) → natAbs (a +ℤ b) ≤ natAbs a + natAbs b
+abs-add a b = omega (arith, added a b)
+
+-- the absolute sum is within the sum of the absolute values
+pub sum-abs : (p : ℕ → Bool) (f : ℕ → ℤ) (xs : List ℕ) → natAbs (sumℤ p f xs) ≤ sumℕ p (λ w. natAbs (f w)) xs
+sum-abs p f [] = omega arith
+sum-abs p f (x ∷ xs) =
+    omega (arith, sum-abs p f xs, abs-add (cond (p x) (f x) (pos 0)) (sumℤ p f xs), abs-cond (p x) (f x))
+
+-- a narrower test gives no larger sum of naturals
+pub sumℕ-le : (p q : ℕ → Bool) (f : ℕ → ℕ) (xs : List ℕ) → ((w : ℕ) → p w ≡ true → q w ≡ true) → sumℕ p f xs ≤ sumℕ q f xs
+sumℕ-le p q f [] h = omega arith
+sumℕ-le p q f (x ∷ xs) h = omega (arith, sumℕ-le p q f xs h, narrower (p x) (q x) (f x) (h x))
+  where
+    narrower : (a b : Bool) (n : ℕ) → (a ≡ true → b ≡ true) → cond a n 0 ≤ cond b n 0
+    narrower true true n i = omega arith
+    narrower true false n i = absurd (false≢true (i refl))
+    narrower false b n i = omega arith

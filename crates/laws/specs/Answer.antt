@@ -1,0 +1,7 @@
+-- What an operation answers, in the numbers of the table of refusals ('Turned down'): refused by a number, or a value. Each enum of the code
+-- that is an answer has a definition that gives its cases in these terms, and the contracts use that definition.
+use Prim.Native.Nat.{ℕ}
+
+pub data Answer (A : Type 0) : Type 0 where
+  refused : ℕ → Answer A
+  given : A → Answer A

@@ -1,0 +1,18 @@
+-- Whole numbers (ℤ) by their two natural parts, and their remainders.
+use Prim.Native.Nat.{ℕ, suc, _-_, _%_}
+use lib.IntN.{ℤ, pos, negsuc}
+
+-- max(z, 0)
+abbrev pub plus : ℤ → ℕ
+plus (pos n) = n
+plus (negsuc n) = 0
+
+-- max(-z, 0)
+abbrev pub minus : ℤ → ℕ
+minus (pos n) = 0
+minus (negsuc n) = suc n
+
+-- the remainder of z by m, 0 to m - 1: n mod m for n, and m - 1 - (n mod m) for -(n + 1)
+abbrev pub modℤ : ℕ → ℤ → ℕ
+modℤ m (pos n) = n % m
+modℤ m (negsuc n) = m - suc (n % m)

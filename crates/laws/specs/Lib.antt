@@ -1,0 +1,5 @@
+-- Definitions that the contracts of several crates cite.
+pub mod Integer
+pub mod Sum
+pub mod Lists
+pub mod Answer
