@@ -1,0 +1,53 @@
+-- `search_last_by_key`: the Rust's halving. `at w` says how the key of the element w compares with the key that is looked for, so one
+-- definition serves every key. On a slice that the key does not sort, the halving decides; on a sorted one see proofs/Sorted.
+use mathlib.Core.Bool.{cond}
+use mathlib.Core.List.{List, [], _∷_}
+use Prim.Native.Nat.{ℕ, zero, suc, _+_, _-_, _/_}
+use lib.Dec.{ltb}
+use lib.IntN.{ℤ, pos}
+use lib.ListN.{length, getD}
+use lib.Signed.{leZ}
+use Rattle.pixel_segment.specs.Field.{cpu, tileXOf, tileYOf, layerIdOf, tileOf}
+use Rattle.pixel_segment.specs.Order.{compareOf, compareℤ, compareBool}
+use Rattle.pixel_segment.specs.declared.order.Ordering.{Ordering}
+use Rattle.pixel_segment.specs.declared.order.Ordering.the-variants.{Less, Equal, Greater}
+use Rattle.pixel_segment.specs.declared.search.Found.{Found}
+use Rattle.pixel_segment.specs.declared.search.Found.the-variants.{At, Absent}
+use Rattle.pixel_segment.specs.declared.search.Key.{Key}
+use Rattle.pixel_segment.specs.declared.search.Key.the-variants.{TileY, TileX, LayerId, TileXAtLeast, TileYNotNegative}
+
+-- a case for each way to compare
+abbrev pub byOrder {ℓ} : {A : Type ℓ} → Ordering → A → A → A → A
+byOrder Less a b c = a
+byOrder Equal a b c = b
+byOrder Greater a b c = c
+
+-- where the halving ends that looks at `len` elements from `start` on: in the left half where the middle element is greater, else from
+-- the middle on. The first number bounds the turns: `len` turns are always enough
+unfoldable pub halved : (ℕ → Ordering) → List ℕ → ℕ → ℕ → ℕ → ℕ
+halved at l zero start len = start
+halved at l (suc turns) start len =
+    let mid = start + len / 2 in
+    let lower = halved at l turns start (len / 2) in
+    let upper = halved at l turns mid (len - len / 2) in
+    cond (ltb 1 len) (byOrder (at (getD l mid 0)) upper upper lower) start
+
+-- the answer at the element where the halving ends
+abbrev pub ended : Ordering → ℕ → Found
+ended Less start = Absent (start + 1)
+ended Equal start = At start
+ended Greater start = Absent start
+
+unfoldable pub searchOf : (ℕ → Ordering) → List ℕ → Found
+searchOf at [] = Absent 0
+searchOf at (w ∷ ws) =
+    let start = halved at (w ∷ ws) (length (w ∷ ws)) 0 (length (w ∷ ws)) in
+    ended (at (getD (w ∷ ws) start 0)) start
+
+-- the keys of the painter: how a word compares with the value that is looked for
+abbrev pub orderAt : Key → ℕ → Ordering
+orderAt (TileY k) w = compareℤ (tileOf (tileYOf cpu w)) k
+orderAt (TileX k) w = compareℤ (tileOf (tileXOf cpu w)) k
+orderAt (LayerId k) w = compareOf (layerIdOf cpu w) k
+orderAt (TileXAtLeast start k) w = compareBool (leZ start (tileOf (tileXOf cpu w))) k
+orderAt (TileYNotNegative k) w = compareBool (leZ (pos 0) (tileOf (tileYOf cpu w))) k

@@ -1,0 +1,122 @@
+// The packed pixel segment (cpu/pixel_segment.rs): seven fields in a word of 64 bits, their order, and the searches in a row of such words.
+pub mod consts;
+pub mod order;
+pub mod search;
+
+use consts::BitField;
+use order::Ordering;
+
+ghost use mathlib.Core.Path.{_≡_};
+ghost use Rattle.laws.specs.Integer.{modℤ};
+ghost use Rattle.pixel_segment.specs.Field.{cpu, layerIdOf, tileXOf, tileYOf, tileOf, localXOf, localYOf, multiplierOf, doubleAreaOf, coverOf};
+ghost use Rattle.pixel_segment.specs.Pack.{storedOf, packOf, answerOf};
+ghost use Rattle.pixel_segment.specs.Order.{orderKey, compareOf};
+
+// A packed word. Any 64 bits are a segment.
+pub struct PixelSegment(pub u64);
+
+// What packing answers: the segment, or refusal 2, where a tile number is 32,767.
+pub enum Packed {
+    Segment(PixelSegment),
+    TileOutOfRange,
+}
+
+// A tile number as it is stored: plus 1, and 0 for what is then negative.
+fn stored(tile: i16) -> u64
+    ensures { λ r. ⌜ r ≡ storedOf tile ⌝ }
+{
+    if tile < 0 { 0 } else { tile as u64 + 1 }
+}
+
+// The low six bits of a cover.
+fn cover_bits(cover: i8) -> u64
+    ensures { λ r. ⌜ r ≡ modℤ 64 cover ⌝ }
+{
+    ((cover as i16 + 128) as u64) % 64
+}
+
+impl PixelSegment {
+    pub fn new(
+        layer_id: u32,
+        tile_x: i16,
+        tile_y: i16,
+        local_x: u8,
+        local_y: u8,
+        double_area_multiplier: u8,
+        cover: i8,
+    ) -> Packed
+        ensures { λ r. ⌜ answerOf r ≡ packOf «layer_id» «tile_x» «tile_y» «local_x» «local_y» «double_area_multiplier» cover ⌝ }
+    {
+        if 32767 <= tile_x {
+            return Packed::TileOutOfRange;
+        }
+        if 32767 <= tile_y {
+            return Packed::TileOutOfRange;
+        }
+        let w0 = consts::append(0, BitField::TileY, stored(tile_y));
+        let w1 = consts::append(w0, BitField::TileX, stored(tile_x));
+        let w2 = consts::append(w1, BitField::LayerId, layer_id as u64);
+        let w3 = consts::append(w2, BitField::LocalX, local_x as u64);
+        let w4 = consts::append(w3, BitField::LocalY, local_y as u64);
+        let w5 = consts::append(w4, BitField::DoubleAreaMultiplier, double_area_multiplier as u64);
+        Packed::Segment(PixelSegment(consts::append(w5, BitField::Cover, cover_bits(cover))))
+    }
+
+    pub fn layer_id(self) -> u32
+        ensures { λ r. ⌜ r ≡ layerIdOf cpu (self .0) ⌝ }
+    {
+        consts::extract(self.0, BitField::LayerId) as u32
+    }
+
+    pub fn tile_x(self) -> i16
+        ensures { λ r. ⌜ r ≡ tileOf (tileXOf cpu (self .0)) ⌝ }
+    {
+        consts::extract(self.0, BitField::TileX) as i16 - 1
+    }
+
+    pub fn tile_y(self) -> i16
+        ensures { λ r. ⌜ r ≡ tileOf (tileYOf cpu (self .0)) ⌝ }
+    {
+        consts::extract(self.0, BitField::TileY) as i16 - 1
+    }
+
+    pub fn local_x(self) -> u8
+        ensures { λ r. ⌜ r ≡ localXOf cpu (self .0) ⌝ }
+    {
+        consts::extract(self.0, BitField::LocalX) as u8
+    }
+
+    pub fn local_y(self) -> u8
+        ensures { λ r. ⌜ r ≡ localYOf cpu (self .0) ⌝ }
+    {
+        consts::extract(self.0, BitField::LocalY) as u8
+    }
+
+    pub fn double_area_multiplier(self) -> u8
+        ensures { λ r. ⌜ r ≡ multiplierOf cpu (self .0) ⌝ }
+    {
+        consts::extract(self.0, BitField::DoubleAreaMultiplier) as u8
+    }
+
+    // Multiplier times cover.
+    pub fn double_area(self) -> i16
+        ensures { λ r. ⌜ r ≡ doubleAreaOf cpu (self .0) ⌝ }
+    {
+        (self.double_area_multiplier() as i16) * (self.cover() as i16)
+    }
+
+    // The lowest field is signed, -32 to 31.
+    pub fn cover(self) -> i8
+        ensures { λ r. ⌜ r ≡ coverOf cpu (self .0) ⌝ }
+    {
+        ((consts::extract(self.0, BitField::Cover) + 32) % 64) as i8 - 32
+    }
+
+    // Order compares only tile y, tile x and layer id: the upper 44 bits.
+    pub fn cmp(self, other: PixelSegment) -> Ordering
+        ensures { λ r. ⌜ r ≡ compareOf (orderKey cpu (self .0)) (orderKey cpu (other .0)) ⌝ }
+    {
+        let offset = consts::shift(BitField::LayerId);
+        order::compare(self.0 >> offset, other.0 >> offset)
+    }
+}

@@ -1,0 +1,66 @@
+// `search_last_by_key` (cpu/pixel_segment.rs): the last segment with a key, by halving. A key of the painter, with the value that is
+// looked for, is a value of `Key`, since there are no closures; each key has a function of its own besides.
+use crate::PixelSegment;
+use crate::order;
+use crate::order::Ordering;
+
+ghost use mathlib.Core.Path.{_≡_};
+ghost use Rattle.pixel_segment.specs.Search.{searchOf, orderAt};
+
+pub enum Key {
+    TileY(i16),
+    TileX(i16),
+    LayerId(u32),
+    // Whether tile x is at least the number.
+    TileXAtLeast(i16, bool),
+    // Whether tile y is at least 0.
+    TileYNotNegative(bool),
+}
+
+// The last place with the key, or none and where such an element would stand.
+pub enum Found {
+    At(usize),
+    Absent(usize),
+}
+
+// How a word's key compares with the one that is looked for.
+pub fn compare_key(word: u64, key: Key) -> Ordering
+    ensures { λ r. ⌜ r ≡ orderAt key word ⌝ }
+{
+    let segment = PixelSegment(word);
+    match key {
+        Key::TileY(tile_y) => order::compare_i16(segment.tile_y(), tile_y),
+        Key::TileX(tile_x) => order::compare_i16(segment.tile_x(), tile_x),
+        Key::LayerId(id) => order::compare(segment.layer_id() as u64, id as u64),
+        Key::TileXAtLeast(start, wanted) => order::compare_bool(start <= segment.tile_x(), wanted),
+        Key::TileYNotNegative(wanted) => order::compare_bool(0 <= segment.tile_y(), wanted),
+    }
+}
+
+pub fn search_last_by_key(segments: &[u64], key: Key) -> Found
+    ensures { λ r. ⌜ r ≡ searchOf (orderAt key) (now (segments .entry)) ⌝ }
+{
+    let mut len = segments.len();
+    if len == 0 {
+        return Found::Absent(0);
+    }
+    let mut start = 0;
+    while 1 < len {
+        let half = len / 2;
+        let mid = start + half;
+        match compare_key(segments[mid], key) {
+            Ordering::Greater => {
+                len = half;
+            }
+            Ordering::Less | Ordering::Equal => {
+                start = mid;
+                len = len - half;
+            }
+        }
+    }
+    match compare_key(segments[start], key) {
+        Ordering::Less => Found::Absent(start + 1),
+        Ordering::Equal => Found::At(start),
+        Ordering::Greater => Found::Absent(start),
+    }
+}
