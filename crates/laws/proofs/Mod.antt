@@ -44,9 +44,9 @@ unique m (negsuc n) {r} up down e h =
     ⊎-elim
     (λ (q : up ≤ down). absurd (omega (arith, gap m up down q)))
     (λ (q : down < up).
-      let s : suc down ≤ up = q in
-      let f = of-multiple m n (up - suc down) (m - suc r) (omega (arith, gap m (suc down) up s, suc-mul down m)) (omega arith) in
-      omega (arith, f))
+    let s : suc down ≤ up = q in
+    let f = of-multiple m n (up - suc down) (m - suc r) (omega (arith, gap m (suc down) up s, suc-mul down m)) (omega arith) in
+    omega (arith, f))
     (le-or-lt up down)
 
 -- ---- agreement modulo m

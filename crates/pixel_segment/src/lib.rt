@@ -5,7 +5,6 @@ pub mod search;
 
 use consts::BitField;
 use order::Ordering;
-
 ghost use mathlib.Core.Path.{_≡_};
 ghost use Rattle.laws.specs.Integer.{modℤ};
 ghost use Rattle.pixel_segment.specs.Field.{cpu, layerIdOf, tileXOf, tileYOf, tileOf, localXOf, localYOf, multiplierOf, doubleAreaOf, coverOf};
@@ -58,7 +57,11 @@ impl PixelSegment {
         let w2 = consts::append(w1, BitField::LayerId, layer_id as u64);
         let w3 = consts::append(w2, BitField::LocalX, local_x as u64);
         let w4 = consts::append(w3, BitField::LocalY, local_y as u64);
-        let w5 = consts::append(w4, BitField::DoubleAreaMultiplier, double_area_multiplier as u64);
+        let w5 = consts::append(
+            w4,
+            BitField::DoubleAreaMultiplier,
+            double_area_multiplier as u64,
+        );
         Packed::Segment(PixelSegment(consts::append(w5, BitField::Cover, cover_bits(cover))))
     }
 

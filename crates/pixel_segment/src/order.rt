@@ -1,7 +1,6 @@
 // How two keys compare, and whether a lent row is in order.
 use crate::consts;
 use crate::consts::BitField;
-
 ghost use mathlib.Core.Path.{_≡_};
 ghost use Prim.Native.Nat.{_+_};
 ghost use Rattle.pixel_segment.specs.Order.{compareOf, compareℤ, compareBool, isRow, ascends, orderKey};
@@ -20,7 +19,11 @@ pub fn compare(a: u64, b: u64) -> Ordering
     if a < b {
         return Ordering::Less;
     }
-    if b < a { Ordering::Greater } else { Ordering::Equal }
+    if b < a {
+        Ordering::Greater
+    } else {
+        Ordering::Equal
+    }
 }
 
 // How a signed number compares with another.
@@ -30,7 +33,11 @@ pub fn compare_i16(a: i16, b: i16) -> Ordering
     if a < b {
         return Ordering::Less;
     }
-    if b < a { Ordering::Greater } else { Ordering::Equal }
+    if b < a {
+        Ordering::Greater
+    } else {
+        Ordering::Equal
+    }
 }
 
 // How a test compares with another: false before true.
@@ -38,7 +45,11 @@ pub fn compare_bool(a: bool, b: bool) -> Ordering
     ensures { λ r. ⌜ r ≡ compareBool a b ⌝ }
 {
     if a {
-        if b { Ordering::Equal } else { Ordering::Greater }
+        if b {
+            Ordering::Equal
+        } else {
+            Ordering::Greater
+        }
     } else {
         if b { Ordering::Less } else { Ordering::Equal }
     }

@@ -3,7 +3,6 @@
 use crate::PixelSegment;
 use crate::order;
 use crate::order::Ordering;
-
 ghost use mathlib.Core.Path.{_≡_};
 ghost use Rattle.pixel_segment.specs.Search.{searchOf, orderAt};
 

@@ -1,0 +1,2 @@
+-- How layers are drawn: what the contracts say.
+pub mod Codes
