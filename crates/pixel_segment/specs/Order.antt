@@ -15,6 +15,11 @@ use Rattle.pixel_segment.specs.declared.order.Ordering.the-variants.{Les
 abbrev pub orderKey : List ℕ → ℕ → ℕ
 orderKey ws w = w / 2 ^ shiftOf ws 2
 
+abbrev pub isGt : Ordering → Bool
+isGt Less = false
+isGt Equal = false
+isGt Greater = true
+
 -- how a number compares with another
 abbrev pub compareOf : ℕ → ℕ → Ordering
 compareOf a b = cond (ltb a b) Less (cond (ltb b a) Greater Equal)

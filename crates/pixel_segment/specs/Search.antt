@@ -8,19 +8,13 @@ use lib.IntN.{ℤ, pos}
 use lib.ListN.{length, getD}
 use lib.Signed.{leZ}
 use Rattle.pixel_segment.specs.Field.{cpu, tileXOf, tileYOf, layerIdOf, tileOf}
-use Rattle.pixel_segment.specs.Order.{compareOf, compareℤ, compareBool}
+use Rattle.pixel_segment.specs.Order.{isGt, compareOf, compareℤ, compareBool}
 use Rattle.pixel_segment.specs.declared.order.Ordering.{Ordering}
 use Rattle.pixel_segment.specs.declared.order.Ordering.the-variants.{Less, Equal, Greater}
 use Rattle.pixel_segment.specs.declared.search.Found.{Found}
 use Rattle.pixel_segment.specs.declared.search.Found.the-variants.{At, Absent}
 use Rattle.pixel_segment.specs.declared.search.Key.{Key}
 use Rattle.pixel_segment.specs.declared.search.Key.the-variants.{TileY, TileX, LayerId, TileXAtLeast, TileYNotNegative}
-
--- a case for each way to compare
-abbrev pub byOrder {ℓ} : {A : Type ℓ} → Ordering → A → A → A → A
-byOrder Less a b c = a
-byOrder Equal a b c = b
-byOrder Greater a b c = c
 
 -- where the halving ends that looks at `len` elements from `start` on: in the left half where the middle element is greater, else from
 -- the middle on. The first number bounds the turns: `len` turns are always enough
@@ -30,7 +24,7 @@ halved at l (suc turns) start len =
     let mid = start + len / 2 in
     let lower = halved at l turns start (len / 2) in
     let upper = halved at l turns mid (len - len / 2) in
-    cond (ltb 1 len) (byOrder (at (getD l mid 0)) upper upper lower) start
+    cond (ltb 1 len) (cond (isGt (at (getD l mid 0))) lower upper) start
 
 -- the answer at the element where the halving ends
 abbrev pub ended : Ordering → ℕ → Found

@@ -3,13 +3,25 @@ use crate::consts;
 use crate::consts::BitField;
 ghost use mathlib.Core.Path.{_≡_};
 ghost use Prim.Native.Nat.{_+_};
-ghost use Rattle.pixel_segment.specs.Order.{compareOf, compareℤ, compareBool, isRow, ascends, orderKey};
+ghost use Rattle.pixel_segment.specs.Order.{isGt, compareOf, compareℤ, compareBool, isRow, ascends, orderKey};
 ghost use Rattle.pixel_segment.specs.Field.{cpu};
 
 pub enum Ordering {
     Less,
     Equal,
     Greater,
+}
+
+impl Ordering {
+    pub fn is_gt(self) -> bool
+        ensures { λ r. ⌜ r ≡ isGt self ⌝ }
+    {
+        match self {
+            Ordering::Greater => true,
+            Ordering::Less => false,
+            Ordering::Equal => false,
+        }
+    }
 }
 
 // How an unsigned number compares with another.

@@ -4,7 +4,8 @@ use crate::PixelSegment;
 use crate::order;
 use crate::order::Ordering;
 ghost use mathlib.Core.Path.{_≡_};
-ghost use Rattle.pixel_segment.specs.Search.{searchOf, orderAt};
+ghost use Prim.Native.Nat.{_<_, _^_};
+ghost use Rattle.pixel_segment.specs.Search.{searchOf, ended, orderAt};
 
 pub enum Key {
     TileY(i16),
@@ -36,6 +37,18 @@ pub fn compare_key(word: u64, key: Key) -> Ordering
     }
 }
 
+// The answer at the element where the halving ends.
+fn answer(order: Ordering, start: usize) -> Found
+    requires { ⌜ start < 2 ^ 63 ⌝ }
+    ensures { λ r. ⌜ r ≡ ended order start ⌝ }
+{
+    match order {
+        Ordering::Less => Found::Absent(start + 1),
+        Ordering::Equal => Found::At(start),
+        Ordering::Greater => Found::Absent(start),
+    }
+}
+
 pub fn search_last_by_key(segments: &[u64], key: Key) -> Found
     ensures { λ r. ⌜ r ≡ searchOf (orderAt key) (now (segments .entry)) ⌝ }
 {
@@ -47,19 +60,12 @@ pub fn search_last_by_key(segments: &[u64], key: Key) -> Found
     while 1 < len {
         let half = len / 2;
         let mid = start + half;
-        match compare_key(segments[mid], key) {
-            Ordering::Greater => {
-                len = half;
-            }
-            Ordering::Less | Ordering::Equal => {
-                start = mid;
-                len = len - half;
-            }
+        if compare_key(segments[mid], key).is_gt() {
+            len = half;
+        } else {
+            start = mid;
+            len = len - half;
         }
     }
-    match compare_key(segments[start], key) {
-        Ordering::Less => Found::Absent(start + 1),
-        Ordering::Equal => Found::At(start),
-        Ordering::Greater => Found::Absent(start),
-    }
+    answer(compare_key(segments[start], key), start)
 }

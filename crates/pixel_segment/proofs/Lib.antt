@@ -1,0 +1,5 @@
+-- Laws of packed words, their order and the searches.
+pub mod Widths
+pub mod Ascending
+pub mod Halving
+pub mod Rows

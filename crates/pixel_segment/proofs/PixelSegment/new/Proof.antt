@@ -1,0 +1,92 @@
+-- `PixelSegment::new` meets its contract: the word is put together by seven steps of one definition. Assumes nothing.
+use mathlib.Core.Path.{_≡_, _∙_, ap}
+use mir.Facts.{toZ-ofZ}
+use borrow.Author.Needs.{needs}
+use Rattle.pixel_segment.proofs.PixelSegment.new.Statement.{statement}
+use Rattle.pixel_segment.proofs.PixelSegment.new.Tie as tie
+use Rattle.pixel_segment.proofs.PixelSegment.new.Reads as reads
+use Rattle.pixel_segment.proofs.PixelSegment.new.Lts as lts
+use Rattle.pixel_segment.proofs.consts.append.Reads as append-reads
+use Rattle.pixel_segment.proofs.cover_bits.Reads as cover-bits-reads
+use Rattle.pixel_segment.proofs.stored.Reads as stored-reads
+
+returns : tie.Need-returns
+returns c = rw (rw (toZ-ofZ (c .before .fits .tile-x)) at (c .if1 .taken))
+
+returns-2 : tie.Need-returns-2
+returns-2 c =
+    let s = c .before .before in
+    rw (rw (toZ-ofZ (s .fits .tile-x)) at (c .before .if1 .left), rw (toZ-ofZ (s .fits .tile-y)) at (c .if2 .taken))
+
+stored-requires : tie.Need-stored-requires
+stored-requires c κs = search needs
+
+append-requires : tie.Need-append-requires
+append-requires c κs = search needs
+
+stored-requires-2 : tie.Need-stored-requires-2
+stored-requires-2 c κs = search needs
+
+append-requires-2 : tie.Need-append-requires-2
+append-requires-2 c κs = search needs
+
+append-requires-3 : tie.Need-append-requires-3
+append-requires-3 c κs = search needs
+
+append-requires-4 : tie.Need-append-requires-4
+append-requires-4 c κs = search needs
+
+append-requires-5 : tie.Need-append-requires-5
+append-requires-5 c κs = search needs
+
+append-requires-6 : tie.Need-append-requires-6
+append-requires-6 c κs = search needs
+
+cover-bits-requires : tie.Need-cover-bits-requires
+cover-bits-requires c κs = search needs
+
+append-requires-7 : tie.Need-append-requires-7
+append-requires-7 c κs = search needs
+
+returns-3 : tie.Need-returns-3
+returns-3 c =
+    let p6 = c .before .before in
+    let p2 = p6 .before .before .before .before in
+    let p1 = p2 .before .before in
+    let e = p1 .before .before in
+    let s = e .before .before in
+    rw (
+      rw (toZ-ofZ (s .fits .tile-x)) at (e .before .if1 .left),
+      rw (toZ-ofZ (s .fits .tile-y)) at (e .if2 .left),
+      c .append7 .ensures,
+      c .before .cover-bits .ensures,
+      p6 .append6 .ensures,
+      p6 .before .append5 .ensures,
+      p6 .before .before .append4 .ensures,
+      p6 .before .before .before .append3 .ensures,
+      p2 .append2 .ensures,
+      p2 .before .stored2 .ensures,
+      p1 .append .ensures,
+      p1 .before .stored .ensures,
+      toZ-ofZ (s .fits .tile-x),
+      toZ-ofZ (s .fits .tile-y),
+      toZ-ofZ (s .fits .cover),
+    )
+
+pub new-spec : {M : Type 1} → statement M
+new-spec =
+    tie.close
+    (tie.spec
+    returns
+    returns-2
+    stored-requires
+    append-requires
+    stored-requires-2
+    append-requires-2
+    append-requires-3
+    append-requires-4
+    append-requires-5
+    append-requires-6
+    cover-bits-requires
+    append-requires-7
+    returns-3)

@@ -1,0 +1,34 @@
+-- `consts::extract` meets its contract. Assumes nothing.
+use native.Mathlib.Omega.{arith}
+use lib.Pow.{pow-pos}
+use Rattle.pixel_segment.specs.Field.{cpu, indexOf, widthOf}
+use Rattle.pixel_segment.proofs.Widths.{shift-lt}
+use borrow.Author.Needs.{needs}
+use Rattle.pixel_segment.proofs.consts.extract.Statement.{statement}
+use Rattle.pixel_segment.proofs.consts.extract.Tie as tie
+use Rattle.pixel_segment.proofs.consts.extract.Reads as reads
+use Rattle.pixel_segment.proofs.consts.extract.Lts as lts
+use Rattle.pixel_segment.proofs.consts.shift.Reads as shift-reads
+use Rattle.pixel_segment.proofs.consts.size.Reads as size-reads
+
+shift-requires : tie.Need-shift-requires
+shift-requires c κs = search needs
+
+cast-result : tie.Need-cast-result
+cast-result c = search needs
+
+shr-result : tie.Need-shr-result
+shr-result c = omega (arith, shift-lt (indexOf (c .before .args .field)), c .shift .ensures)
+
+size-requires : tie.Need-size-requires
+size-requires c κs = search needs
+
+rem-result : tie.Need-rem-result
+rem-result c = rw (c .size .ensures) (pow-pos (widthOf cpu (indexOf (c .before .before .args .field))))
+
+returns : tie.Need-returns
+returns c = rw (c .size .ensures, c .before .shift .ensures)
+
+pub extract-spec : {M : Type 1} → statement M
+extract-spec =
+    tie.close (tie.spec shift-requires cast-result shr-result size-requires rem-result returns)

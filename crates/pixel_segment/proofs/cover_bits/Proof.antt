@@ -1,0 +1,44 @@
+-- `cover_bits` meets its contract. 128 is a multiple of 64, and with it no cover is negative. Assumes nothing.
+-- the cover's range, and the sum's parts
+use mathlib.Core.Path.{ap}
+use Prim.Native.Nat.{ℕ, _%_}
+use native.Mathlib.Omega.{arith}
+use lib.Dec.{lit<}
+use lib.IntN.{pos, _+ℤ_}
+use mir.Syntax.{w8, w16, w64}
+use mir.Val.{SFits}
+use mir.Facts.{toZ-ofZ, sfits-widen}
+use Rattle.laws.proofs.Parts.{Sum, added}
+use Rattle.laws.proofs.Mod.{lifted}
+use Rattle.laws.proofs.Machine.{Within, within, sfits, unsigned}
+use Rattle.pixel_segment.proofs.cover_bits.Statement.{statement}
+use Rattle.pixel_segment.proofs.cover_bits.Tie as tie
+use Rattle.pixel_segment.proofs.cover_bits.Reads as reads
+use Rattle.pixel_segment.proofs.cover_bits.Lts as lts
+
+known : (c : tie.Start) → Within w8 (c .args .cover) × Sum (c .args .cover) (pos 128) (c .args .cover +ℤ pos 128)
+known c = (within w8 (c .args .cover) (c .fits .cover), added (c .args .cover) (pos 128))
+
+raised : (c : tie.Start) → SFits w16 (c .args .cover +ℤ pos 128)
+raised c = sfits w16 (c .args .cover +ℤ pos 128) (omega (arith, known c))
+
+cast-result : tie.Need-cast-result
+cast-result c = rw (toZ-ofZ (c .fits .cover)) (sfits-widen tt (c .fits .cover))
+
+add-result : tie.Need-add-result
+add-result c =
+    let h : SFits w16 (c .args .cover) = sfits-widen tt (c .fits .cover) in
+    rw (toZ-ofZ (c .fits .cover), toZ-ofZ h) (raised c)
+
+cast-result-2 : tie.Need-cast-result-2
+cast-result-2 c =
+    let h : SFits w16 (c .args .cover) = sfits-widen tt (c .fits .cover) in
+    rw (toZ-ofZ (c .fits .cover), toZ-ofZ h, toZ-ofZ (raised c)) (unsigned w64 (c .args .cover +ℤ pos 128) (omega (arith, known c)) (omega (arith, known c)))
+
+returns : tie.Need-returns
+returns c =
+    let h : SFits w16 (c .args .cover) = sfits-widen tt (c .fits .cover) in
+    rw (toZ-ofZ (c .fits .cover), toZ-ofZ h, toZ-ofZ (raised c)) (rw (lifted 64 (c .args .cover) 2 (lit< tt) (omega (arith, known c))) (ap (λ (n : ℕ). n % 64) (omega (arith, known c))))
+
+pub cover-bits-spec : {M : Type 1} → statement M
+cover-bits-spec = tie.close (tie.spec cast-result add-result cast-result-2 returns)
