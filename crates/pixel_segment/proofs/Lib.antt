@@ -3,3 +3,6 @@ pub mod Widths
 pub mod Ascending
 pub mod Halving
 pub mod Rows
+pub mod Sorted
+pub mod ReadBack
+pub mod Lexical

@@ -45,3 +45,9 @@ ascends f l = ascendsFrom f 0 l
 -- a row in order: its segments don't descend, and each has the tile y (as it is stored)
 abbrev pub isRow : List ℕ → ℕ → List ℕ → Bool
 isRow ws ty row = ascends (orderKey ws) row && all (λ w. eqb (tileYOf ws w) ty) row
+
+-- the first way to compare that tells, and then the next
+abbrev pub andThen : Ordering → Ordering → Ordering
+andThen Less o = Less
+andThen Equal o = o
+andThen Greater o = Greater

@@ -1,11 +1,11 @@
 -- `search_last_by_key`: the Rust's halving. `at w` says how the key of the element w compares with the key that is looked for, so one
 -- definition serves every key. On a slice that the key does not sort, the halving decides; on a sorted one see proofs/Sorted.
-use mathlib.Core.Bool.{cond}
+use mathlib.Core.Bool.{Bool, true, false, cond}
 use mathlib.Core.List.{List, [], _∷_}
-use Prim.Native.Nat.{ℕ, zero, suc, _+_, _-_, _/_}
+use Prim.Native.Nat.{ℕ, zero, suc, _+_, _-_, _/_, _≤_, _<_}
 use lib.Dec.{ltb}
 use lib.IntN.{ℤ, pos}
-use lib.ListN.{length, getD}
+use lib.ListN.{length, getD, take, drop}
 use lib.Signed.{leZ}
 use Rattle.pixel_segment.specs.Field.{cpu, tileXOf, tileYOf, layerIdOf, tileOf}
 use Rattle.pixel_segment.specs.Order.{isGt, compareOf, compareℤ, compareBool}
@@ -38,10 +38,53 @@ searchOf at (w ∷ ws) =
     let start = halved at (w ∷ ws) (length (w ∷ ws)) 0 (length (w ∷ ws)) in
     ended (at (getD (w ∷ ws) start 0)) start
 
--- the keys of the painter: how a word compares with the value that is looked for
+-- ---- a slice that the key sorts
+
+abbrev pub rank : Ordering → ℕ
+rank Less = 0
+rank Equal = 1
+rank Greater = 2
+
+abbrev pub isLt : Ordering → Bool
+isLt Less = true
+isLt Equal = false
+isLt Greater = false
+
+abbrev pub isEq : Ordering → Bool
+isEq Less = false
+isEq Equal = true
+isEq Greater = false
+
+-- the elements below the key stand first, then those that have it, then those above it
+pub record Sorted (at : ℕ → Ordering) (l : List ℕ) : Type 0 where
+  pub up : (i j : ℕ) → i ≤ j → j < length l → rank (at (getD l i 0)) ≤ rank (at (getD l j 0))
+
+-- what a search in a sorted slice gives, by how many elements are below the key and how many have it: the last one that has it, or
+-- absent with the number of those below
+abbrev pub lastOf : ℕ → ℕ → Found
+lastOf below zero = Absent below
+lastOf below (suc n) = At (below + n)
+
+-- ---- the keys of the painter: how a word compares with the value that is looked for
+
 abbrev pub orderAt : Key → ℕ → Ordering
 orderAt (TileY k) w = compareℤ (tileOf (tileYOf cpu w)) k
 orderAt (TileX k) w = compareℤ (tileOf (tileXOf cpu w)) k
 orderAt (LayerId k) w = compareOf (layerIdOf cpu w) k
 orderAt (TileXAtLeast start k) w = compareBool (leZ start (tileOf (tileXOf cpu w))) k
 orderAt (TileYNotNegative k) w = compareBool (leZ (pos 0) (tileOf (tileYOf cpu w))) k
+
+-- ---- the parts of a row that searches find
+
+-- how many elements are at most the key: the place after the last one that has it, or where it would stand
+abbrev pub afterOf : Found → ℕ
+afterOf (At i) = suc i
+afterOf (Absent i) = i
+
+-- the elements from one place up to another
+abbrev pub between {ℓ} : {A : Type ℓ} → ℕ → ℕ → List A → List A
+between start end l = take (end - start) (drop start l)
+
+-- the segments of a tile, of its number as it is stored: those after the last one further left, up to the last one of the tile
+unfoldable pub tilePart : ℤ → List ℕ → List ℕ
+tilePart t row = between (afterOf (searchOf (orderAt (TileXAtLeast t false)) row)) (afterOf (searchOf (orderAt (TileX t)) row)) row

@@ -69,3 +69,35 @@ pub fn search_last_by_key(segments: &[u64], key: Key) -> Found
     }
     answer(compare_key(segments[start], key), start)
 }
+
+pub fn search_last_by_tile_y(segments: &[u64], tile_y: i16) -> Found
+    ensures { λ r. ⌜ r ≡ searchOf (orderAt (Key.TileY «tile_y»)) (now (segments .entry)) ⌝ }
+{
+    search_last_by_key(segments, Key::TileY(tile_y))
+}
+
+pub fn search_last_by_tile_x(segments: &[u64], tile_x: i16) -> Found
+    ensures { λ r. ⌜ r ≡ searchOf (orderAt (Key.TileX «tile_x»)) (now (segments .entry)) ⌝ }
+{
+    search_last_by_key(segments, Key::TileX(tile_x))
+}
+
+pub fn search_last_by_layer_id(segments: &[u64], layer_id: u32) -> Found
+    ensures { λ r. ⌜ r ≡ searchOf (orderAt (Key.LayerId «layer_id»)) (now (segments .entry)) ⌝ }
+{
+    search_last_by_key(segments, Key::LayerId(layer_id))
+}
+
+// The last segment whose tile x is, or is not, at least a start.
+pub fn search_last_by_tile_x_at_least(segments: &[u64], start: i16, wanted: bool) -> Found
+    ensures { λ r. ⌜ r ≡ searchOf (orderAt (Key.TileXAtLeast start wanted)) (now (segments .entry)) ⌝ }
+{
+    search_last_by_key(segments, Key::TileXAtLeast(start, wanted))
+}
+
+// The last segment whose tile y is, or is not, at least 0.
+pub fn search_last_by_tile_y_not_negative(segments: &[u64], wanted: bool) -> Found
+    ensures { λ r. ⌜ r ≡ searchOf (orderAt (Key.TileYNotNegative wanted)) (now (segments .entry)) ⌝ }
+{
+    search_last_by_key(segments, Key::TileYNotNegative(wanted))
+}

@@ -1,0 +1,21 @@
+-- `words::is_absent` meets its contract. Assumes nothing.
+use borrow.Author.Needs.{needs}
+use Rattle.cases.proofs.words.is_absent.Statement.{statement}
+use Rattle.cases.proofs.words.is_absent.Tie as tie
+use Rattle.cases.proofs.words.is_absent.Reads as reads
+use Rattle.cases.proofs.words.is_absent.Lts as lts
+
+enum-told : tie.Need-enum-told
+enum-told c = search needs
+
+enum-known-found : tie.Need-enum-known-found
+enum-known-found c = search needs
+
+returns : tie.Need-returns
+returns c = search needs
+
+returns-2 : tie.Need-returns-2
+returns-2 c = rw (c .before .found .given .1)
+
+pub is-absent-spec : {M : Type 1} → statement M
+is-absent-spec = tie.close (tie.spec enum-told enum-known-found returns returns-2)

@@ -1,0 +1,51 @@
+-- P4, from the contracts. Assumes nothing.
+use Rattle.pixel_segment.specs.Field.{tileOf}
+use borrow.Author.Needs.{needs}
+use Rattle.cases.proofs.words.p4_tile_y.Statement.{statement}
+use Rattle.cases.proofs.words.p4_tile_y.Tie as tie
+use Rattle.cases.proofs.words.p4_tile_y.Reads as reads
+use Rattle.cases.proofs.words.p4_tile_y.Lts as lts
+use Rattle.cases.proofs.words.segment_in.Reads as segment-in-reads
+use Rattle.pixel_segment.proofs.PixelSegment.new.Reads as new-reads
+use Rattle.pixel_segment.proofs.PixelSegment.tile_y.Reads as tile-y-reads
+
+new-requires : tie.Need-new-requires
+new-requires c κs = search needs
+
+segment-in-requires : tie.Need-segment-in-requires
+segment-in-requires c κs = search needs
+
+new-requires-2 : tie.Need-new-requires-2
+new-requires-2 c κs = search needs
+
+segment-in-requires-2 : tie.Need-segment-in-requires-2
+segment-in-requires-2 c κs = search needs
+
+tile-y-requires : tie.Need-tile-y-requires
+tile-y-requires c κs = search needs
+
+tile-y-requires-2 : tie.Need-tile-y-requires-2
+tile-y-requires-2 c κs = search needs
+
+returns : tie.Need-returns
+unfolding tileOf
+returns c = rw (
+  c .tile-y2 .ensures,
+  c .before .tile-y .ensures,
+  c .before .before .segment-in2 .ensures,
+  c .before .before .before .new2 .ensures,
+  c .before .before .before .before .segment-in .ensures,
+  c .before .before .before .before .before .new .ensures,
+)
+
+pub p4-tile-y-spec : {M : Type 1} → statement M
+p4-tile-y-spec =
+    tie.close
+    (tie.spec
+    new-requires
+    segment-in-requires
+    new-requires-2
+    segment-in-requires-2
+    tile-y-requires
+    tile-y-requires-2
+    returns)

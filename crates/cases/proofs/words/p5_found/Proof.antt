@@ -1,0 +1,31 @@
+-- P5, from the contracts. Assumes nothing.
+use Rattle.pixel_segment.specs.Search.{searchOf, halved}
+use borrow.Author.Needs.{needs}
+use Rattle.cases.proofs.words.p5_found.Statement.{statement}
+use Rattle.cases.proofs.words.p5_found.Tie as tie
+use Rattle.cases.proofs.words.p5_found.Reads as reads
+use Rattle.cases.proofs.words.p5_found.Lts as lts
+use Rattle.cases.proofs.words.is_at.Reads as is-at-reads
+use Rattle.pixel_segment.proofs.search.search_last_by_layer_id.Reads as search-last-by-layer-id-reads
+
+slice-aggregate-search-last-by-layer-id : tie.Need-slice-aggregate-search-last-by-layer-id
+slice-aggregate-search-last-by-layer-id c = search needs
+
+search-last-by-layer-id-requires : tie.Need-search-last-by-layer-id-requires
+search-last-by-layer-id-requires c κs = search needs
+
+is-at-requires : tie.Need-is-at-requires
+is-at-requires c κs = search needs
+
+returns : tie.Need-returns
+unfolding searchOf halved
+returns c = rw (c .is-at .ensures, c .before .search-last-by-layer-id .ensures)
+
+pub p5-found-spec : {M : Type 1} → statement M
+p5-found-spec =
+    tie.close
+    (tie.spec
+    slice-aggregate-search-last-by-layer-id
+    search-last-by-layer-id-requires
+    is-at-requires
+    returns)

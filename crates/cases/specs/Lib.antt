@@ -1,0 +1,3 @@
+-- The worked cases as theorems, and how the program reads an answer.
+pub mod Answers
+pub mod Cases
