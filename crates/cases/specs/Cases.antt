@@ -1,12 +1,11 @@
 -- The worked cases P1 to P12 as one table of theorems about the definitions. A case that computes is proved where it stands.
 use mathlib.Core.Path.{_≡_, refl}
 use mathlib.Core.List.{List, [], _∷_}
-use Prim.Native.Nat.{ℕ, _*_}
-use lib.IntN.{ℤ, pos, negsuc}
-use Rattle.laws.specs.Answer.{Answer, refused, given}
+use Prim.Native.Nat.{ℕ}
+use lib.IntN.{pos, negsuc}
+use Rattle.laws.specs.Answer.{refused, given}
 use Rattle.pixel_segment.specs.Field.{cpu, tileOf, tileXOf, tileYOf, coverOf, doubleAreaOf}
 use Rattle.pixel_segment.specs.Pack.{packOf, wordOf}
-use Rattle.pixel_segment.specs.Order.{ascends}
 use Rattle.pixel_segment.specs.Search.{searchOf, halved, orderAt}
 use Rattle.pixel_segment.specs.declared.search.Found.the-variants.{At, Absent}
 use Rattle.pixel_segment.specs.declared.search.Key.the-variants.{LayerId}

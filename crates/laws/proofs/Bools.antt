@@ -1,6 +1,6 @@
 -- Laws of tests: a conjunction by its sides, and a test that is either way. Assumes nothing.
 use mathlib.Core.Path.{_≡_, refl, sym, _∙_}
-use mathlib.Core.Bool.{Bool, true, false, cond, not, _&&_, _||_, false≢true}
+use mathlib.Core.Bool.{Bool, true, false, _&&_, false≢true}
 use mathlib.Core.Logic.{_⊎_, inl, inr}
 
 pub both : (a b : Bool) → a ≡ true → b ≡ true → (a && b) ≡ true

@@ -1,5 +1,5 @@
 -- Laws of filtered lists: a list that passes a test whole, or nowhere, and a part in the middle of a list. Assumes nothing.
-use mathlib.Core.Path.{_≡_, refl, sym, ap, ap₂, _∙_}
+use mathlib.Core.Path.{_≡_, refl, ap, ap₂, _∙_}
 use mathlib.Core.Bool.{Bool, true, false, cond, not, false≢true}
 use mathlib.Core.List.{List, [], _∷_, _++_, append-nil}
 use Rattle.laws.specs.Lists.{all, filter}

@@ -1,12 +1,12 @@
 -- A signed local holds bits: what it is read back as, `toZ w (ofZ w z)`, is z where z fits. That an integer fits is a bound on each of
 -- its parts, so `omega` proves it. Assumes nothing.
-use mathlib.Core.Path.{_≡_, _∙_, ap, subst, sym}
-use Prim.Native.Nat.{ℕ, suc, _+_, _≤_, _<_, _^_}
+use mathlib.Core.Path.{_≡_}
+use Prim.Native.Nat.{_≤_, _<_, _^_}
 use native.Mathlib.Omega.{arith}
 use lib.IntN.{ℤ, pos, negsuc, natAbs}
 use lib.Signed.{mag, nonNeg}
-use mir.Syntax.{Width}
 use lib.Dec.{T}
+use mir.Syntax.{Width}
 use mir.Val.{SFits, Fits, bits, hbits, toZ, ofZ}
 use mir.Facts.{toZ-ofZ}
 use Rattle.laws.specs.Integer.{plus, minus}

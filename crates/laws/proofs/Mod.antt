@@ -1,9 +1,9 @@
 -- Remainders of whole numbers, and whole numbers that agree modulo m. Assumes nothing.
 use mathlib.Core.Path.{_≡_, refl, sym, ap, _∙_}
 use mathlib.Core.Logic.{⊎-elim}
-use Prim.Native.Nat.{ℕ, zero, suc, _+_, _*_, _-_, _≤_, _<_, _/_, _%_}
+use Prim.Native.Nat.{ℕ, suc, _+_, _*_, _-_, _≤_, _<_, _/_, _%_}
 use native.Mathlib.Omega.{arith}
-use native.Mathlib.Nat.{div-add-mod', mod-lt, suc-mul, add-mul, mul-comm, mul-le-mul-right, add-mul-mod-self-right, mod-eq-of-lt, sub-add-cancel}
+use native.Mathlib.Nat.{div-add-mod', mod-lt, suc-mul, add-mul, mul-le-mul-right, add-mul-mod-self-right, mod-eq-of-lt, sub-add-cancel}
 use lib.Dec.{lit<}
 use lib.IntN.{ℤ, pos, negsuc, _+ℤ_, _*ℤ_}
 use Rattle.laws.specs.Integer.{plus, minus, modℤ}

@@ -1,9 +1,9 @@
 -- Two natural numbers compared, as cases. Assumes nothing.
-use mathlib.Core.Logic.{_⊎_, inl, inr, ⊎-map}
+use mathlib.Core.Logic.{_⊎_, ⊎-map}
 use mathlib.Core.Path.{_≡_}
 use Prim.Native.Nat.{ℕ, _≤_, _<_}
-use lib.Dec.{leb, eqb}
 use borrow.Author.Tests.{leb-true, leb-false, eqb-true, eqb-false}
+use lib.Dec.{leb, eqb}
 use Rattle.laws.proofs.Bools.{either}
 
 pub le-or-lt : (a b : ℕ) → (a ≤ b) ⊎ (b < a)

@@ -8,9 +8,9 @@ use mathlib.Core.Bool.{Bool, true, false, not, cond, false≢true}
 use Prim.Native.Nat.{ℕ, zero, suc, _+_, _*_, _-_, _≤_, _<_, min}
 use native.Mathlib.Nat.{mul-zero}
 use native.Mathlib.Omega.{arith}
-use lib.Dec.{T, ltb, leb, ltb→lt, nltb→le}
-use lib.Signed.{ltZ, mag}
 use borrow.Author.Tests.{ltb-true, ltb-false}
+use lib.Dec.{T, ltb, ltb→lt, nltb→le}
+use lib.Signed.{ltZ}
 use lib.IntN.{ℤ, pos, negsuc, negℤ, natAbs, subℕ, _+ℤ_, _-ℤ_, _*ℤ_}
 use Rattle.laws.specs.Integer.{plus, minus}
 

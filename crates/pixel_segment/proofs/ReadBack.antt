@@ -1,9 +1,9 @@
 -- What is packed reads back: each field has the number that was packed there, modulo its width, for every table of widths; and the number
 -- itself where it is in range. Assumes nothing.
-use mathlib.Core.Path.{_≡_, refl, ap, sym, _∙_}
+use mathlib.Core.Path.{_≡_, ap, sym, _∙_}
 use mathlib.Core.List.{List, [], _∷_}
 use Prim.Native.Nat.{ℕ, zero, suc, _+_, _-_, _*_, _/_, _%_, _^_, _≤_, _<_}
-use native.Mathlib.Nat.{not-suc-le-zero, le-of-suc-le-suc, add-mul, mul-assoc, mul-comm, add-assoc, add-comm, mul-one, one-mul, zero-add, add-zero, add-mul-div-right, add-mul-mod-self-right, div-eq-of-lt, mod-lt, mod-mod}
+use native.Mathlib.Nat.{not-suc-le-zero, le-of-suc-le-suc, add-mul, mul-assoc, add-comm, mul-one, zero-add, add-zero, add-mul-div-right, add-mul-mod-self-right, div-eq-of-lt, mod-lt, mod-mod}
 use native.Mathlib.Omega.{arith}
 use lib.Arith.{digits-lt}
 use lib.Dec.{lit<}
@@ -11,8 +11,8 @@ use lib.IntN.{ℤ, pos, negsuc}
 use lib.ListN.{length, getD, drop}
 use lib.Pow.{pow-pos, pow-add}
 use Rattle.laws.specs.Integer.{plus, minus, modℤ}
-use Rattle.laws.proofs.Parts.{difference, added, equal, whole}
-use Rattle.pixel_segment.specs.Field.{cpu, sum, shiftOf, widthOf, fieldOf, tileXOf, tileYOf, tileOf, signedOf, coverOf}
+use Rattle.laws.proofs.Parts.{difference, added, equal}
+use Rattle.pixel_segment.specs.Field.{cpu, sum, widthOf, fieldOf, tileXOf, tileYOf, tileOf, signedOf, coverOf}
 use Rattle.pixel_segment.specs.Pack.{join, storedOf, wordOf, InRange, ReadsBack}
 use Rattle.pixel_segment.proofs.Widths.{sum-step, sum-drop-le}
 

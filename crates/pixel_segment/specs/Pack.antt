@@ -1,7 +1,7 @@
 -- Packing: seven numbers in a word, each keeping its low bits. Stands for the clauses on packing: tile numbers are stored plus 1 and a
 -- smaller one than -1 packs like -1 (P3), layer ids keep their low 21 bits, covers keep six; packing tile 32,767 is refused by 2.
 use mathlib.Core.Path.{_≡_}
-use mathlib.Core.Bool.{Bool, cond, _||_}
+use mathlib.Core.Bool.{cond, _||_}
 use mathlib.Core.List.{List, [], _∷_}
 use Prim.Native.Nat.{ℕ, _+_, _*_, _%_, _^_, _≤_, _<_}
 use lib.IntN.{ℤ, pos, _+ℤ_}

@@ -13,8 +13,6 @@ use Rattle.laws.proofs.Mod.{lifted}
 use Rattle.laws.proofs.Machine.{Within, within, sfits, unsigned}
 use Rattle.pixel_segment.proofs.cover_bits.Statement.{statement}
 use Rattle.pixel_segment.proofs.cover_bits.Tie as tie
-use Rattle.pixel_segment.proofs.cover_bits.Reads as reads
-use Rattle.pixel_segment.proofs.cover_bits.Lts as lts
 
 known : (c : tie.Start) → Within w8 (c .args .cover) × Sum (c .args .cover) (pos 128) (c .args .cover +ℤ pos 128)
 known c = (within w8 (c .args .cover) (c .fits .cover), added (c .args .cover) (pos 128))

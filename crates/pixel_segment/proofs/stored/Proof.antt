@@ -9,8 +9,6 @@ use Rattle.laws.proofs.Parts.{added, whole, lt-true, lt-false}
 use Rattle.laws.proofs.Machine.{within, unsigned}
 use Rattle.pixel_segment.proofs.stored.Statement.{statement}
 use Rattle.pixel_segment.proofs.stored.Tie as tie
-use Rattle.pixel_segment.proofs.stored.Reads as reads
-use Rattle.pixel_segment.proofs.stored.Lts as lts
 
 not-negative : (c : tie.Else1) → minus (c .before .args .tile) ≡ 0
 not-negative c =

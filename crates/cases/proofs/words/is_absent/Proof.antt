@@ -2,8 +2,6 @@
 use borrow.Author.Needs.{needs}
 use Rattle.cases.proofs.words.is_absent.Statement.{statement}
 use Rattle.cases.proofs.words.is_absent.Tie as tie
-use Rattle.cases.proofs.words.is_absent.Reads as reads
-use Rattle.cases.proofs.words.is_absent.Lts as lts
 
 enum-told : tie.Need-enum-told
 enum-told c = search needs

@@ -2,8 +2,6 @@
 use borrow.Author.Needs.{needs}
 use Rattle.cases.proofs.words.is_at.Statement.{statement}
 use Rattle.cases.proofs.words.is_at.Tie as tie
-use Rattle.cases.proofs.words.is_at.Reads as reads
-use Rattle.cases.proofs.words.is_at.Lts as lts
 
 enum-known-found : tie.Need-enum-known-found
 enum-known-found c = search needs

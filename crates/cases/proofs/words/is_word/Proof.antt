@@ -2,8 +2,6 @@
 use borrow.Author.Needs.{needs}
 use Rattle.cases.proofs.words.is_word.Statement.{statement}
 use Rattle.cases.proofs.words.is_word.Tie as tie
-use Rattle.cases.proofs.words.is_word.Reads as reads
-use Rattle.cases.proofs.words.is_word.Lts as lts
 
 enum-known-packed : tie.Need-enum-known-packed
 enum-known-packed c = search needs

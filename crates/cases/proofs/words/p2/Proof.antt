@@ -1,13 +1,8 @@
 -- P2, from the contracts. Assumes nothing.
-use Rattle.pixel_segment.specs.Field.{doubleAreaOf, coverOf}
 use borrow.Author.Needs.{needs}
+use Rattle.pixel_segment.specs.Field.{doubleAreaOf, coverOf}
 use Rattle.cases.proofs.words.p2.Statement.{statement}
 use Rattle.cases.proofs.words.p2.Tie as tie
-use Rattle.cases.proofs.words.p2.Reads as reads
-use Rattle.cases.proofs.words.p2.Lts as lts
-use Rattle.cases.proofs.words.is_word.Reads as is-word-reads
-use Rattle.pixel_segment.proofs.PixelSegment.double_area.Reads as double-area-reads
-use Rattle.pixel_segment.proofs.PixelSegment.new.Reads as new-reads
 
 new-requires : tie.Need-new-requires
 new-requires c κs = search needs

@@ -2,11 +2,6 @@
 use borrow.Author.Needs.{needs}
 use Rattle.cases.proofs.words.p3.Statement.{statement}
 use Rattle.cases.proofs.words.p3.Tie as tie
-use Rattle.cases.proofs.words.p3.Reads as reads
-use Rattle.cases.proofs.words.p3.Lts as lts
-use Rattle.cases.proofs.words.is_word.Reads as is-word-reads
-use Rattle.cases.proofs.words.segment_in.Reads as segment-in-reads
-use Rattle.pixel_segment.proofs.PixelSegment.new.Reads as new-reads
 
 new-requires : tie.Need-new-requires
 new-requires c κs = search needs

@@ -1,13 +1,8 @@
 -- P4, from the contracts. Assumes nothing.
-use Rattle.pixel_segment.specs.Field.{tileOf}
 use borrow.Author.Needs.{needs}
+use Rattle.pixel_segment.specs.Field.{tileOf}
 use Rattle.cases.proofs.words.p4_tile_x.Statement.{statement}
 use Rattle.cases.proofs.words.p4_tile_x.Tie as tie
-use Rattle.cases.proofs.words.p4_tile_x.Reads as reads
-use Rattle.cases.proofs.words.p4_tile_x.Lts as lts
-use Rattle.cases.proofs.words.segment_in.Reads as segment-in-reads
-use Rattle.pixel_segment.proofs.PixelSegment.new.Reads as new-reads
-use Rattle.pixel_segment.proofs.PixelSegment.tile_x.Reads as tile-x-reads
 
 new-requires : tie.Need-new-requires
 new-requires c κs = search needs

@@ -1,13 +1,8 @@
 -- P4, from the contracts. Assumes nothing.
-use Rattle.pixel_segment.specs.Field.{tileOf}
 use borrow.Author.Needs.{needs}
+use Rattle.pixel_segment.specs.Field.{tileOf}
 use Rattle.cases.proofs.words.p4_tile_y.Statement.{statement}
 use Rattle.cases.proofs.words.p4_tile_y.Tie as tie
-use Rattle.cases.proofs.words.p4_tile_y.Reads as reads
-use Rattle.cases.proofs.words.p4_tile_y.Lts as lts
-use Rattle.cases.proofs.words.segment_in.Reads as segment-in-reads
-use Rattle.pixel_segment.proofs.PixelSegment.new.Reads as new-reads
-use Rattle.pixel_segment.proofs.PixelSegment.tile_y.Reads as tile-y-reads
 
 new-requires : tie.Need-new-requires
 new-requires c κs = search needs

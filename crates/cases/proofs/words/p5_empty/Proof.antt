@@ -1,12 +1,8 @@
 -- P5, from the contracts. Assumes nothing.
-use Rattle.pixel_segment.specs.Search.{searchOf, halved}
 use borrow.Author.Needs.{needs}
+use Rattle.pixel_segment.specs.Search.{searchOf, halved}
 use Rattle.cases.proofs.words.p5_empty.Statement.{statement}
 use Rattle.cases.proofs.words.p5_empty.Tie as tie
-use Rattle.cases.proofs.words.p5_empty.Reads as reads
-use Rattle.cases.proofs.words.p5_empty.Lts as lts
-use Rattle.cases.proofs.words.is_absent.Reads as is-absent-reads
-use Rattle.pixel_segment.proofs.search.search_last_by_layer_id.Reads as search-last-by-layer-id-reads
 
 array-share-prefix-words : tie.Need-array-share-prefix-words
 array-share-prefix-words c = search needs

@@ -1,12 +1,8 @@
 -- P5, from the contracts. Assumes nothing.
-use Rattle.pixel_segment.specs.Search.{searchOf, halved}
 use borrow.Author.Needs.{needs}
+use Rattle.pixel_segment.specs.Search.{searchOf, halved}
 use Rattle.cases.proofs.words.p5_found.Statement.{statement}
 use Rattle.cases.proofs.words.p5_found.Tie as tie
-use Rattle.cases.proofs.words.p5_found.Reads as reads
-use Rattle.cases.proofs.words.p5_found.Lts as lts
-use Rattle.cases.proofs.words.is_at.Reads as is-at-reads
-use Rattle.pixel_segment.proofs.search.search_last_by_layer_id.Reads as search-last-by-layer-id-reads
 
 slice-aggregate-search-last-by-layer-id : tie.Need-slice-aggregate-search-last-by-layer-id
 slice-aggregate-search-last-by-layer-id c = search needs

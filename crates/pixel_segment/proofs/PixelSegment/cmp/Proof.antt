@@ -2,10 +2,6 @@
 use borrow.Author.Needs.{needs}
 use Rattle.pixel_segment.proofs.PixelSegment.cmp.Statement.{statement}
 use Rattle.pixel_segment.proofs.PixelSegment.cmp.Tie as tie
-use Rattle.pixel_segment.proofs.PixelSegment.cmp.Reads as reads
-use Rattle.pixel_segment.proofs.PixelSegment.cmp.Lts as lts
-use Rattle.pixel_segment.proofs.consts.shift.Reads as shift-reads
-use Rattle.pixel_segment.proofs.order.compare.Reads as compare-reads
 
 shift-requires : tie.Need-shift-requires
 shift-requires c κs = search needs

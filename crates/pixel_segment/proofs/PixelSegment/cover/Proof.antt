@@ -1,21 +1,17 @@
 -- `PixelSegment::cover` meets its contract. The field plus 32, modulo 64, is a small number, so the machine's difference is the
 -- definition's. Assumes nothing.
-use mathlib.Core.Path.{_≡_, _∙_}
-use Prim.Native.Nat.{ℕ, _+_, _%_}
+use mathlib.Core.Path.{_∙_}
+use Prim.Native.Nat.{_+_, _%_}
 use native.Mathlib.Omega.{arith}
-use lib.IntN.{pos, subℕ}
+use borrow.Author.Needs.{needs}
+use lib.IntN.{subℕ}
 use mir.Syntax.{w8}
-use mir.Val.{toZ}
 use mir.Facts.{toZ-pos, toZ-ofZ}
 use Rattle.laws.proofs.Parts.{difference}
 use Rattle.laws.proofs.Machine.{sfits}
 use Rattle.pixel_segment.specs.Field.{coverOf}
-use borrow.Author.Needs.{needs}
 use Rattle.pixel_segment.proofs.PixelSegment.cover.Statement.{statement}
 use Rattle.pixel_segment.proofs.PixelSegment.cover.Tie as tie
-use Rattle.pixel_segment.proofs.PixelSegment.cover.Reads as reads
-use Rattle.pixel_segment.proofs.PixelSegment.cover.Lts as lts
-use Rattle.pixel_segment.proofs.consts.extract.Reads as extract-reads
 
 extract-requires : tie.Need-extract-requires
 extract-requires c κs = search needs

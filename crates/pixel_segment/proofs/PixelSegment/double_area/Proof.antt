@@ -2,18 +2,14 @@
 -- Assumes nothing.
 use mathlib.Core.Path.{_∙_}
 use native.Mathlib.Omega.{arith}
-use mir.Syntax.{w8, w16}
+use borrow.Author.Needs.{needs}
+use mir.Syntax.{w16}
 use mir.Val.{SFits}
 use mir.Facts.{toZ-ofZ, toZ-pos, sfits-widen}
 use Rattle.pixel_segment.specs.Field.{cpu, coverOf, multiplierOf, doubleAreaOf}
 use Rattle.pixel_segment.proofs.Widths.{cover-fits, area-fits}
-use borrow.Author.Needs.{needs}
 use Rattle.pixel_segment.proofs.PixelSegment.double_area.Statement.{statement}
 use Rattle.pixel_segment.proofs.PixelSegment.double_area.Tie as tie
-use Rattle.pixel_segment.proofs.PixelSegment.double_area.Reads as reads
-use Rattle.pixel_segment.proofs.PixelSegment.double_area.Lts as lts
-use Rattle.pixel_segment.proofs.PixelSegment.cover.Reads as cover-reads
-use Rattle.pixel_segment.proofs.PixelSegment.double_area_multiplier.Reads as double-area-multiplier-reads
 
 double-area-multiplier-requires : tie.Need-double-area-multiplier-requires
 double-area-multiplier-requires c κs = search needs

@@ -1,14 +1,8 @@
 -- `PixelSegment::new` meets its contract: the word is put together by seven steps of one definition. Assumes nothing.
-use mathlib.Core.Path.{_≡_, _∙_, ap}
-use mir.Facts.{toZ-ofZ}
 use borrow.Author.Needs.{needs}
+use mir.Facts.{toZ-ofZ}
 use Rattle.pixel_segment.proofs.PixelSegment.new.Statement.{statement}
 use Rattle.pixel_segment.proofs.PixelSegment.new.Tie as tie
-use Rattle.pixel_segment.proofs.PixelSegment.new.Reads as reads
-use Rattle.pixel_segment.proofs.PixelSegment.new.Lts as lts
-use Rattle.pixel_segment.proofs.consts.append.Reads as append-reads
-use Rattle.pixel_segment.proofs.cover_bits.Reads as cover-bits-reads
-use Rattle.pixel_segment.proofs.stored.Reads as stored-reads
 
 returns : tie.Need-returns
 returns c = rw (rw (toZ-ofZ (c .before .fits .tile-x)) at (c .if1 .taken))

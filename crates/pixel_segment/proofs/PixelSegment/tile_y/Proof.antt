@@ -1,16 +1,13 @@
 -- `PixelSegment::tile_y` meets its contract. Assumes nothing.
-use mathlib.Core.Path.{_≡_, _∙_}
+use mathlib.Core.Path.{_∙_}
 use native.Mathlib.Omega.{arith}
+use borrow.Author.Needs.{needs}
 use mir.Syntax.{w16}
 use mir.Facts.{toZ-pos, toZ-ofZ}
-use Rattle.pixel_segment.specs.Field.{cpu, tileOf, fieldOf}
+use Rattle.pixel_segment.specs.Field.{tileOf}
 use Rattle.pixel_segment.proofs.Widths.{tile-fits}
-use borrow.Author.Needs.{needs}
 use Rattle.pixel_segment.proofs.PixelSegment.tile_y.Statement.{statement}
 use Rattle.pixel_segment.proofs.PixelSegment.tile_y.Tie as tie
-use Rattle.pixel_segment.proofs.PixelSegment.tile_y.Reads as reads
-use Rattle.pixel_segment.proofs.PixelSegment.tile_y.Lts as lts
-use Rattle.pixel_segment.proofs.consts.extract.Reads as extract-reads
 
 extract-requires : tie.Need-extract-requires
 extract-requires c κs = search needs

@@ -3,15 +3,12 @@
 use Prim.Native.Nat.{_<_, _+_, _*_, _^_, _%_}
 use native.Mathlib.Nat.{mod-lt}
 use native.Mathlib.Omega.{arith}
+use borrow.Author.Needs.{needs}
 use lib.Pow.{pow-pos}
 use Rattle.pixel_segment.specs.Field.{cpu, indexOf, widthOf}
 use Rattle.pixel_segment.proofs.Widths.{width-lt, joined-lt}
-use borrow.Author.Needs.{needs}
 use Rattle.pixel_segment.proofs.consts.append.Statement.{statement}
 use Rattle.pixel_segment.proofs.consts.append.Tie as tie
-use Rattle.pixel_segment.proofs.consts.append.Reads as reads
-use Rattle.pixel_segment.proofs.consts.append.Lts as lts
-use Rattle.pixel_segment.proofs.consts.size.Reads as size-reads
 
 whole : (c : tie.After-size) → c .before .args .word * 2 ^ widthOf cpu (indexOf (c .before .args .field)) + c .before .args .value % 2 ^ widthOf cpu (indexOf (c .before .args .field)) < 2 ^ 64
 whole c =

@@ -1,15 +1,11 @@
 -- `consts::extract` meets its contract. Assumes nothing.
 use native.Mathlib.Omega.{arith}
+use borrow.Author.Needs.{needs}
 use lib.Pow.{pow-pos}
 use Rattle.pixel_segment.specs.Field.{cpu, indexOf, widthOf}
 use Rattle.pixel_segment.proofs.Widths.{shift-lt}
-use borrow.Author.Needs.{needs}
 use Rattle.pixel_segment.proofs.consts.extract.Statement.{statement}
 use Rattle.pixel_segment.proofs.consts.extract.Tie as tie
-use Rattle.pixel_segment.proofs.consts.extract.Reads as reads
-use Rattle.pixel_segment.proofs.consts.extract.Lts as lts
-use Rattle.pixel_segment.proofs.consts.shift.Reads as shift-reads
-use Rattle.pixel_segment.proofs.consts.size.Reads as size-reads
 
 shift-requires : tie.Need-shift-requires
 shift-requires c κs = search needs

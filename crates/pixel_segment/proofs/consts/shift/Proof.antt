@@ -2,15 +2,12 @@
 use mathlib.Core.Path.{_≡_}
 use Prim.Native.Nat.{_+_, _-_, _≤_}
 use native.Mathlib.Omega.{arith}
-use lib.ListN.{drop}
 use borrow.Author.Needs.{needs}
-use Rattle.pixel_segment.specs.Field.{sum, cpu, shiftOf}
+use lib.ListN.{drop}
+use Rattle.pixel_segment.specs.Field.{sum, cpu}
 use Rattle.pixel_segment.proofs.Widths.{sum-drop-le, sum-step, index-lt}
 use Rattle.pixel_segment.proofs.consts.shift.Statement.{statement}
 use Rattle.pixel_segment.proofs.consts.shift.Tie as tie
-use Rattle.pixel_segment.proofs.consts.shift.Reads as reads
-use Rattle.pixel_segment.proofs.consts.shift.Lts as lts
-use Rattle.pixel_segment.proofs.consts.index.Reads as index-reads
 
 abbrev Inv-loop : tie.InvT-loop
 Inv-loop amount₀ i₀ amount i = (i ≤ 7) × (amount + sum (drop i cpu) ≡ sum (drop i₀ cpu))

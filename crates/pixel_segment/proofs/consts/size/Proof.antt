@@ -1,13 +1,10 @@
 -- `consts::size` meets its contract. Assumes nothing.
 use native.Mathlib.Omega.{arith}
+use borrow.Author.Needs.{needs}
 use Rattle.pixel_segment.specs.Field.{cpu, widthOf}
 use Rattle.pixel_segment.proofs.Widths.{width-lt, shifted, index-lt}
-use borrow.Author.Needs.{needs}
 use Rattle.pixel_segment.proofs.consts.size.Statement.{statement}
 use Rattle.pixel_segment.proofs.consts.size.Tie as tie
-use Rattle.pixel_segment.proofs.consts.size.Reads as reads
-use Rattle.pixel_segment.proofs.consts.size.Lts as lts
-use Rattle.pixel_segment.proofs.consts.index.Reads as index-reads
 
 index-requires : tie.Need-index-requires
 index-requires c κs = search needs

@@ -2,8 +2,6 @@
 use borrow.Author.Tests.{lt-ltb, le-ltb}
 use Rattle.pixel_segment.proofs.order.compare.Statement.{statement}
 use Rattle.pixel_segment.proofs.order.compare.Tie as tie
-use Rattle.pixel_segment.proofs.order.compare.Reads as reads
-use Rattle.pixel_segment.proofs.order.compare.Lts as lts
 
 returns : tie.Need-returns
 returns c = rw (lt-ltb _ _ (c .if1 .taken))

@@ -2,8 +2,6 @@
 use mir.Facts.{toZ-ofZ}
 use Rattle.pixel_segment.proofs.order.compare_i16.Statement.{statement}
 use Rattle.pixel_segment.proofs.order.compare_i16.Tie as tie
-use Rattle.pixel_segment.proofs.order.compare_i16.Reads as reads
-use Rattle.pixel_segment.proofs.order.compare_i16.Lts as lts
 
 returns : tie.Need-returns
 returns c = rw (rw (toZ-ofZ (c .before .fits .a), toZ-ofZ (c .before .fits .b)) at (c .if1 .taken))

@@ -1,18 +1,15 @@
 -- `order::does_ascend` meets its contract. The invariant: what is found so far and what is left to look at make the whole. Assumes nothing.
 use mathlib.Core.Path.{_≡_, refl, sym, ap, _∙_}
-use mathlib.Core.Bool.{Bool, _&&_, and-assoc, and-true}
-use Prim.Native.Nat.{ℕ, _+_, _-_, _/_, _^_, _≤_}
+use mathlib.Core.Bool.{Bool, _&&_, and-true}
+use Prim.Native.Nat.{ℕ, _-_, _/_, _^_, _≤_}
 use native.Mathlib.Omega.{arith}
-use lib.ListN.{length, getD, drop}
 use borrow.Author.Needs.{needs}
+use lib.ListN.{length, getD, drop}
 use Rattle.pixel_segment.specs.Field.{cpu}
 use Rattle.pixel_segment.specs.Order.{ascendsFrom, ascends, orderKey}
 use Rattle.pixel_segment.proofs.Ascending.{ascends-again, ascends-end}
 use Rattle.pixel_segment.proofs.order.does_ascend.Statement.{statement}
 use Rattle.pixel_segment.proofs.order.does_ascend.Tie as tie
-use Rattle.pixel_segment.proofs.order.does_ascend.Reads as reads
-use Rattle.pixel_segment.proofs.order.does_ascend.Lts as lts
-use Rattle.pixel_segment.proofs.consts.shift.Reads as shift-reads
 
 abbrev Inv-loop : tie.InvT-loop
 Inv-loop row offset ok₀ previous₀ i₀ ok previous i = (i ≤ length row) × ((ok && ascendsFrom (orderKey cpu) previous (drop i row)) ≡ ascends (orderKey cpu) row) × (offset ≡ 20)

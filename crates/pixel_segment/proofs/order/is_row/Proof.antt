@@ -1,15 +1,11 @@
 -- `order::is_row` meets its contract. Assumes nothing.
-use mathlib.Core.Path.{_≡_, sym, _∙_}
+use mathlib.Core.Path.{sym, _∙_}
 use native.Mathlib.Omega.{arith}
 use borrow.Author.Tests.{not-true, not-false}
-use Rattle.pixel_segment.proofs.Rows.{descends, no-words, told-by-ends}
 use borrow.Author.Needs.{needs}
+use Rattle.pixel_segment.proofs.Rows.{descends, no-words, told-by-ends}
 use Rattle.pixel_segment.proofs.order.is_row.Statement.{statement}
 use Rattle.pixel_segment.proofs.order.is_row.Tie as tie
-use Rattle.pixel_segment.proofs.order.is_row.Reads as reads
-use Rattle.pixel_segment.proofs.order.is_row.Lts as lts
-use Rattle.pixel_segment.proofs.consts.extract.Reads as extract-reads
-use Rattle.pixel_segment.proofs.order.does_ascend.Reads as does-ascend-reads
 
 does-ascend-requires : tie.Need-does-ascend-requires
 does-ascend-requires c κs = search needs

@@ -2,8 +2,6 @@
 use borrow.Author.Needs.{needs}
 use Rattle.pixel_segment.proofs.search.answer.Statement.{statement}
 use Rattle.pixel_segment.proofs.search.answer.Tie as tie
-use Rattle.pixel_segment.proofs.search.answer.Reads as reads
-use Rattle.pixel_segment.proofs.search.answer.Lts as lts
 
 enum-told : tie.Need-enum-told
 enum-told c = search needs

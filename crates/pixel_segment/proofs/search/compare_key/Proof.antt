@@ -1,17 +1,9 @@
 -- `search::compare_key` meets its contract: a case for each key. Assumes nothing.
+use borrow.Author.Needs.{needs}
 use mir.Syntax.{w16}
 use Rattle.laws.proofs.Machine.{kept}
-use borrow.Author.Needs.{needs}
 use Rattle.pixel_segment.proofs.search.compare_key.Statement.{statement}
 use Rattle.pixel_segment.proofs.search.compare_key.Tie as tie
-use Rattle.pixel_segment.proofs.search.compare_key.Reads as reads
-use Rattle.pixel_segment.proofs.search.compare_key.Lts as lts
-use Rattle.pixel_segment.proofs.PixelSegment.layer_id.Reads as layer-id-reads
-use Rattle.pixel_segment.proofs.PixelSegment.tile_x.Reads as tile-x-reads
-use Rattle.pixel_segment.proofs.PixelSegment.tile_y.Reads as tile-y-reads
-use Rattle.pixel_segment.proofs.order.compare.Reads as compare-reads
-use Rattle.pixel_segment.proofs.order.compare_bool.Reads as compare-bool-reads
-use Rattle.pixel_segment.proofs.order.compare_i16.Reads as compare-i16-reads
 
 enum-known-key : tie.Need-enum-known-key
 enum-known-key c = search needs

@@ -1,20 +1,15 @@
 -- `search::search_last_by_key` meets its contract. The invariant: the halving of what is left ends where the whole one does.
 -- Assumes nothing.
 use mathlib.Core.Path.{_≡_, refl, sym, ap, _∙_}
-use Prim.Native.Nat.{ℕ, _+_, _-_, _/_, _≤_, _<_}
+use Prim.Native.Nat.{ℕ, _+_, _≤_}
 use native.Mathlib.Omega.{arith}
-use lib.ListN.{length, getD}
 use borrow.Author.Needs.{needs}
+use lib.ListN.{length, getD}
 use Rattle.pixel_segment.specs.Order.{isGt}
-use Rattle.pixel_segment.specs.Search.{halved, ended, searchOf, orderAt}
+use Rattle.pixel_segment.specs.Search.{halved, ended, orderAt}
 use Rattle.pixel_segment.proofs.Halving.{halved-end, halved-left, halved-right, search-is, search-empty}
 use Rattle.pixel_segment.proofs.search.search_last_by_key.Statement.{statement}
 use Rattle.pixel_segment.proofs.search.search_last_by_key.Tie as tie
-use Rattle.pixel_segment.proofs.search.search_last_by_key.Reads as reads
-use Rattle.pixel_segment.proofs.search.search_last_by_key.Lts as lts
-use Rattle.pixel_segment.proofs.order.Ordering.is_gt.Reads as is-gt-reads
-use Rattle.pixel_segment.proofs.search.answer.Reads as answer-reads
-use Rattle.pixel_segment.proofs.search.compare_key.Reads as compare-key-reads
 
 abbrev Inv-loop : tie.InvT-loop
 Inv-loop segments key len₀ start₀ len start = (1 ≤ len) × (start + len ≤ length segments) × (halved (orderAt key) segments len start len ≡ halved (orderAt key) segments (length segments) 0 (length segments))

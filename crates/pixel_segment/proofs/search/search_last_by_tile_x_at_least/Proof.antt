@@ -1,11 +1,8 @@
 -- `search::search_last_by_tile_x_at_least` meets its contract. Assumes nothing.
-use mir.Facts.{toZ-ofZ}
 use borrow.Author.Needs.{needs}
+use mir.Facts.{toZ-ofZ}
 use Rattle.pixel_segment.proofs.search.search_last_by_tile_x_at_least.Statement.{statement}
 use Rattle.pixel_segment.proofs.search.search_last_by_tile_x_at_least.Tie as tie
-use Rattle.pixel_segment.proofs.search.search_last_by_tile_x_at_least.Reads as reads
-use Rattle.pixel_segment.proofs.search.search_last_by_tile_x_at_least.Lts as lts
-use Rattle.pixel_segment.proofs.search.search_last_by_key.Reads as search-last-by-key-reads
 
 search-last-by-key-requires : tie.Need-search-last-by-key-requires
 search-last-by-key-requires c κs = search needs
