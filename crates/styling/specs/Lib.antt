@@ -1,2 +1,4 @@
 -- How layers are drawn: what the contracts say.
 pub mod Codes
+pub mod Color
+pub mod Style

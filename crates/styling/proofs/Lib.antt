@@ -1,0 +1,2 @@
+-- Laws of layer records and their table.
+pub mod Coded
