@@ -1,2 +1,7 @@
 -- Laws of layer records and their table.
 pub mod Coded
+pub mod Ascents
+pub mod Places
+pub mod Listed
+pub mod Halving
+pub mod Judging
