@@ -5,3 +5,6 @@ pub mod Places
 pub mod Listed
 pub mod Halving
 pub mod Judging
+pub mod Looking
+pub mod Ranges
+pub mod Cases

@@ -11,7 +11,7 @@ use lib.Dec.{eqb}
 use lib.ListN.{length, getD}
 use borrow.Author.Tests.{eqb-true, eqb-false, eq-eqb, ne-eqb}
 use Rattle.laws.specs.Answer.{Answer, refused, given}
-use Rattle.laws.proofs.Bools.{either}
+use Rattle.laws.proofs.Orders.{eq-or-ne}
 use Rattle.styling.specs.declared.Layer.{Layer}
 use Rattle.styling.specs.Ascending.{ascendsFrom}
 use Rattle.styling.specs.Lookup.{lookup, placeFrom}
@@ -43,3 +43,25 @@ pub place-none : (k : ℕ) (xs : List ℕ) (id : ℕ) → ((i : ℕ) → i < len
 unfolding placeFrom
 place-none k [] id h = refl
 place-none k (x ∷ xs) id h = place-past k x xs id (h 0 (omega arith)) ∙ place-none (suc k) xs id (λ i p. h (suc i) (omega arith))
+
+-- ---- where an answer comes from, in any list
+
+pub data Sought (k : ℕ) (xs : List ℕ) (id : ℕ) : Type 0 where
+  held : (i : ℕ) → i < length xs → getD xs i 0 ≡ id → placeFrom k xs id ≡ given (k + i) → Sought k xs id
+  missed : ((i : ℕ) → i < length xs → getD xs i 0 ≡ id → ⊥) → placeFrom k xs id ≡ refused 8 → Sought k xs id
+
+pub sought : (k : ℕ) (xs : List ℕ) (id : ℕ) → Sought k xs id
+unfolding placeFrom
+sought k [] id = missed (λ i p e. not-suc-le-zero p) refl
+sought k (x ∷ xs) id = ⊎-elim here (λ n. later n (sought (suc k) xs id)) (eq-or-ne x id)
+  where
+    here : x ≡ id → Sought k (x ∷ xs) id
+    here e = held 0 (omega arith) e (place-here k x xs id e ∙ ap given (sym (add-zero k)))
+
+    later : (x ≡ id → ⊥) → Sought (suc k) xs id → Sought k (x ∷ xs) id
+    later n (held i p e q) = held (suc i) (omega arith) e (place-past k x xs id n ∙ q ∙ ap given (suc-add k i ∙ sym (add-suc k i)))
+    later n (missed h q) = missed nowhere (place-past k x xs id n ∙ q)
+      where
+        nowhere : (i : ℕ) → i < length (x ∷ xs) → getD (x ∷ xs) i 0 ≡ id → ⊥
+        nowhere zero p e = n e
+        nowhere (suc i) p e = h i (le-of-suc-le-suc p) e
