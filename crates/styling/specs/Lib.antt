@@ -1,2 +1,8 @@
 -- How layers are drawn: what the contracts say.
 pub mod Codes
+pub mod Color
+pub mod Style
+pub mod Ascending
+pub mod Record
+pub mod Table
+pub mod Lookup

@@ -1,0 +1,88 @@
+-- Cases of document 01 on colours and tables, as theorems over the definitions: NaN equals nothing and both zeros agree; equal ids, blend
+-- mode 16 and what is past an edge are refused, and the edges pass. Assumes nothing.
+use mathlib.Core.Path.{_≡_, refl}
+use mathlib.Core.Bool.{true, false, _&&_}
+use mathlib.Core.List.{List, [], _∷_, _++_}
+use Prim.Native.Nat.{ℕ, _-_, _^_}
+use lib.Ieee.{Float, nan, eq, ofBits, binary32}
+use Rattle.laws.proofs.Bools.{not-left, not-right}
+use Rattle.styling.specs.declared.Color.{Color}
+use Rattle.styling.specs.Ascending.{ascendsFrom}
+use Rattle.styling.specs.Color.{sameColor}
+use Rattle.styling.specs.Style.{isOpaque}
+use Rattle.styling.specs.Table.{isShort, isValid, isTable, layerAt}
+
+-- ---- colours
+
+pub nan-equals : (x y : Float) → x ≡ nan → eq x y ≡ false
+unfolding eq
+nan-equals x y e = rw e refl
+
+-- in whichever field it stands
+module _ (c d : Color) where
+  pub nan-red : c .r ≡ nan → sameColor c d ≡ false
+  nan-red e = rw (nan-equals (c .r) (d .r) e) refl
+
+  pub nan-green : c .g ≡ nan → sameColor c d ≡ false
+  nan-green e = rw (nan-equals (c .g) (d .g) e) (not-left _ (eq (c .a) (d .a)) (not-left _ (eq (c .b) (d .b)) (not-right (eq (c .r) (d .r)) false refl)))
+
+  pub nan-blue : c .b ≡ nan → sameColor c d ≡ false
+  nan-blue e = rw (nan-equals (c .b) (d .b) e) (not-left _ (eq (c .a) (d .a)) (not-right (eq (c .r) (d .r) && eq (c .g) (d .g)) false refl))
+
+  pub nan-alpha : c .a ≡ nan → sameColor c d ≡ false
+  nan-alpha e = rw (nan-equals (c .a) (d .a) e) (not-right (eq (c .r) (d .r) && eq (c .g) (d .g) && eq (c .b) (d .b)) false refl)
+
+-- 0 and -0, by their bit patterns
+pub zeros-agree : eq (ofBits binary32 0) (ofBits binary32 0x80000000) ≡ true
+unfolding eq ofBits
+zeros-agree = refl
+
+-- ---- tables of one or two draws in black, each of an id and a blend mode
+
+abbrev pub draw : ℕ → ℕ → List ℕ
+draw id mode = id ∷ 0 ∷ 0 ∷ 0 ∷ 0 ∷ 0 ∷ mode ∷ 0 ∷ []
+
+abbrev pub black : List Float
+black = ofBits binary32 0 ∷ ofBits binary32 0 ∷ ofBits binary32 0 ∷ ofBits binary32 0x3F800000 ∷ []
+
+pub equal-ids : isTable (draw 4 0 ++ draw 4 0) (black ++ black) 2 ≡ false
+unfolding isTable isShort isValid ascendsFrom ofBits
+equal-ids = refl
+
+pub ascending-ids : isTable (draw 4 0 ++ draw 5 0) (black ++ black) 2 ≡ true
+unfolding isTable isShort isValid ascendsFrom ofBits
+ascending-ids = refl
+
+pub mode-15 : isTable (draw 4 15) black 1 ≡ true
+unfolding isTable isShort isValid ascendsFrom ofBits
+mode-15 = refl
+
+pub mode-16 : isTable (draw 4 16) black 1 ≡ false
+unfolding isTable isShort isValid ascendsFrom ofBits
+mode-16 = refl
+
+pub id-at-the-limit : isTable (draw 2097151 0) black 1 ≡ true
+unfolding isTable isShort isValid ascendsFrom ofBits
+id-at-the-limit = refl
+
+pub id-past-the-limit : isTable (draw 2097152 0) black 1 ≡ false
+unfolding isTable isShort isValid ascendsFrom ofBits
+id-past-the-limit = refl
+
+-- however large the count
+pub short : isShort (draw 4 0) black (2 ^ 64 - 1) ≡ true
+unfolding isShort ofBits
+short = refl
+
+-- four floats short of the second record
+pub short-of-floats : isShort (draw 4 0 ++ draw 5 0) black 2 ≡ true
+unfolding isShort ofBits
+short-of-floats = refl
+
+pub opaque-draw : isOpaque (layerAt (draw 4 0) black 0 .props .func) ≡ true
+unfolding eq ofBits
+opaque-draw = refl
+
+pub multiplied-draw : isOpaque (layerAt (draw 4 1) black 0 .props .func) ≡ false
+unfolding eq ofBits
+multiplied-draw = refl

@@ -1,0 +1,29 @@
+-- `styling::Fill::solid_color` meets its contract.
+-- Assumes nothing.
+use mathlib.Core.Path.{sym, ap}
+use Rattle.styling.specs.Style.{fillColor}
+use borrow.Author.Needs.{needs}
+use Rattle.styling.proofs.Fill.solid_color.Statement.{statement}
+use Rattle.styling.proofs.Fill.solid_color.Tie as tie
+
+enum-known-self : tie.Need-enum-known-self
+enum-known-self c = search needs
+
+enum-told : tie.Need-enum-told
+enum-told c = search needs
+
+enum-told-2 : tie.Need-enum-told-2
+enum-told-2 c = search needs
+
+returns : tie.Need-returns
+returns c = sym (ap fillColor (c .before .self .given .1))
+
+returns-2 : tie.Need-returns-2
+returns-2 c = search needs
+
+returns-3 : tie.Need-returns-3
+returns-3 c = search needs
+
+pub solid-color-spec : {M : Type 1} → statement M
+solid-color-spec =
+    tie.close (tie.spec enum-known-self enum-told enum-told-2 returns returns-2 returns-3)

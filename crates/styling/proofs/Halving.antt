@@ -1,0 +1,74 @@
+-- Halving an ascending table: what holds of the `len` places from `start` on that are left. No place outside them has the id.
+-- Assumes nothing.
+use mathlib.Core.Path.{_≡_, sym, ap, subst, _∙_}
+use mathlib.Core.Bool.{true}
+use mathlib.Core.Logic.{⊎-elim}
+use mathlib.Core.List.{List}
+use Prim.Native.Nat.{ℕ, _+_, _-_, _/_, _≤_, _<_}
+use native.Mathlib.Nat.{eq-or-lt-of-le, zero-add}
+use native.Mathlib.Omega.{arith}
+use lib.ListN.{length, getD}
+use Rattle.laws.specs.Answer.{Answer, refused, given}
+use Rattle.laws.proofs.Orders.{le-or-lt}
+use Rattle.styling.specs.Ascending.{ascends}
+use Rattle.styling.specs.Table.{idAt, idsOf}
+use Rattle.styling.specs.Lookup.{placeOf}
+use Rattle.styling.proofs.Listed.{length-ids, getD-ids, ids-lt}
+use Rattle.styling.proofs.Places.{place-at, place-none}
+
+pub record Halving (words : List ℕ) (count id start len : ℕ) : Type 0 where
+  pub some : 0 < len
+  pub within : start + len ≤ count
+  pub below : (i : ℕ) → i < start → idAt words i < id
+  pub above : (i : ℕ) → start + len ≤ i → i < count → id < idAt words i
+
+pub begin : (words : List ℕ) (count id : ℕ) → 0 < count → Halving words count id 0 count
+begin words count id h =
+    record {
+      some = h;
+      within = omega arith;
+      below = λ i p. absurd (omega arith);
+      above = λ i p q. absurd (omega arith);
+    }
+
+module _ {words : List ℕ} {count id start len : ℕ} (left : Halving words count id start len) (asc : ascends (idsOf words count) ≡ true) where
+  -- an element is at most another if it stands no later
+  ordered : (i j : ℕ) → i ≤ j → j < count → idAt words i ≤ idAt words j
+  ordered i j p q = ⊎-elim (λ e. omega (arith, ap (idAt words) e)) (λ l. omega (arith, ids-lt words count asc i j l q)) (eq-or-lt-of-le p)
+
+  pub upper : 1 < len → idAt words (start + len / 2) ≤ id → Halving words count id (start + len / 2) (len - len / 2)
+  upper h e =
+      record {
+        some = omega arith;
+        within = omega arith;
+        below = λ i p. omega (arith, ids-lt words count asc i (start + len / 2) p (omega arith));
+        above = λ i p q. left .above i (omega arith) q;
+      }
+
+  pub lower : 1 < len → id < idAt words (start + len / 2) → Halving words count id start (len / 2)
+  lower h e =
+      record {
+        some = omega arith;
+        within = omega arith;
+        below = left .below;
+        above = λ i p q. omega (arith, ordered (start + len / 2) i p q);
+      }
+
+  pub found : idAt words start ≡ id → given start ≡ placeOf (idsOf words count) id
+  found e =
+      ap given (sym (zero-add start))
+      ∙ sym (place-at 0 0 (idsOf words count) start id asc (rw (length-ids words count) (omega arith)) (getD-ids words count start (omega arith) ∙ e))
+
+  pub absent : len ≤ 1 → (idAt words start ≡ id → ⊥) → refused 8 ≡ placeOf (idsOf words count) id
+  absent h e = sym (place-none 0 (idsOf words count) id (λ i p q. not-at i (rw (length-ids words count) at p) (sym (getD-ids words count i (rw (length-ids words count) at p)) ∙ q)))
+    where
+      not-at : (i : ℕ) → i < count → idAt words i ≡ id → ⊥
+      not-at i p q =
+          ⊎-elim
+          (λ a. ⊎-elim (λ s. e (ap (idAt words) s ∙ q)) (λ s. omega (arith, left .above i (omega arith) p)) (eq-or-lt-of-le a))
+          (λ b. omega (arith, left .below i b))
+          (le-or-lt start i)
+
+-- a table of no records has no place
+pub none : (words : List ℕ) {count : ℕ} (id : ℕ) → count ≡ 0 → refused 8 ≡ placeOf (idsOf words count) id
+none words {count} id e = sym (place-none 0 (idsOf words count) id (λ i p q. absurd (omega (arith, p, e, length-ids words count))))

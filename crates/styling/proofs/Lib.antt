@@ -1,0 +1,10 @@
+-- Laws of layer records and their table.
+pub mod Coded
+pub mod Ascents
+pub mod Places
+pub mod Listed
+pub mod Halving
+pub mod Judging
+pub mod Looking
+pub mod Ranges
+pub mod Cases

@@ -1,0 +1,23 @@
+-- `styling::codes::fill` meets its contract.
+-- Assumes nothing.
+use mathlib.Core.Path.{refl, sym}
+use native.Mathlib.Omega.{arith}
+use lib.ListN.{take}
+use Rattle.styling.specs.declared.Fill.the-variants.{Texture}
+use Rattle.styling.specs.Codes.{fills}
+use Rattle.styling.proofs.Coded.{last-case}
+use borrow.Author.Needs.{needs}
+use Rattle.styling.proofs.codes.fill.Statement.{statement}
+use Rattle.styling.proofs.codes.fill.Tie as tie
+
+returns : tie.Need-returns
+returns c = rw (c .match .keys1) refl
+
+returns-2 : tie.Need-returns-2
+returns-2 c = search needs
+
+returns-3 : tie.Need-returns-3
+returns-3 c = sym (last-case (take 2 (fills (c .before .args .color))) Texture (c .before .args .code) (omega arith))
+
+pub fill-spec : {M : Type 1} → statement M
+fill-spec = tie.close (tie.spec returns returns-2 returns-3)

@@ -1,0 +1,80 @@
+-- `styling::table::find` meets its contract. What holds of the places that are left is `Halving`.
+-- Assumes nothing.
+use mathlib.Core.Path.{sym, _∙_}
+use native.Mathlib.Omega.{arith}
+use Rattle.styling.proofs.Halving.{Halving, begin, upper, lower, found, absent, none}
+use Rattle.styling.proofs.table.find.Statement.{statement}
+use Rattle.styling.proofs.table.find.Tie as tie
+
+abbrev Inv-loop : tie.InvT-loop
+Inv-loop layers count id start₀ len₀ start len = Halving layers count id start len
+
+abbrev μ-loop : tie.MeasureT-loop
+μ-loop layers count id start₀ len₀ start len = len
+
+returns : tie.Need-returns Inv-loop μ-loop
+returns c = none _ _ (c .if1 .taken)
+
+loop-holds : tie.Need-loop-holds Inv-loop μ-loop
+loop-holds c = begin _ _ _ (omega arith)
+
+add-id-at : tie.Need-add-id-at Inv-loop μ-loop
+add-id-at c = omega arith
+
+id-at-requires : tie.Need-id-at-requires Inv-loop μ-loop
+id-at-requires c κs = omega arith
+
+add-start : tie.Need-add-start Inv-loop μ-loop
+add-start c = omega arith
+
+sub-len : tie.Need-sub-len Inv-loop μ-loop
+sub-len c = omega arith
+
+loop-less : tie.Need-loop-less Inv-loop μ-loop
+loop-less c = omega arith
+
+loop-again : tie.Need-loop-again Inv-loop μ-loop
+loop-again c =
+    let turn = c .before .before in
+    upper (turn .before .loop .inv) (turn .before .before .before .before .pre .1) (turn .loop-test .taken) (omega (arith, c .before .id-at .ensures))
+
+loop-less-2 : tie.Need-loop-less-2 Inv-loop μ-loop
+loop-less-2 c = omega arith
+
+loop-again-2 : tie.Need-loop-again-2 Inv-loop μ-loop
+loop-again-2 c =
+    let turn = c .before .before in
+    lower (turn .before .loop .inv) (turn .before .before .before .before .pre .1) (turn .loop-test .taken) (omega (arith, c .before .id-at .ensures))
+
+id-at-requires-2 : tie.Need-id-at-requires-2 Inv-loop μ-loop
+id-at-requires-2 c κs = omega arith
+
+returns-2 : tie.Need-returns-2 Inv-loop μ-loop
+returns-2 c =
+    let turn = c .before .before in
+    found (turn .before .loop .inv) (turn .before .before .before .before .pre .1) (sym (c .before .id-at2 .ensures) ∙ c .if3 .taken)
+
+returns-3 : tie.Need-returns-3 Inv-loop μ-loop
+returns-3 c =
+    let turn = c .before .before in
+    absent (turn .before .loop .inv) (turn .before .before .before .before .pre .1) (turn .loop-test .left) (λ e. c .if3 .left (c .before .id-at2 .ensures ∙ e))
+
+pub find-spec : {M : Type 1} → statement M
+find-spec =
+    tie.close
+    (tie.spec
+    Inv-loop
+    μ-loop
+    returns
+    loop-holds
+    add-id-at
+    id-at-requires
+    add-start
+    sub-len
+    loop-less
+    loop-again
+    loop-less-2
+    loop-again-2
+    id-at-requires-2
+    returns-2
+    returns-3)

@@ -1,0 +1,15 @@
+-- `styling::table::is_short` meets its contract.
+-- Assumes nothing.
+use Prim.Native.Nat.{_/_}
+use lib.ListN.{length}
+use Rattle.styling.specs.Table.{isShort}
+use Rattle.styling.proofs.Judging.{ltb-min}
+use Rattle.styling.proofs.table.is_short.Statement.{statement}
+use Rattle.styling.proofs.table.is_short.Tie as tie
+
+returns : tie.Need-returns
+unfolding isShort
+returns c = ltb-min (length (c .args .layers .now) / 8) (length (c .args .colors .now) / 4) (c .args .count)
+
+pub is-short-spec : {M : Type 1} → statement M
+is-short-spec = tie.close (tie.spec returns)

@@ -1,0 +1,77 @@
+-- `styling::table::is_table` meets its contract. What holds while the records are passed is `Judging`.
+-- Assumes nothing.
+use Prim.Native.Nat.{_-_}
+use mathlib.Core.Path.{_≡_, sym, _∙_}
+use mathlib.Core.Bool.{false}
+use native.Mathlib.Omega.{arith}
+use borrow.Author.Needs.{needs}
+use Rattle.styling.specs.Table.{isShort}
+use Rattle.styling.proofs.Judging.{Judging, begin, next, end, long, table-short, table-long}
+use Rattle.styling.proofs.table.is_table.Statement.{statement}
+use Rattle.styling.proofs.table.is_table.Tie as tie
+
+abbrev Inv-loop : tie.InvT-loop
+Inv-loop layers colors count ok₀ low₀ i₀ ok low i = Judging layers count i ok low
+
+abbrev μ-loop : tie.MeasureT-loop
+μ-loop layers colors count ok₀ low₀ i₀ ok low i = count - i
+
+is-short-requires : tie.Need-is-short-requires Inv-loop μ-loop
+is-short-requires c κs = search needs
+
+returns : tie.Need-returns Inv-loop μ-loop
+returns c = table-short _ _ _ (sym (c .before .is-short .ensures) ∙ c .if1 .taken)
+
+loop-holds : tie.Need-loop-holds Inv-loop μ-loop
+loop-holds c = begin _ _
+
+-- the test at the front says that every record is there
+fits : (c : tie.In-loop Inv-loop μ-loop) → isShort (c .before .before .before .before .before .before .args .layers .now) (c .before .before .before .before .before .before .args .colors .now) (c .before .before .before .before .before .before .args .count) ≡ false
+fits c = sym (c .before .before .before .is-short .ensures) ∙ c .before .before .if1 .left
+
+words-at-requires : tie.Need-words-at-requires Inv-loop μ-loop
+words-at-requires c κs = omega (arith, long (fits c))
+
+cast-id : tie.Need-cast-id Inv-loop μ-loop
+cast-id c = omega arith
+
+is-in-range-requires : tie.Need-is-in-range-requires Inv-loop μ-loop
+is-in-range-requires c κs = search needs
+
+add-low : tie.Need-add-low Inv-loop μ-loop
+add-low c = omega arith
+
+add-i : tie.Need-add-i Inv-loop μ-loop
+add-i c = omega arith
+
+loop-less : tie.Need-loop-less Inv-loop μ-loop
+loop-less c = omega arith
+
+loop-again : tie.Need-loop-again Inv-loop μ-loop
+loop-again c =
+    let read = c .before .before in
+    let turn = read .before in
+    next (turn .before .loop .inv) (turn .loop-test .taken) (read .words-at .ensures) (c .is-in-range .ensures)
+
+returns-2 : tie.Need-returns-2 Inv-loop μ-loop
+returns-2 c =
+    table-long _ _ _ (sym (c .before .before .before .is-short .ensures) ∙ c .before .before .if1 .left)
+    (end (c .before .loop .inv) (c .loop-test .left))
+
+pub is-table-spec : {M : Type 1} → statement M
+is-table-spec =
+    tie.close
+    (tie.spec
+    Inv-loop
+    μ-loop
+    is-short-requires
+    returns
+    loop-holds
+    words-at-requires
+    cast-id
+    is-in-range-requires
+    add-low
+    add-i
+    loop-less
+    loop-again
+    returns-2)
