@@ -3,3 +3,7 @@ pub mod Weights
 pub mod Floats
 pub mod Coverages
 pub mod Testing
+pub mod Filled
+pub mod Tables
+pub mod Carries
+pub mod Loads

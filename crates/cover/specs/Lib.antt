@@ -4,3 +4,5 @@ pub mod Weight
 pub mod Coverage
 pub mod Plane
 pub mod Mark
+pub mod Carry
+pub mod Load

@@ -1,4 +1,5 @@
 // The arithmetic of the painter (painter/mod.rs): covers, doubled areas, weights, coverages, planes, marks.
+pub mod carry;
 pub mod weight;
 
 use styling::FillRule;
@@ -15,7 +16,7 @@ fn is_row_empty(cover: i8, rule: FillRule) -> bool
     ensures { λ r. ⌜ r ≡ emptyAt rule cover ⌝ }
 {
     match rule {
-        FillRule::NonZero => weight::magnitude(cover as i16) == 0,
+        FillRule::NonZero => weight::cover_magnitude(cover) == 0,
         FillRule::EvenOdd => weight::rest_of_cover(cover) == 0,
     }
 }
@@ -25,7 +26,7 @@ fn is_row_full(cover: i8, rule: FillRule) -> bool
     ensures { λ r. ⌜ r ≡ fullAt rule cover ⌝ }
 {
     match rule {
-        FillRule::NonZero => weight::magnitude(cover as i16) == 16,
+        FillRule::NonZero => weight::cover_magnitude(cover) == 16,
         FillRule::EvenOdd => weight::rest_of_cover(cover) == 16,
     }
 }

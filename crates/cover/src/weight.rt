@@ -18,6 +18,13 @@ pub fn magnitude(x: i16) -> u16
     }
 }
 
+// The absolute value of a cover, of -128 too.
+pub fn cover_magnitude(cover: i8) -> u16
+    ensures { λ r. ⌜ (r ≡ natAbs cover) × (r ≤ 128) ⌝ }
+{
+    magnitude(cover as i16)
+}
+
 // The remainder of a cover by 32. 128 is a multiple of 32, and with it no cover is negative.
 pub fn rest_of_cover(cover: i8) -> u8
     ensures { λ r. ⌜ r ≡ modℤ 32 cover ⌝ }
