@@ -1,0 +1,9 @@
+-- Laws that the proofs of this crate and of those above it cite.
+pub mod Weights
+pub mod Floats
+pub mod Coverages
+pub mod Testing
+pub mod Filled
+pub mod Tables
+pub mod Carries
+pub mod Loads

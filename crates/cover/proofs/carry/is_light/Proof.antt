@@ -1,0 +1,40 @@
+-- `cover::carry::is_light` meets its contract. Assumes nothing.
+use mathlib.Core.Path.{ap, _∙_}
+use mathlib.Core.List.{List}
+use Prim.Native.Nat.{ℕ}
+use Rattle.pixel_segment.specs.Field.{cpu}
+use Rattle.cover.specs.Load.{loadsOf, allLight}
+use Rattle.cover.proofs.Loads.{loads-judge}
+use borrow.Author.Needs.{needs}
+use Rattle.cover.proofs.carry.is_light.Statement.{statement}
+use Rattle.cover.proofs.carry.is_light.Tie as tie
+use Rattle.cover.proofs.carry.is_light.Reads as reads
+use Rattle.cover.proofs.carry.is_light.Lts as lts
+use Rattle.cover.proofs.carry.add_loads.Reads as add-loads-reads
+use Rattle.cover.proofs.carry.are_light.Reads as are-light-reads
+use Rattle.cover.proofs.carry.magnitudes.Reads as magnitudes-reads
+
+-- src/carry.rt:76:31
+magnitudes-requires : tie.Need-magnitudes-requires
+magnitudes-requires c κs = search needs
+
+-- src/carry.rt:76:15
+add-loads-requires : tie.Need-add-loads-requires
+add-loads-requires c κs = search needs
+
+-- src/carry.rt:76:5
+are-light-requires : tie.Need-are-light-requires
+are-light-requires c κs = search needs
+
+-- src/carry.rt:72:1
+returns : tie.Need-returns
+returns c =
+    let m = c .before .before in
+    let s = m .before .before .before in
+    c .are-light .ensures
+    ∙ ap allLight (c .before .add-loads .ensures ∙ ap (λ (l : List ℕ). loadsOf cpu 16 l (s .args .part .now)) (m .magnitudes .ensures .same))
+    ∙ loads-judge cpu 16 (s .args .cover .covers) (s .args .part .now)
+
+pub is-light-spec : {M : Type 1} → statement M
+is-light-spec =
+    tie.close (tie.spec magnitudes-requires add-loads-requires are-light-requires returns)

@@ -1,0 +1,8 @@
+-- Covers, areas, coverage: what the contracts say.
+pub mod Cover
+pub mod Weight
+pub mod Coverage
+pub mod Plane
+pub mod Mark
+pub mod Carry
+pub mod Load

@@ -1,0 +1,111 @@
+// The covers of a part of a row added to an incoming cover: what a tile hands on. Refused by 9 where a pixel row's absolute covers exceed 127.
+use crate::Cover;
+use crate::weight;
+use pixel_segment::PixelSegment;
+ghost use mathlib.Core.Path.{_≡_};
+ghost use mathlib.Core.Bool.{true};
+ghost use Prim.Native.Nat.{_+_, _≤_, min};
+ghost use lib.IntN.{natAbs};
+ghost use Rattle.pixel_segment.specs.Field.{cpu};
+ghost use Rattle.cover.specs.Carry.{isLight, carryOf, Adding};
+ghost use Rattle.cover.specs.Load.{Capped, Magnitudes, loadsOf, allLight};
+
+// What adding answers: the carry, or refusal 9 and the cover as it came. An enum can't hold the array of a cover, so a flag tells the two.
+pub struct Carried {
+    pub accepted: bool,
+    pub cover: Cover,
+}
+
+// The absolute value of each cover.
+fn magnitudes(covers: [i8; 16]) -> [u16; 16]
+    ensures { λ r. ⌜ Magnitudes covers r ⌝ }
+{
+    let mut loads = [0u16; 16];
+    let mut y = 0;
+    while y < 16 {
+        loads[y] = weight::cover_magnitude(covers[y]);
+        y += 1;
+    }
+    loads
+}
+
+// A load with one cover more; 128 stands for all that is above 127, so no load outgrows its type.
+fn raised(load: u16, cover: i8) -> u16
+    requires { ⌜ load ≤ 128 ⌝ }
+    ensures { λ r. ⌜ r ≡ min (load + natAbs cover) 128 ⌝ }
+{
+    let sum = load + weight::cover_magnitude(cover);
+    if sum < 128 { sum } else { 128 }
+}
+
+// The absolute covers of each pixel row, in one pass over the segments.
+fn add_loads(part: &[u64], incoming: [u16; 16]) -> [u16; 16]
+    requires { ⌜ Capped incoming ⌝ }
+    ensures { λ r. ⌜ r ≡ loadsOf cpu 16 incoming (now (part .entry)) ⌝ }
+{
+    let mut loads = incoming;
+    let mut i = 0;
+    while i < part.len() {
+        let segment = PixelSegment(part[i]);
+        let y = segment.local_y() as usize;
+        let load = raised(loads[y], segment.cover());
+        loads[y] = load;
+        i += 1;
+    }
+    loads
+}
+
+// Whether no load is above 127.
+fn are_light(loads: [u16; 16]) -> bool
+    ensures { λ r. ⌜ r ≡ allLight loads ⌝ }
+{
+    let mut ok = true;
+    let mut y = 0;
+    while y < 16 {
+        ok = ok & (loads[y] <= 127);
+        y += 1;
+    }
+    ok
+}
+
+// Number 9: whether it applies at no pixel row.
+pub fn is_light(part: &[u64], cover: Cover) -> bool
+    ensures { λ r. ⌜ r ≡ isLight cpu 16 (cover .covers) (now (part .entry)) ⌝ }
+{
+    let covers = cover.covers;
+    are_light(add_loads(part, magnitudes(covers)))
+}
+
+// The carry of a part that number 9 does not refuse.
+pub fn add_segments(part: &[u64], cover: Cover) -> Cover
+    requires { ⌜ isLight cpu 16 (cover .covers) (now part) ≡ true ⌝ }
+    ensures { λ r. ⌜ r .covers ≡ carryOf cpu 16 (cover .covers) (now (part .entry)) ⌝ }
+{
+    let mut covers = cover.covers;
+    let mut i = 0;
+    while i < part.len() {
+        let segment = PixelSegment(part[i]);
+        let y = segment.local_y() as usize;
+        covers[y] = covers[y] + segment.cover();
+        i += 1;
+    }
+    Cover { covers }
+}
+
+// The carry of any part, or refusal 9.
+pub fn carry(part: &[u64], cover: Cover) -> Carried
+    ensures { λ r. ⌜ Adding cpu 16 (cover .covers) (now (part .entry)) r ⌝ }
+{
+    if is_light(part, cover) {
+        let sum = add_segments(part, cover);
+        Carried {
+            accepted: true,
+            cover: sum,
+        }
+    } else {
+        Carried {
+            accepted: false,
+            cover,
+        }
+    }
+}

@@ -1,0 +1,60 @@
+// The arithmetic of the painter (painter/mod.rs): covers, doubled areas, weights, coverages, planes, marks.
+pub mod carry;
+pub mod weight;
+
+use styling::FillRule;
+ghost use mathlib.Core.Path.{_≡_};
+ghost use Rattle.cover.specs.Cover.{emptyAt, fullAt, isEmpty, isFull};
+
+// One signed byte for each pixel row of a tile: 16 is a whole pixel, once around.
+pub struct Cover {
+    pub covers: [i8; 16],
+}
+
+// Whether a row's cover leaves all to its right outside.
+fn is_row_empty(cover: i8, rule: FillRule) -> bool
+    ensures { λ r. ⌜ r ≡ emptyAt rule cover ⌝ }
+{
+    match rule {
+        FillRule::NonZero => weight::cover_magnitude(cover) == 0,
+        FillRule::EvenOdd => weight::rest_of_cover(cover) == 0,
+    }
+}
+
+// Whether it leaves all to its right inside.
+fn is_row_full(cover: i8, rule: FillRule) -> bool
+    ensures { λ r. ⌜ r ≡ fullAt rule cover ⌝ }
+{
+    match rule {
+        FillRule::NonZero => weight::cover_magnitude(cover) == 16,
+        FillRule::EvenOdd => weight::rest_of_cover(cover) == 16,
+    }
+}
+
+impl Cover {
+    pub fn is_empty(self, rule: FillRule) -> bool
+        ensures { λ r. ⌜ r ≡ isEmpty rule (self .covers) ⌝ }
+    {
+        let covers = self.covers;
+        let mut ok = true;
+        let mut y = 0;
+        while y < 16 {
+            ok = ok & is_row_empty(covers[y], rule);
+            y += 1;
+        }
+        ok
+    }
+
+    pub fn is_full(self, rule: FillRule) -> bool
+        ensures { λ r. ⌜ r ≡ isFull rule (self .covers) ⌝ }
+    {
+        let covers = self.covers;
+        let mut ok = true;
+        let mut y = 0;
+        while y < 16 {
+            ok = ok & is_row_full(covers[y], rule);
+            y += 1;
+        }
+        ok
+    }
+}
