@@ -1,0 +1,65 @@
+-- The third pass (`skip_fully_covered_layers_pass`), as the Rust goes: from the highest shown layer down to the first one that hides all below
+-- it. It finds the first cover that tells whether the tile can be solid, whether the layers looked at are unchanged, and how many are skipped.
+use mathlib.Core.Bool.{Bool, true, false, cond, not, _&&_, _||_}
+use mathlib.Core.List.{List, [], _∷_}
+use mathlib.Core.Option.{Option, some, none}
+use Prim.Native.Nat.{ℕ, zero, suc}
+use lib.ListN.{length, getD}
+use Rattle.styling.specs.declared.Color.{Color}
+use Rattle.styling.specs.declared.Func.the-variants.{Clip}
+use Rattle.styling.specs.Style.{isClipped, isOpaque, solidColor}
+use Rattle.passes.specs.declared.Index.{Index}
+use Rattle.passes.specs.declared.item.Item.{Item}
+use Rattle.passes.specs.declared.covered.InterestingCover.{InterestingCover}
+use Rattle.passes.specs.declared.covered.InterestingCover.the-variants.{Absent, Opaque, Incomplete}
+use Rattle.passes.specs.declared.covered.Covered.{Covered}
+
+-- the first one stands
+abbrev pub firstOf : InterestingCover → InterestingCover → InterestingCover
+firstOf Absent c = c
+firstOf (Opaque color) c = Opaque color
+firstOf Incomplete c = Incomplete
+
+-- the colour of an opaque layer
+abbrev pub opaqueOf : Option Color → InterestingCover
+opaqueOf (some color) = Opaque color
+opaqueOf none = Incomplete
+
+-- the layer does not cover the whole tile: it needs a clip, or is not full
+abbrev pub isPartial : Item → Bool → Bool
+isPartial x unclipped = (isClipped (x .func) && not unclipped) || not (x .full)
+
+-- the layer hides all below it: it covers the whole tile, and is opaque
+abbrev pub hides : Item → Bool → Bool
+hides x unclipped = not (isPartial x unclipped) && isOpaque (x .func)
+
+-- what a look at a layer adds: it may be the first cover that tells; and it may be changed
+abbrev pub tells : Item → Bool → InterestingCover
+tells x unclipped = cond (isPartial x unclipped) Incomplete (cond (isOpaque (x .func)) (opaqueOf (solidColor (x .func))) Absent)
+
+abbrev pub lookAt : Item → Bool → ℕ → Covered → Covered
+lookAt x unclipped i found =
+    record {
+      first = firstOf (found .first) (tells x unclipped);
+      unchanged = found .unchanged && x .unchanged;
+      skipped = cond (hides x unclipped) (record { 0 = i }) (found .skipped);
+    }
+
+-- the layer in place i
+abbrev pub itemAt : List Item → ℕ → Item
+itemAt items i = getD items i (record { id = 0; full = false; func = Clip 0; unchanged = false })
+
+-- the n lowest layers are left to look at; a masked one is passed by
+unfoldable pub coveredFrom : List Item → List Bool → List Bool → ℕ → Covered → Covered
+coveredFrom items shown unclipped zero found = found
+coveredFrom items shown unclipped (suc i) found =
+    let x = itemAt items i in
+    let free = getD unclipped i false in
+    let past = coveredFrom items shown unclipped i found in
+    let seen = lookAt x free i found in
+    let on = coveredFrom items shown unclipped i seen in
+    cond (getD shown i false) (cond (hides x free) seen on) past
+
+abbrev pub coveredOf : List Item → List Bool → List Bool → Bool → Covered
+coveredOf items shown unclipped removed =
+    coveredFrom items shown unclipped (length items) (record { first = Absent; unchanged = not removed; skipped = record { 0 = 0 } })

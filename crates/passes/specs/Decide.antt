@@ -1,0 +1,79 @@
+-- The decision about a tile (`optimization_passes`): none, solid with the bottom colour and how many shown layers (0 or 1) lie before those to
+-- mix above it, or paint; which layers are masked off, and how many are skipped. A layer that is neither is shown; a skipped one, masked off or
+-- not, is passed over as covered.
+use mathlib.Core.Path.{_≡_}
+use mathlib.Core.Bool.{Bool, true, false, cond, _&&_}
+use mathlib.Core.List.{List, [], _∷_}
+use mathlib.Core.Option.{Option, some, none}
+use Prim.Native.Nat.{ℕ, zero, suc, _+_}
+use lib.Dec.{leb}
+use lib.ListN.{length, drop, replicate}
+use Rattle.laws.specs.Lists.{all, over}
+use Rattle.styling.specs.declared.Color.{Color}
+use Rattle.styling.specs.Style.{solidColor}
+use Rattle.passes.specs.declared.Index.{Index}
+use Rattle.passes.specs.declared.item.Item.{Item}
+use Rattle.passes.specs.declared.covered.InterestingCover.{InterestingCover}
+use Rattle.passes.specs.declared.covered.InterestingCover.the-variants.{Absent, Opaque, Incomplete}
+use Rattle.passes.specs.declared.covered.Covered.{Covered}
+use Rattle.passes.specs.declared.decide.Decision.{Decision}
+use Rattle.passes.specs.declared.decide.Decision.the-variants.{None, Solid, Paint}
+use Rattle.passes.specs.declared.decide.Decided.{Decided}
+use Rattle.passes.specs.declared.unchanged.PreviousCount.{PreviousCount}
+use Rattle.passes.specs.Unchanged.{isKept, wereRemoved}
+use Rattle.passes.specs.Clips.{Marks, marksOf}
+use Rattle.passes.specs.Covered.{coveredOf}
+
+-- the layers that are shown: neither skipped nor masked off, ascending. i is the place of the first
+unfoldable pub shownFrom : ℕ → ℕ → List Item → List Bool → List Item
+shownFrom i skipped [] shown = []
+shownFrom i skipped (x ∷ xs) [] = []
+shownFrom i skipped (x ∷ xs) (s ∷ ss) = cond (s && leb skipped i) (x ∷ shownFrom (suc i) skipped xs ss) (shownFrom (suc i) skipped xs ss)
+
+abbrev pub shownOf : ℕ → List Item → List Bool → List Item
+shownOf skipped items shown = shownFrom 0 skipped items shown
+
+abbrev pub hasColor : Option Color → Bool
+hasColor (some c) = true
+hasColor none = false
+
+-- the layers after the first `below` shown ones all have a colour of their own to mix
+abbrev pub areSolid : ℕ → List Item → Bool
+areSolid below shown = all (λ x. hasColor (solidColor (x .func))) (drop below shown)
+
+-- by the first cover that tells: opaque and unchanged, nothing is drawn; opaque, its colour is the bottom and the layer itself is not mixed;
+-- none, the clear colour is; incomplete, the tile is painted
+abbrev pub decisionBy : InterestingCover → Bool → Color → List Item → Decision
+decisionBy Incomplete unchanged clear shown = Paint
+decisionBy (Opaque color) unchanged clear shown = cond unchanged None (cond (areSolid 1 shown) (Solid color 1) Paint)
+decisionBy Absent unchanged clear shown = cond (areSolid 0 shown) (Solid clear 0) Paint
+
+-- the three columns of the answer: the decision, which layers are not masked off, how many are skipped
+pub record Outcome : Type 0 where
+  pub decision : Decision
+  pub shown : List Bool
+  pub skipped : ℕ
+
+-- the second and the third pass
+abbrev pub passedOf : Color → Bool → List Item → Outcome
+passedOf clear removed items =
+    let marks = marksOf items in
+    let found = coveredOf items (marks .shown) (marks .unclipped) removed in
+    record {
+      decision = decisionBy (found .first) (found .unchanged) clear (shownOf (found .skipped .0) items (marks .shown));
+      shown = marks .shown;
+      skipped = found .skipped .0;
+    }
+
+-- all three: a kept tile has nothing masked off and nothing skipped
+unfoldable pub outcomeOf : Color → Bool → PreviousCount → List Item → Outcome
+outcomeOf clear clearUnchanged count items =
+    cond (isKept clearUnchanged count items)
+    (record { decision = None; shown = replicate (length items) true; skipped = 0 })
+    (passedOf clear (wereRemoved count (length items)) items)
+
+-- what deciding promises: the answer, and the lent column of shown layers
+pub record Deciding (o : Outcome) (old : List Bool) (r : Decided) (shown : List Bool) : Type 0 where
+  pub decision : r .decision ≡ o .decision
+  pub skipped : r .skipped .0 ≡ o .skipped
+  pub column : shown ≡ over (o .shown) old

@@ -1,0 +1,24 @@
+-- An entry of a tile's list: a layer id, the cover that comes in from the left (zeros where none does), and whether the layer has segments in
+-- the tile; and a list as it lies in three lent columns.
+use mathlib.Core.Bool.{Bool, false}
+use mathlib.Core.List.{List}
+use Prim.Native.Nat.{ℕ, _+_, _*_}
+use lib.IntN.{ℤ, pos}
+use lib.ListN.{getD}
+use Rattle.laws.specs.Lists.{tabulate}
+
+pub record Entry : Type 0 where
+  pub id : ℕ
+  pub cover : List ℤ
+  pub segments : Bool
+
+-- the sixteen covers of entry i
+abbrev pub coverFrom : List ℤ → ℕ → List ℤ
+coverFrom covers i = tabulate 16 (λ y. getD covers (16 * i + y) (pos 0))
+
+abbrev pub entryAt : List ℕ → List ℤ → List Bool → ℕ → Entry
+entryAt ids covers segments i = record { id = getD ids i 0; cover = coverFrom covers i; segments = getD segments i false }
+
+-- the first n entries
+unfoldable pub entriesOf : ℕ → List ℕ → List ℤ → List Bool → List Entry
+entriesOf n ids covers segments = tabulate n (entryAt ids covers segments)

@@ -1,0 +1,43 @@
+-- What the passes read of a listed layer. A layer is full in a tile where it has no segment there and its incoming cover is full by its rule
+-- (`layer_is_full` of the Rust).
+use mathlib.Core.Bool.{Bool, false, not, _&&_}
+use mathlib.Core.List.{List, map}
+use Prim.Native.Nat.{ℕ, _*_, _≤_}
+use lib.IntN.{ℤ}
+use lib.ListN.{length}
+use Rattle.laws.specs.Answer.{Answer, refused, given}
+use Rattle.cover.specs.Cover.{isFull}
+use Rattle.styling.specs.Lookup.{lookup}
+use Rattle.styling.specs.declared.Layer.{Layer}
+use Rattle.styling.specs.declared.Func.the-variants.{Clip}
+use Rattle.passes.specs.Entry.{Entry}
+use Rattle.passes.specs.declared.item.Item.{Item}
+
+-- the layer l as it is listed in the entry e
+abbrev pub itemFor : Layer → Entry → Item
+itemFor l e =
+    record {
+      id = e .id;
+      full = not (e .segments) && isFull (l .props .«fill_rule») (e .cover);
+      func = l .props .func;
+      unchanged = l .«is_unchanged»;
+    }
+
+-- the layer of an entry by the table. Refusal 8 keeps out a list with a layer that the table lacks
+abbrev pub itemFrom : Answer Layer → Entry → Item
+itemFrom (refused n) e = record { id = e .id; full = false; func = Clip 0; unchanged = false }
+itemFrom (given l) e = itemFor l e
+
+abbrev pub itemOf : List Layer → Entry → Item
+itemOf table e = itemFrom (lookup table (e .id)) e
+
+abbrev pub itemsOf : List Layer → List Entry → List Item
+itemsOf table entries = map (itemOf table) entries
+
+-- ---- what functions over the lent columns ask: n entries, and a judged table
+
+pub record Columns (n : ℕ) (ids : List ℕ) (covers : List ℤ) (segments : List Bool) : Type 0 where
+  pub few : n ≤ 256
+  pub ids-long : n ≤ length ids
+  pub covers-long : 16 * n ≤ length covers
+  pub segments-long : n ≤ length segments

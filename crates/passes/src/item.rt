@@ -1,0 +1,64 @@
+// What the passes read of a listed layer: its entry and its record in one value. A list is lent as three columns, the first n entries of which
+// count: layer ids, incoming covers (16 bytes an entry), and whether the layer has segments in the tile.
+use cover::Cover;
+use styling::Func;
+use styling::Layer;
+use styling::table;
+use styling::table::Found;
+ghost use mathlib.Core.Path.{_≡_};
+ghost use Prim.Native.Nat.{_*_, _+_, _≤_, _<_};
+ghost use lib.ListN.{length};
+ghost use Rattle.styling.specs.Table.{Table, tableOf};
+ghost use Rattle.passes.specs.Entry.{entryAt};
+ghost use Rattle.passes.specs.Item.{itemFor, itemOf, Columns};
+
+pub struct Item {
+    pub id: u32,
+    // Full by its rule, and no segment in the tile.
+    pub full: bool,
+    pub func: Func,
+    pub unchanged: bool,
+}
+
+fn item_for(layer: Layer, id: u32, cover: Cover, has_segments: bool) -> Item
+    ensures { λ r. ⌜ r ≡ itemFor layer (record { id = id; cover = cover .covers; segments = «has_segments» }) ⌝ }
+{
+    let props = layer.props;
+    let fill_rule = props.fill_rule;
+    let func = props.func;
+    Item {
+        id: id,
+        full: !has_segments & cover.is_full(fill_rule),
+        func: func,
+        unchanged: layer.is_unchanged,
+    }
+}
+
+// The listed layer in place i. A layer that the table lacks, which no caller lists, is a clip of nothing.
+pub fn item_at(
+    ids: &[u32],
+    covers: &[i8],
+    segments: &[bool],
+    n: usize,
+    layers: &[u32],
+    colors: &[f32],
+    count: usize,
+    i: usize,
+) -> Item
+    requires { ⌜ Columns n (now ids) (now covers) (now segments) × Table (now layers) (now colors) count × (i < n) ⌝ }
+    ensures { λ r. ⌜ r ≡ itemOf (tableOf (now (layers .entry)) (now (colors .entry)) count) (entryAt (now (ids .entry)) (now (covers .entry)) (now (segments .entry)) i) ⌝ }
+{
+    let id = ids[i];
+    match table::find(layers, count, id) {
+        Found::At(p) => {
+            let layer = table::layer_at(layers, colors, p);
+            item_for(layer, id, Cover { covers: [0i8; 16] }, segments[i])
+        }
+        Found::Absent => Item {
+            id: id,
+            full: false,
+            func: Func::Clip(0),
+            unchanged: false,
+        },
+    }
+}
