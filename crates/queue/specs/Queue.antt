@@ -1,0 +1,53 @@
+-- A queue of carries: the covers that layers hand from tile to tile, ascending by layer id; and how it lies in two lent columns, of which the
+-- first n entries count: layer ids, and 16 signed bytes each. Stands for 'carries' and for refusals 1 and 5 of a queue.
+use mathlib.Core.Bool.{Bool, cond, _&&_}
+use mathlib.Core.List.{List, [], _∷_, _++_, map}
+use Prim.Native.Nat.{ℕ, _/_, min}
+use lib.Dec.{eqb, leb, ltb}
+use lib.IntN.{ℤ, pos}
+use lib.ListN.{length, getD, take, replicate}
+use Rattle.laws.specs.Lists.{tabulate}
+use Rattle.cover.specs.Entry.{entryOf}
+use Rattle.styling.specs.Ascending.{ascends}
+
+pub record Carry : Type 0 where
+  pub id : ℕ
+  pub cover : List ℤ
+
+abbrev pub carryAt : List ℕ → List ℤ → ℕ → Carry
+carryAt ids covers i = record { id = getD ids i 0; cover = entryOf 16 i covers }
+
+-- the first n entries
+unfoldable pub queueOf : ℕ → List ℕ → List ℤ → List Carry
+queueOf n ids covers = tabulate n (carryAt ids covers)
+
+-- a queue as its two columns have it
+abbrev pub idsIn : List Carry → List ℕ
+idsIn q = map (λ c. c .id) q
+
+unfoldable pub coversIn : List Carry → List ℤ
+coversIn [] = []
+coversIn (c ∷ q) = c .cover ++ coversIn q
+
+-- no cover at all
+abbrev pub zeros : List ℤ
+zeros = replicate 16 (pos 0)
+
+-- the cover that a queue holds for a layer; zeros where it holds none
+unfoldable pub heldIn : List Carry → ℕ → List ℤ
+heldIn [] id = zeros
+heldIn (c ∷ q) id = cond (eqb (c .id) id) (c .cover) (heldIn q id)
+
+-- ---- refusals of a lent queue
+
+-- how many entries the lent memory has
+abbrev pub roomOf : List ℕ → List ℤ → ℕ
+roomOf ids covers = min (length ids) (length covers / 16)
+
+-- refusal 1: below 256 entries
+abbrev pub isShort : List ℕ → List ℤ → Bool
+isShort ids covers = ltb (roomOf ids covers) 256
+
+-- refusal 5 does not apply: at most 256 entries, and their ids strictly ascend
+unfoldable pub isQueue : ℕ → List ℕ → Bool
+isQueue n ids = leb n 256 && ascends (take n ids)
