@@ -1,13 +1,11 @@
 -- Which octets of a plane a draw uses, and the mark that says so. Octet h (0 or 1) of a column is its rows 8h to 8h + 7; bit 2 × column + h of
 -- the mark is set when some coverage of it is above 0. The octet count is the number of used octets.
-use mathlib.Core.Bool.{Bool, true, false, _||_}
+use mathlib.Core.Bool.{Bool, false, _||_}
 use mathlib.Core.List.{List, [], _∷_}
 use Prim.Native.Nat.{ℕ, zero, suc, _+_, _*_, _/_, _%_}
-use lib.Dec.{ltb}
-use lib.ListN.{length, getD}
+use lib.ListN.{getD}
 use lib.Ieee.{Float, nan}
 use mir.Val.{boolByte}
-use Rattle.laws.specs.Answer.{Answer, refused, given}
 use Rattle.laws.specs.Lists.{tabulate}
 use Rattle.cover.specs.Coverage.{isAbove}
 use Rattle.cover.specs.Plane.{placeOf}

@@ -1,7 +1,6 @@
 -- A plane: a coverage for each pixel of a tile that is 16 pixels wide and n high. Stands for 'a plane holds 256 numbers at column × 16 + row'.
 use mathlib.Core.List.{List}
 use Prim.Native.Nat.{ℕ, _+_, _*_, _/_, _%_}
-use lib.Ieee.{Float}
 use Rattle.laws.specs.Lists.{tabulate}
 
 -- the place of a pixel, and the pixel at a place (proofs/Places: each undoes the other). A change of the order of a plane is a change here

@@ -3,7 +3,7 @@ use mathlib.Core.Path.{_≡_, refl, ap, ap₂, _∙_}
 use mathlib.Core.Bool.{Bool, true, false, cond, not, false≢true}
 use mathlib.Core.List.{List, [], _∷_, _++_, append-nil}
 use Rattle.laws.specs.Lists.{all, filter}
-use Rattle.laws.proofs.Bools.{left, right}
+use Rattle.laws.proofs.Bools.{left, right, both}
 
 module _ {A : Type 0} (p : A → Bool) where
   pub filter-all : (xs : List A) → all p xs ≡ true → filter p xs ≡ xs
@@ -36,3 +36,28 @@ module _ {A : Type 0} (p : A → Bool) where
       filter-append xs (ys ++ zs)
       ∙ ap₂ _++_ (filter-none xs a) (filter-append ys zs ∙ ap₂ _++_ (filter-all ys b) (filter-none zs c))
       ∙ append-nil ys
+
+-- ---- tests of what is kept
+
+-- what passes a test passes it
+pub all-own : {A : Type 0} (p : A → Bool) (l : List A) → all p (filter p l) ≡ true
+all-own p [] = refl
+all-own p (x ∷ xs) = by (p x) refl (all-own p xs)
+  where
+    by : (t : Bool) → p x ≡ t → all p (filter p xs) ≡ true → all p (cond t (x ∷ filter p xs) (filter p xs)) ≡ true
+    by true e h = both (p x) (all p (filter p xs)) e h
+    by false e h = h
+
+-- what all pass, those that are kept pass
+pub all-kept : {A : Type 0} (p q : A → Bool) (l : List A) → all q l ≡ true → all q (filter p l) ≡ true
+all-kept p q [] h = refl
+all-kept p q (x ∷ xs) h = by (p x) (all-kept p q xs (right (q x) (all q xs) h))
+  where
+    by : (t : Bool) → all q (filter p xs) ≡ true → all q (cond t (x ∷ filter p xs) (filter p xs)) ≡ true
+    by true r = both (q x) (all q (filter p xs)) (left (q x) (all q xs) h) r
+    by false r = r
+
+-- two tests that agree keep the same
+pub filter-ext : {A : Type 0} (p q : A → Bool) (l : List A) → ((x : A) → p x ≡ q x) → filter p l ≡ filter q l
+filter-ext p q [] h = refl
+filter-ext {A} p q (x ∷ xs) h = ap₂ (λ (t : Bool) (r : List A). cond t (x ∷ r) r) (h x) (filter-ext p q xs h)

@@ -9,10 +9,12 @@ use native.Mathlib.Omega.{arith}
 use borrow.Author.Tests.{lt-ltb, le-ltb}
 use lib.ListN.{length, getD}
 use Rattle.laws.proofs.Orders.{le-or-lt}
+use Rattle.laws.proofs.Bools.{either}
 use Rattle.pixel_segment.specs.Order.{isGt}
-use Rattle.pixel_segment.specs.Search.{halved, ended, searchOf}
+use Rattle.pixel_segment.specs.Search.{halved, ended, searchOf, afterOf}
 use Rattle.pixel_segment.specs.declared.order.Ordering.{Ordering}
-use Rattle.pixel_segment.specs.declared.search.Found.the-variants.{Absent}
+use Rattle.pixel_segment.specs.declared.order.Ordering.the-variants.{Less, Equal, Greater}
+use Rattle.pixel_segment.specs.declared.search.Found.the-variants.{At, Absent}
 
 module _ (at : ℕ → Ordering) (l : List ℕ) where
   -- a turn with more than one element
@@ -67,3 +69,41 @@ pub search-empty : (at : ℕ → Ordering) (l : List ℕ) → length l ≡ 0 →
 unfolding searchOf
 search-empty at [] h = refl
 search-empty at (w ∷ ws) h = absurd (omega arith)
+
+-- ---- the answer stays inside the list
+
+halved-lt : (at : ℕ → Ordering) (l : List ℕ) (turns start len : ℕ) → 1 ≤ len → len ≤ turns → halved at l len start len < start + len
+halved-lt at l zero start len h t = absurd (omega arith)
+halved-lt at l (suc turns) start len h t =
+    let low = halved-lt at l turns start (len / 2) in
+    let high = halved-lt at l turns (start + len / 2) (len - len / 2) in
+    ⊎-elim
+    (λ (one : len ≤ 1). rw (halved-end at l len start len one) (omega arith))
+    (λ (many : 1 < len).
+    ⊎-elim
+    (λ (g : isGt (at (getD l (start + len / 2) 0)) ≡ true).
+    let b = low (omega arith) (omega arith) in
+    rw (halved-left at l start len many g) (omega (arith, b)))
+    (λ (g : isGt (at (getD l (start + len / 2) 0)) ≡ false).
+    let b = high (omega arith) (omega arith) in
+    rw (halved-right at l start len many g) (omega (arith, b)))
+    (either (isGt (at (getD l (start + len / 2) 0)))))
+    (le-or-lt len 1)
+
+pub after-le : (at : ℕ → Ordering) (l : List ℕ) → afterOf (searchOf at l) ≤ length l
+after-le at l =
+    ⊎-elim
+    (λ (none : length l ≤ 0). rw (← search-empty at l (omega arith)) (omega arith))
+    (λ (some : 0 < length l).
+    rw (search-is at l some)
+    (inside (at (getD l (halved at l (length l) 0 (length l)) 0)) (halved at l (length l) 0 (length l)) (omega (arith, halved-lt at l (length l) 0 (length l) some (omega arith)))))
+    (le-or-lt (length l) 0)
+  where
+    inside : (o : Ordering) (s : ℕ) → s < length l → afterOf (ended o s) ≤ length l
+    inside Less s h = omega arith
+    inside Equal s h = omega arith
+    inside Greater s h = omega arith
+
+-- what is found is found inside
+pub found-lt : (at : ℕ → Ordering) (l : List ℕ) (i : ℕ) → searchOf at l ≡ At i → i < length l
+found-lt at l i e = rw e at (after-le at l)

@@ -53,12 +53,13 @@ digits m a b c d hb hd =
         (λ (p : d < b). compare-greater (a * m + b) (c * m + d) (omega arith) ∙ sym (compare-greater b d p))
         (le-or-lt b d)
 
+-- what order compares, by its fields
+pub keyed : (u : ℕ) → u < 2 ^ 64 → orderKey cpu u ≡ tileYOf cpu u * 2 ^ 33 + (tileXOf cpu u * 2 ^ 21 + layerIdOf cpu u)
+keyed u h = omega arith
+
 -- order is that of tile y, tile x, layer id
 pub lexical : (v w : ℕ) → v < 2 ^ 64 → w < 2 ^ 64 → compareOf (orderKey cpu v) (orderKey cpu w) ≡ andThen (compareOf (tileYOf cpu v) (tileYOf cpu w)) (andThen (compareOf (tileXOf cpu v) (tileXOf cpu w)) (compareOf (layerIdOf cpu v) (layerIdOf cpu w)))
 lexical v w hv hw =
     ap₂ compareOf (keyed v hv) (keyed w hw)
     ∙ (digits (2 ^ 33) (tileYOf cpu v) (tileXOf cpu v * 2 ^ 21 + layerIdOf cpu v) (tileYOf cpu w) (tileXOf cpu w * 2 ^ 21 + layerIdOf cpu w) (omega arith) (omega arith)
     ∙ ap (andThen (compareOf (tileYOf cpu v) (tileYOf cpu w))) (digits (2 ^ 21) (tileXOf cpu v) (layerIdOf cpu v) (tileXOf cpu w) (layerIdOf cpu w) (omega arith) (omega arith)))
-  where
-    keyed : (u : ℕ) → u < 2 ^ 64 → orderKey cpu u ≡ tileYOf cpu u * 2 ^ 33 + (tileXOf cpu u * 2 ^ 21 + layerIdOf cpu u)
-    keyed u h = omega arith

@@ -6,3 +6,6 @@ pub mod Rows
 pub mod Sorted
 pub mod ReadBack
 pub mod Lexical
+pub mod Keys
+pub mod TileParts
+pub mod TileLayers

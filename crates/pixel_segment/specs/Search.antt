@@ -1,9 +1,10 @@
 -- `search_last_by_key`: the Rust's halving. `at w` says how the key of the element w compares with the key that is looked for, so one
 -- definition serves every key. On a slice that the key does not sort, the halving decides; on a sorted one see proofs/Sorted.
+use mathlib.Core.Path.{_≡_}
 use mathlib.Core.Bool.{Bool, true, false, cond}
 use mathlib.Core.List.{List, [], _∷_}
 use Prim.Native.Nat.{ℕ, zero, suc, _+_, _-_, _/_, _≤_, _<_}
-use lib.Dec.{ltb}
+use lib.Dec.{ltb, leb}
 use lib.IntN.{ℤ, pos}
 use lib.ListN.{length, getD, take, drop}
 use lib.Signed.{leZ}
@@ -14,7 +15,7 @@ use Rattle.pixel_segment.specs.declared.order.Ordering.the-variants.{Les
 use Rattle.pixel_segment.specs.declared.search.Found.{Found}
 use Rattle.pixel_segment.specs.declared.search.Found.the-variants.{At, Absent}
 use Rattle.pixel_segment.specs.declared.search.Key.{Key}
-use Rattle.pixel_segment.specs.declared.search.Key.the-variants.{TileY, TileX, LayerId, TileXAtLeast, TileYNotNegative}
+use Rattle.pixel_segment.specs.declared.search.Key.the-variants.{TileY, TileX, LayerId, TileXAtLeast, LayerIdAtLeast, TileYNotNegative}
 
 -- where the halving ends that looks at `len` elements from `start` on: in the left half where the middle element is greater, else from
 -- the middle on. The first number bounds the turns: `len` turns are always enough
@@ -72,6 +73,7 @@ orderAt (TileY k) w = compareℤ (tileOf (tileYOf cpu w)) k
 orderAt (TileX k) w = compareℤ (tileOf (tileXOf cpu w)) k
 orderAt (LayerId k) w = compareOf (layerIdOf cpu w) k
 orderAt (TileXAtLeast start k) w = compareBool (leZ start (tileOf (tileXOf cpu w))) k
+orderAt (LayerIdAtLeast start k) w = compareBool (leb start (layerIdOf cpu w)) k
 orderAt (TileYNotNegative k) w = compareBool (leZ (pos 0) (tileOf (tileYOf cpu w))) k
 
 -- ---- the parts of a row that searches find
@@ -81,10 +83,23 @@ abbrev pub afterOf : Found → ℕ
 afterOf (At i) = suc i
 afterOf (Absent i) = i
 
+-- what the place after a key promises
+pub record Ending (key : Key) (l : List ℕ) (r : ℕ) : Type 0 where
+  pub is : r ≡ afterOf (searchOf (orderAt key) l)
+  pub within : r ≤ length l
+
 -- the elements from one place up to another
 abbrev pub between {ℓ} : {A : Type ℓ} → ℕ → ℕ → List A → List A
 between start end l = take (end - start) (drop start l)
 
--- the segments of a tile, of its number as it is stored: those after the last one further left, up to the last one of the tile
+-- the segments left of a tile: up to the last one whose tile x is not at least the tile's
+unfoldable pub leftPart : ℤ → List ℕ → List ℕ
+leftPart t row = between 0 (afterOf (searchOf (orderAt (TileXAtLeast t false)) row)) row
+
+-- the segments of a tile: from there up to the last one of the tile
 unfoldable pub tilePart : ℤ → List ℕ → List ℕ
 tilePart t row = between (afterOf (searchOf (orderAt (TileXAtLeast t false)) row)) (afterOf (searchOf (orderAt (TileX t)) row)) row
+
+-- the segments of one layer in a tile's part that ascends: from the last one of a lower layer up to the last one of the layer
+unfoldable pub layerPart : ℕ → List ℕ → List ℕ
+layerPart id part = between (afterOf (searchOf (orderAt (LayerIdAtLeast id false)) part)) (afterOf (searchOf (orderAt (LayerId id)) part)) part

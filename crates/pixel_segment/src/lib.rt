@@ -1,6 +1,7 @@
 // The packed pixel segment (cpu/pixel_segment.rs): seven fields in a word of 64 bits, their order, and the searches in a row of such words.
 pub mod consts;
 pub mod order;
+pub mod parts;
 pub mod search;
 
 use consts::BitField;

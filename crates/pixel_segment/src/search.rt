@@ -13,6 +13,8 @@ pub enum Key {
     LayerId(u32),
     // Whether tile x is at least the number.
     TileXAtLeast(i16, bool),
+    // Whether the layer id is at least the number.
+    LayerIdAtLeast(u32, bool),
     // Whether tile y is at least 0.
     TileYNotNegative(bool),
 }
@@ -33,6 +35,10 @@ pub fn compare_key(word: u64, key: Key) -> Ordering
         Key::TileX(tile_x) => order::compare_i16(segment.tile_x(), tile_x),
         Key::LayerId(id) => order::compare(segment.layer_id() as u64, id as u64),
         Key::TileXAtLeast(start, wanted) => order::compare_bool(start <= segment.tile_x(), wanted),
+        Key::LayerIdAtLeast(start, wanted) => order::compare_bool(
+            start <= segment.layer_id(),
+            wanted,
+        ),
         Key::TileYNotNegative(wanted) => order::compare_bool(0 <= segment.tile_y(), wanted),
     }
 }

@@ -1,14 +1,13 @@
 -- Halving an ascending table: what holds of the `len` places from `start` on that are left. No place outside them has the id.
 -- Assumes nothing.
-use mathlib.Core.Path.{_≡_, sym, ap, subst, _∙_}
+use mathlib.Core.Path.{_≡_, sym, ap, _∙_}
 use mathlib.Core.Bool.{true}
 use mathlib.Core.Logic.{⊎-elim}
 use mathlib.Core.List.{List}
 use Prim.Native.Nat.{ℕ, _+_, _-_, _/_, _≤_, _<_}
 use native.Mathlib.Nat.{eq-or-lt-of-le, zero-add}
 use native.Mathlib.Omega.{arith}
-use lib.ListN.{length, getD}
-use Rattle.laws.specs.Answer.{Answer, refused, given}
+use Rattle.laws.specs.Answer.{refused, given}
 use Rattle.laws.proofs.Orders.{le-or-lt}
 use Rattle.styling.specs.Ascending.{ascends}
 use Rattle.styling.specs.Table.{idAt, idsOf}

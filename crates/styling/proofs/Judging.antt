@@ -1,17 +1,16 @@
 -- Judging a table: what holds while its records are passed in one pass, and what holds of a table that passes. Assumes nothing.
-use mathlib.Core.Path.{_≡_, refl, sym, ap, ap₂, _∙_}
+use mathlib.Core.Path.{_≡_, refl, sym, ap, _∙_}
 use mathlib.Core.Bool.{Bool, true, false, not, _&&_, _||_, and-true}
-use mathlib.Core.List.{List, [], _∷_, map}
-use Prim.Native.Nat.{ℕ, suc, _+_, _*_, _/_, _≤_, _<_, min}
+use mathlib.Core.List.{List, map}
+use Prim.Native.Nat.{ℕ, _+_, _*_, _/_, _≤_, _<_, min}
 use native.Mathlib.Numerals.{add-one}
-use native.Mathlib.Nat.{le-antisymm}
 use native.Mathlib.Omega.{arith}
+use borrow.Author.Tests.{ltb-true, ltb-false, lt-ltb, le-ltb, not-true}
 use lib.Dec.{leb, ltb}
 use lib.Ieee.{Float}
-use lib.ListN.{length, getD, drop, drop-of-length-le}
-use borrow.Author.Tests.{ltb-true, ltb-false, lt-ltb, le-ltb, not-true}
+use lib.ListN.{length, drop, drop-of-length-le}
 use Rattle.laws.specs.Lists.{tabulate, all}
-use Rattle.laws.proofs.Bools.{left, right, same}
+use Rattle.laws.proofs.Bools.{left, right}
 use Rattle.laws.proofs.Every.{all-at}
 use Rattle.laws.proofs.Rows.{length-tabulate, getD-tabulate}
 use Rattle.styling.specs.declared.table.Words.{Words}

@@ -2,27 +2,26 @@
 -- `at-place` and `at-none` are for whoever calls `find`; `Walk` is for whoever goes through the table in step with ascending ids.
 -- Assumes nothing.
 use mathlib.Core.Path.{_≡_, refl, sym, ap, _∙_}
-use mathlib.Core.Bool.{true, cond}
+use mathlib.Core.Bool.{true}
 use mathlib.Core.Logic.{⊎-elim}
 use mathlib.Core.List.{List, [], _∷_, map}
 use Prim.Native.Nat.{ℕ, zero, suc, _+_, _≤_, _<_}
 use native.Mathlib.Nat.{not-suc-le-zero, le-of-suc-le-suc, eq-or-lt-of-le, zero-add}
 use native.Mathlib.Omega.{arith}
-use lib.Dec.{eqb}
+use borrow.Author.Tests.{eq-eqb, ne-eqb}
 use lib.Ieee.{Float}
 use lib.ListN.{length, getD, length-map}
-use borrow.Author.Tests.{eq-eqb, ne-eqb}
-use Rattle.laws.specs.Answer.{Answer, refused, given}
+use Rattle.laws.specs.Answer.{refused, given}
 use Rattle.laws.proofs.Orders.{le-or-lt, eq-or-ne}
 use Rattle.styling.specs.declared.Layer.{Layer}
 use Rattle.styling.specs.declared.table.Found.{Found}
 use Rattle.styling.specs.declared.table.Found.the-variants.{At, Absent}
 use Rattle.styling.specs.Ascending.{ascendsFrom, ascends}
 use Rattle.styling.specs.Table.{idAt, layerAt, tableOf, idsOf}
-use Rattle.styling.specs.Lookup.{lookup, placeFrom, placeOf, foundOf}
+use Rattle.styling.specs.Lookup.{lookup, placeOf, foundOf}
 use Rattle.styling.proofs.Ascents.{ascends-tail, ascends-low}
 use Rattle.styling.proofs.Listed.{length-ids, getD-ids, length-table, getD-table, ids-table, ids-lt}
-use Rattle.styling.proofs.Places.{Sought, held, missed, sought, place-at}
+use Rattle.styling.proofs.Places.{Sought, held, missed, sought}
 
 -- ---- over any list of layers
 

@@ -1,19 +1,17 @@
 -- The bounds that a record in range has, and those of the layer that it says. Assumes nothing.
-use mathlib.Core.Path.{_≡_, refl, sym, ap, _∙_}
+use mathlib.Core.Path.{_≡_}
 use mathlib.Core.Bool.{Bool, true, false, cond, _&&_}
 use mathlib.Core.List.{List}
 use Prim.Native.Nat.{ℕ, _≤_, _<_}
 use native.Mathlib.Omega.{arith}
+use borrow.Author.Tests.{leb-true}
 use lib.Dec.{leb, eqb}
 use lib.Ieee.{Float}
-use borrow.Author.Tests.{leb-true}
 use Rattle.laws.proofs.Bools.{left, right}
-use Rattle.styling.specs.declared.Color.{Color}
 use Rattle.styling.specs.declared.Style.{Style}
-use Rattle.styling.specs.declared.Func.{Func}
 use Rattle.styling.specs.declared.Func.the-variants.{Draw, Clip}
 use Rattle.styling.specs.declared.table.Words.{Words}
-use Rattle.styling.specs.Record.{layerLimit, inRange, funcOf}
+use Rattle.styling.specs.Record.{layerLimit, inRange}
 use Rattle.styling.specs.Table.{idAt, wordsAt, layerAt, Table}
 
 pub record InRange (w : Words) : Type 0 where

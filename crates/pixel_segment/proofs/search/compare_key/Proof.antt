@@ -50,11 +50,20 @@ compare-bool-requires c κs = search needs
 enum-known-key-5 : tie.Need-enum-known-key-5
 enum-known-key-5 c = search needs
 
-tile-y-requires-2 : tie.Need-tile-y-requires-2
-tile-y-requires-2 c κs = search needs
+layer-id-requires-2 : tie.Need-layer-id-requires-2
+layer-id-requires-2 c κs = search needs
 
 compare-bool-requires-2 : tie.Need-compare-bool-requires-2
 compare-bool-requires-2 c κs = search needs
+
+enum-known-key-6 : tie.Need-enum-known-key-6
+enum-known-key-6 c = search needs
+
+tile-y-requires-2 : tie.Need-tile-y-requires-2
+tile-y-requires-2 c κs = search needs
+
+compare-bool-requires-3 : tie.Need-compare-bool-requires-3
+compare-bool-requires-3 c κs = search needs
 
 returns : tie.Need-returns
 returns c = rw (c .before .before .before .key .given .1, c .compare-i16 .ensures, kept w16 (c .before .before .before .key .given .0 .0) (c .before .before .known-told .given .0 .1), kept w16 (c .before .tile-y .result) (c .before .tile-y .ok), c .before .tile-y .ensures)
@@ -69,7 +78,10 @@ returns-4 : tie.Need-returns-4
 returns-4 c = rw (c .before .before .before .key4 .given .1, c .compare-bool .ensures, kept w16 (c .before .before .before .key4 .given .0 .0) (c .before .before .known-told4 .given .0 .1), kept w16 (c .before .tile-x2 .result) (c .before .tile-x2 .ok), c .before .tile-x2 .ensures)
 
 returns-5 : tie.Need-returns-5
-returns-5 c = rw (c .before .before .before .key5 .given .1, c .compare-bool2 .ensures, kept w16 (c .before .tile-y2 .result) (c .before .tile-y2 .ok), c .before .tile-y2 .ensures)
+returns-5 c = rw (c .before .before .before .key5 .given .1, c .compare-bool2 .ensures, c .before .layer-id2 .ensures)
+
+returns-6 : tie.Need-returns-6
+returns-6 c = rw (c .before .before .before .key6 .given .1, c .compare-bool3 .ensures, kept w16 (c .before .tile-y2 .result) (c .before .tile-y2 .ok), c .before .tile-y2 .ensures)
 
 pub compare-key-spec : {M : Type 1} → statement M
 compare-key-spec =
@@ -90,10 +102,14 @@ compare-key-spec =
     tile-x-requires-2
     compare-bool-requires
     enum-known-key-5
-    tile-y-requires-2
+    layer-id-requires-2
     compare-bool-requires-2
+    enum-known-key-6
+    tile-y-requires-2
+    compare-bool-requires-3
     returns
     returns-2
     returns-3
     returns-4
-    returns-5)
+    returns-5
+    returns-6)

@@ -1,8 +1,8 @@
 -- `styling::table::is_table` meets its contract. What holds while the records are passed is `Judging`.
 -- Assumes nothing.
-use Prim.Native.Nat.{_-_}
 use mathlib.Core.Path.{_≡_, sym, _∙_}
 use mathlib.Core.Bool.{false}
+use Prim.Native.Nat.{_-_}
 use native.Mathlib.Omega.{arith}
 use borrow.Author.Needs.{needs}
 use Rattle.styling.specs.Table.{isShort}
