@@ -98,11 +98,11 @@ impl CachedTile {
     fn drop_layer_count(self) -> CachedTile
         ensures { λ r. ⌜ r ≡ dropCount self ⌝ }
     {
-        let bytes = self.layer_count;
+        let left = self.layer_count;
         let color = self.solid_color;
         CachedTile {
             tags: self.tags & 0b01,
-            layer_count: bytes,
+            layer_count: left,
             solid_color: color,
         }
     }
@@ -124,11 +124,11 @@ impl CachedTile {
         ensures { λ r. ⌜ r ≡ dropColor self ⌝ }
     {
         let count = self.layer_count;
-        let bytes = self.solid_color;
+        let left = self.solid_color;
         CachedTile {
             tags: self.tags & 0b10,
             layer_count: count,
-            solid_color: bytes,
+            solid_color: left,
         }
     }
 
