@@ -3,12 +3,12 @@
 use mathlib.Core.Path.{_≡_, refl, sym, ap}
 use mathlib.Core.Bool.{Bool, true, false, not, _&&_, Bool·beq}
 use mathlib.Core.List.{List}
-use mathlib.Core.Option.{Option, some, none}
+use mathlib.Core.Option.{some, none}
 use Prim.Native.Nat.{ℕ, _%_, _^_, _≤_}
 use native.Mathlib.Omega.{arith}
+use borrow.Author.Tests.{leb-true, not-true}
 use lib.Bits.{bitAnd, bitOr}
 use lib.Dec.{leb}
-use borrow.Author.Tests.{leb-true, not-true}
 use Rattle.laws.proofs.Every.{every-at}
 use Rattle.cached_tile.specs.declared.CachedTile.{CachedTile}
 use Rattle.cached_tile.specs.Tile.{keepsCount, keepsColor, numberOf, bytesOf, layerCountOf, solidColorOf, keepCount, keepColor, dropCount, dropColor}

@@ -2,9 +2,9 @@
 -- clears tag 1; solid is settled by a second call with the four display bytes, which says write or keep. .. Without a cached tile settling
 -- says write', and for refusal 6, 'cached tag above 3', which asks that a tile is given.
 use mathlib.Core.Path.{_≡_}
-use mathlib.Core.Bool.{Bool, true, cond, _&&_}
+use mathlib.Core.Bool.{Bool, true, false, cond, _&&_}
 use mathlib.Core.List.{List}
-use mathlib.Core.Option.{Option, some, none}
+use mathlib.Core.Option.{Option, none}
 use Prim.Native.Nat.{ℕ}
 use lib.Dec.{ltb, eqb}
 use lib.ListN.{getD}
@@ -15,7 +15,10 @@ use Rattle.cached_tile.specs.declared.kept.Counted.{Counted}
 use Rattle.cached_tile.specs.declared.kept.Settlement.{Settlement}
 use Rattle.cached_tile.specs.declared.kept.Settlement.the-variants.{Write, Keep, TagOutOfRange}
 use Rattle.cached_tile.specs.declared.kept.Settled.{Settled}
-use Rattle.cached_tile.specs.Tile.{countOf, layerCountOf, keepsColor, keepCount, keepColor, dropColor}
+use Rattle.cached_tile.specs.Tile.{emptyTile, countOf, layerCountOf, keepsColor, keepCount, keepColor, dropColor}
+
+abbrev pub noTile : Kept
+noTile = record { given = false; tile = emptyTile }
 
 -- refusal 6
 abbrev pub tagOutOfRange : Kept → Bool

@@ -11,10 +11,14 @@ use lib.Dec.{eqb}
 use lib.ListN.{getD}
 use Rattle.cached_tile.specs.declared.CachedTile.{CachedTile}
 use Rattle.cached_tile.specs.declared.LayerCount.{LayerCount}
-use Rattle.cached_tile.specs.declared.LayerCount.the-variants.{Kept, Absent}
+use Rattle.cached_tile.specs.declared.LayerCount.the-variants.{Count, Absent}
 use Rattle.cached_tile.specs.declared.SolidColor.{SolidColor}
 use Rattle.cached_tile.specs.declared.UpdatedLayerCount.{UpdatedLayerCount}
 use Rattle.cached_tile.specs.declared.UpdatedSolidColor.{UpdatedSolidColor}
+
+-- the Rust's default: nothing is kept
+abbrev pub emptyTile : CachedTile
+emptyTile = record { tags = 0; «layer_count» = 0 ∷ 0 ∷ 0 ∷ []; «solid_color» = 0 ∷ 0 ∷ 0 ∷ 0 ∷ [] }
 
 -- ---- what is kept
 
@@ -26,7 +30,7 @@ keepsCount tags = eqb tags 2 || eqb tags 3
 
 -- the values of the answer `LayerCount`
 abbrev pub countOf : LayerCount → Option ℕ
-countOf (Kept n) = some n
+countOf (Count n) = some n
 countOf Absent = none
 
 -- the number of three bytes, the lowest first

@@ -5,7 +5,7 @@ use crate::LayerCount;
 use crate::SolidColor;
 ghost use mathlib.Core.Path.{_≡_};
 ghost use Rattle.laws.specs.Answer.{given};
-ghost use Rattle.cached_tile.specs.Kept.{tagOutOfRange, KeptCounted, cleared, settlementOf, keepOrWrite, sameBytes, TileSettled, KeptSettled};
+ghost use Rattle.cached_tile.specs.Kept.{noTile, tagOutOfRange, KeptCounted, cleared, settlementOf, keepOrWrite, sameBytes, TileSettled, KeptSettled};
 
 // Whether a cached tile is given, and the tile.
 pub struct Kept {
@@ -37,6 +37,16 @@ fn same_bytes(a: [u8; 4], b: [u8; 4]) -> bool
 }
 
 impl Kept {
+    // No cached tile is given.
+    pub fn absent() -> Kept
+        ensures { λ r. ⌜ r ≡ noTile ⌝ }
+    {
+        Kept {
+            given: false,
+            tile: CachedTile::default(),
+        }
+    }
+
     // Refusal 6: whether a tile is given whose tag is above 3.
     pub fn is_tag_out_of_range(self) -> bool
         ensures { λ r. ⌜ r ≡ tagOutOfRange self ⌝ }
@@ -51,7 +61,7 @@ impl Kept {
     {
         let tile = self.tile;
         if self.given {
-            let updated = tile.update_layer_count(LayerCount::Kept(layers));
+            let updated = tile.update_layer_count(LayerCount::Count(layers));
             let previous = updated.previous;
             let tile = updated.tile;
             let kept = Kept {

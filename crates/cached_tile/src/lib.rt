@@ -4,7 +4,7 @@ pub mod kept;
 
 ghost use mathlib.Core.Path.{_≡_};
 ghost use Prim.Native.Nat.{_<_};
-ghost use Rattle.cached_tile.specs.Tile.{keepsCount, keepsColor, countOf, layerCountOf, solidColorOf, keepCount, dropCount, keepColor, dropColor, CountUpdated, ColorUpdated};
+ghost use Rattle.cached_tile.specs.Tile.{emptyTile, keepsCount, keepsColor, countOf, layerCountOf, solidColorOf, keepCount, dropCount, keepColor, dropColor, CountUpdated, ColorUpdated};
 
 pub struct CachedTile {
     // 1 where a solid colour is kept, plus 2 where a layer count is.
@@ -16,7 +16,7 @@ pub struct CachedTile {
 
 // A layer count, where there is one.
 pub enum LayerCount {
-    Kept(u32),
+    Count(u32),
     Absent,
 }
 
@@ -55,13 +55,24 @@ fn keeps_color(tags: u8) -> bool
 }
 
 impl CachedTile {
+    // Nothing is kept.
+    pub fn default() -> CachedTile
+        ensures { λ r. ⌜ r ≡ emptyTile ⌝ }
+    {
+        CachedTile {
+            tags: 0,
+            layer_count: [0, 0, 0],
+            solid_color: [0, 0, 0, 0],
+        }
+    }
+
     pub fn layer_count(self) -> LayerCount
         ensures { λ r. ⌜ countOf r ≡ layerCountOf self ⌝ }
     {
         let bytes = self.layer_count;
         let count = wide(bytes[0]) + 256 * wide(bytes[1]) + 65536 * wide(bytes[2]);
         if keeps_count(self.tags) {
-            LayerCount::Kept(count)
+            LayerCount::Count(count)
         } else {
             LayerCount::Absent
         }
@@ -137,7 +148,7 @@ impl CachedTile {
     {
         let previous = self.layer_count();
         match layer_count {
-            LayerCount::Kept(count) => {
+            LayerCount::Count(count) => {
                 let tile = self.keep_layer_count(count);
                 UpdatedLayerCount {
                     previous: previous,

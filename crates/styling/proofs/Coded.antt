@@ -1,19 +1,17 @@
 -- The case of a number has that number, and the number of a case is in range and gives the case again. Assumes nothing.
-use mathlib.Core.Path.{_≡_, refl, ap, _∙_}
+use mathlib.Core.Path.{_≡_, refl}
 use mathlib.Core.List.{List, [], _∷_, _++_}
 use Prim.Native.Nat.{ℕ, zero, suc, _≤_, _<_}
 use native.Mathlib.Nat.{not-suc-le-zero, le-of-suc-le-suc}
 use native.Mathlib.Omega.{arith}
+use borrow.Author.Tests.{eqb-true}
 use lib.ListN.{length, getD}
 use lib.Dec.{eqb}
-use borrow.Author.Tests.{eqb-true}
 use Rattle.laws.proofs.Every.{every-at}
 use Rattle.styling.specs.Codes.{ruleCode, ruleOf, fillCode, fillOf, modeCode, modeOf}
 use Rattle.styling.specs.declared.Color.{Color}
 use Rattle.styling.specs.declared.FillRule.{FillRule}
 use Rattle.styling.specs.declared.FillRule.the-variants.{NonZero, EvenOdd}
-use Rattle.styling.specs.declared.Fill.{Fill}
-use Rattle.styling.specs.declared.Fill.the-variants.{Solid, Gradient, Texture}
 use Rattle.styling.specs.declared.BlendMode.{BlendMode}
 use Rattle.styling.specs.declared.BlendMode.the-variants.{Over, Multiply, Screen, Overlay, Darken, Lighten, ColorDodge, ColorBurn, HardLight, SoftLight, Difference, Exclusion, Hue, Saturation, Luminosity}
 

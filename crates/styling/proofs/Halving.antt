@@ -1,16 +1,15 @@
 -- Halving an ascending table: what holds of the `len` places from `start` on that are left. No place outside them has the id.
 -- Assumes nothing.
-use mathlib.Core.Path.{_≡_, sym, ap, subst, _∙_}
+use mathlib.Core.Path.{_≡_, sym, ap, _∙_}
 use mathlib.Core.Bool.{true}
 use mathlib.Core.Logic.{⊎-elim}
 use mathlib.Core.List.{List}
 use Prim.Native.Nat.{ℕ, _+_, _-_, _/_, _≤_, _<_}
 use native.Mathlib.Nat.{eq-or-lt-of-le, zero-add}
 use native.Mathlib.Omega.{arith}
-use lib.ListN.{length, getD}
-use Rattle.laws.specs.Answer.{Answer, refused, given}
+use Rattle.laws.specs.Answer.{refused, given}
 use Rattle.laws.proofs.Orders.{le-or-lt}
-use Rattle.styling.specs.Ascending.{ascends}
+use Rattle.styling.specs.Ascending.{strictlyAscends}
 use Rattle.styling.specs.Table.{idAt, idsOf}
 use Rattle.styling.specs.Lookup.{placeOf}
 use Rattle.styling.proofs.Listed.{length-ids, getD-ids, ids-lt}
@@ -31,7 +30,7 @@ begin words count id h =
       above = λ i p q. absurd (omega arith);
     }
 
-module _ {words : List ℕ} {count id start len : ℕ} (left : Halving words count id start len) (asc : ascends (idsOf words count) ≡ true) where
+module _ {words : List ℕ} {count id start len : ℕ} (left : Halving words count id start len) (asc : strictlyAscends (idsOf words count) ≡ true) where
   -- an element is at most another if it stands no later
   ordered : (i j : ℕ) → i ≤ j → j < count → idAt words i ≤ idAt words j
   ordered i j p q = ⊎-elim (λ e. omega (arith, ap (idAt words) e)) (λ l. omega (arith, ids-lt words count asc i j l q)) (eq-or-lt-of-le p)

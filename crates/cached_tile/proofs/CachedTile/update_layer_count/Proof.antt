@@ -1,9 +1,9 @@
 -- `cached_tile::CachedTile::update_layer_count` meets its contract.
 -- Assumes nothing.
 use mathlib.Core.Path.{sym, ap, _∙_}
+use borrow.Author.Needs.{needs}
 use Rattle.cached_tile.specs.declared.LayerCount.{LayerCount}
 use Rattle.cached_tile.specs.Tile.{countOf, updateCount}
-use borrow.Author.Needs.{needs}
 use Rattle.cached_tile.proofs.CachedTile.update_layer_count.Statement.{statement}
 use Rattle.cached_tile.proofs.CachedTile.update_layer_count.Tie as tie
 

@@ -1,9 +1,9 @@
 -- `styling::Fill::is_opaque` meets its contract.
 -- Assumes nothing.
 use mathlib.Core.Path.{sym, ap}
+use borrow.Author.Needs.{needs}
 use Rattle.styling.specs.declared.Fill.{Fill}
 use Rattle.styling.specs.Style.{fillColor, hasAlphaOne}
-use borrow.Author.Needs.{needs}
 use Rattle.styling.proofs.Fill.is_opaque.Statement.{statement}
 use Rattle.styling.proofs.Fill.is_opaque.Tie as tie
 

@@ -2,11 +2,11 @@
 -- Assumes nothing.
 use mathlib.Core.Path.{refl, sym}
 use native.Mathlib.Omega.{arith}
+use borrow.Author.Needs.{needs}
 use lib.ListN.{take}
 use Rattle.styling.specs.declared.Fill.the-variants.{Texture}
 use Rattle.styling.specs.Codes.{fills}
 use Rattle.styling.proofs.Coded.{last-case}
-use borrow.Author.Needs.{needs}
 use Rattle.styling.proofs.codes.fill.Statement.{statement}
 use Rattle.styling.proofs.codes.fill.Tie as tie
 

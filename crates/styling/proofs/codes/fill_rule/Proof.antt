@@ -2,11 +2,11 @@
 -- Assumes nothing.
 use mathlib.Core.Path.{sym}
 use native.Mathlib.Omega.{arith}
+use borrow.Author.Needs.{needs}
 use lib.ListN.{take}
 use Rattle.styling.specs.declared.FillRule.the-variants.{EvenOdd}
 use Rattle.styling.specs.Codes.{rules}
 use Rattle.styling.proofs.Coded.{last-case}
-use borrow.Author.Needs.{needs}
 use Rattle.styling.proofs.codes.fill_rule.Statement.{statement}
 use Rattle.styling.proofs.codes.fill_rule.Tie as tie
 
