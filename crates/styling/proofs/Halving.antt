@@ -9,7 +9,7 @@ use native.Mathlib.Nat.{eq-or-lt-of-le, zero-add}
 use native.Mathlib.Omega.{arith}
 use Rattle.laws.specs.Answer.{refused, given}
 use Rattle.laws.proofs.Orders.{le-or-lt}
-use Rattle.styling.specs.Ascending.{ascends}
+use Rattle.styling.specs.Ascending.{strictlyAscends}
 use Rattle.styling.specs.Table.{idAt, idsOf}
 use Rattle.styling.specs.Lookup.{placeOf}
 use Rattle.styling.proofs.Listed.{length-ids, getD-ids, ids-lt}
@@ -30,7 +30,7 @@ begin words count id h =
       above = λ i p q. absurd (omega arith);
     }
 
-module _ {words : List ℕ} {count id start len : ℕ} (left : Halving words count id start len) (asc : ascends (idsOf words count) ≡ true) where
+module _ {words : List ℕ} {count id start len : ℕ} (left : Halving words count id start len) (asc : strictlyAscends (idsOf words count) ≡ true) where
   -- an element is at most another if it stands no later
   ordered : (i j : ℕ) → i ≤ j → j < count → idAt words i ≤ idAt words j
   ordered i j p q = ⊎-elim (λ e. omega (arith, ap (idAt words) e)) (λ l. omega (arith, ids-lt words count asc i j l q)) (eq-or-lt-of-le p)

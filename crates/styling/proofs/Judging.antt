@@ -14,7 +14,7 @@ use Rattle.laws.proofs.Bools.{left, right}
 use Rattle.laws.proofs.Every.{all-at}
 use Rattle.laws.proofs.Rows.{length-tabulate, getD-tabulate}
 use Rattle.styling.specs.declared.table.Words.{Words}
-use Rattle.styling.specs.Ascending.{ascendsFrom, ascends}
+use Rattle.styling.specs.Ascending.{strictlyAscendsFrom, strictlyAscends}
 use Rattle.styling.specs.Record.{inRange}
 use Rattle.styling.specs.Table.{idAt, wordsAt, idsOf, isShort, isValid, isTable, Table}
 use Rattle.styling.proofs.Listed.{drop-tabulate, map-tabulate}
@@ -43,7 +43,7 @@ long {words} {floats} {count} h = omega (arith, ltb-false (min (length words / 8
 
 -- the records, no id below `low`
 abbrev validFrom : ℕ → List Words → Bool
-validFrom low records = all inRange records && ascendsFrom low (map (λ w. w .id) records)
+validFrom low records = all inRange records && strictlyAscendsFrom low (map (λ w. w .id) records)
 
 pub record Judging (words : List ℕ) (count i : ℕ) (ok : Bool) (low : ℕ) : Type 0 where
   pub within : i ≤ count
@@ -62,7 +62,7 @@ regroup true false b c d = refl
 regroup false a b c d = refl
 
 pub next : {words : List ℕ} {count i low : ℕ} {ok fine : Bool} {w : Words} → Judging words count i ok low → i < count → w ≡ wordsAt words i → fine ≡ inRange w → Judging words count (i + 1) (ok && (fine && leb low (w .id))) (w .id + 1)
-unfolding ascendsFrom
+unfolding strictlyAscendsFrom
 next {words} {count} {i} {low} {ok} {fine} {w} v h p q =
     record {
       within = omega arith;
@@ -70,7 +70,7 @@ next {words} {count} {i} {low} {ok} {fine} {w} v h p q =
     }
 
 pub end : {words : List ℕ} {count i low : ℕ} {ok : Bool} → Judging words count i ok low → count ≤ i → ok ≡ isValid (tabulate count (wordsAt words))
-unfolding ascendsFrom
+unfolding strictlyAscendsFrom
 end {words} {count} {i} {low} {ok} v h =
     let records = tabulate count (wordsAt words) in
     let past : length records ≤ i = omega (arith, length-tabulate count (wordsAt words)) in
@@ -78,17 +78,17 @@ end {words} {count} {i} {low} {ok} v h =
 
 -- ---- a table that passes
 
-ids-valid : (words : List ℕ) (count : ℕ) → isValid (tabulate count (wordsAt words)) ≡ true → ascends (idsOf words count) ≡ true
+ids-valid : (words : List ℕ) (count : ℕ) → isValid (tabulate count (wordsAt words)) ≡ true → strictlyAscends (idsOf words count) ≡ true
 unfolding isValid idsOf
 ids-valid words count h =
     let records = tabulate count (wordsAt words) in
-    rw map-tabulate at (right (all inRange records) (ascends (map (λ (w : Words). w .id) records)) h)
+    rw map-tabulate at (right (all inRange records) (strictlyAscends (map (λ (w : Words). w .id) records)) h)
 
 range-valid : (words : List ℕ) (count : ℕ) → isValid (tabulate count (wordsAt words)) ≡ true → (i : ℕ) → i < count → inRange (wordsAt words i) ≡ true
 unfolding isValid
 range-valid words count h i p =
     let records = tabulate count (wordsAt words) in
-    let whole : all inRange records ≡ true = left (all inRange records) (ascends (map (λ (w : Words). w .id) records)) h in
+    let whole : all inRange records ≡ true = left (all inRange records) (strictlyAscends (map (λ (w : Words). w .id) records)) h in
     rw (getD-tabulate count (wordsAt words) (wordsAt words i) i p) at (all-at inRange records whole i (wordsAt words i) (rw (length-tabulate count (wordsAt words)) p))
 
 pub table : {words : List ℕ} {floats : List Float} {count : ℕ} → isTable words floats count ≡ true → Table words floats count
@@ -103,12 +103,12 @@ table {words} {floats} {count} h =
       in-range = range-valid words count valid;
     }
 
--- ---- the two ways out of the judging
+-- ---- where 1 applies and where it does not
 
-pub table-short : (words : List ℕ) (floats : List Float) (count : ℕ) → isShort words floats count ≡ true → false ≡ isTable words floats count
+pub table-short : (words : List ℕ) (floats : List Float) (count : ℕ) → isShort words floats count ≡ true → isTable words floats count ≡ false
 unfolding isTable
 table-short words floats count h = rw h refl
 
-pub table-long : (words : List ℕ) (floats : List Float) (count : ℕ) {ok : Bool} → isShort words floats count ≡ false → ok ≡ isValid (tabulate count (wordsAt words)) → ok ≡ isTable words floats count
+pub table-long : (words : List ℕ) (floats : List Float) (count : ℕ) → isShort words floats count ≡ false → isTable words floats count ≡ isValid (tabulate count (wordsAt words))
 unfolding isTable
-table-long words floats count h e = rw h e
+table-long words floats count h = rw h refl

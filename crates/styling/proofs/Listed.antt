@@ -10,7 +10,7 @@ use lib.Ieee.{Float}
 use Rattle.laws.specs.Lists.{tabulate}
 use Rattle.laws.proofs.Rows.{length-tabulate, getD-tabulate}
 use Rattle.styling.specs.declared.Layer.{Layer}
-use Rattle.styling.specs.Ascending.{ascends}
+use Rattle.styling.specs.Ascending.{strictlyAscends}
 use Rattle.styling.specs.Table.{idAt, layerAt, tableOf, idsOf}
 use Rattle.styling.proofs.Ascents.{ascends-lt}
 
@@ -40,12 +40,17 @@ pub getD-table : (words : List ℕ) (floats : List Float) (count : ℕ) (d : Lay
 unfolding tableOf
 getD-table words floats count d i h = getD-tabulate count (layerAt words floats) d i h
 
+-- a layer has the id of its record
+pub layer-id : (words : List ℕ) (floats : List Float) (i : ℕ) → layerAt words floats i .id ≡ idAt words i
+unfolding layerAt
+layer-id words floats i = refl
+
 -- the ids of the layers are the ids of the records
 pub ids-table : (words : List ℕ) (floats : List Float) (count : ℕ) → map (λ (l : Layer). l .id) (tableOf words floats count) ≡ idsOf words count
-unfolding tableOf idsOf
+unfolding tableOf idsOf layerAt
 ids-table words floats count = map-tabulate (λ (l : Layer). l .id) count (layerAt words floats)
 
 -- in an ascending table a later record has a greater id
-pub ids-lt : (words : List ℕ) (count : ℕ) → ascends (idsOf words count) ≡ true → (i j : ℕ) → i < j → j < count → idAt words i < idAt words j
+pub ids-lt : (words : List ℕ) (count : ℕ) → strictlyAscends (idsOf words count) ≡ true → (i j : ℕ) → i < j → j < count → idAt words i < idAt words j
 ids-lt words count h i j p q =
     omega (arith, ascends-lt 0 (idsOf words count) h i j p (rw (length-ids words count) q), getD-ids words count i (omega arith), getD-ids words count j q)

@@ -16,11 +16,11 @@ use Rattle.laws.proofs.Orders.{le-or-lt, eq-or-ne}
 use Rattle.styling.specs.declared.Layer.{Layer}
 use Rattle.styling.specs.declared.table.Found.{Found}
 use Rattle.styling.specs.declared.table.Found.the-variants.{At, Absent}
-use Rattle.styling.specs.Ascending.{ascendsFrom, ascends}
+use Rattle.styling.specs.Ascending.{strictlyAscendsFrom, strictlyAscends}
 use Rattle.styling.specs.Table.{idAt, layerAt, tableOf, idsOf}
 use Rattle.styling.specs.Lookup.{lookup, placeOf, foundOf}
 use Rattle.styling.proofs.Ascents.{ascends-tail, ascends-low}
-use Rattle.styling.proofs.Listed.{length-ids, getD-ids, length-table, getD-table, ids-table, ids-lt}
+use Rattle.styling.proofs.Listed.{length-ids, getD-ids, length-table, getD-table, layer-id, ids-table, ids-lt}
 use Rattle.styling.proofs.Places.{Sought, held, missed, sought}
 
 -- ---- over any list of layers
@@ -43,11 +43,11 @@ id-at (l ∷ ls) d zero p = refl
 id-at (l ∷ ls) d (suc i) p = id-at ls d i (le-of-suc-le-suc p)
 
 -- in an ascending list, a layer that has the id is the one that is given
-pub lookup-at : (low : ℕ) (ls : List Layer) (d : Layer) (i id : ℕ) → ascendsFrom low (map idOf ls) ≡ true → i < length ls → getD ls i d .id ≡ id → lookup ls id ≡ given (getD ls i d)
+pub lookup-at : (low : ℕ) (ls : List Layer) (d : Layer) (i id : ℕ) → strictlyAscendsFrom low (map idOf ls) ≡ true → i < length ls → getD ls i d .id ≡ id → lookup ls id ≡ given (getD ls i d)
 lookup-at low [] d i id h p e = absurd (not-suc-le-zero p)
 lookup-at low (l ∷ ls) d zero id h p e = lookup-hit l ls id e
 lookup-at low (l ∷ ls) d (suc i) id h p e =
-    let tail : ascendsFrom (suc (l .id)) (map idOf ls) ≡ true = ascends-tail low (l .id) (map idOf ls) h in
+    let tail : strictlyAscendsFrom (suc (l .id)) (map idOf ls) ≡ true = ascends-tail low (l .id) (map idOf ls) h in
     let more : i < length ls = le-of-suc-le-suc p in
     let above : l .id < getD (map idOf ls) i 0 = ascends-low (suc (l .id)) (map idOf ls) tail i (rw length-map more) in
     lookup-pass l ls id (λ q. omega (arith, above, id-at ls d i more, e, q))
@@ -80,7 +80,7 @@ module _ (words : List ℕ) (floats : List Float) (count id : ℕ) where
     pub looked : lookup (tableOf words floats count) id ≡ refused 8
 
 module _ {words : List ℕ} {floats : List Float} {count id : ℕ} where
-  pub place : {i : ℕ} → ascends (idsOf words count) ≡ true → i < count → idAt words i ≡ id → Place words floats count id i
+  pub place : {i : ℕ} → strictlyAscends (idsOf words count) ≡ true → i < count → idAt words i ≡ id → Place words floats count id i
   place {i} h p e =
       let table = tableOf words floats count in
       let d = layerAt words floats i in
@@ -89,7 +89,7 @@ module _ {words : List ℕ} {floats : List Float} {count id : ℕ} where
         within = p;
         holds = e;
         looked =
-            lookup-at 0 table d i id (rw ids-table h) (rw (length-table words floats count) p) (ap idOf at ∙ e) ∙ ap given at;
+            lookup-at 0 table d i id (rw ids-table h) (rw (length-table words floats count) p) (ap idOf at ∙ layer-id words floats i ∙ e) ∙ ap given at;
       }
 
   pub missing : ((i : ℕ) → i < count → idAt words i ≡ id → ⊥) → Missing words floats count id
@@ -100,12 +100,12 @@ module _ {words : List ℕ} {floats : List Float} {count id : ℕ} where
         nowhere = h;
         looked =
             lookup-none table d id
-            (λ i p e. let q : i < count = rw (length-table words floats count) at p in h i q (sym (ap idOf (getD-table words floats count d i q)) ∙ e));
+            (λ i p e. let q : i < count = rw (length-table words floats count) at p in h i q (sym (ap idOf (getD-table words floats count d i q) ∙ layer-id words floats i) ∙ e));
       }
 
   -- ---- what `find` answers
 
-  pub at-place : {r : Found} {i : ℕ} → r ≡ At i → foundOf r ≡ placeOf (idsOf words count) id → ascends (idsOf words count) ≡ true → Place words floats count id i
+  pub at-place : {r : Found} {i : ℕ} → r ≡ At i → foundOf r ≡ placeOf (idsOf words count) id → strictlyAscends (idsOf words count) ≡ true → Place words floats count id i
   at-place {r} {i} e f h = by (sought 0 (idsOf words count) id)
     where
       by : Sought 0 (idsOf words count) id → Place words floats count id i
@@ -141,7 +141,7 @@ module _ {words : List ℕ} {count id p : ℕ} (walk : Walk words count id p) wh
   walk-past h e = record { within = omega arith; passed = λ i q. ⊎-elim (λ s. omega (arith, ap (idAt words) s)) (walk .passed i) (eq-or-lt-of-le {n = i} {m = p} (omega arith)) }
 
   -- a record with a greater id, or the end: the id is missing
-  pub walk-missed : {floats : List Float} → ascends (idsOf words count) ≡ true → (p < count → id < idAt words p) → Missing words floats count id
+  pub walk-missed : {floats : List Float} → strictlyAscends (idsOf words count) ≡ true → (p < count → id < idAt words p) → Missing words floats count id
   walk-missed h e = missing not-at
     where
       not-at : (i : ℕ) → i < count → idAt words i ≡ id → ⊥

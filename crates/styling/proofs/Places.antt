@@ -11,7 +11,7 @@ use borrow.Author.Tests.{eq-eqb, ne-eqb}
 use lib.ListN.{length, getD}
 use Rattle.laws.specs.Answer.{refused, given}
 use Rattle.laws.proofs.Orders.{eq-or-ne}
-use Rattle.styling.specs.Ascending.{ascendsFrom}
+use Rattle.styling.specs.Ascending.{strictlyAscendsFrom}
 use Rattle.styling.specs.Lookup.{placeFrom}
 use Rattle.styling.proofs.Ascents.{ascends-tail, ascends-low}
 
@@ -27,11 +27,11 @@ place-past k x xs id e = rw (ne-eqb x id e)
 
 -- ---- what is looked for is found
 
-pub place-at : (low k : ℕ) (xs : List ℕ) (i id : ℕ) → ascendsFrom low xs ≡ true → i < length xs → getD xs i 0 ≡ id → placeFrom k xs id ≡ given (k + i)
+pub place-at : (low k : ℕ) (xs : List ℕ) (i id : ℕ) → strictlyAscendsFrom low xs ≡ true → i < length xs → getD xs i 0 ≡ id → placeFrom k xs id ≡ given (k + i)
 place-at low k [] i id h p e = absurd (not-suc-le-zero p)
 place-at low k (x ∷ xs) zero id h p e = place-here k x xs id e ∙ ap given (sym (add-zero k))
 place-at low k (x ∷ xs) (suc i) id h p e =
-    let tail : ascendsFrom (suc x) xs ≡ true = ascends-tail low x xs h in
+    let tail : strictlyAscendsFrom (suc x) xs ≡ true = ascends-tail low x xs h in
     let more : i < length xs = le-of-suc-le-suc p in
     place-past k x xs id (λ q. omega (arith, ascends-low (suc x) xs tail i more, e, q))
     ∙ place-at (suc x) (suc k) xs i id tail more e

@@ -1,17 +1,21 @@
 -- The bounds that a record in range has, and those of the layer that it says. Assumes nothing.
-use mathlib.Core.Path.{_≡_}
+use mathlib.Core.Path.{_≡_, refl}
 use mathlib.Core.Bool.{Bool, true, false, cond, _&&_}
 use mathlib.Core.List.{List}
-use Prim.Native.Nat.{ℕ, _≤_, _<_}
+use Prim.Native.Nat.{ℕ, zero, suc, _≤_, _<_}
 use native.Mathlib.Omega.{arith}
 use borrow.Author.Tests.{leb-true}
-use lib.Dec.{leb, eqb}
-use lib.Ieee.{Float}
+use lib.Dec.{leb, eqb, eqb·suc-zero}
+use lib.Ieee.{Float, eq, ofBits, binary32}
 use Rattle.laws.proofs.Bools.{left, right}
+use Rattle.styling.specs.declared.Color.{Color}
 use Rattle.styling.specs.declared.Style.{Style}
 use Rattle.styling.specs.declared.Func.the-variants.{Draw, Clip}
 use Rattle.styling.specs.declared.table.Words.{Words}
-use Rattle.styling.specs.Record.{layerLimit, inRange}
+use Rattle.styling.specs.Codes.{fillOf, modeCode, modeOf}
+use Rattle.styling.specs.Style.{fillColor, hasAlphaOne, isOpaque}
+use Rattle.styling.specs.Record.{layerLimit, inRange, funcOf}
+use Rattle.styling.proofs.Coded.{mode-code}
 use Rattle.styling.specs.Table.{idAt, wordsAt, layerAt, Table}
 
 pub record InRange (w : Words) : Type 0 where
@@ -74,8 +78,27 @@ module _ {words : List ℕ} {floats : List Float} {count : ℕ} (table : Table w
   id-le {i} h = in-range (wordsAt words i) (table .in-range i h) .id-le
 
   pub span-le : {i n : ℕ} → i < count → layerAt words floats i .props .func ≡ Clip n → n ≤ 2097151
+  unfolding layerAt
   span-le {i} {n} h e = by _ (eqb (wordsAt words i .func) 0) e
     where
       by : (s : Style) (t : Bool) → cond t (Draw s) (Clip (wordsAt words i .span)) ≡ Clip n → n ≤ 2097151
       by s true q = let clash : _≡_ {A = ℕ} 0 1 = cc in absurd (omega arith)
       by s false q = let same : wordsAt words i .span ≡ n = cc in omega (arith, same, in-range (wordsAt words i) (table .in-range i h) .span-le)
+
+-- ---- opaque, by the words: a draw with fill 0, blend mode 0 and alpha 1
+
+opaque-fill : (n : ℕ) (c : Color) → hasAlphaOne (fillColor (fillOf n c)) ≡ (eqb n 0 && eq (c .a) (ofBits binary32 0x3F800000))
+opaque-fill zero c = refl
+opaque-fill (suc zero) c = refl
+opaque-fill (suc (suc zero)) c = refl
+opaque-fill (suc (suc (suc n))) c = rw (eqb·suc-zero (suc (suc n))) refl
+
+pub opaque-words : (w : Words) (c : Color) → inRange w ≡ true → isOpaque (funcOf w c) ≡ (eqb (w .func) 0 && (eqb (w .fill) 0 && eq (c .a) (ofBits binary32 0x3F800000) && eqb (w .mode) 0))
+opaque-words w c h = by (eqb (w .func) 0)
+  where
+    mode-is : modeCode (modeOf (w .mode)) ≡ w .mode
+    mode-is = mode-code (w .mode) (omega (arith, in-range w h .mode-le))
+
+    by : (t : Bool) → isOpaque (cond t (Draw (record { «is_clipped» = eqb (w .clipped) 1; fill = fillOf (w .fill) c; «blend_mode» = modeOf (w .mode) })) (Clip (w .span))) ≡ (t && (eqb (w .fill) 0 && eq (c .a) (ofBits binary32 0x3F800000) && eqb (w .mode) 0))
+    by true = rw (opaque-fill (w .fill) c, mode-is) refl
+    by false = refl

@@ -11,7 +11,7 @@ use Rattle.laws.specs.Lists.{tabulate, all}
 use Rattle.styling.specs.declared.Color.{Color}
 use Rattle.styling.specs.declared.Layer.{Layer}
 use Rattle.styling.specs.declared.table.Words.{Words}
-use Rattle.styling.specs.Ascending.{ascends}
+use Rattle.styling.specs.Ascending.{strictlyAscends}
 use Rattle.styling.specs.Record.{inRange, layerOf}
 
 -- ---- the layout
@@ -35,7 +35,7 @@ wordsAt words i =
 abbrev pub colorAt : List Float → ℕ → Color
 colorAt floats i = record { r = getD floats (4 * i) nan; g = getD floats (4 * i + 1) nan; b = getD floats (4 * i + 2) nan; a = getD floats (4 * i + 3) nan }
 
-abbrev pub layerAt : List ℕ → List Float → ℕ → Layer
+unfoldable pub layerAt : List ℕ → List Float → ℕ → Layer
 layerAt words floats i = layerOf (wordsAt words i) (colorAt floats i)
 
 -- ---- the table
@@ -58,7 +58,7 @@ isShort words floats count = ltb (roomOf words floats) count
 
 -- what refusal 4 asks of the records: each in range, and their ids strictly ascending
 unfoldable pub isValid : List Words → Bool
-isValid records = all inRange records && ascends (map (λ w. w .id) records)
+isValid records = all inRange records && strictlyAscends (map (λ w. w .id) records)
 
 -- neither 1 nor 4 applies. Where 1 does not, 4 is that this does not hold
 unfoldable pub isTable : List ℕ → List Float → ℕ → Bool
@@ -68,5 +68,5 @@ isTable words floats count = not (isShort words floats count) && isValid (tabula
 pub record Table (words : List ℕ) (floats : List Float) (count : ℕ) : Type 0 where
   pub words-long : 8 * count ≤ length words
   pub floats-long : 4 * count ≤ length floats
-  pub ascending : ascends (idsOf words count) ≡ true
+  pub ascending : strictlyAscends (idsOf words count) ≡ true
   pub in-range : (i : ℕ) → i < count → inRange (wordsAt words i) ≡ true

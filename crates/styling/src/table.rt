@@ -13,7 +13,7 @@ ghost use lib.ListN.{length};
 ghost use Rattle.styling.specs.Record.{inRange, funcOf, layerOf};
 ghost use Rattle.styling.specs.Table.{idAt, wordsAt, colorAt, layerAt, idsOf, isShort, isTable};
 ghost use Rattle.styling.specs.Lookup.{placeOf, foundOf};
-ghost use Rattle.styling.specs.Ascending.{ascends};
+ghost use Rattle.styling.specs.Ascending.{strictlyAscends};
 
 // The largest layer id, and the longest span.
 const LAYER_LIMIT: u32 = 2097151;
@@ -157,7 +157,7 @@ pub fn is_table(layers: &[u32], colors: &[f32], count: usize) -> bool
 
 // The place of a layer in an ascending table, by halving.
 pub fn find(layers: &[u32], count: usize, id: u32) -> Found
-    requires { ⌜ (8 * count ≤ length (now layers)) × (ascends (idsOf (now layers) count) ≡ true) ⌝ }
+    requires { ⌜ (8 * count ≤ length (now layers)) × (strictlyAscends (idsOf (now layers) count) ≡ true) ⌝ }
     ensures { λ r. ⌜ foundOf r ≡ placeOf (idsOf (now (layers .entry)) count) id ⌝ }
 {
     if count == 0 {

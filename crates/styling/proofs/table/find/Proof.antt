@@ -36,7 +36,7 @@ loop-less c = omega arith
 loop-again : tie.Need-loop-again Inv-loop μ-loop
 loop-again c =
     let turn = c .before .before in
-    upper (turn .before .loop .inv) (turn .before .before .before .before .pre .1) (turn .loop-test .taken) (omega (arith, c .before .id-at .ensures))
+    upper (turn .before .loop .inv) (turn .before .before .before .before .pre .1) (omega arith) (omega (arith, c .before .id-at .ensures))
 
 loop-less-2 : tie.Need-loop-less-2 Inv-loop μ-loop
 loop-less-2 c = omega arith
@@ -44,7 +44,7 @@ loop-less-2 c = omega arith
 loop-again-2 : tie.Need-loop-again-2 Inv-loop μ-loop
 loop-again-2 c =
     let turn = c .before .before in
-    lower (turn .before .loop .inv) (turn .before .before .before .before .pre .1) (turn .loop-test .taken) (omega (arith, c .before .id-at .ensures))
+    lower (turn .before .loop .inv) (turn .before .before .before .before .pre .1) (omega arith) (omega (arith, c .before .id-at .ensures))
 
 id-at-requires-2 : tie.Need-id-at-requires-2 Inv-loop μ-loop
 id-at-requires-2 c κs = omega arith
@@ -57,7 +57,7 @@ returns-2 c =
 returns-3 : tie.Need-returns-3 Inv-loop μ-loop
 returns-3 c =
     let turn = c .before .before in
-    absent (turn .before .loop .inv) (turn .before .before .before .before .pre .1) (turn .loop-test .left) (λ e. c .if3 .left (c .before .id-at2 .ensures ∙ e))
+    absent (turn .before .loop .inv) (turn .before .before .before .before .pre .1) (omega arith) (λ e. c .if3 .left (c .before .id-at2 .ensures ∙ e))
 
 pub find-spec : {M : Type 1} → statement M
 find-spec =

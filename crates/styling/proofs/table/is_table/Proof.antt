@@ -20,7 +20,7 @@ is-short-requires : tie.Need-is-short-requires Inv-loop μ-loop
 is-short-requires c κs = search needs
 
 returns : tie.Need-returns Inv-loop μ-loop
-returns c = table-short _ _ _ (sym (c .before .is-short .ensures) ∙ c .if1 .taken)
+returns c = sym (table-short _ _ _ (sym (c .before .is-short .ensures) ∙ c .if1 .taken))
 
 loop-holds : tie.Need-loop-holds Inv-loop μ-loop
 loop-holds c = begin _ _
@@ -55,8 +55,8 @@ loop-again c =
 
 returns-2 : tie.Need-returns-2 Inv-loop μ-loop
 returns-2 c =
-    table-long _ _ _ (sym (c .before .before .before .is-short .ensures) ∙ c .before .before .if1 .left)
-    (end (c .before .loop .inv) (c .loop-test .left))
+    end (c .before .loop .inv) (c .loop-test .left)
+    ∙ sym (table-long _ _ _ (sym (c .before .before .before .is-short .ensures) ∙ c .before .before .if1 .left))
 
 pub is-table-spec : {M : Type 1} → statement M
 is-table-spec =

@@ -3,6 +3,7 @@
 use mathlib.Core.Path.{ap₂, _∙_}
 use borrow.Author.Needs.{needs}
 use Rattle.styling.specs.Record.{layerOf}
+use Rattle.styling.specs.Table.{layerAt}
 use Rattle.styling.proofs.table.layer_at.Statement.{statement}
 use Rattle.styling.proofs.table.layer_at.Tie as tie
 
@@ -16,6 +17,7 @@ to-layer-requires : tie.Need-to-layer-requires
 to-layer-requires c κs = search needs
 
 returns : tie.Need-returns
+unfolding layerAt
 returns c = c .to-layer .ensures ∙ ap₂ layerOf (c .before .before .words-at .ensures) (c .before .color-at .ensures)
 
 pub layer-at-spec : {M : Type 1} → statement M

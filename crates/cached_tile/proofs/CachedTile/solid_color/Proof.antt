@@ -1,0 +1,15 @@
+-- `cached_tile::CachedTile::solid_color` meets its contract.
+-- Assumes nothing.
+use mathlib.Core.Path.{refl}
+use borrow.Author.Needs.{needs}
+use Rattle.cached_tile.proofs.CachedTile.solid_color.Statement.{statement}
+use Rattle.cached_tile.proofs.CachedTile.solid_color.Tie as tie
+
+keeps-color-requires : tie.Need-keeps-color-requires
+keeps-color-requires c κs = search needs
+
+returns : tie.Need-returns
+returns c = rw (c .keeps-color .ensures) refl
+
+pub solid-color-spec : {M : Type 1} → statement M
+solid-color-spec = tie.close (tie.spec keeps-color-requires returns)

@@ -1,0 +1,49 @@
+-- `cached_tile::CachedTile::update_layer_count` meets its contract.
+-- Assumes nothing.
+use mathlib.Core.Path.{sym, ap, _∙_}
+use borrow.Author.Needs.{needs}
+use Rattle.cached_tile.specs.declared.LayerCount.{LayerCount}
+use Rattle.cached_tile.specs.Tile.{countOf, updateCount}
+use Rattle.cached_tile.proofs.CachedTile.update_layer_count.Statement.{statement}
+use Rattle.cached_tile.proofs.CachedTile.update_layer_count.Tie as tie
+
+layer-count-requires : tie.Need-layer-count-requires
+layer-count-requires c κs = search needs
+
+enum-known-layer-count : tie.Need-enum-known-layer-count
+enum-known-layer-count c = search needs
+
+keep-layer-count-requires : tie.Need-keep-layer-count-requires
+keep-layer-count-requires c κs = search needs
+
+enum-told : tie.Need-enum-told
+enum-told c = search needs
+
+drop-layer-count-requires : tie.Need-drop-layer-count-requires
+drop-layer-count-requires c κs = search needs
+
+returns : tie.Need-returns
+returns c =
+    record {
+      previous = c .before .before .before .before .layer-count .ensures;
+      tile = c .keep-layer-count .ensures ∙ sym (ap (λ (n : LayerCount). updateCount (c .before .before .before .before .before .args .self) (countOf n)) (c .before .before .layer-count2 .given .1));
+    }
+
+returns-2 : tie.Need-returns-2
+returns-2 c =
+    record {
+      previous = c .before .before .before .layer-count .ensures;
+      tile = c .drop-layer-count .ensures ∙ sym (ap (λ (n : LayerCount). updateCount (c .before .before .before .before .args .self) (countOf n)) (c .before .enum-told .given .1));
+    }
+
+pub update-layer-count-spec : {M : Type 1} → statement M
+update-layer-count-spec =
+    tie.close
+    (tie.spec
+    layer-count-requires
+    enum-known-layer-count
+    keep-layer-count-requires
+    enum-told
+    drop-layer-count-requires
+    returns
+    returns-2)

@@ -1,0 +1,3 @@
+-- Laws and cases of cached tiles.
+pub mod Counts
+pub mod Cases

@@ -1,0 +1,22 @@
+-- `cached_tile::kept::Kept::update_layer_count` meets its contract.
+-- Assumes nothing.
+use mathlib.Core.Path.{refl}
+use borrow.Author.Needs.{needs}
+use Rattle.cached_tile.proofs.kept.Kept.update_layer_count.Statement.{statement}
+use Rattle.cached_tile.proofs.kept.Kept.update_layer_count.Tie as tie
+
+update-layer-count-requires : tie.Need-update-layer-count-requires
+update-layer-count-requires c κs = search needs
+
+returns : tie.Need-returns
+returns c =
+    record {
+      previous = rw (c .before .before .if1 .taken) (c .before .update-layer-count .ensures .previous);
+      kept = rw (c .before .before .if1 .taken, c .before .update-layer-count .ensures .tile) refl;
+    }
+
+returns-2 : tie.Need-returns-2
+returns-2 c = search needs
+
+pub update-layer-count-spec : {M : Type 1} → statement M
+update-layer-count-spec = tie.close (tie.spec update-layer-count-requires returns returns-2)

@@ -1,0 +1,30 @@
+-- `cached_tile::kept::settle_tile` meets its contract.
+-- Assumes nothing.
+use mathlib.Core.Path.{refl}
+use borrow.Author.Needs.{needs}
+use Rattle.cached_tile.proofs.kept.settle_tile.Statement.{statement}
+use Rattle.cached_tile.proofs.kept.settle_tile.Tie as tie
+
+update-solid-color-requires : tie.Need-update-solid-color-requires
+update-solid-color-requires c κs = search needs
+
+same-bytes-requires : tie.Need-same-bytes-requires
+same-bytes-requires c κs = search needs
+
+keep-or-write-requires : tie.Need-keep-or-write-requires
+keep-or-write-requires c κs = search needs
+
+returns : tie.Need-returns
+returns c =
+    let wrote = c .before in
+    let compared = wrote .before .before in
+    let updated = compared .before .before .before .update-solid-color .ensures in
+    record {
+      settlement = rw (compared .same-bytes .ensures, updated .previous) at (wrote .keep-or-write .ensures);
+      kept = rw (updated .tile) refl;
+    }
+
+pub settle-tile-spec : {M : Type 1} → statement M
+settle-tile-spec =
+    tie.close
+    (tie.spec update-solid-color-requires same-bytes-requires keep-or-write-requires returns)

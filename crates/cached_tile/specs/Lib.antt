@@ -1,0 +1,3 @@
+-- What the last frame left of a tile: what the contracts say.
+pub mod Tile
+pub mod Kept
