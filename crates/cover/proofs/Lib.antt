@@ -7,3 +7,6 @@ pub mod Filled
 pub mod Tables
 pub mod Carries
 pub mod Loads
+pub mod Areas
+pub mod Cells
+pub mod Shades

@@ -6,3 +6,5 @@ pub mod Plane
 pub mod Mark
 pub mod Carry
 pub mod Load
+pub mod Area
+pub mod Cell

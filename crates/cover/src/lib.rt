@@ -1,4 +1,5 @@
 // The arithmetic of the painter (painter/mod.rs): covers, doubled areas, weights, coverages, planes, marks.
+pub mod area;
 pub mod carry;
 pub mod weight;
 
