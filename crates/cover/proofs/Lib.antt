@@ -10,3 +10,4 @@ pub mod Loads
 pub mod Areas
 pub mod Cells
 pub mod Shades
+pub mod Columns

@@ -103,19 +103,19 @@ loop-again c =
     let k = a .before .before in
     let l = k .before .before .before in (
       fill-next (l .loop .inv .0) (omega arith) (omega arith) (k .cell .ensures)
-      (rw (
-        toZ-ofZ (add-areas a),
-        kept w16 (getD (l .loop .areas) (k .cell .result) (pos 0)) (a .before .areas .given),
-        kept w16 (a .double-area .result) (a .double-area .ok),
-        a .double-area .ensures,
-      )),
+          (rw (
+            toZ-ofZ (add-areas a),
+            kept w16 (getD (l .loop .areas) (k .cell .result) (pos 0)) (a .before .areas .given),
+            kept w16 (a .double-area .result) (a .double-area .ok),
+            a .double-area .ensures,
+          )),
       fill-next (l .loop .inv .1) (omega arith) (omega arith) (k .cell .ensures)
-      (rw (
-        toZ-ofZ (add-covers c),
-        kept w8 (getD (l .loop .covers) (k .cell .result) (pos 0)) (c .before .covers .given),
-        kept w8 (c .cover .result) (c .cover .ok),
-        c .cover .ensures,
-      )),
+          (rw (
+            toZ-ofZ (add-covers c),
+            kept w8 (getD (l .loop .covers) (k .cell .result) (pos 0)) (c .before .covers .given),
+            kept w8 (c .cover .result) (c .cover .ok),
+            c .cover .ensures,
+          )),
     )
 
 returns : tie.Need-returns Inv-loop μ-loop

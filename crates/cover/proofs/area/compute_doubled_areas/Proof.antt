@@ -130,18 +130,18 @@ loop-again c =
     let z = coverAt (l .loop .next) (l .loop .y) in (
       omega arith,
       shade-next (l .loop .inv .1) (l .before .pre .low) (a .before .loop-test .taken) refl
-      (rw (
-        toZ-ofZ (add-areas b),
-        kept w8 z (a .areas .given),
-        toZ-ofZ (wide z (a .areas .given)),
-        toZ-ofZ (scaled z (a .areas .given)),
-        kept w16 (coverAt (l .loop .areas) (l .before .args .column * 16 + l .loop .y)) (b .areas2 .given),
-      ))
-      (rw (
-        toZ-ofZ (add-next c),
-        kept w8 z (a .areas .given),
-        kept w8 (coverAt (l .before .args .covers .now) (l .before .args .column * 16 + l .loop .y)) (c .next2 .given),
-      )),
+          (rw (
+            toZ-ofZ (add-areas b),
+            kept w8 z (a .areas .given),
+            toZ-ofZ (wide z (a .areas .given)),
+            toZ-ofZ (scaled z (a .areas .given)),
+            kept w16 (coverAt (l .loop .areas) (l .before .args .column * 16 + l .loop .y)) (b .areas2 .given),
+          ))
+          (rw (
+            toZ-ofZ (add-next c),
+            kept w8 z (a .areas .given),
+            kept w8 (coverAt (l .before .args .covers .now) (l .before .args .column * 16 + l .loop .y)) (c .next2 .given),
+          )),
     )
 
 returns : tie.Need-returns Inv-loop μ-loop
