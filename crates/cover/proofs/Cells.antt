@@ -1,26 +1,25 @@
 -- Laws of the cells: a cell's segments are its pixel's own, and what they sum up to is bounded. Over any widths whose local y stays below the
 -- height n. Assumes nothing.
 use mathlib.Core.Path.{_≡_, refl, sym, ap, _∙_}
-use mathlib.Core.Bool.{Bool, true, false, cond, _&&_, false≢true}
+use mathlib.Core.Bool.{Bool, true, false, cond, false≢true}
 use mathlib.Core.List.{List, [], _∷_}
-use Prim.Native.Nat.{ℕ, _+_, _*_, _/_, _%_, _≤_, _<_}
+use Prim.Native.Nat.{ℕ, _*_, _/_, _%_, _≤_, _<_}
 use native.Mathlib.Nat.{mul-add, mul-le-mul-left, div-add-mod'}
 use native.Mathlib.Omega.{arith}
 use borrow.Author.Tests.{eqb-true, eq-eqb}
 use lib.Arith.{digits-div, digits-mod}
 use lib.Dec.{eqb}
 use lib.IntN.{ℤ, pos, natAbs, _+ℤ_, +ℤ-idl}
-use lib.ListN.{length, getD, replicate, length-replicate}
+use lib.ListN.{length, length-replicate}
 use Rattle.laws.proofs.Bools.{both, left, right, same}
 use Rattle.laws.proofs.Rows.{is-tabulate, getD-tabulate}
 use Rattle.laws.proofs.Sums.{sum-ext}
 use Rattle.laws.specs.Sum.{sumℤ, sumℕ}
-use Rattle.pixel_segment.specs.Field.{localXOf, localYOf, coverOf, doubleAreaOf, widthOf}
+use Rattle.pixel_segment.specs.Field.{localXOf, localYOf}
 use Rattle.cover.specs.Area.{isOwn}
 use Rattle.cover.specs.Carry.{inRow, absCover, loadIn}
 use Rattle.cover.specs.Cell.{cellOf, cellsOf, noCells, Bounded}
 use Rattle.cover.specs.Cover.{coverAt}
-use Rattle.cover.proofs.Areas.{area-weight}
 use Rattle.cover.proofs.Filled.{getD-default}
 use Rattle.cover.proofs.Tables.{Filling, fill-start, fill-at, weighed}
 

@@ -1,15 +1,15 @@
 -- The doubled areas of a tile, one column after another: the columns passed hold d, the others their own double areas, and each row's sum is the
 -- cover that comes in with what lies left of the column. Over any widths whose local y stays below 16 and whose multiplier has six bits.
 -- Assumes nothing.
-use mathlib.Core.Path.{_≡_, refl, sym, ap, _∙_}
-use mathlib.Core.Bool.{Bool, true, false, cond, _&&_}
+use mathlib.Core.Path.{_≡_, sym, ap, _∙_}
+use mathlib.Core.Bool.{cond}
 use mathlib.Core.List.{List}
 use mathlib.Core.Logic.{⊎-elim}
 use Prim.Native.Nat.{ℕ, _+_, _*_, _/_, _%_, _≤_, _<_}
 use native.Mathlib.Omega.{arith}
 use borrow.Author.Tests.{eq-eqb, ne-eqb, lt-ltb, le-ltb}
 use lib.Dec.{eqb, ltb}
-use lib.IntN.{ℤ, pos, natAbs, _+ℤ_, _*ℤ_, +ℤ-assoc, +ℤ-idr}
+use lib.IntN.{ℤ, pos, _+ℤ_, _*ℤ_, +ℤ-assoc, +ℤ-idr}
 use lib.ListN.{length}
 use Rattle.laws.proofs.Orders.{eq-or-ne}
 use Rattle.laws.proofs.Rows.{is-tabulate, length-tabulate}

@@ -11,3 +11,7 @@ pub mod Areas
 pub mod Cells
 pub mod Shades
 pub mod Columns
+pub mod Marks
+pub mod Entries
+pub mod Planes
+pub mod Paintings

@@ -1,7 +1,7 @@
 -- A table of sums, an entry for each value of a key, as a loop over a part makes it: at word i, the table so far. The sums are whole numbers,
 -- and the absolute values still to come bound them, so that no sum outgrows its type on the way. Assumes nothing.
 use mathlib.Core.Path.{_≡_, refl, sym, ap, _∙_}
-use mathlib.Core.Bool.{Bool, cond}
+use mathlib.Core.Bool.{cond}
 use mathlib.Core.List.{List}
 use Prim.Native.Nat.{ℕ, _+_, _≤_, _<_}
 use native.Mathlib.Omega.{arith}

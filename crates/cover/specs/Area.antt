@@ -2,12 +2,12 @@
 -- column) + double areas of its own segments. `incoming` says the incoming cover of each pixel row.
 use mathlib.Core.Bool.{Bool, _&&_}
 use mathlib.Core.List.{List}
-use Prim.Native.Nat.{ℕ, _+_, _*_, _/_, _%_}
+use Prim.Native.Nat.{ℕ, _*_, _/_, _%_}
 use lib.Dec.{eqb, ltb}
 use lib.IntN.{ℤ, pos, _+ℤ_, _*ℤ_}
 use Rattle.laws.specs.Lists.{tabulate}
 use Rattle.laws.specs.Sum.{sumℤ}
-use Rattle.pixel_segment.specs.Field.{localXOf, localYOf, coverOf, doubleAreaOf}
+use Rattle.pixel_segment.specs.Field.{localXOf, coverOf, doubleAreaOf}
 use Rattle.cover.specs.Carry.{inRow}
 
 -- segment w lies in pixel row y, left of column c

@@ -1,5 +1,5 @@
 -- How the code works d out: the double areas and the covers of each cell, which is a pixel at column × n + row, and then a column after the other.
-use mathlib.Core.Bool.{Bool, cond, _&&_}
+use mathlib.Core.Bool.{cond, _&&_}
 use mathlib.Core.List.{List}
 use mathlib.Core.Path.{_≡_}
 use Prim.Native.Nat.{ℕ, _+_, _*_, _/_, _%_, _≤_, _<_}

@@ -1,23 +1,21 @@
 -- `cover::area::acc_segments` meets its contract: two tables are filled, of double areas and of covers. Assumes nothing.
+use mathlib.Core.Path.{refl}
 use Prim.Native.Nat.{ℕ, _-_, _*_, _≤_}
 use native.Mathlib.Omega.{arith}
 use borrow.Author.Needs.{needs}
 use lib.IntN.{pos, natAbs}
 use lib.ListN.{length, getD}
-use mathlib.Core.Path.{_≡_, refl}
 use mir.Facts.{toZ-ofZ}
 use mir.Syntax.{w8, w16}
 use Rattle.laws.proofs.Machine.{small, kept}
-use Rattle.pixel_segment.specs.Field.{cpu, localYOf, coverOf, doubleAreaOf}
+use Rattle.pixel_segment.specs.Field.{cpu, coverOf, doubleAreaOf}
 use Rattle.cover.specs.Carry.{absCover}
-use Rattle.cover.specs.Cell.{cellOf, noCells}
+use Rattle.cover.specs.Cell.{cellOf}
 use Rattle.cover.proofs.Areas.{area-weight}
 use Rattle.cover.proofs.Cells.{cells-start, cells-end}
 use Rattle.cover.proofs.Tables.{Filling, fill-next, fill-fits}
 use Rattle.cover.proofs.area.acc_segments.Statement.{statement}
 use Rattle.cover.proofs.area.acc_segments.Tie as tie
-use Rattle.cover.proofs.area.acc_segments.Reads as reads
-use Rattle.cover.proofs.area.acc_segments.Lts as lts
 
 abbrev Inv-loop : tie.InvT-loop
 Inv-loop part areas₀ covers₀ i₀ areas covers i =

@@ -3,8 +3,7 @@ use mathlib.Core.Path.{_≡_, refl}
 use Prim.Native.Nat.{_+_, _-_, _*_, _^_, _≤_, _<_}
 use native.Mathlib.Omega.{arith}
 use borrow.Author.Needs.{needs, sfits-of}
-use lib.IntN.{ℤ, pos, natAbs, _+ℤ_, _*ℤ_}
-use lib.ListN.{length, getD}
+use lib.IntN.{ℤ, pos, _+ℤ_, _*ℤ_}
 use lib.Signed.{mag}
 use mir.Facts.{toZ-ofZ, sfits-widen}
 use mir.Syntax.{w8, w16}
@@ -16,8 +15,6 @@ use Rattle.cover.specs.Cover.{coverAt}
 use Rattle.cover.proofs.Shades.{shade-start, shade-area, shade-sum, shade-next}
 use Rattle.cover.proofs.area.compute_doubled_areas.Statement.{statement}
 use Rattle.cover.proofs.area.compute_doubled_areas.Tie as tie
-use Rattle.cover.proofs.area.compute_doubled_areas.Reads as reads
-use Rattle.cover.proofs.area.compute_doubled_areas.Lts as lts
 
 abbrev Inv-loop : tie.InvT-loop
 Inv-loop areas₀ covers column next₀ y₀ areas next y = (y ≤ 16) × Shaded column y areas₀ covers next₀ areas next

@@ -2,7 +2,6 @@
 use mathlib.Core.Path.{refl}
 use Prim.Native.Nat.{_-_}
 use native.Mathlib.Omega.{arith}
-use borrow.Author.Needs.{needs}
 use Rattle.pixel_segment.specs.Field.{cpu}
 use Rattle.cover.specs.Cell.{noCells}
 use Rattle.cover.proofs.Carries.{light}

@@ -1,13 +1,11 @@
 -- `cover::carry::add_segments` meets its contract. Assumes nothing.
-use mathlib.Core.Path.{_≡_}
 use Prim.Native.Nat.{_-_}
 use native.Mathlib.Omega.{arith}
 use borrow.Author.Needs.{needs}
-use lib.IntN.{pos, _+ℤ_}
+use lib.IntN.{pos}
 use lib.ListN.{length, getD}
 use mir.Facts.{toZ-ofZ}
 use mir.Syntax.{w8}
-use mir.Val.{toZ, ofZ}
 use Rattle.laws.proofs.Machine.{small, kept}
 use Rattle.pixel_segment.specs.Field.{cpu, localYOf, coverOf}
 use Rattle.cover.specs.Carry.{carryOf}
@@ -15,8 +13,6 @@ use Rattle.cover.proofs.Carries.{light}
 use Rattle.cover.proofs.Tables.{Filling, fill-start, fill-next, fill-fits, fill-end}
 use Rattle.cover.proofs.carry.add_segments.Statement.{statement}
 use Rattle.cover.proofs.carry.add_segments.Tie as tie
-use Rattle.cover.proofs.carry.add_segments.Reads as reads
-use Rattle.cover.proofs.carry.add_segments.Lts as lts
 
 abbrev Inv-loop : tie.InvT-loop
 Inv-loop part covers₀ i₀ covers i = Filling (localYOf cpu) (coverOf cpu) 16 127 part covers₀ i covers

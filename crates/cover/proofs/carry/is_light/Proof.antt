@@ -2,31 +2,22 @@
 use mathlib.Core.Path.{ap, _∙_}
 use mathlib.Core.List.{List}
 use Prim.Native.Nat.{ℕ}
+use borrow.Author.Needs.{needs}
 use Rattle.pixel_segment.specs.Field.{cpu}
 use Rattle.cover.specs.Load.{loadsOf, allLight}
 use Rattle.cover.proofs.Loads.{loads-judge}
-use borrow.Author.Needs.{needs}
 use Rattle.cover.proofs.carry.is_light.Statement.{statement}
 use Rattle.cover.proofs.carry.is_light.Tie as tie
-use Rattle.cover.proofs.carry.is_light.Reads as reads
-use Rattle.cover.proofs.carry.is_light.Lts as lts
-use Rattle.cover.proofs.carry.add_loads.Reads as add-loads-reads
-use Rattle.cover.proofs.carry.are_light.Reads as are-light-reads
-use Rattle.cover.proofs.carry.magnitudes.Reads as magnitudes-reads
 
--- src/carry.rt:76:31
 magnitudes-requires : tie.Need-magnitudes-requires
 magnitudes-requires c κs = search needs
 
--- src/carry.rt:76:15
 add-loads-requires : tie.Need-add-loads-requires
 add-loads-requires c κs = search needs
 
--- src/carry.rt:76:5
 are-light-requires : tie.Need-are-light-requires
 are-light-requires c κs = search needs
 
--- src/carry.rt:72:1
 returns : tie.Need-returns
 returns c =
     let m = c .before .before in

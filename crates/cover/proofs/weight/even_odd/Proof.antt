@@ -16,8 +16,6 @@ use Rattle.laws.specs.Integer.{modℤ}
 use Rattle.cover.proofs.Weights.{low, high}
 use Rattle.cover.proofs.weight.even_odd.Statement.{statement}
 use Rattle.cover.proofs.weight.even_odd.Tie as tie
-use Rattle.cover.proofs.weight.even_odd.Reads as reads
-use Rattle.cover.proofs.weight.even_odd.Lts as lts
 
 fits : (c : tie.Start) → SFits w16 (c .args .d +ℤ pos 8192)
 fits c = sfits w16 (c .args .d +ℤ pos 8192) (omega (arith, added (c .args .d) (pos 8192)))

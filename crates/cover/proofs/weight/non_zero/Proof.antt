@@ -4,9 +4,6 @@ use borrow.Author.Needs.{needs}
 use mir.Facts.{toZ-ofZ}
 use Rattle.cover.proofs.weight.non_zero.Statement.{statement}
 use Rattle.cover.proofs.weight.non_zero.Tie as tie
-use Rattle.cover.proofs.weight.non_zero.Reads as reads
-use Rattle.cover.proofs.weight.non_zero.Lts as lts
-use Rattle.cover.proofs.weight.magnitude.Reads as magnitude-reads
 
 magnitude-requires : tie.Need-magnitude-requires
 magnitude-requires c κs = search needs
