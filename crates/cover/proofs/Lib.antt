@@ -7,3 +7,11 @@ pub mod Filled
 pub mod Tables
 pub mod Carries
 pub mod Loads
+pub mod Areas
+pub mod Cells
+pub mod Shades
+pub mod Columns
+pub mod Marks
+pub mod Entries
+pub mod Planes
+pub mod Paintings

@@ -80,10 +80,12 @@ module _ {key : ℕ → ℕ} {f : ℕ → ℤ} {n bound : ℕ} {part : List ℕ}
           abs-add (at table (key w)) (f w),
         ))
 
-  pub fill-end : {i : ℕ} {table : List ℤ} → Filling key f n bound part old i table → length part ≤ i → table ≡ tabulate n (λ k. at old k +ℤ keyed key f k part)
-  fill-end {i} {table} c h =
-      is-tabulate n (λ k. at old k +ℤ keyed key f k part) (pos 0) table (c .long)
-      (λ k p.
+  -- at the end, an entry and the whole table
+  pub fill-at : {i : ℕ} {table : List ℤ} → Filling key f n bound part old i table → length part ≤ i → (k : ℕ) → k < n → at table k ≡ at old k +ℤ keyed key f k part
+  fill-at {i} {table} c h k p =
       sym (+ℤ-idr (at table k))
       ∙ ap (λ (z : ℤ). at table k +ℤ z) (sym (sum-end _+ℤ_ (pos 0) (λ w. eqb (key w) k) f part i h))
-      ∙ c .same k p)
+      ∙ c .same k p
+
+  pub fill-end : {i : ℕ} {table : List ℤ} → Filling key f n bound part old i table → length part ≤ i → table ≡ tabulate n (λ k. at old k +ℤ keyed key f k part)
+  fill-end {i} {table} c h = is-tabulate n (λ k. at old k +ℤ keyed key f k part) (pos 0) table (c .long) (fill-at c h)

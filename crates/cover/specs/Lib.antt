@@ -1,8 +1,12 @@
 -- Covers, areas, coverage: what the contracts say.
 pub mod Cover
+pub mod Carry
+pub mod Load
+pub mod Area
+pub mod Cell
 pub mod Weight
 pub mod Coverage
 pub mod Plane
 pub mod Mark
-pub mod Carry
-pub mod Load
+pub mod Paint
+pub mod Entry

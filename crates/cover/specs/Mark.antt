@@ -1,14 +1,20 @@
 -- Which octets of a plane a draw uses, and the mark that says so. Octet h (0 or 1) of a column is its rows 8h to 8h + 7; bit 2 × column + h of
 -- the mark is set when some coverage of it is above 0. The octet count is the number of used octets.
-use mathlib.Core.Bool.{Bool, false, _||_}
+use mathlib.Core.Bool.{Bool, false, cond, _||_}
+use mathlib.Core.Path.{_≡_}
 use mathlib.Core.List.{List, [], _∷_}
 use Prim.Native.Nat.{ℕ, zero, suc, _+_, _*_, _/_, _%_}
-use lib.ListN.{getD}
+use lib.Count.{ones}
+use lib.Dec.{ltb}
+use lib.ListN.{length, getD}
 use lib.Ieee.{Float, nan}
 use mir.Val.{boolByte}
+use Rattle.laws.specs.Answer.{Answer, refused, given}
 use Rattle.laws.specs.Lists.{tabulate}
 use Rattle.cover.specs.Coverage.{isAbove}
-use Rattle.cover.specs.Plane.{placeOf}
+use Rattle.cover.specs.Plane.{placeOf, sizeOf}
+use Rattle.cover.specs.declared.mark.Marked.{Marked}
+use Rattle.cover.specs.declared.mark.Marked.the-variants.{Mark, PlaneTooShort}
 
 -- the coverage of row i of octet h of a column is above 0
 abbrev pub aboveAt : List Float → ℕ → ℕ → ℕ → Bool
@@ -46,3 +52,16 @@ markOf plane = numberOf (usedOctets plane)
 
 unfoldable pub octetsOf : List Float → ℕ
 octetsOf plane = countTrue (usedOctets plane)
+
+-- what marking a plane answers: its mark, or refused by 1 where the plane is below 256 numbers
+abbrev pub marked : List Float → Answer ℕ
+marked plane = cond (ltb (length plane) (sizeOf 16)) (refused 1) (given (markOf plane))
+
+abbrev pub markedAnswer : Marked → Answer ℕ
+markedAnswer (Mark mark) = given mark
+markedAnswer PlaneTooShort = refused 1
+
+-- the count of a mark's octets: its ones, which are the used octets of every plane with this mark
+pub record Counted (mark r : ℕ) : Type 0 where
+  pub ones-are : r ≡ ones mark
+  pub used : (plane : List Float) → mark ≡ markOf plane → r ≡ octetsOf plane

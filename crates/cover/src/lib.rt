@@ -1,5 +1,9 @@
 // The arithmetic of the painter (painter/mod.rs): covers, doubled areas, weights, coverages, planes, marks.
+pub mod area;
 pub mod carry;
+pub mod entry;
+pub mod mark;
+pub mod plane;
 pub mod weight;
 
 use styling::FillRule;

@@ -1,0 +1,62 @@
+-- `cover::entry::read_cover` meets its contract. Assumes nothing.
+use mathlib.Core.Path.{refl}
+use Prim.Native.Nat.{_+_, _*_, _-_}
+use native.Mathlib.Omega.{arith}
+use lib.IntN.{pos}
+use lib.ListN.{getD}
+use mir.Syntax.{w8}
+use Rattle.laws.proofs.Machine.{kept}
+use Rattle.cover.proofs.Entries.{Reading, read-start, read-next, read-end}
+use Rattle.cover.proofs.entry.read_cover.Statement.{statement}
+use Rattle.cover.proofs.entry.read_cover.Tie as tie
+
+abbrev Inv-loop : tie.InvT-loop
+Inv-loop covers place start entry₀ y₀ entry y = Reading covers 16 place start y entry
+
+abbrev μ-loop : tie.MeasureT-loop
+μ-loop covers place start entry₀ y₀ entry y = 16 - y
+
+mul-start : tie.Need-mul-start Inv-loop μ-loop
+mul-start c = omega arith
+
+loop-holds : tie.Need-loop-holds Inv-loop μ-loop
+loop-holds c = read-start refl (c .pre)
+
+add-entry : tie.Need-add-entry Inv-loop μ-loop
+add-entry c = omega arith
+
+shared-slice-copy-out-entry : tie.Need-shared-slice-copy-out-entry Inv-loop μ-loop
+shared-slice-copy-out-entry c = omega arith
+
+array-set-from-entry : tie.Need-array-set-from-entry Inv-loop μ-loop
+array-set-from-entry c = omega arith
+
+add-y : tie.Need-add-y Inv-loop μ-loop
+add-y c = omega arith
+
+loop-less : tie.Need-loop-less Inv-loop μ-loop
+loop-less c = omega arith
+
+loop-again : tie.Need-loop-again Inv-loop μ-loop
+loop-again c =
+    let l = c .before .before in
+    read-next (l .loop .inv) (omega arith) (kept w8 (getD (l .before .args .covers .now) (l .before .args .place * 16 + l .loop .y) (pos 0)) (c .entry .given))
+
+returns : tie.Need-returns Inv-loop μ-loop
+returns c = read-end (c .before .loop .inv) (omega arith)
+
+pub read-cover-spec : {M : Type 1} → statement M
+read-cover-spec =
+    tie.close
+    (tie.spec
+    Inv-loop
+    μ-loop
+    mul-start
+    loop-holds
+    add-entry
+    shared-slice-copy-out-entry
+    array-set-from-entry
+    add-y
+    loop-less
+    loop-again
+    returns)

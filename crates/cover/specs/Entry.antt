@@ -1,0 +1,14 @@
+-- Covers one after the other in a lent list, n numbers each: the queue of carries, and a list's incoming covers.
+use mathlib.Core.List.{List, _++_}
+use Prim.Native.Nat.{ℕ, _*_}
+use lib.IntN.{ℤ}
+use lib.ListN.{take, drop}
+use Rattle.laws.specs.Lists.{over}
+
+-- the cover at a place
+unfoldable pub entryOf : ℕ → ℕ → List ℤ → List ℤ
+entryOf n place covers = take n (drop (place * n) covers)
+
+-- the list with a cover written at a place, and all else as it was
+unfoldable pub putEntry : ℕ → ℕ → List ℤ → List ℤ → List ℤ
+putEntry n place cover old = take (place * n) old ++ over cover (drop (place * n) old)

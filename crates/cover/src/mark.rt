@@ -1,0 +1,59 @@
+// The octets of a plane that hold a coverage above 0, as the bits of a mark, and their count.
+ghost use mathlib.Core.Path.{_≡_};
+ghost use Prim.Native.Nat.{_<_, _≤_, _/_, _%_};
+ghost use lib.ListN.{length};
+ghost use Rattle.cover.specs.Mark.{isUsed, markOf, marked, markedAnswer, Counted};
+
+// What marking a plane answers: its mark, or refusal 1.
+pub enum Marked {
+    Mark(u32),
+    PlaneTooShort,
+}
+
+// Octet h of a column is rows 8h to 8h + 7, so octet 2 × column + h is the eight numbers from 8 times it on.
+fn is_used(plane: &[f32], octet: usize) -> bool
+    requires { ⌜ (octet < 32) × (256 ≤ length (now plane)) ⌝ }
+    ensures { λ r. ⌜ r ≡ isUsed (now (plane .entry)) (octet / 2) (octet % 2) ⌝ }
+{
+    let a = 8 * octet;
+    (plane[a] > 0.0)
+        | (plane[a + 1] > 0.0)
+        | (plane[a + 2] > 0.0)
+        | (plane[a + 3] > 0.0)
+        | (plane[a + 4] > 0.0)
+        | (plane[a + 5] > 0.0)
+        | (plane[a + 6] > 0.0)
+        | (plane[a + 7] > 0.0)
+}
+
+// The mark of a plane, from the highest octet down.
+pub fn mark_of(plane: &[f32]) -> u32
+    requires { ⌜ 256 ≤ length (now plane) ⌝ }
+    ensures { λ r. ⌜ r ≡ markOf (now (plane .entry)) ⌝ }
+{
+    let mut mark: u32 = 0;
+    let mut octet: usize = 32;
+    while 0 < octet {
+        octet -= 1;
+        mark = mark * 2 + is_used(plane, octet) as u32;
+    }
+    mark
+}
+
+// The mark of any plane, or refusal 1.
+pub fn mark_plane(plane: &[f32]) -> Marked
+    ensures { λ r. ⌜ markedAnswer r ≡ marked (now (plane .entry)) ⌝ }
+{
+    if plane.len() < 256 {
+        Marked::PlaneTooShort
+    } else {
+        Marked::Mark(mark_of(plane))
+    }
+}
+
+// How many octets a mark has.
+pub fn octets(mark: u32) -> u32
+    ensures { λ r. ⌜ Counted mark r ⌝ }
+{
+    u32::count_ones(mark)
+}
