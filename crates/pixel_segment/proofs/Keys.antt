@@ -16,7 +16,7 @@ use Rattle.laws.proofs.Every.{all-at}
 use Rattle.laws.proofs.Orders.{le-or-lt}
 use Rattle.laws.proofs.Parts.{equal, difference}
 use Rattle.pixel_segment.specs.Field.{cpu, tileOf, tileXOf, tileYOf}
-use Rattle.pixel_segment.specs.Order.{compareOf, compareℤ, compareBool, orderKey, ascends, isRow}
+use Rattle.pixel_segment.specs.Order.{compareOf, compareℤ, compareBool, orderKey, ascends, isRow, Ordered, Words}
 use Rattle.pixel_segment.specs.Search.{rank, isLt, isEq, Sorted}
 use Rattle.pixel_segment.specs.declared.order.Ordering.{Ordering}
 use Rattle.pixel_segment.specs.declared.order.Ordering.the-variants.{Less, Equal, Greater}
@@ -99,9 +99,6 @@ rank-up k m n h =
 
 -- ---- a list sorted by a number is sorted for every key of it
 
-pub record Ordered (f : ℕ → ℕ) (l : List ℕ) : Type 0 where
-  pub up : (i j : ℕ) → i ≤ j → j < length l → f (getD l i 0) ≤ f (getD l j 0)
-
 pub sorted-by : (f : ℕ → ℕ) (k : ℕ) (l : List ℕ) → Ordered f l → Sorted (λ w. compareOf (f w) k) l
 sorted-by f k l o = record { up = λ i j p q. rank-up k (f (getD l i 0)) (f (getD l j 0)) (o .up i j p q) }
 
@@ -121,10 +118,6 @@ sorted-at-least f k l o = record { up = λ i j p q. rising (f (getD l i 0)) (f (
         (le-or-lt k m)
 
 -- ---- rows in order
-
--- every word is one of 64 bits, as in a lent row
-pub record Words (l : List ℕ) : Type 0 where
-  pub small : (i : ℕ) → getD l i 0 < 2 ^ 64
 
 pub tile-x-ordered : (ty : ℕ) (row : List ℕ) → Words row → isRow cpu ty row ≡ true → Ordered (tileXOf cpu) row
 tile-x-ordered ty row s h = record { up = up }

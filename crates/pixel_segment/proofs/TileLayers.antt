@@ -14,9 +14,8 @@ use Rattle.laws.proofs.Every.{all-at, all-intro}
 use Rattle.laws.proofs.Orders.{le-or-lt}
 use Rattle.laws.proofs.Filtered.{all-own, all-kept}
 use Rattle.pixel_segment.specs.Field.{cpu, tileXOf, tileYOf, layerIdOf}
-use Rattle.pixel_segment.specs.Order.{ascendsFrom, ascends, orderKey, isRow}
+use Rattle.pixel_segment.specs.Order.{ascendsFrom, ascends, orderKey, isRow, Ordered, Words}
 use Rattle.pixel_segment.proofs.Ascending.{from-ordered}
-use Rattle.pixel_segment.proofs.Keys.{Ordered, Words}
 use Rattle.pixel_segment.proofs.Lexical.{keyed}
 
 -- ---- filtered lists

@@ -16,12 +16,12 @@ use Rattle.laws.proofs.Every.{all-intro}
 use Rattle.laws.proofs.Orders.{le-or-lt}
 use Rattle.laws.proofs.Filtered.{filter-middle, filter-ext}
 use Rattle.pixel_segment.specs.Field.{cpu, tileOf, tileXOf, layerIdOf}
-use Rattle.pixel_segment.specs.Order.{compareOf, compareBool, isRow}
+use Rattle.pixel_segment.specs.Order.{compareOf, compareBool, isRow, Ordered, Words}
 use Rattle.pixel_segment.specs.Search.{searchOf, orderAt, Sorted, isLt, isEq, lastOf, afterOf, between, leftPart, tilePart, layerPart}
 use Rattle.pixel_segment.specs.declared.order.Ordering.{Ordering}
 use Rattle.pixel_segment.specs.declared.search.Key.the-variants.{TileXAtLeast}
 use Rattle.pixel_segment.proofs.Sorted.{Split, splits, sorted-search}
-use Rattle.pixel_segment.proofs.Keys.{Ordered, Words, compare-tile, le-tile, is-eq, is-lt, sorted-by, sorted-at-least, tile-x-ordered}
+use Rattle.pixel_segment.proofs.Keys.{compare-tile, le-tile, is-eq, is-lt, sorted-by, sorted-at-least, tile-x-ordered}
 
 -- the place after the last element with the key: those below it, and those that have it
 after-last : (a b : ℕ) → afterOf (lastOf a b) ≡ a + b

@@ -2,9 +2,10 @@
 -- refusal 3 asks of a row: its segments don't descend, and none has another tile y.
 use mathlib.Core.Bool.{Bool, true, false, cond, _&&_}
 use mathlib.Core.List.{List, [], _∷_}
-use Prim.Native.Nat.{ℕ, _/_, _^_}
+use Prim.Native.Nat.{ℕ, _/_, _^_, _≤_, _<_}
 use lib.Dec.{ltb, leb, eqb}
 use lib.IntN.{ℤ}
+use lib.ListN.{length, getD}
 use lib.Signed.{ltZ}
 use Rattle.laws.specs.Lists.{all}
 use Rattle.pixel_segment.specs.Field.{shiftOf, tileYOf}
@@ -51,3 +52,13 @@ abbrev pub andThen : Ordering → Ordering → Ordering
 andThen Less o = Less
 andThen Equal o = o
 andThen Greater o = Greater
+
+-- ---- what functions over parts of a row in order ask
+
+-- an earlier element has no greater number than a later one
+pub record Ordered (f : ℕ → ℕ) (l : List ℕ) : Type 0 where
+  pub up : (i j : ℕ) → i ≤ j → j < length l → f (getD l i 0) ≤ f (getD l j 0)
+
+-- every word has 64 bits, as those of a lent row have
+pub record Words (l : List ℕ) : Type 0 where
+  pub small : (i : ℕ) → getD l i 0 < 2 ^ 64
