@@ -1,3 +1,4 @@
 -- The queue of carries: what its contracts say.
 pub mod Queue
+pub mod Rank
 pub mod Opening

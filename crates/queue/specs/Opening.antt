@@ -1,15 +1,15 @@
 -- The opening of a row (`paint_tile_row`): one carry for each layer that has segments left of the first tile, tile -1 included, whatever its sum:
 -- carries of zero are kept. The segments are added one after the other, as the Rust adds them to its map by layer id.
 use mathlib.Core.Path.{_≡_}
-use mathlib.Core.Bool.{Bool, cond}
+use mathlib.Core.Bool.{Bool, cond, not, _&&_}
 use mathlib.Core.List.{List, [], _∷_}
-use Prim.Native.Nat.{ℕ}
-use lib.Dec.{eqb, ltb}
-use lib.IntN.{ℤ, _+ℤ_}
-use lib.ListN.{length, set}
+use Prim.Native.Nat.{ℕ, _+_}
+use lib.Dec.{eqb, leb, ltb}
+use lib.IntN.{ℤ, pos, _+ℤ_}
+use lib.ListN.{length, getD, set}
 use Rattle.laws.specs.Answer.{Answer, refused, given}
 use Rattle.laws.specs.Lists.{all, over, filter}
-use Rattle.pixel_segment.specs.Field.{cpu, layerIdOf, localYOf, coverOf}
+use Rattle.pixel_segment.specs.Field.{cpu, layerIdOf, localYOf, coverOf, tileXOf}
 use Rattle.cover.specs.Carry.{isLight}
 use Rattle.cover.specs.Cover.{coverAt}
 use Rattle.queue.specs.Queue.{Carry, zeros, idsIn, coversIn}

@@ -1,14 +1,15 @@
 -- A queue of carries: the covers that layers hand from tile to tile, ascending by layer id; and how it lies in two lent columns, of which the
 -- first n entries count: layer ids, and 16 signed bytes each. Stands for 'carries' and for refusals 1 and 5 of a queue.
-use mathlib.Core.Bool.{Bool, cond, _&&_}
+use mathlib.Core.Path.{_≡_}
+use mathlib.Core.Bool.{Bool, true, cond, _&&_}
 use mathlib.Core.List.{List, [], _∷_, _++_, map}
-use Prim.Native.Nat.{ℕ, _/_, min}
+use Prim.Native.Nat.{ℕ, _*_, _/_, _≤_, min}
 use lib.Dec.{eqb, leb, ltb}
 use lib.IntN.{ℤ, pos}
 use lib.ListN.{length, getD, take, replicate}
 use Rattle.laws.specs.Lists.{tabulate}
 use Rattle.cover.specs.Entry.{entryOf}
-use Rattle.styling.specs.Ascending.{ascends}
+use Rattle.styling.specs.Ascending.{strictlyAscends}
 
 pub record Carry : Type 0 where
   pub id : ℕ
@@ -50,4 +51,14 @@ isShort ids covers = ltb (roomOf ids covers) 256
 
 -- refusal 5 does not apply: at most 256 entries, and their ids strictly ascend
 unfoldable pub isQueue : ℕ → List ℕ → Bool
-isQueue n ids = leb n 256 && ascends (take n ids)
+isQueue n ids = leb n 256 && strictlyAscends (take n ids)
+
+-- what holds where they do not apply (proofs/Judging), as inner functions ask it: room for 256 entries, and n entries in order
+pub record Room (ids : List ℕ) (covers : List ℤ) : Type 0 where
+  pub ids-long : 256 ≤ length ids
+  pub covers-long : 4096 ≤ length covers
+
+pub record Queued (n : ℕ) (ids : List ℕ) (covers : List ℤ) : Type 0 where
+  pub ids-long : n ≤ length ids
+  pub covers-long : n * 16 ≤ length covers
+  pub ascending : strictlyAscends (take n ids) ≡ true

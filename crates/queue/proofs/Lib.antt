@@ -1,0 +1,4 @@
+-- Laws of queues of carries.
+pub mod Judging
+pub mod Ranks
+pub mod Queues

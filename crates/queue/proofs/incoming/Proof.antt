@@ -1,0 +1,35 @@
+-- `queue::incoming` meets its contract. Assumes nothing.
+use mathlib.Core.Path.{_≡_, sym, _∙_}
+use lib.ListN.{take}
+use lib.Seq.{length-take-le}
+use borrow.Author.Needs.{needs}
+use native.Mathlib.Omega.{arith}
+use Rattle.queue.proofs.Ranks.{Held, held}
+use Rattle.queue.proofs.Queues.{held-lent, missed-lent}
+use Rattle.queue.proofs.incoming.Statement.{statement}
+use Rattle.queue.proofs.incoming.Tie as tie
+
+rank-requires : tie.Need-rank-requires
+rank-requires c κs = search needs
+
+is-at-requires : tie.Need-is-at-requires
+is-at-requires c κs = search needs
+
+-- the id stands at its rank
+found : (c : tie.Then1) → Held (c .before .before .before .before .args .id) (c .before .before .rank .result) (take (c .before .before .before .before .args .n) (c .before .before .before .before .args .ids .now))
+found c = held (sym (c .before .is-at .ensures) ∙ c .if1 .taken)
+
+read-cover-requires : tie.Need-read-cover-requires
+read-cover-requires c κs =
+    let s = c .before .before .before .before in
+    omega (arith, found c, length-take-le (s .args .n) (s .args .ids .now) (s .pre .ids-long))
+
+returns : tie.Need-returns
+returns c = c .read-cover .ensures ∙ held-lent (c .before .before .before .before .before .pre) _ (found (c .before))
+
+returns-2 : tie.Need-returns-2
+returns-2 c = missed-lent (c .before .before .before .before .pre) _ (c .before .before .rank .ensures) (sym (c .before .is-at .ensures) ∙ c .if1 .left)
+
+pub incoming-spec : {M : Type 1} → statement M
+incoming-spec =
+    tie.close (tie.spec rank-requires is-at-requires read-cover-requires returns returns-2)

@@ -1,0 +1,2 @@
+-- Laws of a tile's layers.
+pub mod Runs

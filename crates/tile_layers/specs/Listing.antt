@@ -1,0 +1,78 @@
+-- The layers of a tile: each layer with a segment in the tile or a carry in the incoming queue, once, ascending (`populate_layers`). Stands for
+-- 'the list has each layer with a segment or carry, once, ascending' and for refusals 7, 8 and 9 of a list.
+use mathlib.Core.Bool.{Bool, true, false, cond}
+use mathlib.Core.List.{List, [], _∷_, _++_, map}
+use Prim.Native.Nat.{ℕ}
+use lib.Dec.{ltb}
+use lib.IntN.{ℤ}
+use lib.ListN.{length}
+use Rattle.laws.specs.Answer.{Answer, refused, given}
+use Rattle.laws.specs.Lists.{all}
+use Rattle.pixel_segment.specs.Field.{cpu}
+use Rattle.cover.specs.Carry.{isLight}
+use Rattle.styling.specs.Lookup.{lookup}
+use Rattle.styling.specs.declared.Layer.{Layer}
+use Rattle.queue.specs.Queue.{Carry, zeros}
+use Rattle.tile_layers.specs.Groups.{Group, groupsOf}
+
+-- a listed layer: its incoming cover, and its own segments in the tile
+pub record Listed : Type 0 where
+  pub id : ℕ
+  pub cover : List ℤ
+  pub own : List ℕ
+
+-- a carry alone, segments alone, and both
+abbrev pub carried : Carry → Listed
+carried c = record { id = c .id; cover = c .cover; own = [] }
+
+abbrev pub fresh : Group → Listed
+fresh g = record { id = g .id; cover = zeros; own = g .own }
+
+abbrev pub joined : Carry → Group → Listed
+joined c g = record { id = c .id; cover = c .cover; own = g .own }
+
+-- carries and groups merged by layer id
+unfoldable pub listOf : List Carry → List Group → List Listed
+listOf [] gs = map fresh gs
+listOf (c ∷ q) [] = map carried (c ∷ q)
+listOf (c ∷ q) (g ∷ gs) =
+    cond (ltb (c .id) (g .id)) (carried c ∷ listOf q (g ∷ gs))
+    (cond (ltb (g .id) (c .id)) (fresh g ∷ listOf (c ∷ q) gs) (joined c g ∷ listOf q gs))
+
+-- the layers of a tile, of the queue that comes in and the tile's part of the row
+abbrev pub layersIn : List Carry → List ℕ → List Listed
+layersIn q part = listOf q (groupsOf part)
+
+-- ---- the list as it is lent, a column for each: layer ids, incoming covers, whether the layer has segments in the tile
+
+abbrev pub hasAny : List ℕ → Bool
+hasAny [] = false
+hasAny (w ∷ ws) = true
+
+abbrev pub idsOf : List Listed → List ℕ
+idsOf ls = map (λ l. l .id) ls
+
+abbrev pub segmentsOf : List Listed → List Bool
+segmentsOf ls = map (λ l. hasAny (l .own)) ls
+
+unfoldable pub coversOf : List Listed → List ℤ
+coversOf [] = []
+coversOf (l ∷ ls) = l .cover ++ coversOf ls
+
+-- ---- refusals of a list
+
+-- 7: more than 256 layers
+abbrev pub isTooMany : List Listed → Bool
+isTooMany ls = ltb 256 (length ls)
+
+abbrev pub isGiven : {A : Type 0} → Answer A → Bool
+isGiven (refused n) = false
+isGiven (given a) = true
+
+-- 8 does not apply: every listed layer is in the table
+abbrev pub areKnown : List Layer → List Listed → Bool
+areKnown table ls = all (λ l. isGiven (lookup table (l .id))) ls
+
+-- 9 does not apply: no layer's covers grow too large
+abbrev pub areLight : List Listed → Bool
+areLight ls = all (λ l. isLight cpu 16 (l .cover) (l .own)) ls

@@ -1,0 +1,88 @@
+// A walk over the incoming queue and a tile's part of the row in step: both ascend by layer id, so each layer of either is met once.
+use pixel_segment::PixelSegment;
+use pixel_segment::search;
+use pixel_segment::search::Found;
+
+ghost use mathlib.Core.Path.{_≡_};
+ghost use Prim.Native.Nat.{_+_, _≤_, _<_};
+ghost use lib.IntN.{ℤ};
+ghost use mathlib.Core.List.{List};
+ghost use lib.ListN.{length, getD};
+ghost use Rattle.pixel_segment.specs.Field.{cpu, layerIdOf};
+ghost use Rattle.pixel_segment.specs.Order.{Ordered};
+ghost use Rattle.tile_layers.specs.Walk.{Walks, GroupEnds, Stepped, Moved};
+
+// The next layer: its id, whether it has a carry, and the places after it in the queue and in the part.
+pub struct Next {
+    pub id: u32,
+    pub carried: bool,
+    pub i: usize,
+    pub end: usize,
+}
+
+fn layer_at(part: &[u64], j: usize) -> u32
+    requires { ⌜ j < length (now part) ⌝ }
+    ensures { λ r. ⌜ r ≡ layerIdOf cpu (getD (now (part .entry)) j 0) ⌝ }
+{
+    PixelSegment(part[j]).layer_id()
+}
+
+// The place after the last segment of the layer whose first segment stands at j.
+fn group_end(part: &[u64], j: usize) -> usize
+    requires { ⌜ Ordered (layerIdOf cpu) (now part) × (j < length (now part)) ⌝ }
+    ensures { λ r. ⌜ GroupEnds (now (part .entry)) j r ⌝ }
+{
+    let id = layer_at(part, j);
+    let rest = &part[j..];
+    match search::search_last_by_layer_id(rest, id) {
+        Found::At(d) => j + d + 1,
+        Found::Absent(_) => j + 1,
+    }
+}
+
+pub fn next_layer(ids: &[u32], n: usize, part: &[u64], i: usize, j: usize) -> Next
+    requires { ⌜ Walks n (now ids) (now part) × (i ≤ n) × (j ≤ length (now part)) × (i + j < n + length (now part)) ⌝ }
+    ensures stepped { λ r. ⌜ ((covers : List ℤ) → Stepped n (now (ids .entry)) covers (now (part .entry)) i j r) ⌝ }
+    ensures moved { λ r. ⌜ Moved n (now (part .entry)) i j r ⌝ }
+{
+    if j == part.len() {
+        return Next {
+            id: ids[i],
+            carried: true,
+            i: i + 1,
+            end: j,
+        };
+    }
+    let layer = layer_at(part, j);
+    if i == n {
+        return Next {
+            id: layer,
+            carried: false,
+            i: i,
+            end: group_end(part, j),
+        };
+    }
+    let id = ids[i];
+    if id < layer {
+        return Next {
+            id: id,
+            carried: true,
+            i: i + 1,
+            end: j,
+        };
+    }
+    if layer < id {
+        return Next {
+            id: layer,
+            carried: false,
+            i: i,
+            end: group_end(part, j),
+        };
+    }
+    Next {
+        id: id,
+        carried: true,
+        i: i + 1,
+        end: group_end(part, j),
+    }
+}
