@@ -1,2 +1,3 @@
 -- Laws of a tile's layers.
 pub mod Runs
+pub mod Steps

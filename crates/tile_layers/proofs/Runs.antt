@@ -1,25 +1,28 @@
 -- The groups of a part: a run of segments of one layer, with another layer or nothing after it, is a group. Assumes nothing.
-use mathlib.Core.Path.{_≡_, refl, ap, ap₂, sym, _∙_}
-use mathlib.Core.Bool.{Bool, true, false, cond}
+use mathlib.Core.Path.{_≡_, refl, ap, ap₂, sym, subst₂, _∙_}
+use mathlib.Core.Bool.{Bool, true, false, cond, false≢true}
 use mathlib.Core.Logic.{⊎-elim}
 use mathlib.Core.List.{List, [], _∷_}
 use Prim.Native.Nat.{ℕ, zero, suc, _+_, _-_, _≤_, _<_}
-use native.Mathlib.Nat.{not-suc-le-zero, le-of-suc-le-suc}
+use native.Mathlib.Nat.{not-suc-le-zero, le-of-suc-le-suc, zero-add, add-zero}
 use native.Mathlib.Omega.{arith}
 use lib.Dec.{eqb}
 use lib.ListN.{length, getD, take, drop, length-drop}
 use lib.Seq.{getD-drop, drop-drop}
-use borrow.Author.Tests.{eq-eqb, ne-eqb, eqb-true}
+use borrow.Author.Tests.{eq-eqb, ne-eqb, eqb-true, le-ltb}
 use Rattle.laws.specs.Sum.{countBy}
 use Rattle.laws.proofs.Orders.{le-or-lt}
 use Rattle.pixel_segment.specs.Field.{cpu, layerIdOf}
 use Rattle.pixel_segment.specs.Order.{Ordered, compareOf}
 use Rattle.pixel_segment.specs.Search.{searchOf, orderAt, between, lastOf, isLt, isEq}
-use Rattle.pixel_segment.specs.declared.search.Found.the-variants.{At, Absent}
+use Rattle.pixel_segment.specs.declared.order.Ordering.{Ordering}
+use Rattle.pixel_segment.specs.declared.order.Ordering.the-variants.{Less, Equal, Greater}
+use Rattle.pixel_segment.specs.declared.search.Found.the-variants.{At}
 use Rattle.pixel_segment.specs.declared.search.Key.the-variants.{LayerId}
 use Rattle.pixel_segment.proofs.Sorted.{Split, splits, sorted-search}
-use Rattle.pixel_segment.proofs.Keys.{sorted-by}
+use Rattle.pixel_segment.proofs.Keys.{sorted-by, is-eq, is-lt}
 use Rattle.tile_layers.specs.Groups.{Group, single, joinTo, groupsOf}
+use Rattle.tile_layers.specs.Walk.{GroupEnds}
 
 -- a list that is not empty has a first group, of its first segment's layer
 pub record First (id : ℕ) (gs : List Group) : Type 0 where
@@ -67,3 +70,76 @@ run id (suc b) (w ∷ ws) h same next =
     ap (joinTo w)
     (run id b ws (le-of-suc-le-suc h) (λ i p. same (suc i) (omega arith)) (λ p. next (omega arith)))
     ∙ joins w (record { id = id; own = take (suc b) ws }) (groupsOf (drop (suc b) ws)) (same 0 (omega arith))
+
+-- ---- the group that a search finds
+
+-- the search for the first segment's layer finds the last segment of its group, at b
+pub record Grouped (l : List ℕ) : Type 0 where
+  pub b : ℕ
+  pub found : searchOf (orderAt (LayerId (layerIdOf cpu (getD l 0 0)))) l ≡ At b
+  pub within : suc b ≤ length l
+  pub group : groupsOf l ≡ record { id = layerIdOf cpu (getD l 0 0); own = take (suc b) l } ∷ groupsOf (drop (suc b) l)
+
+told-equal : (m n : ℕ) → compareOf m n ≡ Equal → m ≡ n
+told-equal m n e = eqb-true m n (sym (is-eq m n) ∙ ap isEq e)
+
+told-greater : (m n : ℕ) → compareOf m n ≡ Greater → m ≡ n → ⊥
+told-greater m n e p = false≢true (sym (ap isEq e) ∙ is-eq m n ∙ eq-eqb m n p)
+
+module _ (l : List ℕ) (some : 0 < length l) (o : Ordered (layerIdOf cpu) l) where
+  by-counts : (a b : ℕ) → Split (λ w. compareOf (layerIdOf cpu w) (layerIdOf cpu (getD l 0 0))) l a b → searchOf (orderAt (LayerId (layerIdOf cpu (getD l 0 0)))) l ≡ lastOf a b → Grouped l
+  by-counts zero (suc b) s e =
+      record {
+        b = b;
+        found = e ∙ ap At (zero-add b);
+        within = omega (arith, s .within);
+        group =
+            run (layerIdOf cpu (getD l 0 0)) b l (omega (arith, s .within))
+            (λ i p. told-equal (layerIdOf cpu (getD l i 0)) (layerIdOf cpu (getD l 0 0)) (s .mid i (omega arith) (omega arith)))
+            (λ p. told-greater (layerIdOf cpu (getD l (suc b) 0)) (layerIdOf cpu (getD l 0 0)) (s .high (suc b) (omega arith) p));
+      }
+  by-counts zero zero s e = absurd (told-greater (layerIdOf cpu (getD l 0 0)) (layerIdOf cpu (getD l 0 0)) (s .high 0 (omega arith) some) refl)
+  by-counts (suc a) b s e = absurd (told-less (layerIdOf cpu (getD l 0 0)) (s .low 0 (omega arith)))
+    where
+      told-less : (m : ℕ) → compareOf m m ≡ Less → ⊥
+      told-less m q = false≢true (sym (le-ltb m m (omega arith)) ∙ sym (is-lt m m) ∙ ap isLt q)
+
+  pub grouped : Grouped l
+  grouped =
+      let s = sorted-by (layerIdOf cpu) (layerIdOf cpu (getD l 0 0)) l o in
+      by-counts
+      (countBy (λ w. isLt (compareOf (layerIdOf cpu w) (layerIdOf cpu (getD l 0 0)))) l)
+      (countBy (λ w. isEq (compareOf (layerIdOf cpu w) (layerIdOf cpu (getD l 0 0)))) l)
+      (splits (λ w. compareOf (layerIdOf cpu w) (layerIdOf cpu (getD l 0 0))) l s)
+      (sorted-search (λ w. compareOf (layerIdOf cpu w) (layerIdOf cpu (getD l 0 0))) l s)
+
+-- ---- at a place of the part
+
+pub ordered-drop : (f : ℕ → ℕ) (l : List ℕ) (j : ℕ) → Ordered f l → Ordered f (drop j l)
+ordered-drop f l j o =
+    record {
+      up =
+          λ i k p q.
+          subst₂ _≤_ (ap f (sym (getD-drop j l i 0))) (ap f (sym (getD-drop j l k 0)))
+          (o .up (j + i) (j + k) (omega arith) (omega (arith, length-drop j l)));
+    }
+
+pub ends-at : (part : List ℕ) (j b : ℕ) → j < length part → suc b ≤ length (drop j part) → groupsOf (drop j part) ≡ record { id = layerIdOf cpu (getD (drop j part) 0 0); own = take (suc b) (drop j part) } ∷ groupsOf (drop (suc b) (drop j part)) → GroupEnds part j (j + b + 1)
+ends-at part j b h w e =
+    let size : suc b ≡ j + b + 1 - j = omega arith in
+    let place : j + suc b ≡ j + b + 1 = omega arith in
+    record {
+      further = omega arith;
+      within = omega (arith, length-drop j part);
+      group =
+          e
+          ∙ ap₂ _∷_
+          (ap₂ (λ (i n : ℕ). record { id = i; own = take n (drop j part) }) (ap (layerIdOf cpu) (getD-drop j part 0 0 ∙ ap (λ (n : ℕ). getD part n 0) (add-zero j))) size)
+          (ap groupsOf (drop-drop (suc b) j part ∙ ap (λ (n : ℕ). drop n part) place));
+    }
+
+-- where a group ends, at every place of a part
+pub group-at : (part : List ℕ) (j : ℕ) → Ordered (layerIdOf cpu) part → j < length part → (r : ℕ) × GroupEnds part j r
+group-at part j o h =
+    let k = grouped (drop j part) (omega (arith, length-drop j part)) (ordered-drop (layerIdOf cpu) part j o) in
+    (j + k .b + 1, ends-at part j (k .b) h (k .within) (k .group))

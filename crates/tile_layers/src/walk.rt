@@ -2,7 +2,6 @@
 use pixel_segment::PixelSegment;
 use pixel_segment::search;
 use pixel_segment::search::Found;
-
 ghost use mathlib.Core.Path.{_≡_};
 ghost use Prim.Native.Nat.{_+_, _≤_, _<_};
 ghost use lib.IntN.{ℤ};

@@ -1,0 +1,114 @@
+-- `walk::group_end` meets its contract. The search for the layer of the first segment finds the last one of its group. Assumes nothing.
+use mathlib.Core.Path.{_≡_, sym, ap, ap₂, _∙_}
+use mathlib.Core.List.{List}
+use Prim.Native.Nat.{ℕ, _+_, _-_, _≤_, _<_, suc}
+use native.Mathlib.Nat.{add-zero}
+use native.Mathlib.Omega.{arith}
+use lib.ListN.{length, getD, drop, length-drop}
+use lib.Seq.{getD-drop, take-all}
+use Rattle.pixel_segment.specs.Field.{cpu, layerIdOf}
+use Rattle.pixel_segment.specs.Search.{searchOf, orderAt}
+use Rattle.pixel_segment.specs.declared.search.Found.{Found}
+use Rattle.pixel_segment.specs.declared.search.Found.the-variants.{At, Absent}
+use Rattle.pixel_segment.specs.declared.search.Key.the-variants.{LayerId}
+use Rattle.tile_layers.proofs.Runs.{Grouped, grouped, ordered-drop, ends-at}
+use borrow.Author.Needs.{needs}
+use Rattle.tile_layers.proofs.walk.group_end.Statement.{statement}
+use Rattle.tile_layers.proofs.walk.group_end.Tie as tie
+use Rattle.tile_layers.proofs.walk.group_end.Reads as reads
+use Rattle.tile_layers.proofs.walk.group_end.Lts as lts
+use Rattle.pixel_segment.proofs.search.search_last_by_layer_id.Reads as search-last-by-layer-id-reads
+use Rattle.tile_layers.proofs.walk.layer_at.Reads as layer-at-reads
+
+at-injective : {a b : ℕ} → At a ≡ At b → a ≡ b
+at-injective e = ap (λ f. indexOf f) e
+  where
+    indexOf : Found → ℕ
+    indexOf (At i) = i
+    indexOf (Absent i) = i
+
+-- what is known of the group, at the function's start
+known : (c : tie.Start) → Grouped (drop (c .args .j) (c .args .part .now))
+known c =
+    let h : c .args .j < length (c .args .part .now) = c .pre .1 in
+    grouped (drop (c .args .j) (c .args .part .now)) (omega (arith, length-drop (c .args .j) (c .args .part .now)))
+    (ordered-drop (layerIdOf cpu) (c .args .part .now) (c .args .j) (c .pre .0))
+
+-- what the search answers
+answered : (c : tie.After-search-last-by-layer-id) → c .search-last-by-layer-id .result ≡ searchOf (orderAt (LayerId (layerIdOf cpu (getD (drop (c .before .before .before .before .args .j) (c .before .before .before .before .args .part .now)) 0 0)))) (drop (c .before .before .before .before .args .j) (c .before .before .before .before .args .part .now))
+answered c =
+    let s = c .before .before .before .before in
+    let part = s .args .part .now in
+    let j = s .args .j in
+    let whole = take-all (length part - j) (drop j part) (omega (arith, length-drop j part)) in
+    let id = c .before .before .layer-at .ensures ∙ ap (λ (k : ℕ). layerIdOf cpu (getD part k 0)) (sym (add-zero j)) ∙ ap (layerIdOf cpu) (sym (getD-drop j part 0 0)) in
+    c .search-last-by-layer-id .ensures ∙ ap₂ (λ (k : ℕ) (l : List ℕ). searchOf (orderAt (LayerId k)) l) id whole
+
+-- the segment that was found is the group's last
+at-last : (c : tie.After-known-told) → c .before .d .given .0 .0 ≡ (known (c .before .before .before .before .before .before .before)) .b
+at-last c =
+    let s = c .before .before .before .before .before .before .before in
+    at-injective (sym (c .before .d .given .1) ∙ answered (c .before .before .before) ∙ known s .found)
+
+layer-at-requires : tie.Need-layer-at-requires
+layer-at-requires c κs = search needs
+
+mul-rest : tie.Need-mul-rest
+mul-rest c = search needs
+
+sub-rest : tie.Need-sub-rest
+sub-rest c = search needs
+
+part-rest-start : tie.Need-part-rest-start
+part-rest-start c = search needs
+
+part-rest-end : tie.Need-part-rest-end
+part-rest-end c = search needs
+
+search-last-by-layer-id-requires : tie.Need-search-last-by-layer-id-requires
+search-last-by-layer-id-requires c κs = search needs
+
+enum-known-d : tie.Need-enum-known-d
+enum-known-d c = search needs
+
+add-result : tie.Need-add-result
+add-result c = let s = c .before .before .before .before .before .before .before in omega (arith, at-last c, (known s) .within, length-drop (s .args .j) (s .args .part .now))
+
+add-result-2 : tie.Need-add-result-2
+add-result-2 c = let s = c .before .before .before .before .before .before .before in omega (arith, at-last c, (known s) .within, length-drop (s .args .j) (s .args .part .now))
+
+enum-told : tie.Need-enum-told
+enum-told c = search needs
+
+add-result-3 : tie.Need-add-result-3
+add-result-3 c = search needs
+
+returns : tie.Need-returns
+returns c =
+    let s = c .before .before .before .before .before .before .before in
+    let k = known s in
+    rw (at-last c) (ends-at (s .args .part .now) (s .args .j) (k .b) (s .pre .1) (k .within) (k .group))
+
+returns-2 : tie.Need-returns-2
+returns-2 c =
+    let s = c .before .before .before .before .before .before in
+    let p : At (known s .b) ≡ Absent (c .enum-told .given .0 .0) = sym (known s .found) ∙ sym (answered (c .before .before)) ∙ c .enum-told .given .1 in
+    absurd (let z : _≡_ {A = ℕ} 0 1 = cc in omega arith)
+
+pub group-end-spec : {M : Type 1} → statement M
+group-end-spec =
+    tie.close
+    (tie.spec
+    layer-at-requires
+    mul-rest
+    sub-rest
+    part-rest-start
+    part-rest-end
+    search-last-by-layer-id-requires
+    enum-known-d
+    add-result
+    add-result-2
+    enum-told
+    add-result-3
+    returns
+    returns-2)
