@@ -2,6 +2,9 @@
 use mathlib.Core.Path.{_≡_, refl, ap, ap₂, _∙_}
 use mathlib.Core.Bool.{Bool, true, false, cond, not, false≢true}
 use mathlib.Core.List.{List, [], _∷_, _++_, append-nil}
+use Prim.Native.Nat.{_≤_}
+use native.Mathlib.Omega.{arith}
+use lib.ListN.{length}
 use Rattle.laws.specs.Lists.{all, filter}
 use Rattle.laws.proofs.Bools.{left, right, both}
 
@@ -61,3 +64,11 @@ all-kept p q (x ∷ xs) h = by (p x) (all-kept p q xs (right (q x) (all q xs) h)
 pub filter-ext : {A : Type 0} (p q : A → Bool) (l : List A) → ((x : A) → p x ≡ q x) → filter p l ≡ filter q l
 filter-ext p q [] h = refl
 filter-ext {A} p q (x ∷ xs) h = ap₂ (λ (t : Bool) (r : List A). cond t (x ∷ r) r) (h x) (filter-ext p q xs h)
+
+pub length-filter : {A : Type 0} (p : A → Bool) (l : List A) → length (filter p l) ≤ length l
+length-filter p [] = omega arith
+length-filter p (x ∷ xs) = by (p x) (length-filter p xs)
+  where
+    by : (t : Bool) → length (filter p xs) ≤ length xs → length (cond t (x ∷ filter p xs) (filter p xs)) ≤ length (x ∷ xs)
+    by true h = omega arith
+    by false h = omega arith

@@ -7,6 +7,7 @@ pub mod Orders
 pub mod Sums
 pub mod Keyed
 pub mod Rows
+pub mod Drops
 pub mod Every
 pub mod Filtered
 pub mod Table

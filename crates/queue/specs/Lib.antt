@@ -2,3 +2,4 @@
 pub mod Queue
 pub mod Rank
 pub mod Opening
+pub mod Insert

@@ -34,9 +34,13 @@ addAll (w ∷ ws) q = addAll ws (addTo w q)
 abbrev pub openQueue : List ℕ → List Carry
 openQueue left = addAll left []
 
+-- the segments of one layer
+abbrev pub ofLayer : ℕ → List ℕ → List ℕ
+ofLayer id left = filter (λ w. eqb (layerIdOf cpu w) id) left
+
 -- number 9: every layer's segments left of the first tile, in absolute value, are within 127 in each pixel row
 unfoldable pub isLightOpening : List ℕ → Bool
-isLightOpening left = all (λ c. isLight cpu 16 zeros (filter (λ w. eqb (layerIdOf cpu w) (c .id)) left)) (openQueue left)
+isLightOpening left = all (λ c. isLight cpu 16 zeros (ofLayer (c .id) left)) (openQueue left)
 
 -- what opening answers: how many carries, or refused by 7 (more than 256 layers), then by 9
 abbrev pub openAnswer : List ℕ → Answer ℕ

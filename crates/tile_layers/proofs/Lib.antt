@@ -1,3 +1,9 @@
 -- Laws of a tile's layers.
 pub mod Runs
 pub mod Steps
+pub mod Walking
+pub mod Surveying
+pub mod Wide
+pub mod Filling
+pub mod Writing
+pub mod Handing

@@ -43,9 +43,13 @@ pub both-first : (c : Carry) (q : List Carry) (g : Group) (gs : List Group) → 
 unfolding listOf
 both-first c q g gs h = rw (le-ltb (c .id) (g .id) (omega arith), le-ltb (g .id) (c .id) (omega arith))
 
-no-groups : groupsOf [] ≡ []
+pub no-groups : groupsOf [] ≡ []
 unfolding groupsOf
 no-groups = refl
+
+pub nothing : listOf [] [] ≡ []
+unfolding listOf
+nothing = refl
 
 -- ---- the queue from a place on
 

@@ -1,18 +1,22 @@
 -- The carries that a tile hands on: for every listed layer, shown, masked off or skipped alike, incoming plus own covers, without those that are
 -- empty by the layer's rule; ascending. Stands for 'a carry is incoming cover plus segment covers, painted or not; it is dropped when empty'.
-use mathlib.Core.Bool.{Bool, not}
+use mathlib.Core.Path.{_≡_}
+use mathlib.Core.Bool.{Bool, cond, not}
 use mathlib.Core.List.{List, map}
-use Prim.Native.Nat.{ℕ}
+use Prim.Native.Nat.{ℕ, _+_, _*_, _≤_}
+use lib.IntN.{ℤ}
+use lib.ListN.{length, set}
 use Rattle.laws.specs.Answer.{Answer, refused, given}
-use Rattle.laws.specs.Lists.{filter}
+use Rattle.laws.specs.Lists.{filter, over}
 use Rattle.pixel_segment.specs.Field.{cpu}
 use Rattle.cover.specs.Carry.{carryOf}
 use Rattle.cover.specs.Cover.{isEmpty}
+use Rattle.cover.specs.Entry.{putEntry}
 use Rattle.styling.specs.Lookup.{lookup}
 use Rattle.styling.specs.declared.Layer.{Layer}
 use Rattle.styling.specs.declared.FillRule.{FillRule}
 use Rattle.styling.specs.declared.FillRule.the-variants.{NonZero, EvenOdd}
-use Rattle.queue.specs.Queue.{Carry}
+use Rattle.queue.specs.Queue.{Carry, idsIn, coversIn}
 use Rattle.tile_layers.specs.Listing.{Listed}
 
 -- the fill rule of a layer. Refusal 8 keeps out a list with a layer that the table lacks
@@ -31,3 +35,20 @@ isKept table c = not (isEmpty (ruleIn table (c .id)) (c .cover))
 
 unfoldable pub handedOn : List Layer → List Listed → List Carry
 handedOn table ls = filter (isKept table) (map carryFor ls)
+
+-- what handing on promises: how many carries, and the two columns
+pub record Hands (q : List Carry) (oldIds : List ℕ) (oldCovers : List ℤ) (r : ℕ) (ids : List ℕ) (covers : List ℤ) : Type 0 where
+  pub count : r ≡ length q
+  pub ids-are : ids ≡ over (idsIn q) oldIds
+  pub covers-are : covers ≡ over (coversIn q) oldCovers
+
+-- the columns have an entry for each layer, though not every one is handed on
+pub record QueueRoom (ls : List Listed) (ids : List ℕ) (covers : List ℤ) : Type 0 where
+  pub ids-long : length ls ≤ length ids
+  pub covers-long : 16 * length ls ≤ length covers
+
+-- one carry written at place m, where it is kept
+pub record Puts (m id : ℕ) (cover : List ℤ) (keep : Bool) (oldIds : List ℕ) (oldCovers : List ℤ) (r : ℕ) (ids : List ℕ) (covers : List ℤ) : Type 0 where
+  pub place : r ≡ cond keep (m + 1) m
+  pub ids-are : ids ≡ cond keep (set oldIds m id) oldIds
+  pub covers-are : covers ≡ cond keep (putEntry 16 m cover oldCovers) oldCovers

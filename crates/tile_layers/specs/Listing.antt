@@ -1,19 +1,21 @@
 -- The layers of a tile: each layer with a segment in the tile or a carry in the incoming queue, once, ascending (`populate_layers`). Stands for
 -- 'the list has each layer with a segment or carry, once, ascending' and for refusals 7, 8 and 9 of a list.
+use mathlib.Core.Path.{_≡_}
 use mathlib.Core.Bool.{Bool, true, false, cond}
 use mathlib.Core.List.{List, [], _∷_, _++_, map}
-use Prim.Native.Nat.{ℕ}
+use Prim.Native.Nat.{ℕ, _*_, _≤_}
 use lib.Dec.{ltb}
 use lib.IntN.{ℤ}
 use lib.ListN.{length}
 use Rattle.laws.specs.Answer.{Answer, refused, given}
-use Rattle.laws.specs.Lists.{all}
+use Rattle.laws.specs.Lists.{all, over}
 use Rattle.pixel_segment.specs.Field.{cpu}
 use Rattle.cover.specs.Carry.{isLight}
 use Rattle.styling.specs.Lookup.{lookup}
 use Rattle.styling.specs.declared.Layer.{Layer}
-use Rattle.queue.specs.Queue.{Carry, zeros}
+use Rattle.queue.specs.Queue.{Carry, zeros, idsIn, coversIn}
 use Rattle.tile_layers.specs.Groups.{Group, groupsOf}
+use Rattle.tile_layers.specs.declared.listing.Survey.{Survey}
 
 -- a listed layer: its incoming cover, and its own segments in the tile
 pub record Listed : Type 0 where
@@ -49,15 +51,24 @@ abbrev pub hasAny : List ℕ → Bool
 hasAny [] = false
 hasAny (w ∷ ws) = true
 
-abbrev pub idsOf : List Listed → List ℕ
-idsOf ls = map (λ l. l .id) ls
+-- the layers' ids and incoming covers, as a queue has them
+abbrev pub incomingOf : List Listed → List Carry
+incomingOf ls = map (λ l. record { id = l .id; cover = l .cover }) ls
 
 abbrev pub segmentsOf : List Listed → List Bool
 segmentsOf ls = map (λ l. hasAny (l .own)) ls
 
-unfoldable pub coversOf : List Listed → List ℤ
-coversOf [] = []
-coversOf (l ∷ ls) = l .cover ++ coversOf ls
+-- the three columns, written over what they held
+pub record Lists (ls : List Listed) (oldIds : List ℕ) (oldCovers : List ℤ) (oldSegments : List Bool) (ids : List ℕ) (covers : List ℤ) (segments : List Bool) : Type 0 where
+  pub ids-are : ids ≡ over (idsIn (incomingOf ls)) oldIds
+  pub covers-are : covers ≡ over (coversIn (incomingOf ls)) oldCovers
+  pub segments-are : segments ≡ over (segmentsOf ls) oldSegments
+
+-- the columns have an entry for each layer
+pub record Room (ls : List Listed) (ids : List ℕ) (covers : List ℤ) (segments : List Bool) : Type 0 where
+  pub ids-long : length ls ≤ length ids
+  pub covers-long : 16 * length ls ≤ length covers
+  pub segments-long : length ls ≤ length segments
 
 -- ---- refusals of a list
 
@@ -76,3 +87,9 @@ areKnown table ls = all (λ l. isGiven (lookup table (l .id))) ls
 -- 9 does not apply: no layer's covers grow too large
 abbrev pub areLight : List Listed → Bool
 areLight ls = all (λ l. isLight cpu 16 (l .cover) (l .own)) ls
+
+-- what a survey of the list tells: how many layers, and whether 8 and 9 do not apply
+pub record Surveyed (table : List Layer) (ls : List Listed) (r : Survey) : Type 0 where
+  pub count : r .count ≡ length ls
+  pub known : r .known ≡ areKnown table ls
+  pub light : r .light ≡ areLight ls

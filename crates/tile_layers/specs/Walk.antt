@@ -1,6 +1,6 @@
 -- How the code walks over a queue and a tile's part in step: what the next layer is. `i` counts the carries that are passed, `j` the segments.
 use mathlib.Core.Path.{_≡_}
-use mathlib.Core.Bool.{Bool, cond}
+use mathlib.Core.Bool.{Bool, true, cond}
 use mathlib.Core.List.{List, _∷_}
 use Prim.Native.Nat.{ℕ, _+_, _≤_, _<_}
 use lib.IntN.{ℤ}
@@ -44,3 +44,4 @@ pub record Moved (n : ℕ) (part : List ℕ) (i j : ℕ) (r : Next) : Type 0 whe
   pub low-j : j ≤ r .end
   pub high-j : r .end ≤ length part
   pub further : i + j < r .i + r .end
+  pub has : r .carried ≡ true → i < n

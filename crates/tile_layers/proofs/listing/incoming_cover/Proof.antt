@@ -1,0 +1,19 @@
+-- `listing::incoming_cover` meets its contract. Assumes nothing.
+use mathlib.Core.Path.{_≡_}
+use Rattle.tile_layers.proofs.listing.incoming_cover.Statement.{statement}
+use Rattle.tile_layers.proofs.listing.incoming_cover.Tie as tie
+use Rattle.tile_layers.proofs.listing.incoming_cover.Reads as reads
+use Rattle.tile_layers.proofs.listing.incoming_cover.Lts as lts
+use Rattle.cover.proofs.entry.read_cover.Reads as read-cover-reads
+
+read-cover-requires : tie.Need-read-cover-requires
+read-cover-requires c κs = c .before .pre (c .if1 .taken)
+
+returns : tie.Need-returns
+returns c = rw (c .before .if1 .taken) (c .read-cover .ensures)
+
+returns-2 : tie.Need-returns-2
+returns-2 c = rw (c .if1 .left)
+
+pub incoming-cover-spec : {M : Type 1} → statement M
+incoming-cover-spec = tie.close (tie.spec read-cover-requires returns returns-2)

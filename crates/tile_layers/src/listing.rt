@@ -1,0 +1,109 @@
+// The layers of a tile, surveyed for refusals 7, 8 and 9, and written into the columns of a lent list.
+use crate::walk;
+use cover::Cover;
+use cover::carry;
+use cover::entry;
+use styling::table;
+use styling::table::Found;
+ghost use mathlib.Core.Path.{_≡_};
+ghost use mathlib.Core.Bool.{true, cond};
+ghost use Prim.Native.Nat.{_*_, _+_, _≤_, _<_};
+ghost use lib.ListN.{length};
+ghost use Rattle.styling.specs.Lookup.{lookup};
+ghost use Rattle.styling.specs.Table.{Table, tableOf};
+ghost use Rattle.cover.specs.Entry.{entryOf};
+ghost use Rattle.queue.specs.Queue.{queueOf, zeros};
+ghost use Rattle.tile_layers.specs.Listing.{layersIn, isGiven, Surveyed, Lists, Room};
+ghost use Rattle.tile_layers.specs.Walk.{Walks};
+
+// How many layers a tile has, and whether each is in the table and none's covers grow too large.
+pub struct Survey {
+    pub count: usize,
+    pub known: bool,
+    pub light: bool,
+}
+
+// The cover that comes in for a layer: that of the carry at i, or zeros.
+pub fn incoming_cover(covers: &[i8], carried: bool, i: usize) -> Cover
+    requires { ⌜ (carried ≡ true → i * 16 + 16 ≤ length (now covers)) ⌝ }
+    ensures { λ r. ⌜ r .covers ≡ cond carried (entryOf 16 i (now (covers .entry))) zeros ⌝ }
+{
+    if carried {
+        entry::read_cover(covers, i)
+    } else {
+        Cover { covers: [0i8; 16] }
+    }
+}
+
+fn is_known(layers: &[u32], colors: &[f32], count: usize, id: u32) -> bool
+    requires { ⌜ Table (now layers) (now colors) count ⌝ }
+    ensures { λ r. ⌜ r ≡ isGiven (lookup (tableOf (now (layers .entry)) (now (colors .entry)) count) id) ⌝ }
+{
+    match table::find(layers, count, id) {
+        Found::At(_) => true,
+        Found::Absent => false,
+    }
+}
+
+// The layers of a tile, counted and judged in one walk.
+pub fn survey_layers(
+    ids: &[u32],
+    covers: &[i8],
+    n: usize,
+    part: &[u64],
+    layers: &[u32],
+    colors: &[f32],
+    count: usize,
+) -> Survey
+    requires { ⌜ Walks n (now ids) (now part) × (16 * n ≤ length (now covers)) × Table (now layers) (now colors) count ⌝ }
+    ensures { λ r. ⌜ Surveyed (tableOf (now (layers .entry)) (now (colors .entry)) count) (layersIn (queueOf n (now (ids .entry)) (now (covers .entry))) (now (part .entry))) r ⌝ }
+{
+    let mut total: usize = 0;
+    let mut known = true;
+    let mut light = true;
+    let mut i: usize = 0;
+    let mut j: usize = 0;
+    while i + j < n + part.len() {
+        let next = walk::next_layer(ids, n, part, i, j);
+        let end = next.end;
+        let cover = incoming_cover(covers, next.carried, i);
+        known = known & is_known(layers, colors, count, next.id);
+        light = light & carry::is_light(&part[j..end], cover);
+        i = next.i;
+        j = end;
+        total += 1;
+    }
+    Survey {
+        count: total,
+        known: known,
+        light: light,
+    }
+}
+
+// The list of a tile's layers, at the front of three lent columns.
+pub fn list_layers(
+    ids: &[u32],
+    covers: &[i8],
+    n: usize,
+    part: &[u64],
+    list_ids: &mut [u32],
+    list_covers: &mut [i8],
+    list_segments: &mut [bool],
+)
+    requires { ⌜ Walks n (now ids) (now part) × (16 * n ≤ length (now covers)) × Room (layersIn (queueOf n (now ids) (now covers)) (now part)) (now «list_ids») (now «list_covers») (now «list_segments») ⌝ }
+    ensures { λ _. ⌜ Lists (layersIn (queueOf n (now (ids .entry)) (now (covers .entry))) (now (part .entry))) (now («list_ids» .entry)) (now («list_covers» .entry)) (now («list_segments» .entry)) (now («list_ids» .exit)) (now («list_covers» .exit)) (now («list_segments» .exit)) ⌝ }
+{
+    let mut k: usize = 0;
+    let mut i: usize = 0;
+    let mut j: usize = 0;
+    while i + j < n + part.len() {
+        let next = walk::next_layer(ids, n, part, i, j);
+        let end = next.end;
+        list_ids[k] = next.id;
+        entry::write_cover(list_covers, k, incoming_cover(covers, next.carried, i));
+        list_segments[k] = j < end;
+        i = next.i;
+        j = end;
+        k += 1;
+    }
+}
