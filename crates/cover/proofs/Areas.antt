@@ -22,7 +22,7 @@ use Rattle.cover.specs.Carry.{inRow, absCover, loadIn}
 
 -- ---- from one column to the next
 
-and-false : (a : Bool) → (a && false) ≡ false
+pub and-false : (a : Bool) → (a && false) ≡ false
 and-false true = refl
 and-false false = refl
 
@@ -41,7 +41,7 @@ below-next x c n =
     (λ (h : x < c). lt-ltb x (c + 1) (omega arith) ∙ sym (lt-ltb x c h))
     (le-or-lt c x)
 
-split : (a : Bool) (x c : ℕ) (z : ℤ) → cond (a && ltb x (c + 1)) z (pos 0) ≡ cond (a && ltb x c) z (pos 0) +ℤ cond (a && eqb x c) z (pos 0)
+pub split : (a : Bool) (x c : ℕ) (z : ℤ) → cond (a && ltb x (c + 1)) z (pos 0) ≡ cond (a && ltb x c) z (pos 0) +ℤ cond (a && eqb x c) z (pos 0)
 split a x c z =
     ⊎-elim
     (λ (q : x ≡ c).

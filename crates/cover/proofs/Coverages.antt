@@ -40,3 +40,12 @@ told weight = Bool·beq (isAbove (coverageOf weight)) (ltb 0 weight)
 pub coverage-above : (weight : ℕ) → weight ≤ 512 → isAbove (coverageOf weight) ≡ ltb 0 weight
 unfolding told coverageOf ofBits lt
 coverage-above weight h = bool-is _ _ (every-at 513 told refl weight (omega arith))
+
+-- weight 0 is 0.0, and weight 512 is 1.0
+pub coverage-zero : coverageOf 0 ≡ ofBits binary32 0
+unfolding coverageOf ofBits odd
+coverage-zero = refl
+
+pub coverage-one : coverageOf 512 ≡ ofBits binary32 0x3F800000
+unfolding coverageOf ofBits odd
+coverage-one = refl

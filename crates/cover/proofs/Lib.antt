@@ -15,3 +15,6 @@ pub mod Marks
 pub mod Entries
 pub mod Planes
 pub mod Paintings
+pub mod Agreement
+pub mod FromRow
+pub mod Cases

@@ -1,7 +1,7 @@
 -- Laws of the judging of number 9: the absolute covers of each row, capped at 128, one segment after another. Over any widths whose local y
 -- stays below the height n. Assumes nothing.
 use mathlib.Core.Path.{_≡_, refl, sym, ap, _∙_}
-use mathlib.Core.Bool.{Bool, cond}
+use mathlib.Core.Bool.{cond}
 use mathlib.Core.List.{List, map}
 use mathlib.Core.Logic.{⊎-elim}
 use Prim.Native.Nat.{ℕ, _+_, _≤_, _<_, min}
@@ -12,13 +12,12 @@ use lib.IntN.{ℤ, pos, natAbs}
 use lib.ListN.{length, getD, drop, set, length-set, length-map, replicate, length-replicate, List·getD-map}
 use lib.Seq.{getD-set-same, getD-set-other}
 use Rattle.laws.proofs.Bools.{same}
-use Rattle.laws.proofs.Every.{every-at, every-intro, all-at, all-intro}
 use Rattle.laws.proofs.Orders.{le-or-lt, eq-or-ne}
 use Rattle.laws.proofs.Rows.{filled, filled-more, is-tabulate, length-tabulate, getD-tabulate}
 use Rattle.laws.proofs.Sums.{sum-step, sum-end}
-use Rattle.laws.specs.Lists.{tabulate, all, every}
 use Rattle.pixel_segment.specs.Field.{localYOf}
 use Rattle.cover.proofs.Filled.{filled-whole, getD-default}
+use Rattle.cover.proofs.Testing.{all-every}
 use Rattle.cover.specs.Carry.{inRow, absCover, loadIn, lightAt, isLight}
 use Rattle.cover.specs.Cover.{coverAt}
 use Rattle.cover.specs.Load.{Capped, Magnitudes, loadsOf, allLight}
@@ -124,24 +123,13 @@ capped-test a =
     (λ (h : 127 < a). lt-leb (min a 128) 127 (omega arith) ∙ sym (lt-leb a 127 h))
     (le-or-lt a 127)
 
--- a test of each element of a list given by its elements
-all-tabulate : {A : Type 0} (p : A → Bool) (n : ℕ) (f : ℕ → A) (d : A) → all p (tabulate n f) ≡ every n (λ i. p (f i))
-all-tabulate p n f d =
-    same (all p (tabulate n f)) (every n (λ i. p (f i)))
-    (λ e. every-intro n (λ i. p (f i)) (λ i h. rw (getD-tabulate n f d i h) at (all-at p (tabulate n f) e i d (rw (length-tabulate n f) h))))
-    (λ e. all-intro p (tabulate n f) d (λ i h.
-    let l : i < n = rw (length-tabulate n f) at h in
-    rw (getD-tabulate n f d i l) (every-at n (λ j. p (f j)) e i l)))
-
-pub every-ext : (n : ℕ) (f g : ℕ → Bool) → ((i : ℕ) → f i ≡ g i) → every n f ≡ every n g
-every-ext n f g h =
-    same (every n f) (every n g)
-    (λ e. every-intro n g (λ i l. sym (h i) ∙ every-at n f e i l))
-    (λ e. every-intro n f (λ i l. h i ∙ every-at n g e i l))
-
 pub loads-judge : (ws : List ℕ) (n : ℕ) (covers : List ℤ) (part : List ℕ) → allLight (loadsOf ws n (map natAbs covers) part) ≡ isLight ws n covers part
 unfolding allLight loadsOf isLight
 loads-judge ws n covers part =
-    all-tabulate (λ load. leb load 127) n (λ y. min (getD (map natAbs covers) y 0 + loadIn ws y part) 128) 0
-    ∙ every-ext n _ (lightAt ws covers part)
-    (λ y. capped-test (getD (map natAbs covers) y 0 + loadIn ws y part) ∙ ap (λ (a : ℕ). leb (a + loadIn ws y part) 127) (List·getD-map natAbs covers y (pos 0)))
+    let loads = loadsOf ws n (map natAbs covers) part in
+    let f : ℕ → ℕ = λ y. min (getD (map natAbs covers) y 0 + loadIn ws y part) 128 in
+    all-every (λ load. leb load 127) loads 0 n (length-tabulate n f) (lightAt ws covers part)
+    (λ y h.
+    ap (λ (a : ℕ). leb a 127) (getD-tabulate n f 0 y h)
+    ∙ capped-test (getD (map natAbs covers) y 0 + loadIn ws y part)
+    ∙ ap (λ (a : ℕ). leb (a + loadIn ws y part) 127) (List·getD-map natAbs covers y (pos 0)))

@@ -7,12 +7,13 @@ use native.Mathlib.Nat.{lt-of-lt-of-le, pow-suc, zero-div, div-one}
 use native.Mathlib.Numerals.{one-add}
 use native.Mathlib.Omega.{arith}
 use lib.Count.{ones, ones-cat}
-use lib.Ieee.{Float, nan}
+use lib.Ieee.{Float, nan, odd, ofBits, lt}
 use lib.ListN.{length, getD, drop, length-drop}
 use lib.Pow.{pow-mono, shr-shr}
 use lib.Seq.{drop-cons, drop-length}
 use Rattle.laws.proofs.Rows.{length-tabulate, getD-tabulate, is-tabulate}
-use Rattle.cover.specs.Coverage.{isAbove}
+use Rattle.cover.specs.Coverage.{coverageOf, isAbove}
+use Rattle.cover.specs.Plane.{inPlaces}
 use Rattle.cover.specs.Mark.{aboveAt, some, isUsed, usedOctets, bit, numberOf, countTrue, markOf, octetsOf}
 
 pub bit-lt : (b : Bool) → bit b < 2
@@ -142,3 +143,12 @@ mark-same p q h =
     ap numberOf
     (is-tabulate 32 (λ o. isUsed q (o / 2) (o % 2)) false (usedOctets p) (used-length p)
     (λ o l. used-at p o l ∙ some-ext 8 (aboveAt p (o / 2) (o % 2)) (aboveAt q (o / 2) (o % 2)) (λ i t. ap isAbove (h _ (omega arith)))))
+
+-- coverage 0 everywhere uses no octet, and coverage 1 everywhere all 32
+pub mark-empty : markOf (inPlaces 16 (λ column row. coverageOf 0)) ≡ 0
+unfolding markOf usedOctets numberOf inPlaces coverageOf odd ofBits lt
+mark-empty = refl
+
+pub mark-full : markOf (inPlaces 16 (λ column row. coverageOf 512)) ≡ 2 ^ 32 - 1
+unfolding markOf usedOctets numberOf inPlaces coverageOf odd ofBits lt
+mark-full = refl

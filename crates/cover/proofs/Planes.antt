@@ -42,7 +42,7 @@ place-back n place = div-add-mod' place n
 module _ {A : Type 0} (n : ℕ) (f : ℕ → ℕ → A) where
   pub places-length : length (inPlaces n f) ≡ sizeOf n
   unfolding inPlaces
-  places-length = length-tabulate (sizeOf n) (λ place. f (columnOf n place) (rowOf n place))
+  places-length = length-tabulate (sizeOf n) _
 
   pub places-at : (d : A) (place : ℕ) → place < sizeOf n → getD (inPlaces n f) place d ≡ f (columnOf n place) (rowOf n place)
   unfolding inPlaces
@@ -66,7 +66,7 @@ places-ext n f g h e =
 
 pub areas-length : (ws : List ℕ) (n : ℕ) (incoming : ℕ → ℤ) (part : List ℕ) → length (areasOf ws n incoming part) ≡ sizeOf n
 unfolding areasOf
-areas-length ws n incoming part = length-tabulate (sizeOf n) (λ k. doubledArea ws incoming part (k / n) (k % n))
+areas-length ws n incoming part = length-tabulate (sizeOf n) _
 
 pub areas-at : (ws : List ℕ) (n : ℕ) (incoming : ℕ → ℤ) (part : List ℕ) (k : ℕ) → k < sizeOf n → coverAt (areasOf ws n incoming part) k ≡ doubledArea ws incoming part (k / n) (k % n)
 unfolding areasOf

@@ -51,11 +51,8 @@ module _ {column : ℕ} {areas₀ covers sums : List ℤ} where
         let e : k % 16 ≡ y = omega arith in
         c .area k (omega arith) ∙ rw (le-ltb (k % 16) y (omega arith), not-right (eqb (k / 16) column) false refl)
 
-    pub shade-sum : coverAt next y ≡ coverAt sums y
-    shade-sum = c .sum y h ∙ rw (le-ltb y y (omega arith))
-
     -- row y, shaded
-    pub shade-next : {k : ℕ} {v u : ℤ} → k ≡ column * 16 + y → v ≡ pos 32 *ℤ coverAt next y +ℤ coverAt areas k → u ≡ coverAt next y +ℤ coverAt covers k
+    pub shade-next : {k : ℕ} {v u : ℤ} → k ≡ column * 16 + y → v ≡ pos 32 *ℤ coverAt sums y +ℤ coverAt areas k → u ≡ coverAt sums y +ℤ coverAt covers k
         → Shaded column (y + 1) areas₀ covers sums (set areas k v) (set next y u)
     shade-next {k} {v} {u} p ev eu =
         record {
@@ -73,7 +70,6 @@ module _ {column : ℕ} {areas₀ covers sums : List ℤ} where
                 s,
                 getD-set-same areas k v (pos 0) (omega (arith, c .long)),
                 ev,
-                shade-sum,
                 p,
                 shade-area,
               ))
@@ -85,7 +81,7 @@ module _ {column : ℕ} {areas₀ covers sums : List ℤ} where
               λ r q.
               ⊎-elim
               (λ (s : r ≡ y).
-              rw (s, lt-ltb y (y + 1) (omega arith), getD-set-same next y u (pos 0) (omega (arith, c .sums-long)), eu, shade-sum, p))
+              rw (s, lt-ltb y (y + 1) (omega arith), getD-set-same next y u (pos 0) (omega (arith, c .sums-long)), eu, p))
               (λ (s : r ≡ y → ⊥).
               rw (getD-set-other next y r u (pos 0) s, below-next r y s) (c .sum r q))
               (eq-or-ne r y);

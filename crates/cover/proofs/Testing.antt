@@ -7,14 +7,16 @@ use native.Mathlib.Numerals.{add-one}
 use native.Mathlib.Omega.{arith}
 use lib.ListN.{length, getD, drop, drop-of-length-le}
 use lib.Seq.{drop-cons}
-use Rattle.laws.specs.Lists.{all}
+use Rattle.laws.proofs.Bools.{same}
+use Rattle.laws.proofs.Every.{every-intro, every-at, all-at, all-intro}
+use Rattle.laws.specs.Lists.{all, every}
 
 pub record Testing {A : Type 0} (p : A → Bool) (l : List A) (n : ℕ) (ok : Bool) (i : ℕ) : Type 0 where
   pub long : length l ≡ n
   pub reached : i ≤ n
   pub same : (ok && all p (drop i l)) ≡ all p l
 
-and-true : (a : Bool) → (a && true) ≡ a
+pub and-true : (a : Bool) → (a && true) ≡ a
 and-true true = refl
 and-true false = refl
 
@@ -37,3 +39,10 @@ module _ {A : Type 0} {p : A → Bool} {l : List A} {n : ℕ} where
   pub test-end : {ok : Bool} {i : ℕ} → Testing p l n ok i → n ≤ i → ok ≡ all p l
   test-end {ok} {i} c h =
       sym (and-true ok) ∙ ap (λ (r : List A). ok && all p r) (sym (drop-of-length-le l {i = i} (omega (arith, c .long)))) ∙ c .same
+
+-- a test of every element is a test of every index, where each test agrees
+pub all-every : {A : Type 0} (p : A → Bool) (l : List A) (d : A) (n : ℕ) → length l ≡ n → (q : ℕ → Bool) → ((i : ℕ) → i < n → p (getD l i d) ≡ q i) → all p l ≡ every n q
+all-every p l d n e q h =
+    same (all p l) (every n q)
+    (λ t. every-intro n q (λ i k. sym (h i k) ∙ all-at p l t i d (omega arith)))
+    (λ t. all-intro p l d (λ i k. let m : i < n = omega arith in h i m ∙ every-at n q t i m))

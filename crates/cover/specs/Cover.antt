@@ -6,7 +6,7 @@ use mathlib.Core.List.{List}
 use Prim.Native.Nat.{ℕ}
 use lib.Dec.{eqb}
 use lib.IntN.{ℤ, pos, natAbs}
-use lib.ListN.{getD}
+use lib.ListN.{getD, replicate}
 use Rattle.laws.specs.Integer.{modℤ}
 use Rattle.laws.specs.Lists.{all}
 use Rattle.styling.specs.declared.FillRule.{FillRule}
@@ -15,6 +15,10 @@ use Rattle.styling.specs.declared.FillRule.the-variants.{NonZero, EvenOdd}
 -- the cover of pixel row y; a row that the list lacks has 0
 abbrev pub coverAt : List ℤ → ℕ → ℤ
 coverAt covers y = getD covers y (pos 0)
+
+-- no cover in any of n rows: what a layer without a carry has
+unfoldable pub noCover : ℕ → List ℤ
+noCover n = replicate n (pos 0)
 
 -- a row's cover that leaves all to its right outside
 abbrev pub emptyAt : FillRule → ℤ → Bool

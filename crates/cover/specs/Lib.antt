@@ -10,3 +10,4 @@ pub mod Plane
 pub mod Mark
 pub mod Paint
 pub mod Entry
+pub mod WholeRow

@@ -45,8 +45,8 @@ fn compute_doubled_areas(
     let mut y = 0;
     while y < 16 {
         let k = column * 16 + y;
-        areas[k] = 32 * (next[y] as i16) + areas[k];
-        next[y] = next[y] + covers[k];
+        next[y] = sums[y] + covers[k];
+        areas[k] = 32 * (sums[y] as i16) + areas[k];
         y += 1;
     }
     next

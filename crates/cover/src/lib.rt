@@ -8,7 +8,7 @@ pub mod weight;
 
 use styling::FillRule;
 ghost use mathlib.Core.Path.{_≡_};
-ghost use Rattle.cover.specs.Cover.{emptyAt, fullAt, isEmpty, isFull};
+ghost use Rattle.cover.specs.Cover.{noCover, emptyAt, fullAt, isEmpty, isFull};
 
 // One signed byte for each pixel row of a tile: 16 is a whole pixel, once around.
 pub struct Cover {
@@ -36,6 +36,14 @@ fn is_row_full(cover: i8, rule: FillRule) -> bool
 }
 
 impl Cover {
+    // No cover in any row.
+    pub fn default() -> Cover
+        ensures { λ r. ⌜ r .covers ≡ noCover 16 ⌝ }
+    {
+        let covers = [0i8; 16];
+        Cover { covers }
+    }
+
     pub fn is_empty(self, rule: FillRule) -> bool
         ensures { λ r. ⌜ r ≡ isEmpty rule (self .covers) ⌝ }
     {

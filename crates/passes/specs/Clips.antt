@@ -1,9 +1,11 @@
 -- The second pass (`skip_trivial_clips_pass`), as the Rust goes: from the lowest listed layer up, with the clip that was met last.
+use mathlib.Core.Path.{_≡_}
 use mathlib.Core.Bool.{Bool, true, false, cond, not, _||_}
 use mathlib.Core.List.{List, [], _∷_}
 use Prim.Native.Nat.{ℕ, suc, _+_}
 use lib.Dec.{ltb}
 use lib.ListN.{length, set, replicate}
+use Rattle.laws.specs.Lists.{over}
 use Rattle.styling.specs.declared.Func.{Func}
 use Rattle.styling.specs.declared.Func.the-variants.{Draw, Clip}
 use Rattle.styling.specs.Style.{isClipped}
@@ -93,3 +95,8 @@ clipsFrom (x ∷ xs) i cur shown unclipped =
 -- all are shown at first, and none is drawn unclipped
 abbrev pub marksOf : List Item → Marks
 marksOf items = clipsFrom items 0 Nothing (replicate (length items) true) (replicate (length items) false)
+
+-- what the pass promises of the two lent columns
+pub record Marking (items : List Item) (oldShown oldUnclipped shown unclipped : List Bool) : Type 0 where
+  pub shown-is : shown ≡ over (marksOf items .shown) oldShown
+  pub unclipped-is : unclipped ≡ over (marksOf items .unclipped) oldUnclipped

@@ -5,21 +5,25 @@ use mathlib.Core.Path.{_≡_}
 use mathlib.Core.Bool.{Bool, true, false, cond, _&&_}
 use mathlib.Core.List.{List, [], _∷_}
 use mathlib.Core.Option.{Option, some, none}
-use Prim.Native.Nat.{ℕ, suc}
+use Prim.Native.Nat.{ℕ, zero, suc, _+_}
 use lib.Dec.{leb}
 use lib.ListN.{length, drop, replicate}
 use Rattle.laws.specs.Lists.{all, over}
 use Rattle.styling.specs.declared.Color.{Color}
 use Rattle.styling.specs.Style.{solidColor}
+use Rattle.passes.specs.declared.Index.{Index}
 use Rattle.passes.specs.declared.item.Item.{Item}
 use Rattle.passes.specs.declared.covered.InterestingCover.{InterestingCover}
 use Rattle.passes.specs.declared.covered.InterestingCover.the-variants.{Absent, Opaque, Incomplete}
+use Rattle.passes.specs.declared.covered.Covered.{Covered}
 use Rattle.passes.specs.declared.decide.Decision.{Decision}
 use Rattle.passes.specs.declared.decide.Decision.the-variants.{None, Solid, Paint}
 use Rattle.passes.specs.declared.decide.Decided.{Decided}
+use Rattle.passes.specs.declared.decide.Bottom.{Bottom}
+use Rattle.passes.specs.declared.decide.Bottom.the-variants.{Settled, Under}
 use Rattle.passes.specs.declared.unchanged.PreviousCount.{PreviousCount}
 use Rattle.passes.specs.Unchanged.{isKept, wereRemoved}
-use Rattle.passes.specs.Clips.{marksOf}
+use Rattle.passes.specs.Clips.{Marks, marksOf}
 use Rattle.passes.specs.Covered.{coveredOf}
 
 -- the layers that are shown: neither skipped nor masked off, ascending. i is the place of the first
@@ -75,3 +79,22 @@ pub record Deciding (o : Outcome) (old : List Bool) (r : Decided) (shown : List 
   pub decision : r .decision ≡ o .decision
   pub skipped : r .skipped .0 ≡ o .skipped
   pub column : shown ≡ over (o .shown) old
+
+-- ---- what the inner functions give
+
+abbrev pub bottomOf : InterestingCover → Bool → Color → Bottom
+bottomOf Incomplete unchanged clear = Settled Paint
+bottomOf (Opaque color) unchanged clear = cond unchanged (Settled None) (Under color 1)
+bottomOf Absent unchanged clear = Under clear 0
+
+abbrev pub mixedOf : Bottom → List Item → Decision
+mixedOf (Settled decision) shown = decision
+mixedOf (Under color below) shown = cond (areSolid below shown) (Solid color below) Paint
+
+-- from what the third pass found
+abbrev pub decidedBy : Covered → Color → List Item → List Bool → Decided
+decidedBy found clear items shown =
+    record {
+      decision = decisionBy (found .first) (found .unchanged) clear (shownOf (found .skipped .0) items shown);
+      skipped = found .skipped;
+    }

@@ -13,7 +13,7 @@ pub record Entry : Type 0 where
   pub segments : Bool
 
 -- the sixteen covers of entry i
-abbrev pub coverFrom : List ℤ → ℕ → List ℤ
+unfoldable pub coverFrom : List ℤ → ℕ → List ℤ
 coverFrom covers i = tabulate 16 (λ y. getD covers (16 * i + y) (pos 0))
 
 abbrev pub entryAt : List ℕ → List ℤ → List Bool → ℕ → Entry

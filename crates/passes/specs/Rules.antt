@@ -1,6 +1,6 @@
 -- When a clipped draw needs a clip, in the words of the scope: unless the latest listed clip below it, within whose span it lies, is full.
 -- proofs/Words has that the second pass goes by this rule.
-use mathlib.Core.Bool.{Bool, false, cond, not, _&&_}
+use mathlib.Core.Bool.{Bool, true, false, cond, not, _&&_}
 use mathlib.Core.List.{List, [], _∷_}
 use mathlib.Core.Option.{Option, some, none}
 use Prim.Native.Nat.{ℕ, _+_}

@@ -4,14 +4,13 @@ use crate::item;
 use crate::item::Item;
 use styling::Func;
 ghost use mathlib.Core.Path.{_≡_};
-ghost use mathlib.Core.List.{_++_};
-ghost use Prim.Native.Nat.{_≤_, _<_};
-ghost use lib.ListN.{length};
+ghost use Prim.Native.Nat.{_≤_};
+ghost use lib.ListN.{length, replicate};
 ghost use Rattle.laws.specs.Lists.{over};
 ghost use Rattle.styling.specs.Table.{Table, tableOf};
 ghost use Rattle.passes.specs.Entry.{entriesOf};
 ghost use Rattle.passes.specs.Item.{itemsOf, Columns};
-ghost use Rattle.passes.specs.Clips.{openedOf, clippedOf, drawnOf, closedOf, isClip, stepOf, maskOff, lastClip, marksOf};
+ghost use Rattle.passes.specs.Clips.{openedOf, clippedOf, drawnOf, closedOf, isClip, stepOf, maskOff, lastClip, Marking};
 
 // The clip that was met last. `last` is wider than an id, so that id + span always fits.
 pub struct ActiveClip {
@@ -144,4 +143,93 @@ pub fn is_clip(func: Func) -> bool
         Func::Clip(_) => true,
         Func::Draw(_) => false,
     }
+}
+
+// One turn, at the listed layer x in place i.
+fn clip_step(x: Item, cur: Current, i: usize) -> Step
+    ensures { λ r. ⌜ r ≡ stepOf x cur i ⌝ }
+{
+    let func = x.func;
+    let opened = open_clip(func, cur, x.id, x.full, i);
+    let drawn = draw(func.is_clipped(), opened, x.id);
+    let after = drawn.cur;
+    let closed = close_clip(after, x.id);
+    let next = closed.cur;
+    let at = closed.at;
+    let clip = is_clip(func);
+    Step {
+        cur: next,
+        masked: (clip & x.full) | (!clip & drawn.masked),
+        unclipped: drawn.unclipped,
+        unused: closed.unused,
+        at: at,
+    }
+}
+
+// Masks off the entry i, if there is one, where `off` says so.
+fn mask_off(shown: &mut [bool], i: usize, off: bool)
+    ensures { λ _. ⌜ now (shown .exit) ≡ maskOff (now (shown .entry)) i off ⌝ }
+{
+    if off {
+        if i < shown.len() {
+            shown[i] = false;
+        }
+    }
+}
+
+// A clip that is still current when the list ends, and was not used, is masked off.
+fn mask_last(shown: &mut [bool], cur: Current)
+    ensures { λ _. ⌜ now (shown .exit) ≡ lastClip cur (now (shown .entry)) ⌝ }
+{
+    match cur {
+        Current::Nothing => {}
+        Current::Active(k) => {
+            let at = k.at;
+            mask_off(shown, at.0, !k.used);
+        }
+    }
+}
+
+// The first n entries of a lent column set to one mark.
+pub fn fill(column: &mut [bool], n: usize, mark: bool)
+    requires { ⌜ n ≤ length (now column) ⌝ }
+    ensures { λ _. ⌜ now (column .exit) ≡ over (replicate n mark) (now (column .entry)) ⌝ }
+{
+    let mut i = 0;
+    while i < n {
+        column[i] = mark;
+        i += 1;
+    }
+}
+
+// The pass: which layers are not masked off, and which clipped draws are drawn unclipped.
+pub fn skip_trivial_clips_pass(
+    ids: &[u32],
+    covers: &[i8],
+    segments: &[bool],
+    n: usize,
+    layers: &[u32],
+    colors: &[f32],
+    count: usize,
+    shown: &mut [bool],
+    unclipped: &mut [bool],
+)
+    requires { ⌜ Columns n (now ids) (now covers) (now segments) × Table (now layers) (now colors) count × (n ≤ length (now shown)) × (n ≤ length (now unclipped)) ⌝ }
+    ensures { λ _. ⌜ Marking (itemsOf (tableOf (now (layers .entry)) (now (colors .entry)) count) (entriesOf n (now (ids .entry)) (now (covers .entry)) (now (segments .entry)))) (now (shown .entry)) (now (unclipped .entry)) (now (shown .exit)) (now (unclipped .exit)) ⌝ }
+{
+    fill(shown, n, true);
+    fill(unclipped, n, false);
+    let mut cur = Current::Nothing;
+    let mut i: usize = 0;
+    while i < n {
+        let x = item::item_at(ids, covers, segments, n, layers, colors, count, i);
+        let s = clip_step(x, cur, i);
+        mask_off(shown, i, s.masked);
+        let at = s.at;
+        mask_off(shown, at.0, s.unused);
+        unclipped[i] = s.unclipped;
+        cur = s.cur;
+        i += 1;
+    }
+    mask_last(shown, cur);
 }

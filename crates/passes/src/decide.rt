@@ -1,6 +1,22 @@
 // The decision about a tile, from its list.
 use crate::Index;
+use crate::clips;
+use crate::covered;
+use crate::covered::InterestingCover;
+use crate::item;
+use crate::unchanged;
+use crate::unchanged::PreviousCount;
 use styling::Color;
+use styling::Paint;
+ghost use mathlib.Core.Path.{_≡_};
+ghost use Prim.Native.Nat.{_≤_};
+ghost use lib.ListN.{length};
+ghost use Rattle.styling.specs.Style.{paintOf};
+ghost use Rattle.styling.specs.Table.{Table, tableOf};
+ghost use Rattle.passes.specs.Entry.{entriesOf};
+ghost use Rattle.passes.specs.Item.{itemsOf, Columns};
+ghost use Rattle.passes.specs.Covered.{coveredOf};
+ghost use Rattle.passes.specs.Decide.{hasColor, shownOf, areSolid, bottomOf, mixedOf, decidedBy, passedOf, outcomeOf, Deciding};
 
 // Nothing is drawn; the tile has one colour, mixed over the bottom colour from the shown layers after the first so many; or it is painted.
 pub enum Decision {
@@ -12,4 +28,251 @@ pub enum Decision {
 pub struct Decided {
     pub decision: Decision,
     pub skipped: Index,
+}
+
+// Settled with no look at the colours, or a bottom colour and how many shown layers are not mixed above it.
+pub enum Bottom {
+    Settled(Decision),
+    Under(Color, usize),
+}
+
+fn is_color(paint: Paint) -> bool
+    ensures { λ r. ⌜ r ≡ hasColor (paintOf paint) ⌝ }
+{
+    match paint {
+        Paint::Color(_) => true,
+        Paint::Absent => false,
+    }
+}
+
+// Whether the layers after the first `below` shown ones all have a colour of their own to mix.
+fn are_solid(
+    ids: &[u32],
+    covers: &[i8],
+    segments: &[bool],
+    n: usize,
+    layers: &[u32],
+    colors: &[f32],
+    count: usize,
+    shown: &[bool],
+    skipped: usize,
+    below: usize,
+) -> bool
+    requires { ⌜ Columns n (now ids) (now covers) (now segments) × Table (now layers) (now colors) count × (n ≤ length (now shown)) ⌝ }
+    ensures { λ r. ⌜ r ≡ areSolid below (shownOf skipped (itemsOf (tableOf (now (layers .entry)) (now (colors .entry)) count) (entriesOf n (now (ids .entry)) (now (covers .entry)) (now (segments .entry)))) (now (shown .entry))) ⌝ }
+{
+    let mut ok = true;
+    let mut left = below;
+    let mut i = skipped;
+    while i < n {
+        if shown[i] {
+            if left == 0 {
+                let x = item::item_at(ids, covers, segments, n, layers, colors, count, i);
+                let func = x.func;
+                ok = ok & is_color(func.solid_color());
+            } else {
+                left -= 1;
+            }
+        }
+        i += 1;
+    }
+    ok
+}
+
+// What lies below the layers to mix, by the first cover that tells.
+fn bottom_of(first: InterestingCover, is_unchanged: bool, clear: Color) -> Bottom
+    ensures { λ r. ⌜ r ≡ bottomOf first «is_unchanged» clear ⌝ }
+{
+    match first {
+        // The first opaque layer is not mixed.
+        InterestingCover::Opaque(color) => {
+            if is_unchanged {
+                Bottom::Settled(Decision::None)
+            } else {
+                Bottom::Under(color, 1)
+            }
+        }
+        InterestingCover::Absent => Bottom::Under(clear, 0),
+        InterestingCover::Incomplete => Bottom::Settled(Decision::Paint),
+    }
+}
+
+fn mix(
+    bottom: Bottom,
+    ids: &[u32],
+    covers: &[i8],
+    segments: &[bool],
+    n: usize,
+    layers: &[u32],
+    colors: &[f32],
+    count: usize,
+    shown: &[bool],
+    skipped: usize,
+) -> Decision
+    requires { ⌜ Columns n (now ids) (now covers) (now segments) × Table (now layers) (now colors) count × (n ≤ length (now shown)) ⌝ }
+    ensures { λ r. ⌜ r ≡ mixedOf bottom (shownOf skipped (itemsOf (tableOf (now (layers .entry)) (now (colors .entry)) count) (entriesOf n (now (ids .entry)) (now (covers .entry)) (now (segments .entry)))) (now (shown .entry))) ⌝ }
+{
+    match bottom {
+        Bottom::Settled(decision) => decision,
+        Bottom::Under(color, k) => {
+            if are_solid(
+                ids,
+                covers,
+                segments,
+                n,
+                layers,
+                colors,
+                count,
+                shown,
+                skipped,
+                k,
+            ) {
+                Decision::Solid(color, k)
+            } else {
+                Decision::Paint
+            }
+        }
+    }
+}
+
+// The third pass and the decision.
+fn decide_shown(
+    clear: Color,
+    removed: bool,
+    ids: &[u32],
+    covers: &[i8],
+    segments: &[bool],
+    n: usize,
+    layers: &[u32],
+    colors: &[f32],
+    count: usize,
+    shown: &[bool],
+    unclipped: &[bool],
+) -> Decided
+    requires { ⌜ Columns n (now ids) (now covers) (now segments) × Table (now layers) (now colors) count × (n ≤ length (now shown)) × (n ≤ length (now unclipped)) ⌝ }
+    ensures { λ r. ⌜ r ≡ decidedBy (coveredOf (itemsOf (tableOf (now (layers .entry)) (now (colors .entry)) count) (entriesOf n (now (ids .entry)) (now (covers .entry)) (now (segments .entry)))) (now (shown .entry)) (now (unclipped .entry)) removed) clear (itemsOf (tableOf (now (layers .entry)) (now (colors .entry)) count) (entriesOf n (now (ids .entry)) (now (covers .entry)) (now (segments .entry)))) (now (shown .entry)) ⌝ }
+{
+    let found = covered::skip_fully_covered_layers_pass(
+        ids,
+        covers,
+        segments,
+        n,
+        layers,
+        colors,
+        count,
+        shown,
+        unclipped,
+        removed,
+    );
+    let first = found.first;
+    let skipped = found.skipped;
+    let bottom = bottom_of(first, found.unchanged, clear);
+    let decision = mix(
+        bottom,
+        ids,
+        covers,
+        segments,
+        n,
+        layers,
+        colors,
+        count,
+        shown,
+        skipped.0,
+    );
+    Decided {
+        decision: decision,
+        skipped: skipped,
+    }
+}
+
+// The second and the third pass, and the decision.
+fn run_passes(
+    clear: Color,
+    removed: bool,
+    ids: &[u32],
+    covers: &[i8],
+    segments: &[bool],
+    n: usize,
+    layers: &[u32],
+    colors: &[f32],
+    count: usize,
+    shown: &mut [bool],
+) -> Decided
+    requires { ⌜ Columns n (now ids) (now covers) (now segments) × Table (now layers) (now colors) count × (n ≤ length (now shown)) ⌝ }
+    ensures { λ r. ⌜ Deciding (passedOf clear removed (itemsOf (tableOf (now (layers .entry)) (now (colors .entry)) count) (entriesOf n (now (ids .entry)) (now (covers .entry)) (now (segments .entry))))) (now (shown .entry)) r (now (shown .exit)) ⌝ }
+{
+    let mut unclipped = [false; 256];
+    clips::skip_trivial_clips_pass(
+        ids,
+        covers,
+        segments,
+        n,
+        layers,
+        colors,
+        count,
+        shown,
+        &mut unclipped,
+    );
+    decide_shown(
+        clear,
+        removed,
+        ids,
+        covers,
+        segments,
+        n,
+        layers,
+        colors,
+        count,
+        shown,
+        &unclipped,
+    )
+}
+
+// All three passes: the decision about a tile, with the column of the layers that are not masked off.
+pub fn decide(
+    clear: Color,
+    clear_unchanged: bool,
+    previous: PreviousCount,
+    ids: &[u32],
+    covers: &[i8],
+    segments: &[bool],
+    n: usize,
+    layers: &[u32],
+    colors: &[f32],
+    count: usize,
+    shown: &mut [bool],
+) -> Decided
+    requires { ⌜ Columns n (now ids) (now covers) (now segments) × Table (now layers) (now colors) count × (n ≤ length (now shown)) ⌝ }
+    ensures { λ r. ⌜ Deciding (outcomeOf clear «clear_unchanged» previous (itemsOf (tableOf (now (layers .entry)) (now (colors .entry)) count) (entriesOf n (now (ids .entry)) (now (covers .entry)) (now (segments .entry))))) (now (shown .entry)) r (now (shown .exit)) ⌝ }
+{
+    if unchanged::is_kept(
+        clear_unchanged,
+        previous,
+        ids,
+        covers,
+        segments,
+        n,
+        layers,
+        colors,
+        count,
+    ) {
+        clips::fill(shown, n, true);
+        return Decided {
+            decision: Decision::None,
+            skipped: Index(0),
+        };
+    }
+    let removed = unchanged::were_removed(previous, n);
+    run_passes(
+        clear,
+        removed,
+        ids,
+        covers,
+        segments,
+        n,
+        layers,
+        colors,
+        count,
+        shown,
+    )
 }

@@ -1,7 +1,7 @@
 -- A queue written to two columns reads back, and is in order. For every queue whose covers have 16 numbers. Assumes nothing.
 use mathlib.Core.Path.{_≡_, refl, sym, ap, ap₂, _∙_}
 use mathlib.Core.Bool.{Bool, true, _&&_}
-use mathlib.Core.List.{List, [], _∷_, _++_, append-assoc}
+use mathlib.Core.List.{List, [], _∷_, _++_, append-assoc, append-nil}
 use Prim.Native.Nat.{ℕ, zero, suc, _+_, _*_, _≤_, _<_}
 use native.Mathlib.Nat.{not-suc-le-zero, le-of-suc-le-suc, suc-mul}
 use native.Mathlib.Omega.{arith}
@@ -14,7 +14,9 @@ use Rattle.laws.specs.Lists.{tabulate, over, all}
 use Rattle.laws.proofs.Bools.{left, right, both}
 use Rattle.laws.proofs.Rows.{is-tabulate}
 use Rattle.styling.specs.Ascending.{strictlyAscends}
+use Rattle.cover.specs.Cover.{coverAt}
 use Rattle.cover.specs.Entry.{entryOf}
+use Rattle.cover.proofs.Entries.{entry-at}
 use Rattle.queue.specs.Queue.{Carry, carryAt, queueOf, idsIn, coversIn, isQueue}
 use Rattle.queue.proofs.Queues.{noCarry, length-ids, getD-ids}
 
@@ -50,6 +52,14 @@ entry (c ∷ q) more (suc i) h p =
     let past : suc i * 16 ≡ length (c .cover) + i * 16 = omega (arith, wide c q h) in
     rw (append-assoc (c .cover) (coversIn q) more, past, drop-append-add (c .cover) rest (i * 16))
     (entry q more i (right (isWide c) (areWide q) h) (le-of-suc-le-suc p))
+
+-- the covers, number by number
+pub covers-at : (q : List Carry) (i y : ℕ) → areWide q ≡ true → i < length q → y < 16 → coverAt (coversIn q) (i * 16 + y) ≡ coverAt (getD q i noCarry .cover) y
+unfolding entryOf
+covers-at q i y h p l =
+    sym (entry-at 16 i (coversIn q) y l)
+    ∙ ap (λ (c : List ℤ). coverAt (take 16 (drop (i * 16) c)) y) (sym (append-nil (coversIn q)))
+    ∙ ap (λ (c : List ℤ). coverAt c y) (entry q [] i h p)
 
 -- ---- a queue written over what two columns held
 

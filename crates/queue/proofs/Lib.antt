@@ -5,3 +5,12 @@ pub mod Queues
 pub mod Columns
 pub mod Inserting
 pub mod Openings
+pub mod Moving
+pub mod Collecting
+pub mod Placing
+pub mod Keys
+pub mod Tallying
+pub mod Lights
+pub mod Summing
+pub mod Copying
+pub mod Gathering

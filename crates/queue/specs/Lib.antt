@@ -3,3 +3,4 @@ pub mod Queue
 pub mod Rank
 pub mod Opening
 pub mod Insert
+pub mod Sums

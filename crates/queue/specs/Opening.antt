@@ -1,18 +1,20 @@
 -- The opening of a row (`paint_tile_row`): one carry for each layer that has segments left of the first tile, tile -1 included, whatever its sum:
 -- carries of zero are kept. The segments are added one after the other, as the Rust adds them to its map by layer id.
 use mathlib.Core.Path.{_≡_}
-use mathlib.Core.Bool.{Bool, cond, not, _&&_}
+use mathlib.Core.Bool.{Bool, cond}
 use mathlib.Core.List.{List, [], _∷_}
-use Prim.Native.Nat.{ℕ, _+_}
-use lib.Dec.{eqb, leb, ltb}
-use lib.IntN.{ℤ, pos, _+ℤ_}
-use lib.ListN.{length, getD, set}
+use Prim.Native.Nat.{ℕ, _*_, _≤_}
+use lib.Dec.{eqb, ltb}
+use lib.IntN.{ℤ, natAbs, _+ℤ_}
+use lib.ListN.{length, set, take}
 use Rattle.laws.specs.Answer.{Answer, refused, given}
 use Rattle.laws.specs.Lists.{all, over, filter}
-use Rattle.pixel_segment.specs.Field.{cpu, layerIdOf, localYOf, coverOf, tileXOf}
+use Rattle.pixel_segment.specs.Field.{cpu, layerIdOf, localYOf, coverOf}
 use Rattle.cover.specs.Carry.{isLight}
 use Rattle.cover.specs.Cover.{coverAt}
 use Rattle.queue.specs.Queue.{Carry, zeros, idsIn, coversIn}
+use Rattle.queue.specs.declared.opening.Opening.{Opening}
+use Rattle.queue.specs.declared.opening.Opening.the-variants.{Count, TooManyLayers, CoversTooLarge}
 
 -- a cover with that of the segment w added in its pixel row
 abbrev pub addWord : List ℤ → ℕ → List ℤ
@@ -48,6 +50,12 @@ openAnswer left =
     cond (ltb 256 (length (openQueue left))) (refused 7)
     (cond (isLightOpening left) (given (length (openQueue left))) (refused 9))
 
+-- the cases of the code's answer
+abbrev pub openingAnswer : Opening → Answer ℕ
+openingAnswer (Count n) = given n
+openingAnswer TooManyLayers = refused 7
+openingAnswer CoversTooLarge = refused 9
+
 -- the lent columns: the queue written over what they held, or as they were
 abbrev pub writtenIf {ℓ} : {A : Type ℓ} → Answer ℕ → List A → List A → List A
 writtenIf (refused n) new old = old
@@ -57,3 +65,24 @@ pub record Opens (left : List ℕ) (oldIds : List ℕ) (oldCovers : List ℤ) (r
   pub answer : r ≡ openAnswer left
   pub ids-are : ids ≡ writtenIf (openAnswer left) (idsIn (openQueue left)) oldIds
   pub covers-are : covers ≡ writtenIf (openAnswer left) (coversIn (openQueue left)) oldCovers
+
+-- ---- how the code goes about it: the queue in columns of its own first
+
+-- how many carries are written
+abbrev pub countOf : Answer ℕ → ℕ
+countOf (refused n) = 0
+countOf (given n) = n
+
+-- a column that is written, or nothing
+abbrev pub listIf {ℓ} : {A : Type ℓ} → Answer ℕ → List A → List A
+listIf (refused n) new = []
+listIf (given n) new = new
+
+pub record Clear (covers : List ℤ) : Type 0 where
+  pub at : (place : ℕ) → natAbs (coverAt covers place) ≡ 0
+
+pub record Gathered (left : List ℕ) (r : Answer ℕ) (ids : List ℕ) (covers : List ℤ) : Type 0 where
+  pub answer : r ≡ openAnswer left
+  pub few : countOf r ≤ 256
+  pub ids-are : take (countOf r) ids ≡ listIf r (idsIn (openQueue left))
+  pub covers-are : take (countOf r * 16) covers ≡ listIf r (coversIn (openQueue left))

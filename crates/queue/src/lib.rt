@@ -1,5 +1,8 @@
 // The queue of carries (`CoverCarry` and `queue` of the Rust), lent as two columns: layer ids, and 16 signed bytes of cover for each.
+mod collect;
+pub mod opening;
 pub mod search;
+mod sums;
 
 use cover::Cover;
 use cover::entry;

@@ -1,0 +1,12 @@
+-- `cover::Cover::default` meets its contract. Assumes nothing.
+use mathlib.Core.Path.{refl}
+use Rattle.cover.specs.Cover.{noCover}
+use Rattle.cover.proofs.Cover.default.Statement.{statement}
+use Rattle.cover.proofs.Cover.default.Tie as tie
+
+returns : tie.Need-returns
+unfolding noCover
+returns c = refl
+
+pub default-spec : {M : Type 1} → statement M
+default-spec = tie.close (tie.spec returns)

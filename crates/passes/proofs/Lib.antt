@@ -1,0 +1,11 @@
+-- Laws that the proofs of this crate and of those above it cite.
+pub mod Listing
+pub mod Columns
+pub mod Keeping
+pub mod Steps
+pub mod Turns
+pub mod Clipping
+pub mod Looks
+pub mod Covering
+pub mod Mixing
+pub mod Deciding

@@ -1,0 +1,27 @@
+-- A look of the third pass at one layer: each answer, from the test that leads to it. Assumes nothing.
+use mathlib.Core.Path.{_≡_, refl, sym, ap, _∙_}
+use mathlib.Core.Bool.{Bool, true, false, cond, not, _&&_, _||_}
+use Prim.Native.Nat.{ℕ}
+use Rattle.styling.specs.declared.Paint.{Paint}
+use Rattle.styling.specs.Style.{paintOf, isOpaque, solidColor}
+use Rattle.passes.specs.declared.Index.{Index}
+use Rattle.passes.specs.declared.item.Item.{Item}
+use Rattle.passes.specs.declared.covered.InterestingCover.{InterestingCover}
+use Rattle.passes.specs.declared.covered.InterestingCover.the-variants.{Absent, Incomplete}
+use Rattle.passes.specs.declared.covered.Covered.{Covered}
+use Rattle.passes.specs.Covered.{firstOf, opaqueOf, isPartial, hides, tells, lookAt}
+
+module _ (x : Item) (unclipped : Bool) where
+  pub tells-partial : {p : Bool} → p ≡ isPartial x unclipped → p ≡ true → Incomplete ≡ tells x unclipped
+  tells-partial e h = rw (← e, h)
+
+  pub tells-opaque : {p o : Bool} (paint : Paint) {r : InterestingCover} → p ≡ isPartial x unclipped → p ≡ false → o ≡ isOpaque (x .func) → o ≡ true → paintOf paint ≡ solidColor (x .func) → r ≡ opaqueOf (paintOf paint) → r ≡ tells x unclipped
+  tells-opaque paint e h f k s q = rw (← e, h, ← f, k, ← s) q
+
+  pub tells-nothing : {p o : Bool} → p ≡ isPartial x unclipped → p ≡ false → o ≡ isOpaque (x .func) → o ≡ false → Absent ≡ tells x unclipped
+  tells-nothing e h f k = rw (← e, h, ← f, k)
+
+  pub looked : (i : ℕ) (found : Covered) {t f : InterestingCover} {h : Bool} {s : Index}
+      → t ≡ tells x unclipped → f ≡ firstOf (found .first) t → h ≡ hides x unclipped → s ≡ cond h (record { 0 = i }) (found .skipped)
+      → record { first = f; unchanged = found .unchanged && x .unchanged; skipped = s } ≡ lookAt x unclipped i found
+  looked i found pt pf ph ps = rw (pf, pt, ps, ph)

@@ -1,0 +1,104 @@
+-- The colours to mix, as the loop over the shown layers goes: what it has found, with what is left, gives what the whole list gives.
+-- Assumes nothing.
+use mathlib.Core.Path.{_≡_, refl, sym, ap, ap₂, _∙_}
+use mathlib.Core.Bool.{Bool, true, false, cond, _&&_, and-assoc}
+use mathlib.Core.List.{List, [], _∷_}
+use Prim.Native.Nat.{ℕ, zero, suc, _+_, _-_, _≤_, _<_}
+use native.Mathlib.Nat.{add-zero, zero-add, add-suc, suc-add}
+use native.Mathlib.Numerals.{add-one}
+use native.Mathlib.Omega.{arith}
+use borrow.Author.Tests.{le-leb, lt-leb}
+use lib.Dec.{leb}
+use lib.ListN.{length, getD, drop, drop-of-length-le}
+use lib.Seq.{drop-cons, drop-nil}
+use Rattle.laws.specs.Lists.{all}
+use Rattle.styling.specs.Style.{solidColor}
+use Rattle.passes.specs.declared.item.Item.{Item}
+use Rattle.passes.specs.Covered.{itemAt}
+use Rattle.passes.specs.Decide.{shownFrom, shownOf, hasColor, areSolid}
+
+-- ---- the shown layers, from a place on
+
+-- no layer below the first that is not skipped is shown
+skips : (skipped k i : ℕ) (xs : List Item) (ss : List Bool) → i + k ≤ skipped → shownFrom i skipped xs ss ≡ shownFrom (i + k) skipped (drop k xs) (drop k ss)
+unfolding shownFrom
+skips skipped zero i xs ss h = ap (λ (j : ℕ). shownFrom j skipped xs ss) (sym (add-zero i))
+skips skipped (suc k) i [] ss h = refl
+skips skipped (suc k) i (x ∷ xs) [] h = none (drop k xs)
+  where
+    none : (ys : List Item) → [] ≡ shownFrom (i + suc k) skipped ys []
+    none [] = refl
+    none (y ∷ ys) = refl
+skips skipped (suc k) i (x ∷ xs) (s ∷ ss) h =
+    past s
+    ∙ skips skipped k (suc i) xs ss (omega (arith, add-suc i k, suc-add i k))
+    ∙ ap (λ (j : ℕ). shownFrom j skipped (drop k xs) (drop k ss)) (suc-add i k ∙ sym (add-suc i k))
+  where
+    past : (s : Bool) → shownFrom i skipped (x ∷ xs) (s ∷ ss) ≡ shownFrom (suc i) skipped xs ss
+    past true = rw (lt-leb skipped i (omega (arith, add-suc i k)))
+    past false = refl
+
+-- a shown layer, and one that is masked off
+abbrev rest : List Item → List Bool → ℕ → ℕ → List Item
+rest items shown skipped i = shownFrom i skipped (drop i items) (drop i shown)
+
+module _ (items : List Item) (shown : List Bool) (skipped i : ℕ) (p : i < length items) (q : i < length shown) where
+  rest-by : rest items shown skipped i ≡ cond (getD shown i false && leb skipped i) (itemAt items i ∷ rest items shown skipped (suc i)) (rest items shown skipped (suc i))
+  unfolding shownFrom
+  rest-by = ap₂ (shownFrom i skipped) (drop-cons items i _ p) (drop-cons shown i false q)
+
+  rest-shown : skipped ≤ i → getD shown i false ≡ true → rest items shown skipped i ≡ itemAt items i ∷ rest items shown skipped (suc i)
+  rest-shown h e = rest-by ∙ rw (e, le-leb skipped i h)
+
+  rest-masked : getD shown i false ≡ false → rest items shown skipped i ≡ rest items shown skipped (suc i)
+  rest-masked e = rest-by ∙ rw e
+
+-- ---- the loop
+
+and-true : (a : Bool) → (a && true) ≡ a
+and-true true = refl
+and-true false = refl
+
+pub record Mixing (items : List Item) (shown : List Bool) (skipped below : ℕ) (ok : Bool) (left i : ℕ) : Type 0 where
+  pub from : skipped ≤ i
+  pub same : (ok && areSolid left (rest items shown skipped i)) ≡ areSolid below (shownOf skipped items shown)
+
+module _ {items : List Item} {shown : List Bool} {skipped below : ℕ} where
+  pub mix-start : Mixing items shown skipped below true below skipped
+  mix-start =
+      record {
+        from = omega arith;
+        same = ap (areSolid below) (sym (skips skipped skipped 0 items shown (omega arith) ∙ ap (λ (j : ℕ). shownFrom j skipped (drop skipped items) (drop skipped shown)) (zero-add skipped)));
+      }
+
+  module _ {n : ℕ} {ok : Bool} {left i : ℕ} (v : Mixing items shown skipped below ok left i) (e : length items ≡ n) (l : n ≤ length shown) (p : i < n) where
+    next : {ok′ : Bool} {left′ : ℕ} → (ok′ && areSolid left′ (rest items shown skipped (suc i))) ≡ (ok && areSolid left (rest items shown skipped i)) → Mixing items shown skipped below ok′ left′ (i + 1)
+    next h = record { from = omega (arith, v .from); same = rw add-one (h ∙ v .same) }
+
+    pub mix-masked : getD shown i false ≡ false → Mixing items shown skipped below ok left (i + 1)
+    mix-masked h = next (ap (λ (xs : List Item). ok && areSolid left xs) (sym (rest-masked items shown skipped i (omega arith) (omega arith) h)))
+
+    module _ (h : getD shown i false ≡ true) where
+      here : rest items shown skipped i ≡ itemAt items i ∷ rest items shown skipped (suc i)
+      here = rest-shown items shown skipped i (omega arith) (omega arith) (v .from) h
+
+      pub mix-below : (left ≡ 0 → ⊥) → Mixing items shown skipped below ok (left - 1) (i + 1)
+      mix-below z =
+          let more : left ≡ suc (left - 1) = omega arith in
+          next
+          (sym
+          (ap (λ (xs : List Item). ok && areSolid left xs) here
+          ∙ ap (λ (k : ℕ). ok && areSolid k (itemAt items i ∷ rest items shown skipped (suc i))) more))
+
+      pub mix-look : {t : Bool} → left ≡ 0 → t ≡ hasColor (solidColor (itemAt items i .func)) → Mixing items shown skipped below (ok && t) left (i + 1)
+      mix-look {t} z q =
+          next (rw (q, z) (and-assoc ok (hasColor (solidColor (itemAt items i .func))) (areSolid 0 (rest items shown skipped (suc i)))
+          ∙ ap (λ (xs : List Item). ok && areSolid 0 xs) (sym here)))
+
+  pub mix-end : {n : ℕ} {ok : Bool} {left i : ℕ} → Mixing items shown skipped below ok left i → length items ≡ n → n ≤ i → ok ≡ areSolid below (shownOf skipped items shown)
+  unfolding shownFrom
+  mix-end {ok = ok} {left = left} {i = i} v e h =
+      sym (and-true ok)
+      ∙ ap (λ (xs : List Item). ok && all (λ x. hasColor (solidColor (x .func))) xs) (sym (drop-nil left))
+      ∙ ap (λ (xs : List Item). ok && areSolid left (shownFrom i skipped xs (drop i shown))) (sym (drop-of-length-le items {i = i} (omega arith)))
+      ∙ v .same

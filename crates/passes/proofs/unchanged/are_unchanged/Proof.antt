@@ -1,0 +1,59 @@
+-- `passes::unchanged::are_unchanged` meets its contract. Assumes nothing.
+use mathlib.Core.Path.{ap}
+use mathlib.Core.Bool.{Bool}
+use Prim.Native.Nat.{_-_}
+use native.Mathlib.Omega.{arith}
+use Rattle.styling.specs.Table.{tableOf}
+use Rattle.cover.proofs.Testing.{Testing, test-start, test-next, test-end}
+use Rattle.passes.specs.declared.item.Item.{Item}
+use Rattle.passes.specs.Entry.{entriesOf}
+use Rattle.passes.specs.Item.{itemsOf}
+use Rattle.passes.proofs.Listing.{length-items, item-read}
+use Rattle.passes.proofs.unchanged.are_unchanged.Statement.{statement}
+use Rattle.passes.proofs.unchanged.are_unchanged.Tie as tie
+use Rattle.passes.proofs.unchanged.are_unchanged.Reads as reads
+use Rattle.passes.proofs.unchanged.are_unchanged.Lts as lts
+use Rattle.passes.proofs.item.item_at.Reads as item-at-reads
+
+abbrev isUnchanged : Item → Bool
+isUnchanged x = x .unchanged
+
+abbrev Inv-loop : tie.InvT-loop
+Inv-loop ids covers segments n layers colors count ok₀ i₀ ok i = Testing isUnchanged (itemsOf (tableOf layers colors count) (entriesOf n ids covers segments)) n ok i
+
+abbrev μ-loop : tie.MeasureT-loop
+μ-loop ids covers segments n layers colors count ok₀ i₀ ok i = n - i
+
+-- src/unchanged.rt:32:5
+loop-holds : tie.Need-loop-holds Inv-loop μ-loop
+loop-holds c = test-start (length-items _ _ _ _ _)
+
+-- src/unchanged.rt:33:13
+item-at-requires : tie.Need-item-at-requires Inv-loop μ-loop
+item-at-requires c κs = let a = c .before .before .before .before .before .before in (a .pre .0, a .pre .1, c .loop-test .taken)
+
+-- src/unchanged.rt:35:9
+add-i : tie.Need-add-i Inv-loop μ-loop
+add-i c = omega arith
+
+-- src/unchanged.rt:32:5
+loop-less : tie.Need-loop-less Inv-loop μ-loop
+loop-less c = omega arith
+
+-- src/unchanged.rt:32:5
+loop-again : tie.Need-loop-again Inv-loop μ-loop
+loop-again c =
+    let read = c .before in
+    let turn = read .before in
+    let a = turn .before .before .before .before .before .before .args in
+    test-next _ (turn .before .loop .inv) (turn .loop-test .taken)
+    (ap isUnchanged (item-read (tableOf (a .layers .now) (a .colors .now) (a .count)) (a .n) (a .ids .now) (a .covers .now) (a .segments .now) (turn .before .loop .i) (turn .loop-test .taken) (read .item-at .ensures)))
+
+-- src/unchanged.rt:18:1
+returns : tie.Need-returns Inv-loop μ-loop
+returns c = test-end (c .before .loop .inv) (c .loop-test .left)
+
+pub are-unchanged-spec : {M : Type 1} → statement M
+are-unchanged-spec =
+    tie.close
+    (tie.spec Inv-loop μ-loop loop-holds item-at-requires add-i loop-less loop-again returns)
