@@ -1,0 +1,3 @@
+-- Laws of a tile's work.
+pub mod Entries
+pub mod Decided

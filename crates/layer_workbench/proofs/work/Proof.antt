@@ -1,0 +1,69 @@
+-- `work` meets its contract. Assumes nothing.
+use native.Mathlib.Omega.{arith}
+use Rattle.styling.specs.Table.{tableOf}
+use Rattle.queue.specs.Queue.{queueOf}
+use Rattle.tile_layers.specs.Groups.{groupsOf}
+use Rattle.tile_layers.specs.Listing.{layersIn}
+use Rattle.tile_layers.proofs.Wide.{queue-wide, list-wide}
+use Rattle.layer_workbench.proofs.Decided.{worked}
+use borrow.Author.Needs.{needs}
+use Rattle.layer_workbench.proofs.work.Statement.{statement}
+use Rattle.layer_workbench.proofs.work.Tie as tie
+use Rattle.layer_workbench.proofs.work.Reads as reads
+use Rattle.layer_workbench.proofs.work.Lts as lts
+use Rattle.layer_workbench.proofs.decide_tile.Reads as decide-tile-reads
+use Rattle.tile_layers.proofs.carrying.hand_on.Reads as hand-on-reads
+use Rattle.tile_layers.proofs.listing.list_layers.Reads as list-layers-reads
+
+list-layers-requires : tie.Need-list-layers-requires
+list-layers-requires c κs = search needs
+
+decide-tile-requires : tie.Need-decide-tile-requires
+decide-tile-requires c κs = search needs
+
+hand-on-requires : tie.Need-hand-on-requires
+hand-on-requires c κs =
+    let s = c .before .before .before .before .before .before .before .before .before .before .before .before .before .before .before .before .before .before .before .before .before .before .before .before .before .before in
+    (s .pre .0, s .pre .1, s .pre .2, s .pre .4, record { ids-long = omega (arith, s .pre .3, s .pre .5, s .pre .6); covers-long = omega (arith, s .pre .3, s .pre .5, s .pre .6) })
+
+same-length : tie.Need-same-length
+same-length c = search needs
+
+same-length-2 : tie.Need-same-length-2
+same-length-2 c = search needs
+
+same-length-3 : tie.Need-same-length-3
+same-length-3 c = search needs
+
+same-length-4 : tie.Need-same-length-4
+same-length-4 c = search needs
+
+same-length-5 : tie.Need-same-length-5
+same-length-5 c = search needs
+
+same-length-6 : tie.Need-same-length-6
+same-length-6 c = search needs
+
+returns : tie.Need-returns
+returns c =
+    let s = c .before .before .before .before .before .before .before .before .before .before .before .before .before .before .before .before .before .before .before .before .before .before .before .before .before .before .before .before .before .before .before .before in
+    let a = s .args in
+    let ls = layersIn (queueOf (a .n) (a .ids .now) (a .covers .now)) (a .part .now) in
+    worked (tableOf (a .layers .now) (a .colors .now) (a .count)) ls (a .kept) (a .clear) (a .previous) (a .list-ids .now) (a .list-covers .now) (a .list-segments .now) (a .list-shown .now) (a .next-ids .now) (a .next-covers .now)
+    (list-wide (queueOf (a .n) (a .ids .now) (a .covers .now)) (groupsOf (a .part .now)) (queue-wide (a .n) (a .ids .now) (a .covers .now) (s .pre .1)))
+    (s .pre .5) (c .before .before .before .before .before .before .before .before .before .before .before .before .before .before .before .before .before .before .before .before .list-layers .ensures) (c .before .before .before .before .before .before .before .before .before .before .decide-tile .ensures) (c .before .before .before .before .before .hand-on .ensures)
+
+pub work-spec : {M : Type 1} → statement M
+work-spec =
+    tie.close
+    (tie.spec
+    list-layers-requires
+    decide-tile-requires
+    hand-on-requires
+    same-length
+    same-length-2
+    same-length-3
+    same-length-4
+    same-length-5
+    same-length-6
+    returns)

@@ -1,0 +1,2 @@
+-- The work on one tile: what its contract says.
+pub mod Work

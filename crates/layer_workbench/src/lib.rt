@@ -1,0 +1,178 @@
+// The work on one tile (`drive_tile_painting` of painter/layer_workbench/mod.rs, without painting): list, decide, keep, hand on.
+use cached_tile::LayerCount;
+use cached_tile::kept::Kept;
+use passes::Index;
+use passes::decide;
+use passes::decide::Decision;
+use passes::unchanged::PreviousCount;
+use styling::Color;
+use tile_layers::carrying;
+use tile_layers::listing;
+ghost use mathlib.Core.Path.{_≡_};
+ghost use mathlib.Core.Bool.{true};
+ghost use Prim.Native.Nat.{_*_, _≤_};
+ghost use lib.ListN.{length};
+ghost use Rattle.styling.specs.Table.{Table, tableOf};
+ghost use Rattle.queue.specs.Queue.{queueOf};
+ghost use Rattle.tile_layers.specs.Listing.{layersIn, areLight};
+ghost use Rattle.tile_layers.specs.Carrying.{handedOn};
+ghost use Rattle.tile_layers.specs.Walk.{Walks};
+ghost use Rattle.cached_tile.specs.Tile.{countOf};
+ghost use Rattle.passes.specs.Entry.{entriesOf};
+ghost use Rattle.passes.specs.Item.{Columns};
+ghost use Rattle.layer_workbench.specs.Work.{clearUnchanged, countFrom, keptBy, outcomeOn, outcomeIn, Decides, Works, ListWritten, QueueWritten, Rooms};
+
+// The clear colour of the frame before, where one is given.
+pub struct PreviousClear {
+    pub given: bool,
+    pub color: Color,
+}
+
+// What a tile's work gives: the decision, how many layers are listed and how many of them skipped, the cached tile, and how many carries are
+// handed on.
+pub struct Worked {
+    pub decision: Decision,
+    pub listed: usize,
+    pub skipped: Index,
+    pub kept: Kept,
+    pub left: usize,
+}
+
+// What deciding gives: the decision, how many layers are skipped, and the cached tile.
+pub struct DecidedTile {
+    pub decision: Decision,
+    pub skipped: Index,
+    pub kept: Kept,
+}
+
+pub fn is_clear_unchanged(previous: PreviousClear, clear: Color) -> bool
+    ensures { λ r. ⌜ r ≡ clearUnchanged previous clear ⌝ }
+{
+    let color = previous.color;
+    previous.given & color.eq(clear)
+}
+
+fn previous_count(count: LayerCount) -> PreviousCount
+    ensures { λ r. ⌜ r ≡ countFrom (countOf count) ⌝ }
+{
+    match count {
+        LayerCount::Count(n) => PreviousCount::Kept(n),
+        LayerCount::Absent => PreviousCount::Absent,
+    }
+}
+
+// A painted tile keeps no solid colour.
+fn kept_by(decision: Decision, kept: Kept) -> Kept
+    ensures { λ r. ⌜ r ≡ keptBy decision kept ⌝ }
+{
+    match decision {
+        Decision::None => kept,
+        Decision::Solid(_, _) => kept,
+        Decision::Paint => kept.clear_solid_color(),
+    }
+}
+
+// The decision about a tile from its list of n entries, by what the list says, and the cached tile afterwards.
+pub fn decide_tile(
+    ids: &[u32],
+    covers: &[i8],
+    segments: &[bool],
+    n: usize,
+    layers: &[u32],
+    colors: &[f32],
+    count: usize,
+    kept: Kept,
+    clear: Color,
+    previous: PreviousClear,
+    shown: &mut [bool],
+) -> DecidedTile
+    requires { ⌜ Columns n (now ids) (now covers) (now segments) × Table (now layers) (now colors) count × (n ≤ length (now shown)) ⌝ }
+    ensures { λ r. ⌜ Decides (outcomeOn (tableOf (now (layers .entry)) (now (colors .entry)) count) kept clear previous (entriesOf n (now (ids .entry)) (now (covers .entry)) (now (segments .entry)))) kept n (now (shown .entry)) r (now (shown .exit)) ⌝ }
+{
+    let counted = kept.update_layer_count(n as u32);
+    let before = counted.previous;
+    let updated = counted.kept;
+    let decided = decide::decide(
+        clear,
+        is_clear_unchanged(previous, clear),
+        previous_count(before),
+        ids,
+        covers,
+        segments,
+        n,
+        layers,
+        colors,
+        count,
+        shown,
+    );
+    let decision = decided.decision;
+    let skipped = decided.skipped;
+    let after = kept_by(decision, updated);
+    DecidedTile {
+        decision: decision,
+        skipped: skipped,
+        kept: after,
+    }
+}
+
+// The work on a tile that no refusal turns down, `listed` being the number of its layers.
+pub fn work(
+    ids: &[u32],
+    covers: &[i8],
+    n: usize,
+    part: &[u64],
+    listed: usize,
+    layers: &[u32],
+    colors: &[f32],
+    count: usize,
+    kept: Kept,
+    clear: Color,
+    previous: PreviousClear,
+    next_ids: &mut [u32],
+    next_covers: &mut [i8],
+    list_ids: &mut [u32],
+    list_covers: &mut [i8],
+    list_segments: &mut [bool],
+    list_shown: &mut [bool],
+) -> Worked
+    requires { ⌜ Walks n (now ids) (now part) × (16 * n ≤ length (now covers)) × Table (now layers) (now colors) count × Rooms (now «list_ids») (now «list_covers») (now «list_segments») (now «list_shown») (now «next_ids») (now «next_covers») × (areLight (layersIn (queueOf n (now ids) (now covers)) (now part)) ≡ true) × (listed ≡ length (layersIn (queueOf n (now ids) (now covers)) (now part))) × (listed ≤ 256) ⌝ }
+    ensures answer { λ r. ⌜ Works (tableOf (now (layers .entry)) (now (colors .entry)) count) kept clear previous (layersIn (queueOf n (now (ids .entry)) (now (covers .entry))) (now (part .entry))) r ⌝ }
+    ensures list { λ r. ⌜ ListWritten (layersIn (queueOf n (now (ids .entry)) (now (covers .entry))) (now (part .entry))) (outcomeIn (tableOf (now (layers .entry)) (now (colors .entry)) count) kept clear previous (layersIn (queueOf n (now (ids .entry)) (now (covers .entry))) (now (part .entry)))) (now («list_ids» .entry)) (now («list_covers» .entry)) (now («list_segments» .entry)) (now («list_shown» .entry)) (now («list_ids» .exit)) (now («list_covers» .exit)) (now («list_segments» .exit)) (now («list_shown» .exit)) ⌝ }
+    ensures queue { λ r. ⌜ QueueWritten (handedOn (tableOf (now (layers .entry)) (now (colors .entry)) count) (layersIn (queueOf n (now (ids .entry)) (now (covers .entry))) (now (part .entry)))) (now («next_ids» .entry)) (now («next_covers» .entry)) (now («next_ids» .exit)) (now («next_covers» .exit)) ⌝ }
+{
+    listing::list_layers(ids, covers, n, part, list_ids, list_covers, list_segments);
+    let decided = decide_tile(
+        list_ids,
+        list_covers,
+        list_segments,
+        listed,
+        layers,
+        colors,
+        count,
+        kept,
+        clear,
+        previous,
+        list_shown,
+    );
+    let left = carrying::hand_on(
+        ids,
+        covers,
+        n,
+        part,
+        layers,
+        colors,
+        count,
+        next_ids,
+        next_covers,
+    );
+    let decision = decided.decision;
+    let skipped = decided.skipped;
+    let after = decided.kept;
+    Worked {
+        decision: decision,
+        listed: listed,
+        skipped: skipped,
+        kept: after,
+        left: left,
+    }
+}
