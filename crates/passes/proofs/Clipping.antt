@@ -1,8 +1,8 @@
 -- The second pass as it runs over two lent columns: what is left of it, from place i on, gives what the whole pass gives. Assumes nothing.
 use mathlib.Core.Path.{_≡_, refl, sym, ap, ap₂, _∙_}
-use mathlib.Core.Bool.{Bool, true, false, cond, not}
-use mathlib.Core.List.{List, [], _∷_, _++_}
-use Prim.Native.Nat.{ℕ, zero, suc, _+_, _≤_, _<_}
+use mathlib.Core.Bool.{Bool, true, false, not}
+use mathlib.Core.List.{List, [], _∷_}
+use Prim.Native.Nat.{ℕ, suc, _+_, _≤_, _<_}
 use native.Mathlib.Nat.{add-suc, suc-add}
 use native.Mathlib.Numerals.{add-one}
 use native.Mathlib.Omega.{arith}
@@ -42,18 +42,18 @@ module _ {items : List Item} {n : ℕ} {shown₀ unclipped₀ : List Bool} where
   pub pass-start : Passing items n shown₀ unclipped₀ shown₀ unclipped₀ Nothing 0
   pass-start = record { reached = omega arith; shown-same = refl; unclipped-same = refl; rest = refl }
 
-  pub pass-next : {shown unclipped shown₁ shown₂ : List Bool} {cur : Current} {i : ℕ} {x y : Item} {s : Step}
+  pub pass-next : {shown unclipped shown₁ unclipped₁ : List Bool} {cur : Current} {i : ℕ} {x y : Item} {s : Step}
       → Passing items n shown₀ unclipped₀ shown unclipped cur i → i < n → drop i items ≡ y ∷ drop (suc i) items → x ≡ y
-      → s ≡ stepOf x cur i → shown₁ ≡ maskOff shown i (s .masked) → shown₂ ≡ maskOff shown₁ (s .at .0) (s .unused)
-      → Passing items n shown₀ unclipped₀ shown₂ (set unclipped i (s .unclipped)) (s .cur) (i + 1)
+      → s ≡ stepOf x cur i → (shown₁ ≡ shownAfter shown i s) × (unclipped₁ ≡ set unclipped i (s .unclipped))
+      → Passing items n shown₀ unclipped₀ shown₁ unclipped₁ (s .cur) (i + 1)
   unfolding clipsFrom
-  pass-next {shown} {unclipped} {shown₁} {shown₂} {cur} {i} {x} {y} {s} v h d e p p₁ p₂ =
-      let ps : s ≡ stepOf y cur i = p ∙ ap (λ (z : Item). stepOf z cur i) e in
-      let after : shown₂ ≡ shownAfter shown i s = p₂ ∙ ap (λ (m : List Bool). maskOff m (s .at .0) (s .unused)) p₁ in record {
+  pass-next {shown} {unclipped} {cur = cur} {i = i} {y = y} {s = s} v h d e p m =
+      let step : s ≡ stepOf y cur i = p ∙ ap (λ (z : Item). stepOf z cur i) e in record {
         reached = omega arith;
-        shown-same = ap length after ∙ length-after shown i s ∙ v .shown-same;
-        unclipped-same = length-set unclipped i (s .unclipped) ∙ v .unclipped-same;
-        rest = rw (after, add-one, ps) (ap (λ (xs : List Item). clipsFrom xs i cur shown unclipped) (sym d) ∙ v .rest);
+        shown-same = ap length (m .0) ∙ length-after shown i s ∙ v .shown-same;
+        unclipped-same = ap length (m .1) ∙ length-set unclipped i (s .unclipped) ∙ v .unclipped-same;
+        rest =
+            rw (m .0, m .1, add-one, step) (ap (λ (xs : List Item). clipsFrom xs i cur shown unclipped) (sym d) ∙ v .rest);
       }
 
   pub pass-end : {shown unclipped shown′ : List Bool} {cur : Current} {i : ℕ} → Passing items n shown₀ unclipped₀ shown unclipped cur i → length items ≡ n → n ≤ i
@@ -71,12 +71,16 @@ abbrev pub Below : Current → ℕ → Type 0
 Below Nothing b = 0 ≤ b
 Below (Active k) b = k .at .0 < b
 
+pub below-up : (cur : Current) (b : ℕ) → Below cur b → Below cur (suc b)
+below-up Nothing b h = omega arith
+below-up (Active k) b h = omega arith
+
 -- after a turn, and the place that the turn may mask off
 pub record Behind (s : Step) (b : ℕ) : Type 0 where
   pub current : Below (s .cur) b
   pub masks : s .at .0 < b
 
-at-kept : (clipped : Bool) (k : ActiveClip) → kept clipped k .at ≡ k .at
+pub at-kept : (clipped : Bool) (k : ActiveClip) → kept clipped k .at ≡ k .at
 at-kept true k = refl
 at-kept false k = refl
 

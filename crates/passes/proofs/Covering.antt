@@ -1,6 +1,7 @@
 -- The third pass as it runs: what is left of it, over the i lowest layers, gives what the whole pass gives. Assumes nothing.
 use mathlib.Core.Path.{_≡_, refl, sym, ap, _∙_}
-use mathlib.Core.Bool.{Bool, true, false, cond, not}
+use mathlib.Core.Bool.{Bool, true, false, not}
+use mathlib.Core.Logic.{_⊎_, inl, inr, ⊎-map}
 use mathlib.Core.List.{List}
 use Prim.Native.Nat.{ℕ, zero, suc, _-_, _≤_, _<_}
 use native.Mathlib.Omega.{arith}
@@ -70,3 +71,46 @@ module _ {items : List Item} {shown unclipped : List Bool} {n : ℕ} {removed : 
   unfolding coveredFrom
   look-end {i} {found} v h =
       let e : 0 ≡ i = omega arith in ap (λ (k : ℕ). coveredFrom items shown unclipped k found) e ∙ v .rest
+
+-- ---- how many are skipped: all below a shown layer that hides them, or as many as before
+
+pub record Hiding (items : List Item) (shown unclipped : List Bool) (n p : ℕ) : Type 0 where
+  pub listed : p < n
+  pub is-shown : getD shown p false ≡ true
+  pub hides-all : hides (itemAt items p) (getD unclipped p false) ≡ true
+
+module _ (items : List Item) (shown unclipped : List Bool) where
+  -- what the rest of the pass makes of a place that was reached before
+  abbrev pub Skipped : ℕ → ℕ → ℕ → Type 0
+  Skipped n p before = (p ≡ before) ⊎ Hiding items shown unclipped n p
+
+  skipped-up : (n p before : ℕ) → Skipped n p before → Skipped (suc n) p before
+  skipped-up n p before = ⊎-map (λ e. e) (λ h. record { listed = omega (arith, h .listed); is-shown = h .is-shown; hides-all = h .hides-all })
+
+  skipped-at : (n before : ℕ) {a b : Covered} → a ≡ b → Skipped n (b .skipped .0) before → Skipped n (a .skipped .0) before
+  skipped-at n before e s = rw e s
+
+  skipped-look : (x : Item) (free : Bool) (i : ℕ) (found : Covered) → hides x free ≡ false → lookAt x free i found .skipped .0 ≡ found .skipped .0
+  skipped-look x free i found h = rw h
+
+  skipped-hid : (x : Item) (free : Bool) (i : ℕ) (found : Covered) → hides x free ≡ true → lookAt x free i found .skipped .0 ≡ i
+  skipped-hid x free i found h = rw h
+
+  pub skipped-by : (n : ℕ) (found : Covered) → Skipped n (coveredFrom items shown unclipped n found .skipped .0) (found .skipped .0)
+  unfolding coveredFrom
+  skipped-by zero found = inl refl
+  skipped-by (suc i) found =
+      let seen = lookAt (itemAt items i) (getD unclipped i false) i found in
+      by (skipped-by i found) (skipped-by i seen) (getD shown i false) refl (hides (itemAt items i) (getD unclipped i false)) refl
+    where
+      by : Skipped i (coveredFrom items shown unclipped i found .skipped .0) (found .skipped .0)
+          → Skipped i (coveredFrom items shown unclipped i (lookAt (itemAt items i) (getD unclipped i false) i found) .skipped .0) (lookAt (itemAt items i) (getD unclipped i false) i found .skipped .0)
+          → (a : Bool) → getD shown i false ≡ a → (b : Bool) → hides (itemAt items i) (getD unclipped i false) ≡ b
+          → Skipped (suc i) (coveredFrom items shown unclipped (suc i) found .skipped .0) (found .skipped .0)
+      by past on false e b h = skipped-at (suc i) (found .skipped .0) (look-past items shown unclipped i found e) (skipped-up i _ _ past)
+      by past on true e false h =
+          skipped-at (suc i) (found .skipped .0) (look-on items shown unclipped i found e h)
+          (skipped-up i _ _ (rw (skipped-look (itemAt items i) (getD unclipped i false) i found h) at on))
+      by past on true e true h =
+          skipped-at (suc i) (found .skipped .0) (look-last items shown unclipped i found e h)
+          (inr (rw (skipped-hid (itemAt items i) (getD unclipped i false) i found h) (record { listed = omega arith; is-shown = e; hides-all = h })))

@@ -21,9 +21,9 @@ use Rattle.passes.specs.declared.decide.Bottom.{Bottom}
 use Rattle.passes.specs.declared.decide.Bottom.the-variants.{Settled, Under}
 use Rattle.passes.specs.declared.unchanged.PreviousCount.{PreviousCount}
 use Rattle.passes.specs.Unchanged.{isKept, wereRemoved}
-use Rattle.passes.specs.Clips.{stepOf, shownAfter, lastClip, clipsFrom, marksOf, Marking}
+use Rattle.passes.specs.Clips.{stepOf, shownAfter, clipsFrom, marksOf, Marking}
 use Rattle.passes.specs.Covered.{hides, lookAt, itemAt, coveredFrom, coveredOf}
-use Rattle.passes.specs.Decide.{shownFrom, shownOf, areSolid, decisionBy, bottomOf, mixedOf, decidedBy, passedOf, outcomeOf, Outcome, Deciding}
+use Rattle.passes.specs.Decide.{shownFrom, shownOf, areSolid, decisionBy, bottomOf, mixedOf, decidedBy, passedOf, outcomeOf, Deciding}
 use Rattle.passes.proofs.Clipping.{length-after, length-last}
 
 -- ---- by the first cover that tells

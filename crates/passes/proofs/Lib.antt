@@ -5,7 +5,12 @@ pub mod Keeping
 pub mod Steps
 pub mod Turns
 pub mod Clipping
+pub mod Marks
+pub mod Under
+pub mod Judged
 pub mod Looks
 pub mod Covering
 pub mod Mixing
 pub mod Deciding
+pub mod Outcomes
+pub mod Words

@@ -1,6 +1,6 @@
 -- A look of the third pass at one layer: each answer, from the test that leads to it. Assumes nothing.
-use mathlib.Core.Path.{_≡_, refl, sym, ap, _∙_}
-use mathlib.Core.Bool.{Bool, true, false, cond, not, _&&_, _||_}
+use mathlib.Core.Path.{_≡_}
+use mathlib.Core.Bool.{Bool, true, false, cond, _&&_}
 use Prim.Native.Nat.{ℕ}
 use Rattle.styling.specs.declared.Paint.{Paint}
 use Rattle.styling.specs.Style.{paintOf, isOpaque, solidColor}

@@ -7,7 +7,7 @@ use borrow.Author.Tests.{lt-ltb, le-ltb}
 use lib.ListN.{length, set}
 use lib.Seq.{set-out}
 use Rattle.styling.specs.declared.Func.{Func}
-use Rattle.styling.specs.declared.Func.the-variants.{Draw, Clip}
+use Rattle.styling.specs.declared.Func.the-variants.{Clip}
 use Rattle.styling.specs.Style.{isClipped}
 use Rattle.passes.specs.declared.item.Item.{Item}
 use Rattle.passes.specs.declared.clips.ActiveClip.{ActiveClip}
@@ -15,7 +15,8 @@ use Rattle.passes.specs.declared.clips.Current.{Current}
 use Rattle.passes.specs.declared.clips.Current.the-variants.{Nothing, Active}
 use Rattle.passes.specs.declared.clips.Drawn.{Drawn}
 use Rattle.passes.specs.declared.clips.Closed.{Closed}
-use Rattle.passes.specs.Clips.{place, openedOf, usedOf, clippedOf, drawnOf, closedOf, isClip, stepOf, maskOff, lastClip}
+use Rattle.passes.specs.declared.clips.Step.{Step}
+use Rattle.passes.specs.Clips.{place, openedOf, usedOf, clippedOf, drawnOf, closedOf, isClip, stepOf, maskOff, shownAfter, lastClip}
 
 pub opens : {f : Func} {span : ℕ} (cur : Current) (id : ℕ) (full : Bool) (i : ℕ) → f ≡ Clip span → Active (record { full = full; last = id + span; at = place i; used = false }) ≡ openedOf f cur id full i
 opens cur id full i e = rw e
@@ -65,8 +66,9 @@ off-within shown i e = rw e
 pub off-past : {off : Bool} (shown : List Bool) (i : ℕ) → off ≡ true → length shown ≤ i → shown ≡ maskOff shown i off
 off-past shown i e h = rw e (sym (set-out shown i false h))
 
-pub off-none : {off : Bool} (shown : List Bool) (i : ℕ) → off ≡ false → shown ≡ maskOff shown i off
-off-none shown i e = rw e
+-- what a turn masks off: the layer, then a clip
+pub off-after : {shown₁ shown₂ : List Bool} (shown : List Bool) (i : ℕ) (s : Step) → shown₁ ≡ maskOff shown i (s .masked) → shown₂ ≡ maskOff shown₁ (s .at .0) (s .unused) → shown₂ ≡ shownAfter shown i s
+off-after shown i s p q = q ∙ ap (λ (m : List Bool). maskOff m (s .at .0) (s .unused)) p
 
 pub last-active : {cur : Current} {k : ActiveClip} {new : List Bool} (old : List Bool) → cur ≡ Active k → new ≡ maskOff old (k .at .0) (not (k .used)) → new ≡ lastClip cur old
 last-active old e p = rw e p

@@ -1,12 +1,11 @@
 -- One turn of the second pass, by its four cases: a clip, and a draw with no clip, past the end of the current one, or within it.
 -- Assumes nothing.
-use mathlib.Core.Path.{_≡_, refl, sym, ap, ap₂, _∙_}
+use mathlib.Core.Path.{_≡_, refl, ap, _∙_}
 use mathlib.Core.Bool.{Bool, true, false, cond, not, _&&_}
 use mathlib.Core.Logic.{⊎-elim}
 use Prim.Native.Nat.{ℕ, _+_, _≤_, _<_}
 use native.Mathlib.Omega.{arith}
 use borrow.Author.Tests.{lt-ltb, le-ltb}
-use lib.Dec.{ltb}
 use Rattle.laws.proofs.Orders.{le-or-lt}
 use Rattle.styling.specs.declared.Func.{Func}
 use Rattle.styling.specs.declared.Func.the-variants.{Draw, Clip}
@@ -16,9 +15,8 @@ use Rattle.passes.specs.declared.item.Item.{Item}
 use Rattle.passes.specs.declared.clips.ActiveClip.{ActiveClip}
 use Rattle.passes.specs.declared.clips.Current.{Current}
 use Rattle.passes.specs.declared.clips.Current.the-variants.{Nothing, Active}
-use Rattle.passes.specs.declared.clips.Drawn.{Drawn}
 use Rattle.passes.specs.declared.clips.Step.{Step}
-use Rattle.passes.specs.Clips.{place, usedOf, clippedOf, drawnOf, closedOf, isClip, stepOf}
+use Rattle.passes.specs.Clips.{place, usedOf, drawnOf, closedOf, isClip, stepOf}
 
 -- the clip that a clip layer opens
 abbrev pub opened : Item → ℕ → ℕ → ActiveClip

@@ -1,14 +1,13 @@
 -- The third pass (`skip_fully_covered_layers_pass`), as the Rust goes: from the highest shown layer down to the first one that hides all below
 -- it. It finds the first cover that tells whether the tile can be solid, whether the layers looked at are unchanged, and how many are skipped.
-use mathlib.Core.Bool.{Bool, true, false, cond, not, _&&_, _||_}
-use mathlib.Core.List.{List, [], _∷_}
+use mathlib.Core.Bool.{Bool, false, cond, not, _&&_, _||_}
+use mathlib.Core.List.{List}
 use mathlib.Core.Option.{Option, some, none}
 use Prim.Native.Nat.{ℕ, zero, suc}
 use lib.ListN.{length, getD}
 use Rattle.styling.specs.declared.Color.{Color}
 use Rattle.styling.specs.declared.Func.the-variants.{Clip}
 use Rattle.styling.specs.Style.{isClipped, isOpaque, solidColor}
-use Rattle.passes.specs.declared.Index.{Index}
 use Rattle.passes.specs.declared.item.Item.{Item}
 use Rattle.passes.specs.declared.covered.InterestingCover.{InterestingCover}
 use Rattle.passes.specs.declared.covered.InterestingCover.the-variants.{Absent, Opaque, Incomplete}

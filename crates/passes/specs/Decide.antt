@@ -5,13 +5,12 @@ use mathlib.Core.Path.{_≡_}
 use mathlib.Core.Bool.{Bool, true, false, cond, _&&_}
 use mathlib.Core.List.{List, [], _∷_}
 use mathlib.Core.Option.{Option, some, none}
-use Prim.Native.Nat.{ℕ, zero, suc, _+_}
+use Prim.Native.Nat.{ℕ, suc}
 use lib.Dec.{leb}
 use lib.ListN.{length, drop, replicate}
 use Rattle.laws.specs.Lists.{all, over}
 use Rattle.styling.specs.declared.Color.{Color}
 use Rattle.styling.specs.Style.{solidColor}
-use Rattle.passes.specs.declared.Index.{Index}
 use Rattle.passes.specs.declared.item.Item.{Item}
 use Rattle.passes.specs.declared.covered.InterestingCover.{InterestingCover}
 use Rattle.passes.specs.declared.covered.InterestingCover.the-variants.{Absent, Opaque, Incomplete}
@@ -23,7 +22,7 @@ use Rattle.passes.specs.declared.decide.Bottom.{Bottom}
 use Rattle.passes.specs.declared.decide.Bottom.the-variants.{Settled, Under}
 use Rattle.passes.specs.declared.unchanged.PreviousCount.{PreviousCount}
 use Rattle.passes.specs.Unchanged.{isKept, wereRemoved}
-use Rattle.passes.specs.Clips.{Marks, marksOf}
+use Rattle.passes.specs.Clips.{marksOf}
 use Rattle.passes.specs.Covered.{coveredOf}
 
 -- the layers that are shown: neither skipped nor masked off, ascending. i is the place of the first

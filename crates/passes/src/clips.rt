@@ -4,13 +4,13 @@ use crate::item;
 use crate::item::Item;
 use styling::Func;
 ghost use mathlib.Core.Path.{_≡_};
-ghost use Prim.Native.Nat.{_≤_};
-ghost use lib.ListN.{length, replicate};
+ghost use Prim.Native.Nat.{_≤_, _<_};
+ghost use lib.ListN.{length, set, replicate};
 ghost use Rattle.laws.specs.Lists.{over};
 ghost use Rattle.styling.specs.Table.{Table, tableOf};
 ghost use Rattle.passes.specs.Entry.{entriesOf};
 ghost use Rattle.passes.specs.Item.{itemsOf, Columns};
-ghost use Rattle.passes.specs.Clips.{openedOf, clippedOf, drawnOf, closedOf, isClip, stepOf, maskOff, lastClip, Marking};
+ghost use Rattle.passes.specs.Clips.{openedOf, clippedOf, drawnOf, closedOf, isClip, stepOf, maskOff, shownAfter, lastClip, Marking};
 
 // The clip that was met last. `last` is wider than an id, so that id + span always fits.
 pub struct ActiveClip {
@@ -190,6 +190,17 @@ fn mask_last(shown: &mut [bool], cur: Current)
     }
 }
 
+// The marks of one turn: the layer in place i, and then a clip that ended unused.
+fn mark(shown: &mut [bool], unclipped: &mut [bool], i: usize, s: Step)
+    requires { ⌜ i < length (now unclipped) ⌝ }
+    ensures { λ _. ⌜ (now (shown .exit) ≡ shownAfter (now (shown .entry)) i s) × (now (unclipped .exit) ≡ set (now (unclipped .entry)) i (s .unclipped)) ⌝ }
+{
+    mask_off(shown, i, s.masked);
+    let at = s.at;
+    mask_off(shown, at.0, s.unused);
+    unclipped[i] = s.unclipped;
+}
+
 // The first n entries of a lent column set to one mark.
 pub fn fill(column: &mut [bool], n: usize, mark: bool)
     requires { ⌜ n ≤ length (now column) ⌝ }
@@ -224,10 +235,7 @@ pub fn skip_trivial_clips_pass(
     while i < n {
         let x = item::item_at(ids, covers, segments, n, layers, colors, count, i);
         let s = clip_step(x, cur, i);
-        mask_off(shown, i, s.masked);
-        let at = s.at;
-        mask_off(shown, at.0, s.unused);
-        unclipped[i] = s.unclipped;
+        mark(shown, unclipped, i, s);
         cur = s.cur;
         i += 1;
     }

@@ -55,7 +55,8 @@ pub fn is_kept(
     match previous {
         PreviousCount::Absent => false,
         PreviousCount::Kept(k) => {
-            if clear_unchanged & (k as usize == n) {
+            let kept = k as usize;
+            if clear_unchanged & (kept == n) {
                 are_unchanged(ids, covers, segments, n, layers, colors, count)
             } else {
                 false

@@ -1,17 +1,16 @@
 -- An opening in columns of its own, and these written to the lent ones: the answers. Assumes nothing.
 use mathlib.Core.Path.{_≡_, refl, sym, ap, _∙_}
 use mathlib.Core.Bool.{Bool, true, false}
-use mathlib.Core.List.{List, []}
-use Prim.Native.Nat.{ℕ, _*_, _≤_, _<_, min}
+use mathlib.Core.List.{List}
+use Prim.Native.Nat.{ℕ, _*_, _≤_, _<_}
 use native.Mathlib.Omega.{arith}
-use lib.Dec.{ltb}
+use borrow.Author.Tests.{lt-ltb, le-ltb}
 use lib.IntN.{ℤ}
 use lib.ListN.{length, take}
-use borrow.Author.Tests.{lt-ltb, le-ltb}
 use Rattle.laws.specs.Answer.{Answer, refused, given}
 use Rattle.laws.specs.Lists.{over}
 use Rattle.queue.specs.Queue.{idsIn, coversIn}
-use Rattle.queue.specs.Opening.{openQueue, openAnswer, isLightOpening, writtenIf, Opens, countOf, listIf, Clear, Gathered}
+use Rattle.queue.specs.Opening.{openQueue, writtenIf, Opens, countOf, listIf, Clear, Gathered}
 use Rattle.queue.specs.Insert.{Collected}
 use Rattle.queue.specs.Sums.{Summing, Summed}
 

@@ -1,14 +1,14 @@
 -- The place of a word's sum, once an opening's layers are known: the words that go to a layer's entry and pixel row are those of the layer and
 -- the row, so what is summed there is the layer's. Assumes nothing.
-use mathlib.Core.Path.{_≡_, refl, sym, ap, _∙_}
-use mathlib.Core.Bool.{Bool, true, false, _&&_}
+use mathlib.Core.Path.{_≡_, sym, ap, _∙_}
+use mathlib.Core.Bool.{true, _&&_}
 use mathlib.Core.List.{List, map}
-use Prim.Native.Nat.{ℕ, _+_, _*_, _≤_, _<_}
+use Prim.Native.Nat.{ℕ, _+_, _*_, _<_}
 use native.Mathlib.Omega.{arith}
+use borrow.Author.Tests.{eqb-true, eq-eqb}
 use lib.Dec.{eqb}
 use lib.ListN.{length, getD, length-map, List·getD-map}
-use borrow.Author.Tests.{eqb-true, eq-eqb}
-use Rattle.laws.specs.Lists.{all, filter}
+use Rattle.laws.specs.Lists.{all}
 use Rattle.laws.specs.Sum.{sumBy}
 use Rattle.laws.proofs.Bools.{both, left, right, same}
 use Rattle.laws.proofs.Every.{all-at, all-intro}
@@ -21,7 +21,7 @@ use Rattle.queue.specs.Queue.{idsIn}
 use Rattle.queue.specs.Opening.{openQueue, ofLayer}
 use Rattle.queue.specs.Rank.{rankOf}
 use Rattle.queue.specs.Sums.{keyIn}
-use Rattle.queue.proofs.Ranks.{Held, Ranked, rank-is}
+use Rattle.queue.proofs.Ranks.{Held, rank-is}
 use Rattle.queue.proofs.Inserting.{hasId, has-at, Somewhere, at, has-place}
 use Rattle.queue.proofs.Openings.{opening-ascends, opening-has}
 

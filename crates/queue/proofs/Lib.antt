@@ -14,3 +14,5 @@ pub mod Lights
 pub mod Summing
 pub mod Copying
 pub mod Gathering
+pub mod Opened
+pub mod Examples

@@ -1,35 +1,30 @@
 -- What the sums and loads of an opening say, place by place: number 9, and the covers that are written. Assumes nothing.
 use mathlib.Core.Path.{_≡_, refl, sym, ap, _∙_}
-use mathlib.Core.Bool.{Bool, true, false}
-use mathlib.Core.List.{List, [], append-nil}
+use mathlib.Core.Bool.{true, false}
+use mathlib.Core.List.{List}
 use Prim.Native.Nat.{ℕ, _+_, _*_, _/_, _%_, _≤_, _<_}
 use native.Mathlib.Nat.{zero-add}
 use native.Mathlib.Omega.{arith}
-use lib.Dec.{leb}
+use borrow.Author.Tests.{le-leb}
 use lib.IntN.{ℤ, pos, natAbs, _+ℤ_, +ℤ-idl}
-use lib.ListN.{length, getD, take, drop}
+use lib.ListN.{length, getD, take}
 use lib.Seq.{ext-getD, getD-take, length-take-le}
-use borrow.Author.Tests.{le-leb, leb-true}
-use Rattle.laws.specs.Lists.{all}
 use Rattle.laws.proofs.Bools.{not-true}
 use Rattle.laws.proofs.Every.{every-intro, all-at, all-intro}
 use Rattle.pixel_segment.specs.Field.{cpu, layerIdOf, localYOf, coverOf}
-use Rattle.cover.specs.Carry.{coverIn, loadIn, absCover, lightAt, isLight}
+use Rattle.cover.specs.Carry.{loadIn, absCover, lightAt, isLight}
 use Rattle.cover.specs.Cover.{coverAt}
-use Rattle.cover.specs.Entry.{entryOf}
 use Rattle.cover.proofs.Carries.{light}
-use Rattle.cover.proofs.Entries.{entry-at}
 use Rattle.cover.proofs.Filled.{getD-default}
 use Rattle.cover.proofs.Tables.{keyed, weighed}
-use Rattle.queue.specs.Queue.{Carry, idsIn, coversIn, zeros}
+use Rattle.queue.specs.Queue.{idsIn, coversIn, zeros}
 use Rattle.queue.specs.Opening.{openQueue, ofLayer, isLightOpening}
 use Rattle.queue.specs.Rank.{rankOf}
 use Rattle.queue.specs.Sums.{keyIn}
-use Rattle.queue.proofs.Ranks.{Held}
 use Rattle.queue.proofs.Queues.{noCarry, length-ids, getD-ids, held-at}
 use Rattle.queue.proofs.Columns.{length-covers, covers-at}
 use Rattle.queue.proofs.Openings.{opening-ascends, opening-wide, opening-at}
-use Rattle.queue.proofs.Keys.{rank-has, sum-at, opening-all, opening-there}
+use Rattle.queue.proofs.Keys.{sum-at, opening-all, opening-there}
 
 module _ (left : List ℕ) where
   abbrev ids : List ℕ

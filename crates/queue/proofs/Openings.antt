@@ -1,16 +1,16 @@
 -- Laws of the opening of a row, over any words: its ids ascend, its covers have 16 numbers, a layer has a carry exactly where a word has its
 -- id, and a carry is the exact sum of its layer's covers in each pixel row. Assumes nothing.
-use mathlib.Core.Path.{_≡_, refl, sym, ap, ap₂, _∙_}
-use mathlib.Core.Bool.{Bool, true, false, cond, _&&_}
+use mathlib.Core.Path.{_≡_, refl, sym, ap, _∙_}
+use mathlib.Core.Bool.{Bool, true, false, cond}
 use mathlib.Core.Logic.{⊎-elim}
 use mathlib.Core.List.{List, [], _∷_, map}
-use Prim.Native.Nat.{ℕ, suc, _≤_, _<_}
+use Prim.Native.Nat.{ℕ, suc, _<_}
 use native.Mathlib.Omega.{arith}
+use borrow.Author.Tests.{eq-eqb, ne-eqb, lt-ltb, le-ltb, eqb-true}
 use lib.Dec.{eqb, ltb}
 use lib.IntN.{ℤ, pos, _+ℤ_, +ℤ-idl, +ℤ-idr, +ℤ-assoc}
-use lib.ListN.{length, getD, set, length-set, replicate, length-replicate}
-use borrow.Author.Tests.{eq-eqb, ne-eqb, lt-ltb, le-ltb, eqb-true}
-use Rattle.laws.specs.Lists.{tabulate, all, filter}
+use lib.ListN.{length, length-set}
+use Rattle.laws.specs.Lists.{tabulate}
 use Rattle.laws.proofs.Bools.{both, left, right}
 use Rattle.laws.proofs.Filtered.{filter-append}
 use Rattle.laws.proofs.Keyed.{entry-one}
@@ -27,7 +27,7 @@ use Rattle.queue.specs.Queue.{Carry, idsIn, zeros, heldIn}
 use Rattle.queue.specs.Opening.{addWord, addTo, addAll, openQueue, ofLayer}
 use Rattle.queue.specs.Insert.{insertId, insertAll}
 use Rattle.queue.proofs.Inserting.{by-order, ascends-insert, ascends-all, hasId, has-all}
-use Rattle.queue.proofs.Queues.{noCarry, held-here, held-past, held-none, length-ids, getD-ids}
+use Rattle.queue.proofs.Queues.{held-here, held-past, held-none, length-ids, getD-ids}
 use Rattle.queue.proofs.Columns.{isWide, areWide}
 
 -- ---- a step past a carry

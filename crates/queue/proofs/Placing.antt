@@ -1,11 +1,10 @@
 -- A word's cover and load added at their place: what is stored fits, and nothing is stored past 127. Assumes nothing.
-use mathlib.Core.Path.{_≡_, refl, sym, ap, _∙_}
+use mathlib.Core.Path.{_≡_, refl, sym, ap}
 use mathlib.Core.Bool.{true, false}
 use mathlib.Core.List.{List}
 use Prim.Native.Nat.{ℕ, _≤_, _<_}
 use native.Mathlib.Omega.{arith}
 use borrow.Author.Tests.{le-leb, lt-leb}
-use lib.Dec.{leb}
 use lib.IntN.{ℤ, natAbs, _+ℤ_}
 use lib.ListN.{set}
 use Rattle.laws.proofs.Sums.{abs-add}

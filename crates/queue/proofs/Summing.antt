@@ -1,14 +1,13 @@
 -- The covers of an opening added: how it starts, and its two ends. Assumes nothing.
-use mathlib.Core.Path.{_≡_, refl, sym, ap, _∙_}
+use mathlib.Core.Path.{_≡_, sym, ap, _∙_}
 use mathlib.Core.Bool.{Bool, true, false, false≢true}
 use mathlib.Core.List.{List}
-use Prim.Native.Nat.{ℕ, _+_, _*_, _≤_, _<_}
+use Prim.Native.Nat.{ℕ, _≤_, _<_}
 use native.Mathlib.Omega.{arith}
 use lib.IntN.{ℤ}
 use lib.ListN.{length, getD, take}
 use lib.Seq.{length-take-le}
 use Rattle.styling.specs.Ascending.{strictlyAscends}
-use Rattle.pixel_segment.specs.Field.{cpu, layerIdOf, localYOf}
 use Rattle.queue.specs.Queue.{idsIn}
 use Rattle.queue.specs.Opening.{openQueue}
 use Rattle.queue.specs.Sums.{keyIn, Placed, Summing, Summed}

@@ -1,9 +1,9 @@
 -- `queue::incoming` meets its contract. Assumes nothing.
-use mathlib.Core.Path.{_≡_, sym, _∙_}
+use mathlib.Core.Path.{sym, _∙_}
+use native.Mathlib.Omega.{arith}
+use borrow.Author.Needs.{needs}
 use lib.ListN.{take}
 use lib.Seq.{length-take-le}
-use borrow.Author.Needs.{needs}
-use native.Mathlib.Omega.{arith}
 use Rattle.queue.proofs.Ranks.{Held, held}
 use Rattle.queue.proofs.Queues.{held-lent, missed-lent}
 use Rattle.queue.proofs.incoming.Statement.{statement}

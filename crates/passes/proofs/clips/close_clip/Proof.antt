@@ -1,28 +1,21 @@
 -- `passes::clips::close_clip` meets its contract. Assumes nothing.
-use Rattle.passes.proofs.Steps.{stays-none, ends, goes-on}
 use borrow.Author.Needs.{needs}
+use Rattle.passes.proofs.Steps.{stays-none, ends, goes-on}
 use Rattle.passes.proofs.clips.close_clip.Statement.{statement}
 use Rattle.passes.proofs.clips.close_clip.Tie as tie
-use Rattle.passes.proofs.clips.close_clip.Reads as reads
-use Rattle.passes.proofs.clips.close_clip.Lts as lts
 
--- src/clips.rt:117:18
 enum-told : tie.Need-enum-told
 enum-told c = search needs
 
--- src/clips.rt:121:25
 enum-known-cur : tie.Need-enum-known-cur
 enum-known-cur c = search needs
 
--- src/clips.rt:124:17
 returns : tie.Need-returns
 returns c = ends (c .before .before .before .before .before .cur .given .1) (c .before .before .if1 .taken)
 
--- src/clips.rt:112:1
 returns-2 : tie.Need-returns-2
 returns-2 c = stays-none _ (c .enum-told .given .1)
 
--- src/clips.rt:112:1
 returns-3 : tie.Need-returns-3
 returns-3 c = goes-on (c .before .before .before .cur .given .1) (c .if1 .left)
 

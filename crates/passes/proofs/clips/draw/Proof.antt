@@ -1,21 +1,15 @@
 -- `passes::clips::draw` meets its contract. Assumes nothing.
-use Rattle.passes.proofs.Steps.{draws-clipped, draws-unclipped}
 use borrow.Author.Needs.{needs}
+use Rattle.passes.proofs.Steps.{draws-clipped, draws-unclipped}
 use Rattle.passes.proofs.clips.draw.Statement.{statement}
 use Rattle.passes.proofs.clips.draw.Tie as tie
-use Rattle.passes.proofs.clips.draw.Reads as reads
-use Rattle.passes.proofs.clips.draw.Lts as lts
-use Rattle.passes.proofs.clips.draw_clipped.Reads as draw-clipped-reads
 
--- src/clips.rt:102:9
 draw-clipped-requires : tie.Need-draw-clipped-requires
 draw-clipped-requires c κs = search needs
 
--- src/clips.rt:98:1
 returns : tie.Need-returns
 returns c = let a = c .before .before .args in draws-clipped (a .cur) (a .id) (c .before .if1 .taken) (c .draw-clipped .ensures)
 
--- src/clips.rt:98:1
 returns-2 : tie.Need-returns-2
 returns-2 c = draws-unclipped _ _ (c .if1 .left)
 

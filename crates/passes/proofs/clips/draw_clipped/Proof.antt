@@ -1,28 +1,21 @@
 -- `passes::clips::draw_clipped` meets its contract. Assumes nothing.
-use Rattle.passes.proofs.Steps.{no-clip, outside, inside}
 use borrow.Author.Needs.{needs}
+use Rattle.passes.proofs.Steps.{no-clip, outside, inside}
 use Rattle.passes.proofs.clips.draw_clipped.Statement.{statement}
 use Rattle.passes.proofs.clips.draw_clipped.Tie as tie
-use Rattle.passes.proofs.clips.draw_clipped.Reads as reads
-use Rattle.passes.proofs.clips.draw_clipped.Lts as lts
 
--- src/clips.rt:70:18
 enum-told : tie.Need-enum-told
 enum-told c = search needs
 
--- src/clips.rt:74:25
 enum-known-cur : tie.Need-enum-known-cur
 enum-known-cur c = search needs
 
--- src/clips.rt:76:17
 returns : tie.Need-returns
 returns c = outside (c .before .before .before .cur .given .1) (c .if1 .taken)
 
--- src/clips.rt:65:1
 returns-2 : tie.Need-returns-2
 returns-2 c = no-clip _ (c .enum-told .given .1)
 
--- src/clips.rt:65:1
 returns-3 : tie.Need-returns-3
 returns-3 c = inside (c .before .before .before .before .before .before .cur .given .1) (c .before .before .before .if1 .left)
 

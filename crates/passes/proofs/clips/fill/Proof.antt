@@ -4,8 +4,6 @@ use native.Mathlib.Omega.{arith}
 use Rattle.passes.proofs.Columns.{Filling, column-start, column-next, column-long, column-end}
 use Rattle.passes.proofs.clips.fill.Statement.{statement}
 use Rattle.passes.proofs.clips.fill.Tie as tie
-use Rattle.passes.proofs.clips.fill.Reads as reads
-use Rattle.passes.proofs.clips.fill.Lts as lts
 
 abbrev Inv-loop : tie.InvT-loop
 Inv-loop column₀ n mark i₀ column i = Filling n mark column₀ i column
@@ -13,31 +11,24 @@ Inv-loop column₀ n mark i₀ column i = Filling n mark column₀ i column
 abbrev μ-loop : tie.MeasureT-loop
 μ-loop column₀ n mark i₀ column i = n - i
 
--- src/clips.rt:199:5
 loop-holds : tie.Need-loop-holds Inv-loop μ-loop
 loop-holds c = column-start
 
--- src/clips.rt:200:9
 slice-write-column : tie.Need-slice-write-column Inv-loop μ-loop
 slice-write-column c = omega (arith, column-long (c .before .loop .inv) (c .before .before .pre))
 
--- src/clips.rt:201:9
 add-i : tie.Need-add-i Inv-loop μ-loop
 add-i c = omega arith
 
--- src/clips.rt:199:5
 loop-less : tie.Need-loop-less Inv-loop μ-loop
 loop-less c = omega arith
 
--- src/clips.rt:199:5
 loop-again : tie.Need-loop-again Inv-loop μ-loop
 loop-again c = column-next (c .before .loop .inv) (c .before .before .pre) (c .loop-test .taken)
 
--- src/clips.rt:194:1
 same-length : tie.Need-same-length Inv-loop μ-loop
 same-length c = column-long (c .before .loop .inv) (c .before .before .pre)
 
--- src/clips.rt:194:1
 returns : tie.Need-returns Inv-loop μ-loop
 returns c = column-end (c .before .loop .inv) (c .loop-test .left)
 

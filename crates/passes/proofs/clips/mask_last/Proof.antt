@@ -1,32 +1,24 @@
 -- `passes::clips::mask_last` meets its contract. Assumes nothing.
-use Rattle.passes.proofs.Steps.{last-active}
 use borrow.Author.Needs.{needs}
+use Rattle.passes.proofs.Steps.{last-active}
 use Rattle.passes.proofs.clips.mask_last.Statement.{statement}
 use Rattle.passes.proofs.clips.mask_last.Tie as tie
-use Rattle.passes.proofs.clips.mask_last.Reads as reads
-use Rattle.passes.proofs.clips.mask_last.Lts as lts
-use Rattle.passes.proofs.clips.mask_off.Reads as mask-off-reads
 
 enum-told : tie.Need-enum-told
 enum-told c = search needs
 
--- src/clips.rt:186:25
 enum-known-cur : tie.Need-enum-known-cur
 enum-known-cur c = search needs
 
--- src/clips.rt:188:13
 mask-off-requires : tie.Need-mask-off-requires
 mask-off-requires c κs = search needs
 
--- src/clips.rt:181:1
 returns : tie.Need-returns
 returns c = search needs
 
--- src/clips.rt:181:1
 same-length : tie.Need-same-length
 same-length c = search needs
 
--- src/clips.rt:181:1
 returns-2 : tie.Need-returns-2
 returns-2 c = last-active _ (c .before .before .before .before .before .before .before .cur .given .1) (c .before .before .mask-off .ensures)
 

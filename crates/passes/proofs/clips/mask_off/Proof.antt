@@ -1,28 +1,21 @@
 -- `passes::clips::mask_off` meets its contract. Assumes nothing.
-use Rattle.passes.proofs.Steps.{off-within, off-past}
 use borrow.Author.Needs.{needs}
+use Rattle.passes.proofs.Steps.{off-within, off-past}
 use Rattle.passes.proofs.clips.mask_off.Statement.{statement}
 use Rattle.passes.proofs.clips.mask_off.Tie as tie
-use Rattle.passes.proofs.clips.mask_off.Reads as reads
-use Rattle.passes.proofs.clips.mask_off.Lts as lts
 
--- src/clips.rt:175:13
 slice-write-shown : tie.Need-slice-write-shown
 slice-write-shown c = search needs
 
--- src/clips.rt:170:1
 same-length : tie.Need-same-length
 same-length c = search needs
 
--- src/clips.rt:170:1
 returns : tie.Need-returns
 returns c = let a = c .before .before .args in off-within (a .shown .now) (a .i) (c .before .if1 .taken)
 
--- src/clips.rt:170:1
 returns-2 : tie.Need-returns-2
 returns-2 c = let a = c .before .before .args in off-past (a .shown .now) (a .i) (c .before .if1 .taken) (c .if2 .left)
 
--- src/clips.rt:170:1
 returns-3 : tie.Need-returns-3
 returns-3 c = search needs
 

@@ -1,32 +1,24 @@
 -- `passes::clips::open_clip` meets its contract. Assumes nothing.
-use Rattle.passes.proofs.Steps.{opens}
 use borrow.Author.Needs.{needs}
+use Rattle.passes.proofs.Steps.{opens}
 use Rattle.passes.proofs.clips.open_clip.Statement.{statement}
 use Rattle.passes.proofs.clips.open_clip.Tie as tie
-use Rattle.passes.proofs.clips.open_clip.Reads as reads
-use Rattle.passes.proofs.clips.open_clip.Lts as lts
 
--- src/clips.rt:55:20
 enum-known-func : tie.Need-enum-known-func
 enum-known-func c = search needs
 
--- src/clips.rt:57:34
 cast-t9 : tie.Need-cast-t9
 cast-t9 c = search needs
 
--- src/clips.rt:57:19
 add-t10 : tie.Need-add-t10
 add-t10 c = search needs
 
--- src/clips.rt:61:26
 enum-told : tie.Need-enum-told
 enum-told c = search needs
 
--- src/clips.rt:51:1
 returns : tie.Need-returns
 returns c = opens _ _ _ _ (c .before .func .given .1)
 
--- src/clips.rt:51:1
 returns-2 : tie.Need-returns-2
 returns-2 c = search needs
 

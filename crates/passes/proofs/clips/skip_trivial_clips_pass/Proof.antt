@@ -1,5 +1,5 @@
 -- `passes::clips::skip_trivial_clips_pass` meets its contract. Assumes nothing.
-use mathlib.Core.Path.{_∙_, sym}
+use mathlib.Core.Path.{_∙_}
 use Prim.Native.Nat.{_-_}
 use native.Mathlib.Omega.{arith}
 use Rattle.styling.specs.Table.{tableOf}
@@ -9,13 +9,6 @@ use Rattle.passes.proofs.Clipping.{Passing, pass-start, pass-next, pass
 use Rattle.passes.proofs.Listing.{length-items, drop-items}
 use Rattle.passes.proofs.clips.skip_trivial_clips_pass.Statement.{statement}
 use Rattle.passes.proofs.clips.skip_trivial_clips_pass.Tie as tie
-use Rattle.passes.proofs.clips.skip_trivial_clips_pass.Reads as reads
-use Rattle.passes.proofs.clips.skip_trivial_clips_pass.Lts as lts
-use Rattle.passes.proofs.clips.clip_step.Reads as clip-step-reads
-use Rattle.passes.proofs.clips.fill.Reads as fill-reads
-use Rattle.passes.proofs.clips.mask_last.Reads as mask-last-reads
-use Rattle.passes.proofs.clips.mask_off.Reads as mask-off-reads
-use Rattle.passes.proofs.item.item_at.Reads as item-at-reads
 
 abbrev Inv-loop : tie.InvT-loop
 Inv-loop ids covers segments n layers colors count shown₀ unclipped₀ cur₀ i₀ shown unclipped cur i =
@@ -24,75 +17,53 @@ Inv-loop ids covers segments n layers colors count shown₀ unclipped₀ cur₀ 
 abbrev μ-loop : tie.MeasureT-loop
 μ-loop ids covers segments n layers colors count shown₀ unclipped₀ cur₀ i₀ shown unclipped cur i = n - i
 
--- src/clips.rt:220:5
 fill-requires : tie.Need-fill-requires Inv-loop μ-loop
 fill-requires c κs = c .before .before .before .before .before .before .before .pre .2
 
--- src/clips.rt:221:5
 fill-requires-2 : tie.Need-fill-requires-2 Inv-loop μ-loop
 fill-requires-2 c κs = c .before .before .before .before .before .before .before .before .before .before .before .pre .3
 
--- src/clips.rt:224:5
 loop-holds : tie.Need-loop-holds Inv-loop μ-loop
 loop-holds c = pass-start
 
--- src/clips.rt:225:13
 item-at-requires : tie.Need-item-at-requires Inv-loop μ-loop
 item-at-requires c κs = let a = c .before .before .before .before .before .before .before .before .before .before .before .before .before .before .before .before in (a .pre .0, a .pre .1, c .loop-test .taken)
 
--- src/clips.rt:226:13
 clip-step-requires : tie.Need-clip-step-requires Inv-loop μ-loop
 clip-step-requires c κs = tt
 
--- src/clips.rt:227:9
-mask-off-requires : tie.Need-mask-off-requires Inv-loop μ-loop
-mask-off-requires c κs = tt
+mark-requires : tie.Need-mark-requires Inv-loop μ-loop
+mark-requires c κs = let l = c .before .before .before .before .before in omega (arith, c .before .before .before .before .loop-test .taken, l .loop .inv .unclipped-same, l .before .before .before .fill2 .kept .0, l .before .before .before .before .before .before .before .before .before .before .before .before .before .before .before .pre .3)
 
--- src/clips.rt:229:9
-mask-off-requires-2 : tie.Need-mask-off-requires-2 Inv-loop μ-loop
-mask-off-requires-2 c κs = tt
-
--- src/clips.rt:230:9
-slice-write-unclipped : tie.Need-slice-write-unclipped Inv-loop μ-loop
-slice-write-unclipped c = let l = c .before .before .before .before .before .before .before .before .before .before .before .before in omega (arith, c .before .before .before .before .before .before .before .before .before .before .before .loop-test .taken, l .loop .inv .unclipped-same, l .before .before .before .fill2 .kept .0, l .before .before .before .before .before .before .before .before .before .before .before .before .before .before .before .pre .3)
-
--- src/clips.rt:232:9
 add-i : tie.Need-add-i Inv-loop μ-loop
-add-i c = omega (arith, c .before .before .before .before .before .before .before .before .before .before .before .loop-test .taken, c .before .before .before .before .before .before .before .before .before .before .before .before .before .before .before .before .before .before .before .before .before .before .before .before .before .before .before .fits .n)
+add-i c = omega (arith, c .before .before .before .before .before .before .before .before .before .loop-test .taken, c .before .before .before .before .before .before .before .before .before .before .before .before .before .before .before .before .before .before .before .before .before .before .before .before .before .fits .n)
 
--- src/clips.rt:224:5
 loop-less : tie.Need-loop-less Inv-loop μ-loop
-loop-less c = omega (arith, c .before .before .before .before .before .before .before .before .before .before .before .loop-test .taken)
+loop-less c = omega (arith, c .before .before .before .before .before .before .before .before .before .loop-test .taken)
 
--- src/clips.rt:224:5
 loop-again : tie.Need-loop-again Inv-loop μ-loop
 loop-again c =
-    let off2 = c .before .before in
-    let off1 = off2 .before .before .before .before .before in
-    let step = off1 .before .before in
+    let mark = c .before .before .before .before in
+    let step = mark .before .before .before in
     let read = step .before in
     let turn = read .before in
     let a = turn .before .before .before .before .before .before .before .before .before .before .before .before .before .before .before .before .args in
     let table = tableOf (a .layers .now) (a .colors .now) (a .count) in
-    pass-next (turn .before .loop .inv) (turn .loop-test .taken) (drop-items table (a .n) (a .ids .now) (a .covers .now) (a .segments .now) (turn .before .loop .i) (turn .loop-test .taken))
+    pass-next (turn .before .loop .inv) (turn .loop-test .taken)
+    (drop-items table (a .n) (a .ids .now) (a .covers .now) (a .segments .now) (turn .before .loop .i) (turn .loop-test .taken))
     (read .item-at .ensures)
     (step .clip-step .ensures)
-    (off1 .mask-off .ensures)
-    (off2 .mask-off2 .ensures)
+    (mark .mark .ensures)
 
--- src/clips.rt:234:5
 mask-last-requires : tie.Need-mask-last-requires Inv-loop μ-loop
 mask-last-requires c κs = tt
 
--- src/clips.rt:206:1
 same-length : tie.Need-same-length Inv-loop μ-loop
 same-length c = c .before .before .mask-last .kept .0 ∙ c .before .before .before .before .before .loop .inv .shown-same ∙ c .before .before .before .before .before .before .before .before .before .before .before .before .fill .kept .0
 
--- src/clips.rt:206:1
 same-length-2 : tie.Need-same-length-2 Inv-loop μ-loop
 same-length-2 c = c .before .before .before .before .before .loop .inv .unclipped-same ∙ c .before .before .before .before .before .before .before .before .fill2 .kept .0
 
--- src/clips.rt:206:1
 returns : tie.Need-returns Inv-loop μ-loop
 returns c =
     let last = c .before .before in
@@ -111,9 +82,7 @@ skip-trivial-clips-pass-spec =
     loop-holds
     item-at-requires
     clip-step-requires
-    mask-off-requires
-    mask-off-requires-2
-    slice-write-unclipped
+    mark-requires
     add-i
     loop-less
     loop-again

@@ -1,34 +1,26 @@
 -- `passes::covered::first_of` meets its contract. Assumes nothing.
 use mathlib.Core.Path.{sym, ap}
+use borrow.Author.Needs.{needs}
 use Rattle.passes.specs.Covered.{firstOf}
 use Rattle.passes.specs.declared.covered.InterestingCover.{InterestingCover}
-use borrow.Author.Needs.{needs}
 use Rattle.passes.proofs.covered.first_of.Statement.{statement}
 use Rattle.passes.proofs.covered.first_of.Tie as tie
-use Rattle.passes.proofs.covered.first_of.Reads as reads
-use Rattle.passes.proofs.covered.first_of.Lts as lts
 
--- src/covered.rt:35:37
 enum-told : tie.Need-enum-told
 enum-told c = search needs
 
--- src/covered.rt:36:34
 enum-known-first : tie.Need-enum-known-first
 enum-known-first c = search needs
 
--- src/covered.rt:37:41
 enum-told-2 : tie.Need-enum-told-2
 enum-told-2 c = search needs
 
--- src/covered.rt:31:1
 returns : tie.Need-returns
 returns c = search needs
 
--- src/covered.rt:31:1
 returns-2 : tie.Need-returns-2
 returns-2 c = sym (ap (λ (f : InterestingCover). firstOf f (c .before .before .before .args .next)) (c .before .first .given .1))
 
--- src/covered.rt:31:1
 returns-3 : tie.Need-returns-3
 returns-3 c = search needs
 

@@ -2,15 +2,10 @@
 use borrow.Author.Needs.{needs}
 use Rattle.passes.proofs.covered.is_partial.Statement.{statement}
 use Rattle.passes.proofs.covered.is_partial.Tie as tie
-use Rattle.passes.proofs.covered.is_partial.Reads as reads
-use Rattle.passes.proofs.covered.is_partial.Lts as lts
-use Rattle.styling.proofs.Func.is_clipped.Reads as is-clipped-reads
 
--- src/covered.rt:55:6
 is-clipped-requires : tie.Need-is-clipped-requires
 is-clipped-requires c κs = search needs
 
--- src/covered.rt:51:1
 returns : tie.Need-returns
 returns c = rw (c .before .is-clipped .ensures)
 

@@ -1,32 +1,21 @@
 -- `passes::covered::look_at` meets its contract. Assumes nothing.
-use Rattle.passes.proofs.Looks.{looked}
 use borrow.Author.Needs.{needs}
+use Rattle.passes.proofs.Looks.{looked}
 use Rattle.passes.proofs.covered.look_at.Statement.{statement}
 use Rattle.passes.proofs.covered.look_at.Tie as tie
-use Rattle.passes.proofs.covered.look_at.Reads as reads
-use Rattle.passes.proofs.covered.look_at.Lts as lts
-use Rattle.passes.proofs.covered.first_of.Reads as first-of-reads
-use Rattle.passes.proofs.covered.hides.Reads as hides-reads
-use Rattle.passes.proofs.covered.skip_to.Reads as skip-to-reads
-use Rattle.passes.proofs.covered.tells.Reads as tells-reads
 
--- src/covered.rt:92:34
 tells-requires : tie.Need-tells-requires
 tells-requires c κs = search needs
 
--- src/covered.rt:92:9
 first-of-requires : tie.Need-first-of-requires
 first-of-requires c κs = search needs
 
--- src/covered.rt:93:38
 hides-requires : tie.Need-hides-requires
 hides-requires c κs = search needs
 
--- src/covered.rt:93:9
 skip-to-requires : tie.Need-skip-to-requires
 skip-to-requires c κs = search needs
 
--- src/covered.rt:87:1
 returns : tie.Need-returns
 returns c = let a = c .before .before .before .before .before .before .before .args in looked (a .x) (a .unclipped) (a .i) (a .found) (c .before .before .before .before .before .tells .ensures) (c .before .before .before .before .first-of .ensures) (c .before .before .before .hides .ensures) (c .before .before .skip-to .ensures)
 

@@ -8,11 +8,6 @@ use Rattle.passes.proofs.Covering.{Looking, look-start, look-masked, lo
 use Rattle.passes.proofs.Listing.{length-items, item-read}
 use Rattle.passes.proofs.covered.skip_fully_covered_layers_pass.Statement.{statement}
 use Rattle.passes.proofs.covered.skip_fully_covered_layers_pass.Tie as tie
-use Rattle.passes.proofs.covered.skip_fully_covered_layers_pass.Reads as reads
-use Rattle.passes.proofs.covered.skip_fully_covered_layers_pass.Lts as lts
-use Rattle.passes.proofs.covered.hides.Reads as hides-reads
-use Rattle.passes.proofs.covered.look_at.Reads as look-at-reads
-use Rattle.passes.proofs.item.item_at.Reads as item-at-reads
 
 abbrev Inv-loop : tie.InvT-loop
 Inv-loop ids covers segments n layers colors count shown unclipped removed found₀ i₀ found i =
@@ -21,65 +16,51 @@ Inv-loop ids covers segments n layers colors count shown unclipped removed found
 abbrev μ-loop : tie.MeasureT-loop
 μ-loop ids covers segments n layers colors count shown unclipped removed found₀ i₀ found i = i
 
--- src/covered.rt:123:5
 loop-holds : tie.Need-loop-holds Inv-loop μ-loop
 loop-holds c = look-start (length-items _ _ _ _ _)
 
--- src/covered.rt:124:9
 sub-i : tie.Need-sub-i Inv-loop μ-loop
 sub-i c = omega arith
 
--- src/covered.rt:125:12
 shared-slice-read-if1 : tie.Need-shared-slice-read-if1 Inv-loop μ-loop
 shared-slice-read-if1 c = omega (arith, c .before .before .before .before .before .before .before .before .before .pre .2)
 
--- src/covered.rt:126:17
 item-at-requires : tie.Need-item-at-requires Inv-loop μ-loop
 item-at-requires c κs = let a = c .before .before .before .before .before .before .before .before .before .before in (a .pre .0, a .pre .1, omega (arith, c .before .before .before .loop .inv .reached, c .before .before .loop-test .taken))
 
--- src/covered.rt:127:32
 shared-slice-read-look-at : tie.Need-shared-slice-read-look-at Inv-loop μ-loop
 shared-slice-read-look-at c = omega (arith, c .before .before .before .before .before .loop .inv .reached, c .before .before .before .before .loop-test .taken, c .before .before .before .before .before .before .before .before .before .before .before .before .pre .3)
 
--- src/covered.rt:127:13
 look-at-requires : tie.Need-look-at-requires Inv-loop μ-loop
 look-at-requires c κs = tt
 
--- src/covered.rt:128:25
 shared-slice-read-hides : tie.Need-shared-slice-read-hides Inv-loop μ-loop
 shared-slice-read-hides c = omega (arith, c .before .before .before .before .before .before .before .loop .inv .reached, c .before .before .before .before .before .before .loop-test .taken, c .before .before .before .before .before .before .before .before .before .before .before .before .before .before .pre .3)
 
--- src/covered.rt:128:16
 hides-requires : tie.Need-hides-requires Inv-loop μ-loop
 hides-requires c κs = tt
 
--- src/covered.rt:129:17
 returns : tie.Need-returns Inv-loop μ-loop
 returns c =
     let turn = c .before .before .before .before .before .before .before .before in
     let a = turn .before .before .before .before .before .before .before .before .args in
     look-found (turn .before .loop .inv) (turn .loop-test .taken) (c .before .before .before .before .before .before .if1 .taken) (item-read (tableOf (a .layers .now) (a .colors .now) (a .count)) (a .n) (a .ids .now) (a .covers .now) (a .segments .now) (turn .before .loop .i - 1) (omega (arith, turn .before .loop .inv .reached, turn .loop-test .taken)) (c .before .before .before .before .before .item-at .ensures)) (c .before .before .before .look-at .ensures) (c .before .hides .ensures) (c .if2 .taken)
 
--- src/covered.rt:123:5
 loop-less : tie.Need-loop-less Inv-loop μ-loop
 loop-less c = omega (arith, c .before .before .before .before .before .before .before .before .loop-test .taken)
 
--- src/covered.rt:123:5
 loop-again : tie.Need-loop-again Inv-loop μ-loop
 loop-again c =
     let turn = c .before .before .before .before .before .before .before .before in
     let a = turn .before .before .before .before .before .before .before .before .args in
     look-next (turn .before .loop .inv) (turn .loop-test .taken) (c .before .before .before .before .before .before .if1 .taken) (item-read (tableOf (a .layers .now) (a .colors .now) (a .count)) (a .n) (a .ids .now) (a .covers .now) (a .segments .now) (turn .before .loop .i - 1) (omega (arith, turn .before .loop .inv .reached, turn .loop-test .taken)) (c .before .before .before .before .before .item-at .ensures)) (c .before .before .before .look-at .ensures) (c .before .hides .ensures) (c .if2 .left)
 
--- src/covered.rt:123:5
 loop-less-2 : tie.Need-loop-less-2 Inv-loop μ-loop
 loop-less-2 c = omega (arith, c .before .before .loop-test .taken)
 
--- src/covered.rt:123:5
 loop-again-2 : tie.Need-loop-again-2 Inv-loop μ-loop
 loop-again-2 c = look-masked (c .before .before .before .loop .inv) (c .before .before .loop-test .taken) (c .if1 .left)
 
--- src/covered.rt:102:1
 returns-2 : tie.Need-returns-2 Inv-loop μ-loop
 returns-2 c = look-end (c .before .loop .inv) (c .loop-test .left)
 

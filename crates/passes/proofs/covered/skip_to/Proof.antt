@@ -2,14 +2,10 @@
 use borrow.Author.Needs.{needs}
 use Rattle.passes.proofs.covered.skip_to.Statement.{statement}
 use Rattle.passes.proofs.covered.skip_to.Tie as tie
-use Rattle.passes.proofs.covered.skip_to.Reads as reads
-use Rattle.passes.proofs.covered.skip_to.Lts as lts
 
--- src/covered.rt:80:1
 returns : tie.Need-returns
 returns c = rw (c .if1 .taken)
 
--- src/covered.rt:80:1
 returns-2 : tie.Need-returns-2
 returns-2 c = search needs
 

@@ -1,40 +1,27 @@
 -- `passes::covered::tells` meets its contract. Assumes nothing.
-use Rattle.passes.proofs.Looks.{tells-partial, tells-opaque, tells-nothing}
 use borrow.Author.Needs.{needs}
+use Rattle.passes.proofs.Looks.{tells-partial, tells-opaque, tells-nothing}
 use Rattle.passes.proofs.covered.tells.Statement.{statement}
 use Rattle.passes.proofs.covered.tells.Tie as tie
-use Rattle.passes.proofs.covered.tells.Reads as reads
-use Rattle.passes.proofs.covered.tells.Lts as lts
-use Rattle.passes.proofs.covered.is_partial.Reads as is-partial-reads
-use Rattle.passes.proofs.covered.to_opaque.Reads as to-opaque-reads
-use Rattle.styling.proofs.Func.is_opaque.Reads as is-opaque-reads
-use Rattle.styling.proofs.Func.solid_color.Reads as solid-color-reads
 
--- src/covered.rt:70:8
 is-partial-requires : tie.Need-is-partial-requires
 is-partial-requires c κs = search needs
 
--- src/covered.rt:71:9
 returns : tie.Need-returns
 returns c = let a = c .before .before .args in tells-partial (a .x) (a .unclipped) (c .before .is-partial .ensures) (c .if1 .taken)
 
--- src/covered.rt:73:8
 is-opaque-requires : tie.Need-is-opaque-requires
 is-opaque-requires c κs = search needs
 
--- src/covered.rt:74:19
 solid-color-requires : tie.Need-solid-color-requires
 solid-color-requires c κs = search needs
 
--- src/covered.rt:74:9
 to-opaque-requires : tie.Need-to-opaque-requires
 to-opaque-requires c κs = search needs
 
--- src/covered.rt:66:1
 returns-2 : tie.Need-returns-2
 returns-2 c = let a = c .before .before .before .before .before .before .args in tells-opaque (a .x) (a .unclipped) (c .before .solid-color .result) (c .before .before .before .before .before .is-partial .ensures) (c .before .before .before .before .if1 .left) (c .before .before .before .is-opaque .ensures) (c .before .before .if2 .taken) (c .before .solid-color .ensures) (c .to-opaque .ensures)
 
--- src/covered.rt:66:1
 returns-3 : tie.Need-returns-3
 returns-3 c = let a = c .before .before .before .before .args in tells-nothing (a .x) (a .unclipped) (c .before .before .before .is-partial .ensures) (c .before .before .if1 .left) (c .before .is-opaque .ensures) (c .if2 .left)
 

@@ -1,27 +1,21 @@
 -- `passes::covered::to_opaque` meets its contract. Assumes nothing.
 use mathlib.Core.Path.{sym, ap}
+use borrow.Author.Needs.{needs}
 use Rattle.styling.specs.declared.Paint.{Paint}
 use Rattle.styling.specs.Style.{paintOf}
 use Rattle.passes.specs.Covered.{opaqueOf}
-use borrow.Author.Needs.{needs}
 use Rattle.passes.proofs.covered.to_opaque.Statement.{statement}
 use Rattle.passes.proofs.covered.to_opaque.Tie as tie
-use Rattle.passes.proofs.covered.to_opaque.Reads as reads
-use Rattle.passes.proofs.covered.to_opaque.Lts as lts
 
--- src/covered.rt:45:22
 enum-known-paint : tie.Need-enum-known-paint
 enum-known-paint c = search needs
 
--- src/covered.rt:46:26
 enum-told : tie.Need-enum-told
 enum-told c = search needs
 
--- src/covered.rt:41:1
 returns : tie.Need-returns
 returns c = sym (ap (λ (p : Paint). opaqueOf (paintOf p)) (c .before .paint .given .1))
 
--- src/covered.rt:41:1
 returns-2 : tie.Need-returns-2
 returns-2 c = search needs
 

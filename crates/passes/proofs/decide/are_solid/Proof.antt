@@ -13,11 +13,6 @@ use Rattle.passes.proofs.Mixing.{Mixing, mix-start, mix-masked, mix-bel
 use Rattle.passes.proofs.Listing.{length-items, item-read}
 use Rattle.passes.proofs.decide.are_solid.Statement.{statement}
 use Rattle.passes.proofs.decide.are_solid.Tie as tie
-use Rattle.passes.proofs.decide.are_solid.Reads as reads
-use Rattle.passes.proofs.decide.are_solid.Lts as lts
-use Rattle.passes.proofs.decide.is_color.Reads as is-color-reads
-use Rattle.passes.proofs.item.item_at.Reads as item-at-reads
-use Rattle.styling.proofs.Func.solid_color.Reads as solid-color-reads
 
 abbrev Inv-loop : tie.InvT-loop
 Inv-loop ids covers segments n layers colors count shown skipped below ok₀ left₀ i₀ ok left i =
@@ -26,39 +21,30 @@ Inv-loop ids covers segments n layers colors count shown skipped below ok₀ lef
 abbrev μ-loop : tie.MeasureT-loop
 μ-loop ids covers segments n layers colors count shown skipped below ok₀ left₀ i₀ ok left i = n - i
 
--- src/decide.rt:67:5
 loop-holds : tie.Need-loop-holds Inv-loop μ-loop
 loop-holds c = mix-start
 
--- src/decide.rt:68:12
 shared-slice-read-if1 : tie.Need-shared-slice-read-if1 Inv-loop μ-loop
 shared-slice-read-if1 c = omega (arith, c .before .loop-test .taken, c .before .before .before .before .before .before .before .before .pre .2)
 
--- src/decide.rt:70:21
 item-at-requires : tie.Need-item-at-requires Inv-loop μ-loop
 item-at-requires c κs = let a = c .before .before .before .before .before .before .before .before .before .before in (a .pre .0, a .pre .1, c .before .before .before .loop-test .taken)
 
--- src/decide.rt:72:36
 solid-color-requires : tie.Need-solid-color-requires Inv-loop μ-loop
 solid-color-requires c κs = tt
 
--- src/decide.rt:72:27
 is-color-requires : tie.Need-is-color-requires Inv-loop μ-loop
 is-color-requires c κs = tt
 
--- src/decide.rt:74:17
 sub-left : tie.Need-sub-left Inv-loop μ-loop
 sub-left c = omega (arith, c .if2 .left)
 
--- src/decide.rt:77:9
 add-i : tie.Need-add-i Inv-loop μ-loop
 add-i c = omega (arith, c .before .before .loop-test .taken, c .before .before .before .before .before .before .before .before .before .fits .n)
 
--- src/decide.rt:67:5
 loop-less : tie.Need-loop-less Inv-loop μ-loop
 loop-less c = omega (arith, c .before .before .loop-test .taken)
 
--- src/decide.rt:67:5
 loop-again : tie.Need-loop-again Inv-loop μ-loop
 loop-again c =
     let turn = c .before .before in
@@ -80,7 +66,6 @@ loop-again c =
     w)
     (c .if1 .came)
 
--- src/decide.rt:49:1
 returns : tie.Need-returns Inv-loop μ-loop
 returns c = mix-end (c .before .loop .inv) (length-items _ _ _ _ _) (c .loop-test .left)
 

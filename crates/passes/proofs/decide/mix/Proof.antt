@@ -1,37 +1,28 @@
 -- `passes::decide::mix` meets its contract. Assumes nothing.
+use borrow.Author.Needs.{needs}
 use Rattle.styling.specs.Table.{tableOf}
 use Rattle.passes.specs.Entry.{entriesOf}
 use Rattle.passes.specs.Item.{itemsOf}
 use Rattle.passes.specs.Decide.{shownOf}
 use Rattle.passes.proofs.Deciding.{mixed-settled, mixed-solid, mixed-paint}
-use borrow.Author.Needs.{needs}
 use Rattle.passes.proofs.decide.mix.Statement.{statement}
 use Rattle.passes.proofs.decide.mix.Tie as tie
-use Rattle.passes.proofs.decide.mix.Reads as reads
-use Rattle.passes.proofs.decide.mix.Lts as lts
-use Rattle.passes.proofs.decide.are_solid.Reads as are-solid-reads
 
--- src/decide.rt:116:25
 enum-known-bottom : tie.Need-enum-known-bottom
 enum-known-bottom c = search needs
 
--- src/decide.rt:117:23
 enum-known-bottom-2 : tie.Need-enum-known-bottom-2
 enum-known-bottom-2 c = search needs
 
--- src/decide.rt:118:16
 are-solid-requires : tie.Need-are-solid-requires
 are-solid-requires c κs = search needs
 
--- src/decide.rt:100:1
 returns : tie.Need-returns
 returns c = mixed-settled _ (c .before .bottom .given .1)
 
--- src/decide.rt:100:1
 returns-2 : tie.Need-returns-2
 returns-2 c = let a = c .before .before .before .before .before .before .before .before .before .before .args in mixed-solid (shownOf (a .skipped) (itemsOf (tableOf (a .layers .now) (a .colors .now) (a .count)) (entriesOf (a .n) (a .ids .now) (a .covers .now) (a .segments .now))) (a .shown .now)) (c .before .before .before .bottom2 .given .1) (c .before .are-solid .ensures) (c .if1 .taken)
 
--- src/decide.rt:100:1
 returns-3 : tie.Need-returns-3
 returns-3 c = let a = c .before .before .before .before .before .before .before .before .before .before .args in mixed-paint (shownOf (a .skipped) (itemsOf (tableOf (a .layers .now) (a .colors .now) (a .count)) (entriesOf (a .n) (a .ids .now) (a .covers .now) (a .segments .now))) (a .shown .now)) (c .before .before .before .bottom2 .given .1) (c .before .are-solid .ensures) (c .if1 .left)
 

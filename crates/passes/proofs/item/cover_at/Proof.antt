@@ -1,14 +1,11 @@
 -- `passes::item::cover_at` meets its contract. Assumes nothing.
-use mathlib.Core.Path.{_≡_, refl}
-use Prim.Native.Nat.{_-_, _*_}
+use Prim.Native.Nat.{_-_}
 use native.Mathlib.Omega.{arith}
 use mir.Syntax.{w8}
 use Rattle.laws.proofs.Machine.{kept}
-use Rattle.passes.proofs.Listing.{Taking, take-start, take-next, take-long, take-end}
+use Rattle.passes.proofs.Listing.{Taking, take-start, take-next, take-end}
 use Rattle.passes.proofs.item.cover_at.Statement.{statement}
 use Rattle.passes.proofs.item.cover_at.Tie as tie
-use Rattle.passes.proofs.item.cover_at.Reads as reads
-use Rattle.passes.proofs.item.cover_at.Lts as lts
 
 abbrev Inv-loop : tie.InvT-loop
 Inv-loop covers i from taken₀ y₀ taken y = Taking covers i y taken
@@ -16,39 +13,30 @@ Inv-loop covers i from taken₀ y₀ taken y = Taking covers i y taken
 abbrev μ-loop : tie.MeasureT-loop
 μ-loop covers i from taken₀ y₀ taken y = 16 - y
 
--- src/item.rt:28:16
 mul-from : tie.Need-mul-from Inv-loop μ-loop
 mul-from c = omega arith
 
--- src/item.rt:31:5
 loop-holds : tie.Need-loop-holds Inv-loop μ-loop
 loop-holds c = take-start
 
--- src/item.rt:32:27
 add-taken : tie.Need-add-taken Inv-loop μ-loop
 add-taken c = omega arith
 
--- src/item.rt:32:20
 shared-slice-copy-out-taken : tie.Need-shared-slice-copy-out-taken Inv-loop μ-loop
 shared-slice-copy-out-taken c = omega arith
 
--- src/item.rt:32:9
 array-set-from-taken : tie.Need-array-set-from-taken Inv-loop μ-loop
 array-set-from-taken c = omega arith
 
--- src/item.rt:33:9
 add-y : tie.Need-add-y Inv-loop μ-loop
 add-y c = omega arith
 
--- src/item.rt:31:5
 loop-less : tie.Need-loop-less Inv-loop μ-loop
 loop-less c = omega arith
 
--- src/item.rt:31:5
 loop-again : tie.Need-loop-again Inv-loop μ-loop
 loop-again c = take-next (c .before .before .loop .inv) (c .before .loop-test .taken) (kept w8 _ (c .taken .given))
 
--- src/item.rt:24:1
 returns : tie.Need-returns Inv-loop μ-loop
 returns c = take-end (c .before .loop .inv) (c .loop-test .left)
 

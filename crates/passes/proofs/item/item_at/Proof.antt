@@ -1,59 +1,43 @@
 -- `passes::item::item_at` meets its contract. Assumes nothing.
 use native.Mathlib.Omega.{arith}
+use borrow.Author.Needs.{needs}
 use Rattle.styling.specs.Table.{tableOf}
 use Rattle.styling.proofs.Looking.{at-place, at-none}
 use Rattle.passes.specs.Entry.{entryAt}
 use Rattle.passes.proofs.Listing.{item-found, item-missing}
-use borrow.Author.Needs.{needs}
 use Rattle.passes.proofs.item.item_at.Statement.{statement}
 use Rattle.passes.proofs.item.item_at.Tie as tie
-use Rattle.passes.proofs.item.item_at.Reads as reads
-use Rattle.passes.proofs.item.item_at.Lts as lts
-use Rattle.passes.proofs.item.cover_at.Reads as cover-at-reads
-use Rattle.passes.proofs.item.item_for.Reads as item-for-reads
-use Rattle.styling.proofs.table.find.Reads as find-reads
-use Rattle.styling.proofs.table.layer_at.Reads as layer-at-reads
 
--- src/item.rt:66:14
 mul-id : tie.Need-mul-id
 mul-id c = search needs
 
--- src/item.rt:66:14
 shared-slice-read-id : tie.Need-shared-slice-read-id
 shared-slice-read-id c = search needs
 
--- src/item.rt:67:11
 find-requires : tie.Need-find-requires
 find-requires c κs = search needs
 
--- src/item.rt:68:19
 enum-known-p : tie.Need-enum-known-p
 enum-known-p c = search needs
 
--- src/item.rt:69:17
 layer-at-requires : tie.Need-layer-at-requires
 layer-at-requires c κs =
     let a = c .before .before .before .before .before .before .before .before .before in
     let found = at-place {floats = a .args .colors .now} (c .before .p .given .1) (c .before .before .before .find .ensures) (a .pre .1 .ascending) in
     omega (arith, found .within, a .pre .1 .words-long, a .pre .1 .floats-long)
 
--- src/item.rt:70:33
 cover-at-requires : tie.Need-cover-at-requires
 cover-at-requires c κs = search needs
 
--- src/item.rt:70:54
 shared-slice-read-item-for : tie.Need-shared-slice-read-item-for
 shared-slice-read-item-for c = search needs
 
--- src/item.rt:70:13
 item-for-requires : tie.Need-item-for-requires
 item-for-requires c κs = search needs
 
--- src/item.rt:75:19
 enum-told : tie.Need-enum-told
 enum-told c = search needs
 
--- src/item.rt:53:1
 returns : tie.Need-returns
 returns c =
     let a = c .before .before .before .before .before .before .before .before .before .before .before .before .before in
@@ -65,7 +49,6 @@ returns c =
     (c .before .before .cover-at .ensures)
     (found .looked)
 
--- src/item.rt:53:1
 returns-2 : tie.Need-returns-2
 returns-2 c =
     let a = c .before .before .before .before .before .before .before .before in

@@ -2,15 +2,10 @@
 use borrow.Author.Needs.{needs}
 use Rattle.passes.proofs.item.item_for.Statement.{statement}
 use Rattle.passes.proofs.item.item_for.Tie as tie
-use Rattle.passes.proofs.item.item_for.Reads as reads
-use Rattle.passes.proofs.item.item_for.Lts as lts
-use Rattle.cover.proofs.Cover.is_full.Reads as is-full-reads
 
--- src/item.rt:46:31
 is-full-requires : tie.Need-is-full-requires
 is-full-requires c κs = search needs
 
--- src/item.rt:38:1
 returns : tie.Need-returns
 returns c = rw (c .is-full .ensures)
 

@@ -11,9 +11,6 @@ use Rattle.passes.specs.Item.{itemsOf}
 use Rattle.passes.proofs.Listing.{length-items, item-read}
 use Rattle.passes.proofs.unchanged.are_unchanged.Statement.{statement}
 use Rattle.passes.proofs.unchanged.are_unchanged.Tie as tie
-use Rattle.passes.proofs.unchanged.are_unchanged.Reads as reads
-use Rattle.passes.proofs.unchanged.are_unchanged.Lts as lts
-use Rattle.passes.proofs.item.item_at.Reads as item-at-reads
 
 abbrev isUnchanged : Item → Bool
 isUnchanged x = x .unchanged
@@ -24,23 +21,18 @@ Inv-loop ids covers segments n layers colors count ok₀ i₀ ok i = Testing isU
 abbrev μ-loop : tie.MeasureT-loop
 μ-loop ids covers segments n layers colors count ok₀ i₀ ok i = n - i
 
--- src/unchanged.rt:32:5
 loop-holds : tie.Need-loop-holds Inv-loop μ-loop
 loop-holds c = test-start (length-items _ _ _ _ _)
 
--- src/unchanged.rt:33:13
 item-at-requires : tie.Need-item-at-requires Inv-loop μ-loop
 item-at-requires c κs = let a = c .before .before .before .before .before .before in (a .pre .0, a .pre .1, c .loop-test .taken)
 
--- src/unchanged.rt:35:9
 add-i : tie.Need-add-i Inv-loop μ-loop
 add-i c = omega arith
 
--- src/unchanged.rt:32:5
 loop-less : tie.Need-loop-less Inv-loop μ-loop
 loop-less c = omega arith
 
--- src/unchanged.rt:32:5
 loop-again : tie.Need-loop-again Inv-loop μ-loop
 loop-again c =
     let read = c .before in
@@ -49,7 +41,6 @@ loop-again c =
     test-next _ (turn .before .loop .inv) (turn .loop-test .taken)
     (ap isUnchanged (item-read (tableOf (a .layers .now) (a .colors .now) (a .count)) (a .n) (a .ids .now) (a .covers .now) (a .segments .now) (turn .before .loop .i) (turn .loop-test .taken) (read .item-at .ensures)))
 
--- src/unchanged.rt:18:1
 returns : tie.Need-returns Inv-loop μ-loop
 returns c = test-end (c .before .loop .inv) (c .loop-test .left)
 

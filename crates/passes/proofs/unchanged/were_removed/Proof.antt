@@ -1,30 +1,23 @@
 -- `passes::unchanged::were_removed` meets its contract. Assumes nothing.
 use mathlib.Core.Path.{sym, ap}
+use borrow.Author.Needs.{needs}
 use Rattle.passes.specs.declared.unchanged.PreviousCount.{PreviousCount}
 use Rattle.passes.specs.Unchanged.{wereRemoved}
-use borrow.Author.Needs.{needs}
 use Rattle.passes.proofs.unchanged.were_removed.Statement.{statement}
 use Rattle.passes.proofs.unchanged.were_removed.Tie as tie
-use Rattle.passes.proofs.unchanged.were_removed.Reads as reads
-use Rattle.passes.proofs.unchanged.were_removed.Lts as lts
 
--- src/unchanged.rt:72:34
 enum-told : tie.Need-enum-told
 enum-told c = search needs
 
--- src/unchanged.rt:73:29
 enum-known-previous : tie.Need-enum-known-previous
 enum-known-previous c = search needs
 
--- src/unchanged.rt:73:39
 cast-result : tie.Need-cast-result
 cast-result c = search needs
 
--- src/unchanged.rt:68:1
 returns : tie.Need-returns
 returns c = search needs
 
--- src/unchanged.rt:68:1
 returns-2 : tie.Need-returns-2
 returns-2 c = sym (ap (λ (p : PreviousCount). wereRemoved p (c .before .before .before .args .n)) (c .before .previous .given .1))
 

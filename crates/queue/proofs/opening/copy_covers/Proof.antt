@@ -1,8 +1,8 @@
 -- `queue::opening::copy_covers` meets its contract. Assumes nothing.
 use Prim.Native.Nat.{_-_}
+use native.Mathlib.Omega.{arith}
 use lib.IntN.{pos}
 use mir.Syntax.{w8}
-use native.Mathlib.Omega.{arith}
 use Rattle.laws.proofs.Machine.{kept}
 use Rattle.queue.proofs.Copying.{Copying, copy-start, copy-next, copy-end}
 use Rattle.queue.proofs.opening.copy_covers.Statement.{statement}

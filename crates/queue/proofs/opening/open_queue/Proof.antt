@@ -1,7 +1,7 @@
 -- `queue::opening::open_queue` meets its contract. Assumes nothing.
 use mathlib.Core.Path.{refl, ap}
-use lib.IntN.{natAbs}
 use borrow.Author.Needs.{needs}
+use lib.IntN.{natAbs}
 use Rattle.cover.proofs.Filled.{getD-default}
 use Rattle.queue.proofs.Gathering.{opens}
 use Rattle.queue.proofs.opening.open_queue.Statement.{statement}

@@ -1,11 +1,11 @@
 -- `queue::sums::add_segment` meets its contract. Assumes nothing.
 use mathlib.Core.Path.{_≡_}
+use native.Mathlib.Omega.{arith}
+use borrow.Author.Needs.{needs}
 use lib.IntN.{pos}
 use lib.ListN.{getD}
 use mir.Facts.{toZ-ofZ}
 use mir.Syntax.{w8}
-use borrow.Author.Needs.{needs}
-use native.Mathlib.Omega.{arith}
 use Rattle.laws.proofs.Machine.{small, kept}
 use Rattle.queue.specs.Sums.{loadWith}
 use Rattle.queue.proofs.Placing.{placed-light, placed-heavy, sum-fits}

@@ -1,9 +1,9 @@
 -- `queue::sums::add_segments` meets its contract. What holds at a word is `Tallying`. Assumes nothing.
 use mathlib.Core.Path.{_≡_, refl, sym, _∙_}
 use Prim.Native.Nat.{_-_}
+use native.Mathlib.Omega.{arith}
 use borrow.Author.Tests.{not-true, not-false}
 use lib.ListN.{length, getD}
-use native.Mathlib.Omega.{arith}
 use Rattle.cover.proofs.Filled.{getD-default}
 use Rattle.queue.proofs.Summing.{keyOf, ascending, start, end, refuse}
 use Rattle.queue.proofs.Tallying.{Tallying, tally-placing, tally-next}

@@ -1,7 +1,7 @@
 -- `queue::sums::load_with` meets its contract. Assumes nothing.
-use mir.Facts.{toZ-ofZ}
-use borrow.Author.Needs.{needs}
 use native.Mathlib.Omega.{arith}
+use borrow.Author.Needs.{needs}
+use mir.Facts.{toZ-ofZ}
 use Rattle.queue.proofs.sums.load_with.Statement.{statement}
 use Rattle.queue.proofs.sums.load_with.Tie as tie
 

@@ -1,11 +1,9 @@
 -- `queue::sums::place_of` meets its contract. Assumes nothing.
-use mathlib.Core.Path.{_≡_}
 use Prim.Native.Nat.{_≤_}
+use native.Mathlib.Omega.{arith}
+use borrow.Author.Needs.{needs}
 use lib.ListN.{take}
 use lib.Seq.{length-take-le}
-use borrow.Author.Needs.{needs}
-use native.Mathlib.Omega.{arith}
-use Rattle.pixel_segment.specs.Field.{cpu, layerIdOf}
 use Rattle.queue.specs.Sums.{keyIn}
 use Rattle.queue.proofs.Ranks.{ranked}
 use Rattle.queue.proofs.sums.place_of.Statement.{statement}
