@@ -1,14 +1,15 @@
 -- The list that three lent columns and a table are: its length and its items. Assumes nothing.
-use mathlib.Core.Path.{_≡_, refl, sym, ap, _∙_}
+use mathlib.Core.Path.{_≡_, sym, ap, _∙_}
 use mathlib.Core.Bool.{Bool, false}
 use mathlib.Core.List.{List, _∷_}
 use Prim.Native.Nat.{ℕ, suc, _+_, _*_, _≤_, _<_}
 use native.Mathlib.Omega.{arith}
 use lib.IntN.{ℤ, pos}
-use lib.ListN.{length, getD, drop, set, replicate}
+use lib.ListN.{length, getD, drop}
 use Rattle.laws.specs.Lists.{tabulate}
-use Rattle.laws.proofs.Rows.{filled, length-tabulate, getD-tabulate, length-filled, filled-more}
-use Rattle.cover.proofs.Filled.{filled-whole}
+use Rattle.laws.proofs.Rows.{is-tabulate, length-tabulate, getD-tabulate}
+use Rattle.cover.specs.Entry.{entryOf}
+use Rattle.cover.proofs.Entries.{entry-length, entry-at}
 use Rattle.laws.specs.Answer.{given, refused}
 use Rattle.styling.specs.declared.Layer.{Layer}
 use Rattle.styling.specs.declared.Func.the-variants.{Clip}
@@ -18,6 +19,14 @@ use Rattle.passes.specs.Entry.{Entry, coverFrom, entryAt, entriesOf}
 use Rattle.passes.specs.Covered.{itemAt}
 use Rattle.passes.specs.Item.{itemFor, itemOf, itemsOf}
 use Rattle.passes.specs.declared.item.Item.{Item}
+
+-- the cover of an entry, as `read_cover` gives it
+pub cover-entry : (covers : List ℤ) (i : ℕ) → i * 16 + 16 ≤ length covers → coverFrom covers i ≡ entryOf 16 i covers
+unfolding coverFrom
+cover-entry covers i h =
+    sym
+    (is-tabulate 16 (λ y. getD covers (16 * i + y) (pos 0)) (pos 0) (entryOf 16 i covers) (entry-length 16 i covers h)
+    (λ y p. entry-at 16 i covers y p ∙ ap (λ (k : ℕ). getD covers k (pos 0)) (omega arith)))
 
 -- ---- the item of an entry: its layer is found in the table, or missing
 
@@ -52,34 +61,3 @@ module _ (table : List Layer) (n : ℕ) (ids : List ℕ) (covers : List ℤ) (se
   -- what is left of the list, an item at a time
   pub drop-items : (i : ℕ) → i < n → drop i (itemsOf table (entriesOf n ids covers segments)) ≡ itemIn i ∷ drop (suc i) (itemsOf table (entriesOf n ids covers segments))
   drop-items i h = rw items-tabulated (drop-tabulate n itemIn i h)
-
--- ---- a cover that is read from the column, y rows so far
-
-pub record Taking (covers : List ℤ) (i y : ℕ) (taken : List ℤ) : Type 0 where
-  pub reached : y ≤ 16
-  pub same : taken ≡ filled (replicate 16 (pos 0)) (coverFrom covers i) y
-
-module _ {covers : List ℤ} {i : ℕ} where
-  pub take-start : Taking covers i 0 (replicate 16 (pos 0))
-  take-start = record { reached = omega arith; same = refl }
-
-  pub take-next : {y : ℕ} {taken : List ℤ} {z : ℤ} → Taking covers i y taken → y < 16 → z ≡ getD covers (16 * i + y) (pos 0) → Taking covers i (y + 1) (set taken y z)
-  unfolding coverFrom
-  take-next {y} {taken} {z} c h e =
-      let at : z ≡ getD (coverFrom covers i) y (pos 0) = e ∙ sym (getD-tabulate 16 (λ r. getD covers (16 * i + r) (pos 0)) (pos 0) y h) in record {
-        reached = omega arith;
-        same =
-            rw (c .same, at) (filled-more (replicate 16 (pos 0)) (coverFrom covers i) y (pos 0) (omega arith) (omega arith));
-      }
-
-  pub take-long : {y : ℕ} {taken : List ℤ} → Taking covers i y taken → length taken ≡ 16
-  unfolding coverFrom
-  take-long {y} c = rw (c .same) (length-filled (replicate 16 (pos 0)) (coverFrom covers i) y (c .reached) (c .reached))
-
-  pub take-end : {y : ℕ} {taken : List ℤ} → Taking covers i y taken → 16 ≤ y → taken ≡ coverFrom covers i
-  unfolding coverFrom
-  take-end {y} c h =
-      let done : y ≡ 16 = omega arith in
-      c .same
-      ∙ ap (filled (replicate 16 (pos 0)) (coverFrom covers i)) done
-      ∙ filled-whole (replicate 16 (pos 0)) (coverFrom covers i) 16 refl refl

@@ -65,16 +65,17 @@ fn are_solid(
     let mut left = below;
     let mut i = skipped;
     while i < n {
-        if shown[i] {
+        let at = i;
+        i += 1;
+        if shown[at] {
             if left == 0 {
-                let x = item::item_at(ids, covers, segments, n, layers, colors, count, i);
+                let x = item::item_at(ids, covers, segments, n, layers, colors, count, at);
                 let func = x.func;
                 ok = ok & is_color(func.solid_color());
             } else {
                 left -= 1;
             }
         }
-        i += 1;
     }
     ok
 }

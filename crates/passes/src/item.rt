@@ -1,15 +1,15 @@
 // What the passes read of a listed layer: its entry and its record in one value. A list is lent as three columns, the first n entries of which
 // count: layer ids, incoming covers (16 bytes an entry), and whether the layer has segments in the tile.
 use cover::Cover;
+use cover::entry;
 use styling::Func;
 use styling::Layer;
 use styling::table;
 use styling::table::Found;
 ghost use mathlib.Core.Path.{_≡_};
-ghost use Prim.Native.Nat.{_*_, _+_, _≤_, _<_};
-ghost use lib.ListN.{length};
+ghost use Prim.Native.Nat.{_<_};
 ghost use Rattle.styling.specs.Table.{Table, tableOf};
-ghost use Rattle.passes.specs.Entry.{coverFrom, entryAt};
+ghost use Rattle.passes.specs.Entry.{entryAt};
 ghost use Rattle.passes.specs.Item.{itemFor, itemOf, Columns};
 
 pub struct Item {
@@ -18,21 +18,6 @@ pub struct Item {
     pub full: bool,
     pub func: Func,
     pub unchanged: bool,
-}
-
-// The incoming cover of entry i.
-fn cover_at(covers: &[i8], i: usize) -> Cover
-    requires { ⌜ 16 * i + 16 ≤ length (now covers) ⌝ }
-    ensures { λ r. ⌜ r .covers ≡ coverFrom (now (covers .entry)) i ⌝ }
-{
-    let from = 16 * i;
-    let mut taken = [0i8; 16];
-    let mut y: usize = 0;
-    while y < 16 {
-        taken[y] = covers[from + y];
-        y += 1;
-    }
-    Cover { covers: taken }
 }
 
 fn item_for(layer: Layer, id: u32, cover: Cover, has_segments: bool) -> Item
@@ -67,7 +52,7 @@ pub fn item_at(
     match table::find(layers, count, id) {
         Found::At(p) => {
             let layer = table::layer_at(layers, colors, p);
-            item_for(layer, id, cover_at(covers, i), segments[i])
+            item_for(layer, id, entry::read_cover(covers, i), segments[i])
         }
         Found::Absent => Item {
             id: id,

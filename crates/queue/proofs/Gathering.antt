@@ -10,7 +10,8 @@ use lib.ListN.{length, take}
 use Rattle.laws.specs.Answer.{Answer, refused, given}
 use Rattle.laws.specs.Lists.{over}
 use Rattle.queue.specs.Queue.{idsIn, coversIn}
-use Rattle.queue.specs.Opening.{openQueue, writtenIf, Opens, countOf, listIf, Clear, Gathered}
+use Rattle.queue.specs.Opening.{openQueue, writtenIf, Opens}
+use Rattle.queue.specs.Gather.{countOf, listIf, Clear, Gathered}
 use Rattle.queue.specs.Insert.{Collected}
 use Rattle.queue.specs.Sums.{Summing, Summed}
 

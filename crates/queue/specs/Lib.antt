@@ -2,5 +2,6 @@
 pub mod Queue
 pub mod Rank
 pub mod Opening
+pub mod Gather
 pub mod Insert
 pub mod Sums

@@ -3,10 +3,10 @@
 use mathlib.Core.Path.{_≡_}
 use mathlib.Core.Bool.{Bool, cond}
 use mathlib.Core.List.{List, [], _∷_}
-use Prim.Native.Nat.{ℕ, _*_, _≤_}
+use Prim.Native.Nat.{ℕ}
 use lib.Dec.{eqb, ltb}
-use lib.IntN.{ℤ, natAbs, _+ℤ_}
-use lib.ListN.{length, set, take}
+use lib.IntN.{ℤ, _+ℤ_}
+use lib.ListN.{length, set}
 use Rattle.laws.specs.Answer.{Answer, refused, given}
 use Rattle.laws.specs.Lists.{all, over, filter}
 use Rattle.pixel_segment.specs.Field.{cpu, layerIdOf, localYOf, coverOf}
@@ -65,24 +65,3 @@ pub record Opens (left : List ℕ) (oldIds : List ℕ) (oldCovers : List ℤ) (r
   pub answer : r ≡ openAnswer left
   pub ids-are : ids ≡ writtenIf (openAnswer left) (idsIn (openQueue left)) oldIds
   pub covers-are : covers ≡ writtenIf (openAnswer left) (coversIn (openQueue left)) oldCovers
-
--- ---- how the code goes about it: the queue in columns of its own first
-
--- how many carries are written
-abbrev pub countOf : Answer ℕ → ℕ
-countOf (refused n) = 0
-countOf (given n) = n
-
--- a column that is written, or nothing
-abbrev pub listIf {ℓ} : {A : Type ℓ} → Answer ℕ → List A → List A
-listIf (refused n) new = []
-listIf (given n) new = new
-
-pub record Clear (covers : List ℤ) : Type 0 where
-  pub at : (place : ℕ) → natAbs (coverAt covers place) ≡ 0
-
-pub record Gathered (left : List ℕ) (r : Answer ℕ) (ids : List ℕ) (covers : List ℤ) : Type 0 where
-  pub answer : r ≡ openAnswer left
-  pub few : countOf r ≤ 256
-  pub ids-are : take (countOf r) ids ≡ listIf r (idsIn (openQueue left))
-  pub covers-are : take (countOf r * 16) covers ≡ listIf r (coversIn (openQueue left))

@@ -11,7 +11,8 @@ use Rattle.pixel_segment.specs.Field.{cpu, layerIdOf, localYOf, coverOf}
 use Rattle.cover.specs.Carry.{absCover}
 use Rattle.cover.specs.Cover.{coverAt}
 use Rattle.queue.specs.Queue.{idsIn, coversIn}
-use Rattle.queue.specs.Opening.{openQueue, isLightOpening, Clear}
+use Rattle.queue.specs.Opening.{openQueue, isLightOpening}
+use Rattle.queue.specs.Gather.{Clear}
 use Rattle.queue.specs.Rank.{rankOf}
 
 -- the place of a word's sum: its layer's entry, its pixel row

@@ -6,7 +6,8 @@ ghost use Prim.Native.Nat.{_≤_};
 ghost use lib.ListN.{length, take};
 ghost use Rattle.laws.specs.Lists.{over};
 ghost use Rattle.queue.specs.Queue.{Room};
-ghost use Rattle.queue.specs.Opening.{openingAnswer, countOf, Opens, Clear, Gathered};
+ghost use Rattle.queue.specs.Opening.{openingAnswer, Opens};
+ghost use Rattle.queue.specs.Gather.{countOf, Clear, Gathered};
 
 // What an opening answers: how many carries, or refusal 7 or 9.
 pub enum Opening {

@@ -27,13 +27,17 @@ loop-holds : tie.Need-loop-holds Inv-loop μ-loop
 loop-holds c = pass-start
 
 item-at-requires : tie.Need-item-at-requires Inv-loop μ-loop
-item-at-requires c κs = let a = c .before .before .before .before .before .before .before .before .before .before .before .before .before .before .before .before in (a .pre .0, a .pre .1, c .loop-test .taken)
+item-at-requires c κs =
+    let a = c .before .before .before .before .before .before .before .before .before .before .before .before .before .before .before .before in
+    (a .pre .0, a .pre .1, c .loop-test .taken)
 
 clip-step-requires : tie.Need-clip-step-requires Inv-loop μ-loop
 clip-step-requires c κs = tt
 
 mark-requires : tie.Need-mark-requires Inv-loop μ-loop
-mark-requires c κs = let l = c .before .before .before .before .before in omega (arith, c .before .before .before .before .loop-test .taken, l .loop .inv .unclipped-same, l .before .before .before .fill2 .kept .0, l .before .before .before .before .before .before .before .before .before .before .before .before .before .before .before .pre .3)
+mark-requires c κs =
+    let l = c .before .before .before .before .before in
+    omega (arith, c .before .before .before .before .loop-test .taken, l .loop .inv .unclipped-same, l .before .before .before .fill2 .kept .0, l .before .before .before .before .before .before .before .before .before .before .before .before .before .before .before .pre .3)
 
 add-i : tie.Need-add-i Inv-loop μ-loop
 add-i c = omega (arith, c .before .before .before .before .before .before .before .before .before .loop-test .taken, c .before .before .before .before .before .before .before .before .before .before .before .before .before .before .before .before .before .before .before .before .before .before .before .before .before .fits .n)

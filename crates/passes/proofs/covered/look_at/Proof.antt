@@ -17,7 +17,9 @@ skip-to-requires : tie.Need-skip-to-requires
 skip-to-requires c κs = search needs
 
 returns : tie.Need-returns
-returns c = let a = c .before .before .before .before .before .before .before .args in looked (a .x) (a .unclipped) (a .i) (a .found) (c .before .before .before .before .before .tells .ensures) (c .before .before .before .before .first-of .ensures) (c .before .before .before .hides .ensures) (c .before .before .skip-to .ensures)
+returns c =
+    let a = c .before .before .before .before .before .before .before .args in
+    looked (a .x) (a .unclipped) (a .i) (a .found) (c .before .before .before .before .before .tells .ensures) (c .before .before .before .before .first-of .ensures) (c .before .before .before .hides .ensures) (c .before .before .skip-to .ensures)
 
 pub look-at-spec : {M : Type 1} → statement M
 look-at-spec =

@@ -26,7 +26,9 @@ shared-slice-read-if1 : tie.Need-shared-slice-read-if1 Inv-loop μ-loop
 shared-slice-read-if1 c = omega (arith, c .before .before .before .before .before .before .before .before .before .pre .2)
 
 item-at-requires : tie.Need-item-at-requires Inv-loop μ-loop
-item-at-requires c κs = let a = c .before .before .before .before .before .before .before .before .before .before in (a .pre .0, a .pre .1, omega (arith, c .before .before .before .loop .inv .reached, c .before .before .loop-test .taken))
+item-at-requires c κs =
+    let a = c .before .before .before .before .before .before .before .before .before .before in
+    (a .pre .0, a .pre .1, omega (arith, c .before .before .before .loop .inv .reached, c .before .before .loop-test .taken))
 
 shared-slice-read-look-at : tie.Need-shared-slice-read-look-at Inv-loop μ-loop
 shared-slice-read-look-at c = omega (arith, c .before .before .before .before .before .loop .inv .reached, c .before .before .before .before .loop-test .taken, c .before .before .before .before .before .before .before .before .before .before .before .before .pre .3)

@@ -20,10 +20,14 @@ to-opaque-requires : tie.Need-to-opaque-requires
 to-opaque-requires c κs = search needs
 
 returns-2 : tie.Need-returns-2
-returns-2 c = let a = c .before .before .before .before .before .before .args in tells-opaque (a .x) (a .unclipped) (c .before .solid-color .result) (c .before .before .before .before .before .is-partial .ensures) (c .before .before .before .before .if1 .left) (c .before .before .before .is-opaque .ensures) (c .before .before .if2 .taken) (c .before .solid-color .ensures) (c .to-opaque .ensures)
+returns-2 c =
+    let a = c .before .before .before .before .before .before .args in
+    tells-opaque (a .x) (a .unclipped) (c .before .solid-color .result) (c .before .before .before .before .before .is-partial .ensures) (c .before .before .before .before .if1 .left) (c .before .before .before .is-opaque .ensures) (c .before .before .if2 .taken) (c .before .solid-color .ensures) (c .to-opaque .ensures)
 
 returns-3 : tie.Need-returns-3
-returns-3 c = let a = c .before .before .before .before .args in tells-nothing (a .x) (a .unclipped) (c .before .before .before .is-partial .ensures) (c .before .before .if1 .left) (c .before .is-opaque .ensures) (c .if2 .left)
+returns-3 c =
+    let a = c .before .before .before .before .args in
+    tells-nothing (a .x) (a .unclipped) (c .before .before .before .is-partial .ensures) (c .before .before .if1 .left) (c .before .is-opaque .ensures) (c .if2 .left)
 
 pub tells-spec : {M : Type 1} → statement M
 tells-spec =

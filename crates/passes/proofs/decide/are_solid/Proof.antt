@@ -1,6 +1,5 @@
 -- `passes::decide::are_solid` meets its contract. Assumes nothing.
 use mathlib.Core.Path.{ap, _∙_}
-use mathlib.Core.Logic.{⊎-elim}
 use Prim.Native.Nat.{_-_}
 use native.Mathlib.Omega.{arith}
 use Rattle.styling.specs.Style.{solidColor}
@@ -24,11 +23,16 @@ abbrev μ-loop : tie.MeasureT-loop
 loop-holds : tie.Need-loop-holds Inv-loop μ-loop
 loop-holds c = mix-start
 
+add-i : tie.Need-add-i Inv-loop μ-loop
+add-i c = omega (arith, c .loop-test .taken, c .before .before .before .before .before .before .before .fits .n)
+
 shared-slice-read-if1 : tie.Need-shared-slice-read-if1 Inv-loop μ-loop
 shared-slice-read-if1 c = omega (arith, c .before .loop-test .taken, c .before .before .before .before .before .before .before .before .pre .2)
 
 item-at-requires : tie.Need-item-at-requires Inv-loop μ-loop
-item-at-requires c κs = let a = c .before .before .before .before .before .before .before .before .before .before in (a .pre .0, a .pre .1, c .before .before .before .loop-test .taken)
+item-at-requires c κs =
+    let a = c .before .before .before .before .before .before .before .before .before .before in
+    (a .pre .0, a .pre .1, c .before .before .before .loop-test .taken)
 
 solid-color-requires : tie.Need-solid-color-requires Inv-loop μ-loop
 solid-color-requires c κs = tt
@@ -36,35 +40,38 @@ solid-color-requires c κs = tt
 is-color-requires : tie.Need-is-color-requires Inv-loop μ-loop
 is-color-requires c κs = tt
 
-sub-left : tie.Need-sub-left Inv-loop μ-loop
-sub-left c = omega (arith, c .if2 .left)
-
-add-i : tie.Need-add-i Inv-loop μ-loop
-add-i c = omega (arith, c .before .before .loop-test .taken, c .before .before .before .before .before .before .before .before .before .fits .n)
-
 loop-less : tie.Need-loop-less Inv-loop μ-loop
-loop-less c = omega (arith, c .before .before .loop-test .taken)
+loop-less c = omega (arith, c .before .before .before .before .before .before .loop-test .taken)
 
 loop-again : tie.Need-loop-again Inv-loop μ-loop
 loop-again c =
+    let turn = c .before .before .before .before .before .before in
+    let a = turn .before .before .before .before .before .before .before in
+    mix-look (turn .before .loop .inv) (length-items _ _ _ _ _) (a .pre .2) (turn .loop-test .taken) (c .before .before .before .before .if1 .taken) (c .before .before .before .if2 .taken)
+    (c .is-color .ensures
+    ∙ ap hasColor (c .before .solid-color .ensures)
+    ∙ ap (λ (x : Item). hasColor (solidColor (x .func))) (item-read (tableOf (a .args .layers .now) (a .args .colors .now) (a .args .count)) (a .args .n) (a .args .ids .now) (a .args .covers .now) (a .args .segments .now) (turn .before .loop .i) (turn .loop-test .taken) (c .before .before .item-at .ensures)))
+
+sub-left : tie.Need-sub-left Inv-loop μ-loop
+sub-left c = omega (arith, c .if2 .left)
+
+loop-less-2 : tie.Need-loop-less-2 Inv-loop μ-loop
+loop-less-2 c = omega (arith, c .before .before .before .loop-test .taken)
+
+loop-again-2 : tie.Need-loop-again-2 Inv-loop μ-loop
+loop-again-2 c =
+    let turn = c .before .before .before in
+    let a = turn .before .before .before .before .before .before .before in
+    mix-below (turn .before .loop .inv) (length-items _ _ _ _ _) (a .pre .2) (turn .loop-test .taken) (c .before .if1 .taken) (c .if2 .left)
+
+loop-less-3 : tie.Need-loop-less-3 Inv-loop μ-loop
+loop-less-3 c = omega (arith, c .before .before .loop-test .taken)
+
+loop-again-3 : tie.Need-loop-again-3 Inv-loop μ-loop
+loop-again-3 c =
     let turn = c .before .before in
-    let inv = turn .before .loop .inv in
-    let p = turn .loop-test .taken in
-    let a = turn .before .before .before .before .before .before .before .args in
-    let long = turn .before .before .before .before .before .before .before .pre .2 in
-    let table = tableOf (a .layers .now) (a .colors .now) (a .count) in
-    ⊎-elim
-    (λ w.
-    rw (w .5, w .6)
-    (mix-look inv (length-items _ _ _ _ _) long p (w .0 .taken) (w .1 .taken)
-    (w .4 .ensures
-    ∙ ap hasColor (w .3 .ensures)
-    ∙ ap (λ (x : Item). hasColor (solidColor (x .func))) (item-read table (a .n) (a .ids .now) (a .covers .now) (a .segments .now) (turn .before .loop .i) p (w .2 .ensures)))))
-    (λ w.
-    ⊎-elim (λ u. rw (u .2, u .3) (mix-below inv (length-items _ _ _ _ _) long p (u .0 .taken) (u .1 .left)))
-    (λ u. rw (u .1, u .2) (mix-masked inv (length-items _ _ _ _ _) long p (u .0 .left)))
-    w)
-    (c .if1 .came)
+    let a = turn .before .before .before .before .before .before .before in
+    mix-masked (turn .before .loop .inv) (length-items _ _ _ _ _) (a .pre .2) (turn .loop-test .taken) (c .if1 .left)
 
 returns : tie.Need-returns Inv-loop μ-loop
 returns c = mix-end (c .before .loop .inv) (length-items _ _ _ _ _) (c .loop-test .left)
@@ -76,12 +83,16 @@ are-solid-spec =
     Inv-loop
     μ-loop
     loop-holds
+    add-i
     shared-slice-read-if1
     item-at-requires
     solid-color-requires
     is-color-requires
-    sub-left
-    add-i
     loop-less
     loop-again
+    sub-left
+    loop-less-2
+    loop-again-2
+    loop-less-3
+    loop-again-3
     returns)

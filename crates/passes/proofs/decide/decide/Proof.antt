@@ -18,7 +18,9 @@ same-length : tie.Need-same-length
 same-length c = search needs
 
 returns : tie.Need-returns
-returns c = let a = c .before .before .before .before .before .before .before .before .before .before .before .args in decided-kept (itemsOf (tableOf (a .layers .now) (a .colors .now) (a .count)) (entriesOf (a .n) (a .ids .now) (a .covers .now) (a .segments .now))) (a .previous) (a .clear) (a .clear-unchanged) (length-items _ _ _ _ _) (c .before .before .before .before .before .is-kept .ensures) (c .before .before .before .before .if1 .taken) (c .before .before .fill .ensures)
+returns c =
+    let a = c .before .before .before .before .before .before .before .before .before .before .before .args in
+    decided-kept (itemsOf (tableOf (a .layers .now) (a .colors .now) (a .count)) (entriesOf (a .n) (a .ids .now) (a .covers .now) (a .segments .now))) (a .previous) (a .clear) (a .clear-unchanged) (length-items _ _ _ _ _) (c .before .before .before .before .before .is-kept .ensures) (c .before .before .before .before .if1 .taken) (c .before .before .fill .ensures)
 
 were-removed-requires : tie.Need-were-removed-requires
 were-removed-requires c κs = search needs
@@ -30,7 +32,9 @@ same-length-2 : tie.Need-same-length-2
 same-length-2 c = search needs
 
 returns-2 : tie.Need-returns-2
-returns-2 c = let a = c .before .before .before .before .before .before .before .before .before .before .before .before .args in decided-all (itemsOf (tableOf (a .layers .now) (a .colors .now) (a .count)) (entriesOf (a .n) (a .ids .now) (a .covers .now) (a .segments .now))) (a .previous) (a .clear) (a .clear-unchanged) (length-items _ _ _ _ _) (c .before .before .before .before .before .before .is-kept .ensures) (c .before .before .before .before .before .if1 .left) (c .before .before .before .before .were-removed .ensures) (c .before .before .run-passes .ensures)
+returns-2 c =
+    let a = c .before .before .before .before .before .before .before .before .before .before .before .before .args in
+    decided-all (itemsOf (tableOf (a .layers .now) (a .colors .now) (a .count)) (entriesOf (a .n) (a .ids .now) (a .covers .now) (a .segments .now))) (a .previous) (a .clear) (a .clear-unchanged) (length-items _ _ _ _ _) (c .before .before .before .before .before .before .is-kept .ensures) (c .before .before .before .before .before .if1 .left) (c .before .before .before .before .were-removed .ensures) (c .before .before .run-passes .ensures)
 
 pub decide-spec : {M : Type 1} → statement M
 decide-spec =

@@ -1,6 +1,7 @@
 -- `passes::decide::decide_shown` meets its contract. Assumes nothing.
 use borrow.Author.Needs.{needs}
 use Rattle.styling.specs.Table.{tableOf}
+use Rattle.passes.specs.Covered.{coveredOf}
 use Rattle.passes.specs.Entry.{entriesOf}
 use Rattle.passes.specs.Item.{itemsOf}
 use Rattle.passes.proofs.Deciding.{decided}
@@ -17,7 +18,9 @@ mix-requires : tie.Need-mix-requires
 mix-requires c κs = search needs
 
 returns : tie.Need-returns
-returns c = let a = c .before .before .before .before .before .before .before .before .before .before .args in decided (a .clear) (itemsOf (tableOf (a .layers .now) (a .colors .now) (a .count)) (entriesOf (a .n) (a .ids .now) (a .covers .now) (a .segments .now))) (a .shown .now) (c .before .before .before .skip-fully-covered-layers-pass .ensures) (c .before .bottom-of .ensures) (c .mix .ensures)
+returns c =
+    let a = c .before .before .before .before .before .before .before .before .before .before .args in
+    decided {whole = coveredOf (itemsOf (tableOf (a .layers .now) (a .colors .now) (a .count)) (entriesOf (a .n) (a .ids .now) (a .covers .now) (a .segments .now))) (a .shown .now) (a .unclipped .now) (a .removed)} (a .clear) (itemsOf (tableOf (a .layers .now) (a .colors .now) (a .count)) (entriesOf (a .n) (a .ids .now) (a .covers .now) (a .segments .now))) (a .shown .now) (c .before .before .before .skip-fully-covered-layers-pass .ensures) (c .before .bottom-of .ensures) (c .mix .ensures)
 
 pub decide-shown-spec : {M : Type 1} → statement M
 decide-shown-spec =

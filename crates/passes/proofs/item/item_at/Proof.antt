@@ -1,10 +1,11 @@
 -- `passes::item::item_at` meets its contract. Assumes nothing.
+use mathlib.Core.Path.{sym, _∙_}
 use native.Mathlib.Omega.{arith}
 use borrow.Author.Needs.{needs}
 use Rattle.styling.specs.Table.{tableOf}
 use Rattle.styling.proofs.Looking.{at-place, at-none}
 use Rattle.passes.specs.Entry.{entryAt}
-use Rattle.passes.proofs.Listing.{item-found, item-missing}
+use Rattle.passes.proofs.Listing.{cover-entry, item-found, item-missing}
 use Rattle.passes.proofs.item.item_at.Statement.{statement}
 use Rattle.passes.proofs.item.item_at.Tie as tie
 
@@ -26,8 +27,8 @@ layer-at-requires c κs =
     let found = at-place {floats = a .args .colors .now} (c .before .p .given .1) (c .before .before .before .find .ensures) (a .pre .1 .ascending) in
     omega (arith, found .within, a .pre .1 .words-long, a .pre .1 .floats-long)
 
-cover-at-requires : tie.Need-cover-at-requires
-cover-at-requires c κs = search needs
+read-cover-requires : tie.Need-read-cover-requires
+read-cover-requires c κs = search needs
 
 shared-slice-read-item-for : tie.Need-shared-slice-read-item-for
 shared-slice-read-item-for c = search needs
@@ -46,7 +47,7 @@ returns c =
     (entryAt (a .args .ids .now) (a .args .covers .now) (a .args .segments .now) (a .args .i))
     (c .item-for .ensures)
     (c .before .before .before .layer-at .ensures)
-    (c .before .before .cover-at .ensures)
+    (c .before .before .read-cover .ensures ∙ sym (cover-entry (a .args .covers .now) (a .args .i) (omega (arith, a .pre .0 .covers-long, a .pre .2))))
     (found .looked)
 
 returns-2 : tie.Need-returns-2
@@ -66,7 +67,7 @@ item-at-spec =
     find-requires
     enum-known-p
     layer-at-requires
-    cover-at-requires
+    read-cover-requires
     shared-slice-read-item-for
     item-for-requires
     enum-told

@@ -25,7 +25,9 @@ loop-holds : tie.Need-loop-holds Inv-loop μ-loop
 loop-holds c = test-start (length-items _ _ _ _ _)
 
 item-at-requires : tie.Need-item-at-requires Inv-loop μ-loop
-item-at-requires c κs = let a = c .before .before .before .before .before .before in (a .pre .0, a .pre .1, c .loop-test .taken)
+item-at-requires c κs =
+    let a = c .before .before .before .before .before .before in
+    (a .pre .0, a .pre .1, c .loop-test .taken)
 
 add-i : tie.Need-add-i Inv-loop μ-loop
 add-i c = omega arith

@@ -1,0 +1,15 @@
+-- `cached::count_if` meets its contract. Assumes nothing.
+use borrow.Author.Needs.{needs}
+use Rattle.ffi.proofs.cached.count_if.Statement.{statement}
+use Rattle.ffi.proofs.cached.count_if.Tie as tie
+use Rattle.ffi.proofs.cached.count_if.Reads as reads
+use Rattle.ffi.proofs.cached.count_if.Lts as lts
+
+returns : tie.Need-returns
+returns c = rw (c .if1 .taken)
+
+returns-2 : tie.Need-returns-2
+returns-2 c = search needs
+
+pub count-if-spec : {M : Type 1} → statement M
+count-if-spec = tie.close (tie.spec returns returns-2)

@@ -1,0 +1,32 @@
+-- `cached::ffi_layer_count` meets its contract: it tells what the tile keeps. Assumes nothing.
+use mathlib.Core.Path.{ap, _∙_}
+use Rattle.cached_tile.specs.Tile.{layerCountOf}
+use Rattle.ffi.proofs.Told.{optional}
+use borrow.Author.Needs.{needs}
+use Rattle.ffi.proofs.cached.ffi_layer_count.Statement.{statement}
+use Rattle.ffi.proofs.cached.ffi_layer_count.Tie as tie
+use Rattle.ffi.proofs.cached.ffi_layer_count.Reads as reads
+use Rattle.ffi.proofs.cached.ffi_layer_count.Lts as lts
+use Rattle.cached_tile.proofs.CachedTile.layer_count.Reads as layer-count-reads
+use Rattle.ffi.proofs.cached.put_count.Reads as put-count-reads
+use Rattle.ffi.proofs.cached.to_tile.Reads as to-tile-reads
+
+to-tile-requires : tie.Need-to-tile-requires
+to-tile-requires c κs = search needs
+
+layer-count-requires : tie.Need-layer-count-requires
+layer-count-requires c κs = search needs
+
+put-count-requires : tie.Need-put-count-requires
+put-count-requires c κs = search needs
+
+returns : tie.Need-returns
+returns c =
+    optional
+    (c .before .before .before .before .before .args .count .now)
+    (c .before .before .layer-count .ensures ∙ ap layerCountOf (c .before .before .before .to-tile .ensures))
+    (c .put-count .ensures)
+
+pub ffi-layer-count-spec : {M : Type 1} → statement M
+ffi-layer-count-spec =
+    tie.close (tie.spec to-tile-requires layer-count-requires put-count-requires returns)

@@ -1,0 +1,44 @@
+-- `cached::ffi_update_solid_color` meets its contract: it tells what the tile kept, and what it keeps now. Assumes nothing.
+use mathlib.Core.Path.{ap, _∙_}
+use Rattle.cached_tile.specs.Tile.{solidColorOf}
+use Rattle.ffi.specs.Cached.{bytesOf}
+use Rattle.ffi.proofs.Told.{colored}
+use borrow.Author.Needs.{needs}
+use Rattle.ffi.proofs.cached.ffi_update_solid_color.Statement.{statement}
+use Rattle.ffi.proofs.cached.ffi_update_solid_color.Tie as tie
+use Rattle.ffi.proofs.cached.ffi_update_solid_color.Reads as reads
+use Rattle.ffi.proofs.cached.ffi_update_solid_color.Lts as lts
+use Rattle.cached_tile.proofs.CachedTile.update_solid_color.Reads as update-solid-color-reads
+use Rattle.ffi.proofs.cached.put_color.Reads as put-color-reads
+use Rattle.ffi.proofs.cached.to_bytes.Reads as to-bytes-reads
+use Rattle.ffi.proofs.cached.to_tile.Reads as to-tile-reads
+
+to-tile-requires : tie.Need-to-tile-requires
+to-tile-requires c κs = search needs
+
+update-solid-color-requires : tie.Need-update-solid-color-requires
+update-solid-color-requires c κs = search needs
+
+to-bytes-requires : tie.Need-to-bytes-requires
+to-bytes-requires c κs = search needs
+
+put-color-requires : tie.Need-put-color-requires
+put-color-requires c κs = search needs
+
+returns : tie.Need-returns
+returns c =
+    let updated = c .before .before .before .before .before .update-solid-color .ensures in
+    let tile = c .before .before .before .before .before .before .to-tile .ensures in
+    let told =
+    colored (c .before .before .before .before .before .before .before .before .before .args .previous .now) (updated .previous ∙ ap solidColorOf tile) (c .put-color .ensures) in
+    (told .0, (told .1, c .before .before .before .to-bytes .ensures ∙ ap bytesOf (rw tile at (updated .tile))))
+
+pub ffi-update-solid-color-spec : {M : Type 1} → statement M
+ffi-update-solid-color-spec =
+    tie.close
+    (tie.spec
+    to-tile-requires
+    update-solid-color-requires
+    to-bytes-requires
+    put-color-requires
+    returns)

@@ -1,0 +1,25 @@
+-- `covers::ffi_carry` meets its contract: it tells what adding answers. Assumes nothing.
+use Rattle.ffi.proofs.Told.{answered}
+use borrow.Author.Needs.{needs}
+use Rattle.ffi.proofs.covers.ffi_carry.Statement.{statement}
+use Rattle.ffi.proofs.covers.ffi_carry.Tie as tie
+use Rattle.ffi.proofs.covers.ffi_carry.Reads as reads
+use Rattle.ffi.proofs.covers.ffi_carry.Lts as lts
+use Rattle.cover.proofs.carry.carry.Reads as carry-reads
+use Rattle.ffi.proofs.covers.put_carried.Reads as put-carried-reads
+
+carry-requires : tie.Need-carry-requires
+carry-requires c κs = search needs
+
+put-carried-requires : tie.Need-put-carried-requires
+put-carried-requires c κs = search needs
+
+returns : tie.Need-returns
+returns c =
+    answered
+    (c .before .before .before .before .before .args .covers .now)
+    (c .before .before .carry .ensures .answer)
+    (c .put-carried .ensures)
+
+pub ffi-carry-spec : {M : Type 1} → statement M
+ffi-carry-spec = tie.close (tie.spec carry-requires put-carried-requires returns)

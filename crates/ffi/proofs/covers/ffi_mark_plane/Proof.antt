@@ -1,0 +1,21 @@
+-- `covers::ffi_mark_plane` meets its contract: it tells what marking answers. Assumes nothing.
+use Rattle.ffi.proofs.Told.{answered}
+use borrow.Author.Needs.{needs}
+use Rattle.ffi.proofs.covers.ffi_mark_plane.Statement.{statement}
+use Rattle.ffi.proofs.covers.ffi_mark_plane.Tie as tie
+use Rattle.ffi.proofs.covers.ffi_mark_plane.Reads as reads
+use Rattle.ffi.proofs.covers.ffi_mark_plane.Lts as lts
+use Rattle.cover.proofs.mark.mark_plane.Reads as mark-plane-reads
+use Rattle.ffi.proofs.covers.put_marked.Reads as put-marked-reads
+
+mark-plane-requires : tie.Need-mark-plane-requires
+mark-plane-requires c κs = search needs
+
+put-marked-requires : tie.Need-put-marked-requires
+put-marked-requires c κs = search needs
+
+returns : tie.Need-returns
+returns c = answered (c .before .before .before .before .args .mark .now) (c .before .before .mark-plane .ensures) (c .put-marked .ensures)
+
+pub ffi-mark-plane-spec : {M : Type 1} → statement M
+ffi-mark-plane-spec = tie.close (tie.spec mark-plane-requires put-marked-requires returns)

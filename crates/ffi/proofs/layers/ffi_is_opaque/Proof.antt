@@ -1,0 +1,35 @@
+-- `layers::ffi_is_opaque` meets its contract: the draw is the one of the numbers. Assumes nothing.
+use mathlib.Core.Path.{ap, _∙_}
+use Rattle.styling.specs.Codes.{fillOf}
+use borrow.Author.Needs.{needs}
+use Rattle.ffi.proofs.layers.ffi_is_opaque.Statement.{statement}
+use Rattle.ffi.proofs.layers.ffi_is_opaque.Tie as tie
+use Rattle.ffi.proofs.layers.ffi_is_opaque.Reads as reads
+use Rattle.ffi.proofs.layers.ffi_is_opaque.Lts as lts
+use Rattle.ffi.proofs.layers.to_color.Reads as to-color-reads
+use Rattle.styling.proofs.Func.is_opaque.Reads as is-opaque-reads
+use Rattle.styling.proofs.codes.blend_mode.Reads as blend-mode-reads
+use Rattle.styling.proofs.codes.fill.Reads as fill-reads
+
+to-color-requires : tie.Need-to-color-requires
+to-color-requires c κs = search needs
+
+fill-requires : tie.Need-fill-requires
+fill-requires c κs = search needs
+
+blend-mode-requires : tie.Need-blend-mode-requires
+blend-mode-requires c κs = search needs
+
+is-opaque-requires : tie.Need-is-opaque-requires
+is-opaque-requires c κs = search needs
+
+returns : tie.Need-returns
+returns c =
+    let fill =
+    c .before .before .fill .ensures ∙ ap (fillOf (c .before .before .before .before .before .args .fill)) (c .before .before .before .to-color .ensures) in
+    rw (c .is-opaque .ensures, c .before .blend-mode .ensures, fill)
+
+pub ffi-is-opaque-spec : {M : Type 1} → statement M
+ffi-is-opaque-spec =
+    tie.close
+    (tie.spec to-color-requires fill-requires blend-mode-requires is-opaque-requires returns)

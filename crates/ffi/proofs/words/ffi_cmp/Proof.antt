@@ -1,0 +1,22 @@
+-- `words::ffi_cmp` meets its contract: the rank of the order that `cmp` gives. Assumes nothing.
+use mathlib.Core.Path.{ap, _∙_}
+use Rattle.pixel_segment.specs.Search.{rank}
+use borrow.Author.Needs.{needs}
+use Rattle.ffi.proofs.words.ffi_cmp.Statement.{statement}
+use Rattle.ffi.proofs.words.ffi_cmp.Tie as tie
+use Rattle.ffi.proofs.words.ffi_cmp.Reads as reads
+use Rattle.ffi.proofs.words.ffi_cmp.Lts as lts
+use Rattle.ffi.proofs.words.rank_of.Reads as rank-of-reads
+use Rattle.pixel_segment.proofs.PixelSegment.cmp.Reads as cmp-reads
+
+cmp-requires : tie.Need-cmp-requires
+cmp-requires c κs = search needs
+
+rank-of-requires : tie.Need-rank-of-requires
+rank-of-requires c κs = search needs
+
+returns : tie.Need-returns
+returns c = c .rank-of .ensures ∙ ap rank (c .before .cmp .ensures)
+
+pub ffi-cmp-spec : {M : Type 1} → statement M
+ffi-cmp-spec = tie.close (tie.spec cmp-requires rank-of-requires returns)

@@ -1,0 +1,24 @@
+-- `words::ffi_pack` meets its contract: it tells what packing answers. Assumes nothing.
+use mir.Facts.{toZ-ofZ}
+use borrow.Author.Needs.{needs}
+use Rattle.ffi.proofs.Told.{answered}
+use Rattle.ffi.proofs.words.ffi_pack.Statement.{statement}
+use Rattle.ffi.proofs.words.ffi_pack.Tie as tie
+use Rattle.ffi.proofs.words.ffi_pack.Reads as reads
+use Rattle.ffi.proofs.words.ffi_pack.Lts as lts
+use Rattle.ffi.proofs.words.put_packed.Reads as put-packed-reads
+use Rattle.pixel_segment.proofs.PixelSegment.new.Reads as new-reads
+
+new-requires : tie.Need-new-requires
+new-requires c κs = search needs
+
+put-packed-requires : tie.Need-put-packed-requires
+put-packed-requires c κs = search needs
+
+returns : tie.Need-returns
+returns c =
+    let s = c .before .before .before in
+    rw (toZ-ofZ (s .fits .tile-x), toZ-ofZ (s .fits .tile-y), toZ-ofZ (s .fits .cover)) at (answered (s .args .word .now) (c .before .before .new .ensures) (c .put-packed .ensures))
+
+pub ffi-pack-spec : {M : Type 1} → statement M
+ffi-pack-spec = tie.close (tie.spec new-requires put-packed-requires returns)

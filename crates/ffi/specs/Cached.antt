@@ -1,0 +1,54 @@
+-- A cached tile as its eight bytes: the tag, the count's three, lowest first, and the colour's four.
+use mathlib.Core.Bool.{Bool, true, false, cond}
+use mathlib.Core.List.{List, [], _∷_}
+use mathlib.Core.Option.{Option, some, none}
+use Prim.Native.Nat.{ℕ}
+use lib.ListN.{getD}
+use Rattle.laws.specs.Answer.{Answer, refused, given}
+use Rattle.cached_tile.specs.declared.CachedTile.{CachedTile}
+use Rattle.cached_tile.specs.declared.SolidColor.{SolidColor}
+use Rattle.cached_tile.specs.declared.kept.Kept.{Kept}
+use Rattle.cached_tile.specs.Kept.{Writing, write, keep}
+
+abbrev pub tileOf : List ℕ → CachedTile
+tileOf b =
+    record {
+      tags = getD b 0 0;
+      «layer_count» = getD b 1 0 ∷ getD b 2 0 ∷ getD b 3 0 ∷ [];
+      «solid_color» = getD b 4 0 ∷ getD b 5 0 ∷ getD b 6 0 ∷ getD b 7 0 ∷ [];
+    }
+
+abbrev pub bytesOf : CachedTile → List ℕ
+bytesOf t =
+    let count = t .«layer_count» in
+    let color = t .«solid_color» in
+    t .tags ∷ getD count 0 0 ∷ getD count 1 0 ∷ getD count 2 0 ∷ getD color 0 0 ∷ getD color 1 0 ∷ getD color 2 0 ∷ getD color 3 0 ∷ []
+
+-- a tile that may be given
+abbrev pub keptOf : Bool → List ℕ → Kept
+keptOf is b = record { given = is; tile = tileOf b }
+
+-- whether there is a value, and the value that a lent one then is
+abbrev pub isGiven : {A : Type 0} → Option A → Bool
+isGiven (some v) = true
+isGiven none = false
+
+abbrev pub givenOr : {A : Type 0} → Option A → A → A
+givenOr (some v) old = v
+givenOr none old = old
+
+-- a count or a colour that may be given
+abbrev pub countIf : Bool → ℕ → Option ℕ
+countIf is n = cond is (some n) none
+
+abbrev pub colorIf : Bool → List ℕ → SolidColor
+colorIf is bytes = record { given = is; bytes = bytes }
+
+abbrev pub colorOr : SolidColor → List ℕ → List ℕ
+colorOr c old = cond (c .given) (c .bytes) old
+
+-- whether settling says write; after a refusal what was there
+abbrev pub writtenOr : Answer Writing → Bool → Bool
+writtenOr (refused n) old = old
+writtenOr (given write) old = true
+writtenOr (given keep) old = false

@@ -1,0 +1,18 @@
+-- Colours as four numbers, and a draw as the numbers of a layer record.
+use mathlib.Core.Bool.{false}
+use mathlib.Core.List.{List}
+use Prim.Native.Nat.{ℕ}
+use lib.Ieee.{Float, nan}
+use lib.ListN.{getD}
+use Rattle.styling.specs.declared.Color.{Color}
+use Rattle.styling.specs.declared.Func.{Func}
+use Rattle.styling.specs.declared.Func.the-variants.{Draw}
+use Rattle.styling.specs.Codes.{fillOf, modeOf}
+
+-- red, green, blue and alpha
+abbrev pub colorOf : List Float → Color
+colorOf l = record { r = getD l 0 nan; g = getD l 1 nan; b = getD l 2 nan; a = getD l 3 nan }
+
+abbrev pub drawOf : ℕ → ℕ → List Float → Func
+drawOf fill mode color =
+    Draw (record { «is_clipped» = false; fill = fillOf fill (colorOf color); «blend_mode» = modeOf mode })

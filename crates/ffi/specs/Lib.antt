@@ -1,0 +1,5 @@
+-- Answers as numbers: what the exported functions' contracts say.
+pub mod Numbers
+pub mod Covers
+pub mod Cached
+pub mod Layers

@@ -1,0 +1,10 @@
+//! The same cases on the Rust and on the proved library: one module for each group of kinds.
+
+pub mod cached;
+pub mod covers;
+pub mod layers;
+pub mod library;
+pub mod random;
+pub mod scene;
+pub mod tally;
+pub mod words;

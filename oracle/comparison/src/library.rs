@@ -1,0 +1,227 @@
+//! The proved library, as the crate `ffi` exports it. Nothing checks these declarations against its source: keep them beside it. A lent
+//! slice is a pointer and a length.
+
+use reference::plain::{Cached, Rgba};
+
+/// What a refused call must leave as it was.
+pub const UNTOUCHED: u64 = 0xA5A5_5A5A_DEAD_BEEF;
+
+mod ffi {
+    extern "C" {
+        pub fn ffi_pack(layer_id: u32, tile_x: i16, tile_y: i16, local_x: u8, local_y: u8, double_area_multiplier: u8, cover: i8, word: *mut u64) -> u32;
+        pub fn ffi_layer_id(word: u64) -> u32;
+        pub fn ffi_tile_x(word: u64) -> i16;
+        pub fn ffi_tile_y(word: u64) -> i16;
+        pub fn ffi_local_x(word: u64) -> u8;
+        pub fn ffi_local_y(word: u64) -> u8;
+        pub fn ffi_double_area_multiplier(word: u64) -> u8;
+        pub fn ffi_double_area(word: u64) -> i16;
+        pub fn ffi_cover(word: u64) -> i8;
+        pub fn ffi_cmp(word: u64, other: u64) -> u8;
+        pub fn ffi_does_ascend(row: *const u64, len: usize) -> bool;
+        pub fn ffi_is_row(row: *const u64, len: usize, stored_tile_y: u64) -> bool;
+        pub fn ffi_search_last_by_tile_y(segments: *const u64, len: usize, tile_y: i16, place: *mut usize) -> bool;
+        pub fn ffi_search_last_by_tile_x(segments: *const u64, len: usize, tile_x: i16, place: *mut usize) -> bool;
+        pub fn ffi_search_last_by_layer_id(segments: *const u64, len: usize, layer_id: u32, place: *mut usize) -> bool;
+        pub fn ffi_search_last_by_tile_x_at_least(segments: *const u64, len: usize, start: i16, wanted: bool, place: *mut usize) -> bool;
+        pub fn ffi_search_last_by_tile_y_not_negative(segments: *const u64, len: usize, wanted: bool, place: *mut usize) -> bool;
+        pub fn ffi_is_empty(covers: *const [i8; 16], rule: u32) -> bool;
+        pub fn ffi_is_full(covers: *const [i8; 16], rule: u32) -> bool;
+        pub fn ffi_carry(part: *const u64, len: usize, covers: *mut [i8; 16]) -> u32;
+        pub fn ffi_doubled_area_to_coverage(d: i16, rule: u32, coverage: *mut f32) -> u32;
+        pub fn ffi_paint_part(part: *const u64, len: usize, covers: *const [i8; 16], rule: u32, plane: *mut f32, plane_len: usize, mark: *mut u32) -> u32;
+        pub fn ffi_mark_plane(plane: *const f32, len: usize, mark: *mut u32) -> u32;
+        pub fn ffi_octets(mark: u32) -> u32;
+        pub fn ffi_color_eq(color: *const [f32; 4], other: *const [f32; 4]) -> bool;
+        pub fn ffi_is_opaque(fill: u32, blend_mode: u32, color: *const [f32; 4]) -> bool;
+        pub fn ffi_blend_mode(code: u32) -> u32;
+        pub fn ffi_is_short(layers: *const u32, layers_len: usize, colors: *const f32, colors_len: usize, count: usize) -> bool;
+        pub fn ffi_is_table(layers: *const u32, layers_len: usize, colors: *const f32, colors_len: usize, count: usize) -> bool;
+        pub fn ffi_layer_count(tile: *const [u8; 8], count: *mut u32) -> bool;
+        pub fn ffi_solid_color(tile: *const [u8; 8], color: *mut [u8; 4]) -> bool;
+        pub fn ffi_update_layer_count(tile: *mut [u8; 8], given: bool, count: u32, previous: *mut u32) -> bool;
+        pub fn ffi_update_solid_color(tile: *mut [u8; 8], given: bool, color: *const [u8; 4], previous: *mut [u8; 4]) -> bool;
+        pub fn ffi_settle(given: bool, tile: *mut [u8; 8], color: *const [u8; 4], is_written: *mut bool) -> u32;
+    }
+}
+
+/// The fields of a packed word, as packing takes them.
+#[derive(Clone, Copy, Debug)]
+pub struct Fields {
+    pub layer_id: u32,
+    pub tile_x: i16,
+    pub tile_y: i16,
+    pub local_x: u8,
+    pub local_y: u8,
+    pub double_area_multiplier: u8,
+    pub cover: i8,
+}
+
+/// The refusal's number and what the lent word then holds.
+pub fn pack(fields: Fields) -> (u32, u64) {
+    let Fields { layer_id, tile_x, tile_y, local_x, local_y, double_area_multiplier, cover } = fields;
+    let mut word = UNTOUCHED;
+    let number = unsafe { ffi::ffi_pack(layer_id, tile_x, tile_y, local_x, local_y, double_area_multiplier, cover, &mut word) };
+    (number, word)
+}
+
+/// Every field that has a reader, as whole numbers: layer id, tile x, tile y, local x, local y, multiplier, double area, cover.
+pub fn fields(word: u64) -> [i64; 8] {
+    unsafe {
+        [
+            ffi::ffi_layer_id(word).into(),
+            ffi::ffi_tile_x(word).into(),
+            ffi::ffi_tile_y(word).into(),
+            ffi::ffi_local_x(word).into(),
+            ffi::ffi_local_y(word).into(),
+            ffi::ffi_double_area_multiplier(word).into(),
+            ffi::ffi_double_area(word).into(),
+            ffi::ffi_cover(word).into(),
+        ]
+    }
+}
+
+/// 0, 1 or 2: less, equal, greater.
+pub fn cmp(word: u64, other: u64) -> u8 {
+    unsafe { ffi::ffi_cmp(word, other) }
+}
+
+pub fn does_ascend(row: &[u64]) -> bool {
+    unsafe { ffi::ffi_does_ascend(row.as_ptr(), row.len()) }
+}
+
+pub fn is_row(row: &[u64], stored_tile_y: u64) -> bool {
+    unsafe { ffi::ffi_is_row(row.as_ptr(), row.len(), stored_tile_y) }
+}
+
+/// A key of the painter, with the value that is looked for.
+#[derive(Clone, Copy, Debug)]
+pub enum Key {
+    TileY(i16),
+    TileX(i16),
+    LayerId(u32),
+    TileXAtLeast(i16, bool),
+    TileYNotNegative(bool),
+}
+
+pub fn search_last_by_key(segments: &[u64], key: Key) -> Result<usize, usize> {
+    let (start, len) = (segments.as_ptr(), segments.len());
+    let mut place = 0;
+    let found = unsafe {
+        match key {
+            Key::TileY(tile_y) => ffi::ffi_search_last_by_tile_y(start, len, tile_y, &mut place),
+            Key::TileX(tile_x) => ffi::ffi_search_last_by_tile_x(start, len, tile_x, &mut place),
+            Key::LayerId(layer_id) => ffi::ffi_search_last_by_layer_id(start, len, layer_id, &mut place),
+            Key::TileXAtLeast(first, wanted) => ffi::ffi_search_last_by_tile_x_at_least(start, len, first, wanted, &mut place),
+            Key::TileYNotNegative(wanted) => ffi::ffi_search_last_by_tile_y_not_negative(start, len, wanted, &mut place),
+        }
+    };
+    if found {
+        Ok(place)
+    } else {
+        Err(place)
+    }
+}
+
+pub fn is_empty(cover: [i8; 16], rule: u32) -> bool {
+    unsafe { ffi::ffi_is_empty(&cover, rule) }
+}
+
+pub fn is_full(cover: [i8; 16], rule: u32) -> bool {
+    unsafe { ffi::ffi_is_full(&cover, rule) }
+}
+
+/// The refusal's number and what the lent cover then holds.
+pub fn carry(part: &[u64], mut cover: [i8; 16]) -> (u32, [i8; 16]) {
+    let number = unsafe { ffi::ffi_carry(part.as_ptr(), part.len(), &mut cover) };
+    (number, cover)
+}
+
+/// The refusal's number and the bits that the lent coverage then has.
+pub fn doubled_area_to_coverage(d: i16, rule: u32) -> (u32, u32) {
+    let mut coverage = f32::from_bits(UNTOUCHED as u32);
+    let number = unsafe { ffi::ffi_doubled_area_to_coverage(d, rule, &mut coverage) };
+    (number, coverage.to_bits())
+}
+
+/// The refusal's number and what the lent mark then holds; the coverages in `plane`.
+pub fn paint_part(part: &[u64], cover: [i8; 16], rule: u32, plane: &mut [f32]) -> (u32, u32) {
+    let mut mark = UNTOUCHED as u32;
+    let number = unsafe { ffi::ffi_paint_part(part.as_ptr(), part.len(), &cover, rule, plane.as_mut_ptr(), plane.len(), &mut mark) };
+    (number, mark)
+}
+
+/// The refusal's number and what the lent mark then holds.
+pub fn mark_plane(plane: &[f32]) -> (u32, u32) {
+    let mut mark = UNTOUCHED as u32;
+    let number = unsafe { ffi::ffi_mark_plane(plane.as_ptr(), plane.len(), &mut mark) };
+    (number, mark)
+}
+
+pub fn octets(mark: u32) -> u32 {
+    unsafe { ffi::ffi_octets(mark) }
+}
+
+pub fn color_eq(color: Rgba, other: Rgba) -> bool {
+    unsafe { ffi::ffi_color_eq(&color, &other) }
+}
+
+pub fn is_opaque(fill: u32, blend_mode: u32, color: Rgba) -> bool {
+    unsafe { ffi::ffi_is_opaque(fill, blend_mode, &color) }
+}
+
+pub fn blend_mode(code: u32) -> u32 {
+    unsafe { ffi::ffi_blend_mode(code) }
+}
+
+/// Whether the table is shorter than its count, and whether no refusal applies to it.
+pub fn judge_table(layers: &[u32], colors: &[f32], count: usize) -> (bool, bool) {
+    unsafe {
+        let is_short = ffi::ffi_is_short(layers.as_ptr(), layers.len(), colors.as_ptr(), colors.len(), count);
+        (is_short, ffi::ffi_is_table(layers.as_ptr(), layers.len(), colors.as_ptr(), colors.len(), count))
+    }
+}
+
+/// A count that the tile keeps. Where it keeps none, the lent number stays.
+pub fn layer_count(tile: Cached) -> Option<u32> {
+    let mut count = UNTOUCHED as u32;
+    let given = unsafe { ffi::ffi_layer_count(&tile.0, &mut count) };
+    told(given, count, UNTOUCHED as u32)
+}
+
+pub fn solid_color(tile: Cached) -> Option<[u8; 4]> {
+    let mut color = UNTOUCHED_COLOR;
+    let given = unsafe { ffi::ffi_solid_color(&tile.0, &mut color) };
+    told(given, color, UNTOUCHED_COLOR)
+}
+
+pub fn update_layer_count(tile: &mut Cached, count: Option<u32>) -> Option<u32> {
+    let mut previous = UNTOUCHED as u32;
+    let given = unsafe { ffi::ffi_update_layer_count(&mut tile.0, count.is_some(), count.unwrap_or(7), &mut previous) };
+    told(given, previous, UNTOUCHED as u32)
+}
+
+pub fn update_solid_color(tile: &mut Cached, color: Option<[u8; 4]>) -> Option<[u8; 4]> {
+    let mut previous = UNTOUCHED_COLOR;
+    let given = unsafe { ffi::ffi_update_solid_color(&mut tile.0, color.is_some(), &color.unwrap_or([7; 4]), &mut previous) };
+    told(given, previous, UNTOUCHED_COLOR)
+}
+
+/// Whether the bytes are to be written, or the refusal's number.
+pub fn settle(given: bool, tile: &mut Cached, color: [u8; 4]) -> Result<bool, u32> {
+    let untouched = color[0] % 2 == 0;
+    let mut is_written = untouched;
+    let number = unsafe { ffi::ffi_settle(given, &mut tile.0, &color, &mut is_written) };
+    if number == 0 {
+        return Ok(is_written);
+    }
+    assert_eq!(is_written, untouched, "a refusal writes nothing");
+    Err(number)
+}
+
+const UNTOUCHED_COLOR: [u8; 4] = [0xA5, 0x5A, 0xDE, 0xAD];
+
+fn told<T: PartialEq>(given: bool, value: T, untouched: T) -> Option<T> {
+    assert!(given || value == untouched, "what is not given is not written");
+    given.then_some(value)
+}

@@ -1,0 +1,19 @@
+//! `comparison N SEED`: N random cases of each kind on both sides. The last line says how many were compared and how many differ.
+
+use std::{env, process::ExitCode};
+
+use comparison::{cached, covers, layers, tally::Tally, words};
+
+fn main() -> ExitCode {
+    let numbers: Vec<u64> = env::args().skip(1).filter_map(|word| word.parse().ok()).collect();
+    let [n, seed] = numbers[..] else {
+        eprintln!("usage: comparison N SEED");
+        return ExitCode::from(2);
+    };
+    let mut tally = Tally::new(n, seed);
+    words::compare(&mut tally);
+    covers::compare(&mut tally);
+    cached::compare(&mut tally);
+    layers::compare(&mut tally);
+    tally.end()
+}

@@ -1,0 +1,102 @@
+//! How many cases of each kind were compared, and how many differ.
+
+use std::{
+    collections::BTreeMap,
+    panic::{self, AssertUnwindSafe},
+    process::ExitCode,
+    sync::{
+        atomic::{AtomicBool, Ordering},
+        Once,
+    },
+};
+
+use crate::random::Random;
+
+/// How many differences of a kind are printed.
+const TOLD: u64 = 5;
+
+pub struct Tally {
+    n: u64,
+    seed: u64,
+    compared: u64,
+    differ: u64,
+}
+
+pub struct Kind {
+    pub random: Random,
+    compared: u64,
+    differ: u64,
+    outcomes: BTreeMap<&'static str, u64>,
+}
+
+impl Tally {
+    pub fn new(n: u64, seed: u64) -> Self {
+        Self { n, seed, compared: 0, differ: 0 }
+    }
+
+    /// N random cases of a kind, whose random numbers depend on its name and on the seed alone.
+    pub fn random(&mut self, name: &str, mut case: impl FnMut(&mut Kind)) {
+        let n = self.n;
+        self.kind(name, |kind| (0..n).for_each(|_| case(kind)));
+    }
+
+    /// A kind that says itself how many cases it has.
+    pub fn kind(&mut self, name: &str, cases: impl FnOnce(&mut Kind)) {
+        let seed = name.bytes().fold(self.seed, |seed, byte| seed.wrapping_mul(0x100_0000_01B3) ^ u64::from(byte));
+        let mut kind = Kind { random: Random::new(seed), compared: 0, differ: 0, outcomes: BTreeMap::new() };
+        cases(&mut kind);
+        println!("{name}: {} compared, {} differ{}", kind.compared, kind.differ, kind.told());
+        self.compared += kind.compared;
+        self.differ += kind.differ;
+    }
+
+    pub fn end(self) -> ExitCode {
+        println!("{} compared, {} differ", self.compared, self.differ);
+        ExitCode::from(u8::from(self.differ != 0))
+    }
+}
+
+impl Kind {
+    /// Counts an outcome, so that the last lines show whether the cases meet all that they should.
+    pub fn note(&mut self, outcome: &'static str) {
+        *self.outcomes.entry(outcome).or_default() += 1;
+    }
+
+    fn told(&self) -> String {
+        let told: Vec<String> = self.outcomes.iter().map(|(outcome, count)| format!("{outcome} {count}")).collect();
+        if told.is_empty() {
+            String::new()
+        } else {
+            format!(" ({})", told.join(", "))
+        }
+    }
+
+    pub fn case(&mut self, same: bool, tell: impl FnOnce() -> String) {
+        self.compared += 1;
+        if !same {
+            self.differ += 1;
+            if self.differ <= TOLD {
+                println!("differs: {}", tell());
+            }
+        }
+    }
+}
+
+static QUIET: AtomicBool = AtomicBool::new(false);
+
+/// What the Rust gives, or nothing where it panics: with overflow checks on, a lane that overflows does.
+pub fn caught<T>(call: impl FnOnce() -> T) -> Option<T> {
+    static HOOK: Once = Once::new();
+    HOOK.call_once(|| {
+        let loud = panic::take_hook();
+        panic::set_hook(Box::new(move |info| {
+            if !QUIET.load(Ordering::Relaxed) {
+                loud(info);
+            }
+        }));
+    });
+    QUIET.store(true, Ordering::Relaxed);
+    let result = panic::catch_unwind(AssertUnwindSafe(call)).ok();
+    QUIET.store(false, Ordering::Relaxed);
+    result
+}
