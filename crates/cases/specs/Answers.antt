@@ -1,8 +1,12 @@
 -- How the program reads an answer.
-use mathlib.Core.Bool.{Bool, false}
+use mathlib.Core.Bool.{Bool, true, false}
+use mathlib.Core.List.{[], _∷_}
+use mathlib.Core.Option.{Option, some, none}
 use Prim.Native.Nat.{ℕ}
 use lib.Dec.{eqb}
 use Rattle.laws.specs.Answer.{Answer, refused, given}
+use Rattle.cached_tile.specs.Kept.{Writing, write, keep}
+use Rattle.cached_tile.specs.declared.CachedTile.{CachedTile}
 use Rattle.pixel_segment.specs.declared.search.Found.{Found}
 use Rattle.pixel_segment.specs.declared.search.Found.the-variants.{At, Absent}
 
@@ -21,3 +25,35 @@ isAt (Absent i) place = false
 abbrev pub isAbsent : Found → ℕ → Bool
 isAbsent (At i) place = false
 isAbsent (Absent i) place = eqb i place
+
+abbrev pub isCount : Option ℕ → ℕ → Bool
+isCount (some n) number = eqb n number
+isCount none number = false
+
+abbrev pub isNoCount : Option ℕ → Bool
+isNoCount (some n) = false
+isNoCount none = true
+
+abbrev pub isWriting : Writing → Bool
+isWriting write = true
+isWriting keep = false
+
+abbrev pub isKeeping : Writing → Bool
+isKeeping write = false
+isKeeping keep = true
+
+abbrev pub isWrite : Answer Writing → Bool
+isWrite (refused n) = false
+isWrite (given w) = isWriting w
+
+abbrev pub isKeep : Answer Writing → Bool
+isKeep (refused n) = false
+isKeep (given w) = isKeeping w
+
+-- a tile of tag 0, whose bytes are not 0
+abbrev pub nothingKept : CachedTile
+nothingKept = record { tags = 0; «layer_count» = 9 ∷ 9 ∷ 9 ∷ []; «solid_color» = 8 ∷ 8 ∷ 8 ∷ 8 ∷ [] }
+
+abbrev pub isGiven : {A : Type 0} → Answer A → Bool
+isGiven (refused n) = false
+isGiven (given v) = true

@@ -1,5 +1,7 @@
-// The worked cases P1 to P12, run. What each check requires is proved from the contracts of the functions that it calls alone; the same cases
+// The worked cases P1 to P6 and P8 to P12, run; P7 comes with painting. What each check requires is proved from the contracts of the functions that it calls alone; the same cases
 // stand as theorems about the definitions in specs/Cases.antt.
+mod covers;
+mod tiles;
 mod words;
 
 fn main() {
@@ -11,4 +13,16 @@ fn main() {
     check::expect(words::p5_found());
     check::expect(words::p5_absent());
     check::expect(words::p5_empty());
+    check::expect(covers::p6_empty());
+    check::expect(covers::p6_full());
+    check::expect(covers::p6_double());
+    check::expect(tiles::p8_kept());
+    check::expect(tiles::p8_dropped());
+    check::expect(covers::p9());
+    check::expect(covers::p10());
+    check::expect(covers::p11());
+    check::expect(covers::p11_refused());
+    check::expect(covers::p11_passed());
+    check::expect(tiles::p12());
+    check::expect(tiles::p12_without());
 }

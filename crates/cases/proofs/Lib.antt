@@ -1,0 +1,2 @@
+-- Laws that the proofs of the cases cite.
+pub mod Accepted

@@ -1,0 +1,33 @@
+-- P10, from the contracts. Assumes nothing.
+use borrow.Author.Needs.{needs}
+use mathlib.Core.Path.{_∙_}
+use lib.Ieee.{eq, ofBits}
+use Rattle.cover.proofs.Cases.{P10}
+use Rattle.cases.proofs.covers.p10.Statement.{statement}
+use Rattle.cases.proofs.covers.p10.Tie as tie
+
+doubled-area-to-coverage-requires : tie.Need-doubled-area-to-coverage-requires
+doubled-area-to-coverage-requires c κs = search needs
+
+doubled-area-to-coverage-requires-2 : tie.Need-doubled-area-to-coverage-requires-2
+doubled-area-to-coverage-requires-2 c κs = search needs
+
+doubled-area-to-coverage-requires-3 : tie.Need-doubled-area-to-coverage-requires-3
+doubled-area-to-coverage-requires-3 c κs = search needs
+
+returns : tie.Need-returns
+unfolding eq ofBits
+returns c = rw (
+  c .before .before .doubled-area-to-coverage .ensures ∙ P10 .0,
+  c .before .doubled-area-to-coverage2 .ensures ∙ P10 .1,
+  c .doubled-area-to-coverage3 .ensures ∙ P10 .2,
+)
+
+pub p10-spec : {M : Type 1} → statement M
+p10-spec =
+    tie.close
+    (tie.spec
+    doubled-area-to-coverage-requires
+    doubled-area-to-coverage-requires-2
+    doubled-area-to-coverage-requires-3
+    returns)

@@ -1,0 +1,18 @@
+-- P6, from the contracts. Assumes nothing.
+use borrow.Author.Needs.{needs}
+use mathlib.Core.Path.{_∙_}
+use Rattle.cover.proofs.Cases.{P6-empty}
+use Rattle.cases.proofs.covers.p6_empty.Statement.{statement}
+use Rattle.cases.proofs.covers.p6_empty.Tie as tie
+
+is-empty-requires : tie.Need-is-empty-requires
+is-empty-requires c κs = search needs
+
+is-empty-requires-2 : tie.Need-is-empty-requires-2
+is-empty-requires-2 c κs = search needs
+
+returns : tie.Need-returns
+returns c = rw (c .before .is-empty .ensures ∙ P6-empty .0, c .is-empty2 .ensures ∙ P6-empty .1)
+
+pub p6-empty-spec : {M : Type 1} → statement M
+p6-empty-spec = tie.close (tie.spec is-empty-requires is-empty-requires-2 returns)

@@ -1,0 +1,22 @@
+-- P9, from the contracts. Assumes nothing.
+use borrow.Author.Needs.{needs}
+use mathlib.Core.Path.{_∙_}
+use lib.Ieee.{eq, ofBits}
+use Rattle.cover.proofs.Cases.{P9}
+use Rattle.cases.proofs.covers.p9.Statement.{statement}
+use Rattle.cases.proofs.covers.p9.Tie as tie
+
+doubled-area-to-coverage-requires : tie.Need-doubled-area-to-coverage-requires
+doubled-area-to-coverage-requires c κs = search needs
+
+doubled-area-to-coverage-requires-2 : tie.Need-doubled-area-to-coverage-requires-2
+doubled-area-to-coverage-requires-2 c κs = search needs
+
+returns : tie.Need-returns
+unfolding eq ofBits
+returns c = rw (c .before .doubled-area-to-coverage .ensures ∙ P9 .0, c .doubled-area-to-coverage2 .ensures ∙ P9 .1)
+
+pub p9-spec : {M : Type 1} → statement M
+p9-spec =
+    tie.close
+    (tie.spec doubled-area-to-coverage-requires doubled-area-to-coverage-requires-2 returns)

@@ -1,0 +1,102 @@
+// P6, P9, P10 and P11: covers, coverages and carries.
+use cover::Cover;
+use cover::carry;
+use cover::weight;
+use styling::FillRule;
+ghost use mathlib.Core.Path.{_≡_};
+ghost use mathlib.Core.Bool.{true};
+
+// Sixteen of 32 are empty under EvenOdd, not under NonZero.
+pub fn p6_empty() -> bool
+    ensures { λ r. ⌜ r ≡ true ⌝ }
+{
+    let covers = [32i8; 16];
+    let cover = Cover { covers };
+    cover.is_empty(FillRule::EvenOdd) & !cover.is_empty(FillRule::NonZero)
+}
+
+// Sixteen of -16 are full under both.
+pub fn p6_full() -> bool
+    ensures { λ r. ⌜ r ≡ true ⌝ }
+{
+    let covers = [-16i8; 16];
+    let cover = Cover { covers };
+    cover.is_full(FillRule::NonZero) & cover.is_full(FillRule::EvenOdd)
+}
+
+// Sixteen of 48 are full under EvenOdd only.
+pub fn p6_double() -> bool
+    ensures { λ r. ⌜ r ≡ true ⌝ }
+{
+    let covers = [48i8; 16];
+    let cover = Cover { covers };
+    cover.is_full(FillRule::EvenOdd) & !cover.is_full(FillRule::NonZero)
+}
+
+// NonZero: 256 gives 0.5, and -512 gives 1.
+pub fn p9() -> bool
+    ensures { λ r. ⌜ r ≡ true ⌝ }
+{
+    let half = weight::doubled_area_to_coverage(256, FillRule::NonZero);
+    let whole = weight::doubled_area_to_coverage(-512, FillRule::NonZero);
+    (half == 0.5) & (whole == 1.0)
+}
+
+// EvenOdd: 700 gives 0.6328125, -256 gives 0.5, and 1,024 gives 0.
+pub fn p10() -> bool
+    ensures { λ r. ⌜ r ≡ true ⌝ }
+{
+    let past = weight::doubled_area_to_coverage(700, FillRule::EvenOdd);
+    let half = weight::doubled_area_to_coverage(-256, FillRule::EvenOdd);
+    let none = weight::doubled_area_to_coverage(1024, FillRule::EvenOdd);
+    (past == 0.6328125) & (half == 0.5) & (none == 0.0)
+}
+
+// The word is layer 5, tile x 2, tile y 0, local x 3, local y 0, multiplier 32, cover -16: to 16 in each row it hands on 0, then
+// fifteen times 16.
+pub fn p11() -> bool
+    ensures { λ r. ⌜ r ≡ true ⌝ }
+{
+    let part: [u64; 1] = [0x0020060000530830];
+    let covers = [16i8; 16];
+    let carried = carry::carry(&part, Cover { covers });
+    let sum = carried.cover;
+    let rows = sum.covers;
+    let low = (rows[0] == 0)
+        & (rows[1] == 16)
+        & (rows[2] == 16)
+        & (rows[3] == 16)
+        & (rows[4] == 16)
+        & (rows[5] == 16)
+        & (rows[6] == 16)
+        & (rows[7] == 16);
+    let high = (rows[8] == 16)
+        & (rows[9] == 16)
+        & (rows[10] == 16)
+        & (rows[11] == 16)
+        & (rows[12] == 16)
+        & (rows[13] == 16)
+        & (rows[14] == 16)
+        & (rows[15] == 16);
+    carried.accepted & low & high
+}
+
+// Number 9: the same word with cover -8 is refused at 120, though the sum is 112.
+pub fn p11_refused() -> bool
+    ensures { λ r. ⌜ r ≡ true ⌝ }
+{
+    let part: [u64; 1] = [0x0020060000530838];
+    let covers = [120i8; 16];
+    let carried = carry::carry(&part, Cover { covers });
+    !carried.accepted
+}
+
+// At 119 it passes.
+pub fn p11_passed() -> bool
+    ensures { λ r. ⌜ r ≡ true ⌝ }
+{
+    let part: [u64; 1] = [0x0020060000530838];
+    let covers = [119i8; 16];
+    let carried = carry::carry(&part, Cover { covers });
+    carried.accepted
+}
