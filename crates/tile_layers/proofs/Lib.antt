@@ -7,3 +7,4 @@ pub mod Wide
 pub mod Filling
 pub mod Writing
 pub mod Handing
+pub mod Ordering
