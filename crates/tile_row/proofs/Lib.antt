@@ -1,0 +1,2 @@
+-- Laws of a row's operations.
+pub mod Verdicts

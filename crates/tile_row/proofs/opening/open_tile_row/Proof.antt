@@ -1,0 +1,106 @@
+-- `opening::open_tile_row` meets its contract. Assumes nothing.
+-- the judge's verdict, over the arguments themselves
+use mathlib.Core.Path.{_≡_, sym, _∙_}
+use native.Mathlib.Omega.{arith}
+use mir.Syntax.{w16}
+use mir.Val.{SFits}
+use mir.Facts.{toZ-ofZ}
+use Rattle.laws.proofs.Machine.{sfits}
+use Rattle.laws.proofs.Parts.{whole}
+use Rattle.queue.proofs.Judging.{room}
+use Rattle.tile_row.specs.Opening.{openVerdict}
+use Rattle.tile_row.specs.declared.Verdict.the-variants.{Pass}
+use Rattle.tile_row.proofs.Verdicts.{Passed, opening-passed, refused-row, opened-row}
+use borrow.Author.Needs.{needs}
+use Rattle.tile_row.proofs.opening.open_tile_row.Statement.{statement}
+use Rattle.tile_row.proofs.opening.open_tile_row.Tie as tie
+use Rattle.tile_row.proofs.opening.open_tile_row.Reads as reads
+use Rattle.tile_row.proofs.opening.open_tile_row.Lts as lts
+use Rattle.pixel_segment.proofs.parts.left_of_tile.Reads as left-of-tile-reads
+use Rattle.queue.proofs.opening.open_queue.Reads as open-queue-reads
+use Rattle.tile_row.proofs.opening.judge_opening.Reads as judge-opening-reads
+use Rattle.tile_row.proofs.opening.opened.Reads as opened-reads
+
+told : (c : tie.After-judge-opening) → c .judge-opening .result ≡ openVerdict (c .before .before .before .before .before .before .before .args .tile-y) (c .before .before .before .before .before .before .before .args .from) (c .before .before .before .before .before .before .before .args .to) (c .before .before .before .before .before .before .before .args .row .now) (c .before .before .before .before .before .before .before .args .layers .now) (c .before .before .before .before .before .before .before .args .colors .now) (c .before .before .before .before .before .before .before .args .count) (c .before .before .before .before .before .before .before .args .ids .now) (c .before .before .before .before .before .before .before .args .covers .now)
+told c =
+    let s = c .before .before .before .before .before .before .before in
+    c .judge-opening .ensures ∙ rw (toZ-ofZ (s .fits .tile-y), toZ-ofZ (s .fits .from), toZ-ofZ (s .fits .to))
+
+-- where the judge passes
+passes : (c : tie.After-enum-told) → openVerdict (c .before .before .before .before .before .before .before .before .before .args .tile-y) (c .before .before .before .before .before .before .before .before .before .args .from) (c .before .before .before .before .before .before .before .before .before .args .to) (c .before .before .before .before .before .before .before .before .before .args .row .now) (c .before .before .before .before .before .before .before .before .before .args .layers .now) (c .before .before .before .before .before .before .before .before .before .args .colors .now) (c .before .before .before .before .before .before .before .before .before .args .count) (c .before .before .before .before .before .before .before .before .before .args .ids .now) (c .before .before .before .before .before .before .before .before .before .args .covers .now) ≡ Pass
+passes c = sym (told (c .before .before)) ∙ c .enum-told .given .1
+
+known : (c : tie.After-enum-told) → Passed (c .before .before .before .before .before .before .before .before .before .args .tile-y) (c .before .before .before .before .before .before .before .before .before .args .from) (c .before .before .before .before .before .before .before .before .before .args .to) (c .before .before .before .before .before .before .before .before .before .args .row .now) (c .before .before .before .before .before .before .before .before .before .args .layers .now) (c .before .before .before .before .before .before .before .before .before .args .colors .now) (c .before .before .before .before .before .before .before .before .before .args .count) (c .before .before .before .before .before .before .before .before .before .args .ids .now) (c .before .before .before .before .before .before .before .before .before .args .covers .now)
+known c = let a = c .before .before .before .before .before .before .before .before .before .args in opening-passed (a .tile-y) (a .from) (a .to) (a .row .now) (a .layers .now) (a .colors .now) (a .count) (a .ids .now) (a .covers .now) (passes c)
+
+-- the first tile is a number of 16 signed bits
+first-fits : (c : tie.After-enum-told) → SFits w16 (c .before .before .before .before .before .before .before .before .before .args .from)
+first-fits c =
+    let z = c .before .before .before .before .before .before .before .before .before .args .from in
+    let e = (known c) .ends in
+    sfits w16 z (omega (arith, e .first, e .last, whole z))
+
+judge-opening-requires : tie.Need-judge-opening-requires
+judge-opening-requires c κs = search needs
+
+enum-known-refusal : tie.Need-enum-known-refusal
+enum-known-refusal c = search needs
+
+enum-told : tie.Need-enum-told
+enum-told c = search needs
+
+cast-left-of-tile : tie.Need-cast-left-of-tile
+cast-left-of-tile c = rw (toZ-ofZ (c .before .before .before .before .before .before .before .before .before .fits .from)) (first-fits c)
+
+left-of-tile-requires : tie.Need-left-of-tile-requires
+left-of-tile-requires c κs = search needs
+
+open-queue-requires : tie.Need-open-queue-requires
+open-queue-requires c κs = room ((known (c .before .before .before)) .room)
+
+opened-requires : tie.Need-opened-requires
+opened-requires c κs = search needs
+
+same-length : tie.Need-same-length
+same-length c = search needs
+
+same-length-2 : tie.Need-same-length-2
+same-length-2 c = search needs
+
+returns : tie.Need-returns
+returns c =
+    let a = c .before .before .before .before .before .before .before .before .before .before .args in
+    refused-row (a .tile-y) (a .from) (a .to) (a .row .now) (a .layers .now) (a .colors .now) (a .count) (a .ids .now) (a .covers .now) (sym (told (c .before .before .before)) ∙ c .before .refusal .given .1)
+
+same-length-3 : tie.Need-same-length-3
+same-length-3 c = search needs
+
+same-length-4 : tie.Need-same-length-4
+same-length-4 c = search needs
+
+returns-2 : tie.Need-returns-2
+returns-2 c =
+    let s = c .before .before .before .before .before .before .before .before .before .before .before .before .before .before .before .before .before in
+    let a = s .args in
+    let left = rw (toZ-ofZ (s .fits .from), toZ-ofZ (first-fits (c .before .before .before .before .before .before .before .before))) at (c .before .before .before .before .before .before .before .left-of-tile .ensures) in
+    opened-row (a .tile-y) (a .from) (a .to) (a .row .now) (a .layers .now) (a .colors .now) (a .count) (a .ids .now) (a .covers .now) (passes (c .before .before .before .before .before .before .before .before))
+    (rw left at (c .before .before .before .before .open-queue .ensures))
+    (c .opened .ensures ∙ rw (toZ-ofZ (s .fits .tile-y), toZ-ofZ (s .fits .from), toZ-ofZ (s .fits .to)))
+
+pub open-tile-row-spec : {M : Type 1} → statement M
+open-tile-row-spec =
+    tie.close
+    (tie.spec
+    judge-opening-requires
+    enum-known-refusal
+    enum-told
+    cast-left-of-tile
+    left-of-tile-requires
+    open-queue-requires
+    opened-requires
+    same-length
+    same-length-2
+    returns
+    same-length-3
+    same-length-4
+    returns-2)

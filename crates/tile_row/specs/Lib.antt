@@ -1,0 +1,3 @@
+-- A row of tiles: what the contracts of its operations say.
+pub mod Refusal
+pub mod Opening
