@@ -13,15 +13,9 @@ use Rattle.cover.proofs.Entries.{entry-length, entry-at}
 use Rattle.queue.specs.Queue.{Carry, carryAt, queueOf, idsIn, coversIn}
 use Rattle.queue.proofs.Columns.{areWide, length-covers, reads-back}
 use Rattle.tile_layers.specs.Listing.{Listed, hasAny, incomingOf, segmentsOf}
-use Rattle.passes.specs.Entry.{Entry, coverFrom, entryAt, entriesOf}
+use Rattle.passes.specs.Entry.{Entry, entryAt, entriesOf}
+use Rattle.passes.proofs.Listing.{cover-entry}
 use Rattle.layer_workbench.specs.Work as Work
-
-cover-entry : (covers : List ℤ) (i : ℕ) → i * 16 + 16 ≤ length covers → coverFrom covers i ≡ entryOf 16 i covers
-unfolding coverFrom
-cover-entry covers i h =
-    sym
-    (is-tabulate 16 (λ y. getD covers (16 * i + y) (pos 0)) (pos 0) (entryOf 16 i covers) (entry-length 16 i covers h)
-    (λ y p. entry-at 16 i covers y p ∙ ap (λ (k : ℕ). getD covers k (pos 0)) (omega arith)))
 
 -- what is written is there
 over-long : (xs old : List ℤ) → length xs ≤ length (over xs old)

@@ -1,7 +1,7 @@
 -- The colours to mix, as the loop over the shown layers goes: what it has found, with what is left, gives what the whole list gives.
 -- Assumes nothing.
 use mathlib.Core.Path.{_≡_, refl, sym, ap, ap₂, _∙_}
-use mathlib.Core.Bool.{Bool, true, false, cond, _&&_, and-assoc}
+use mathlib.Core.Bool.{Bool, true, false, cond, _&&_, and-true, and-assoc}
 use mathlib.Core.List.{List, [], _∷_}
 use Prim.Native.Nat.{ℕ, zero, suc, _+_, _-_, _≤_, _<_}
 use native.Mathlib.Nat.{add-zero, zero-add, add-suc, suc-add}
@@ -54,10 +54,6 @@ module _ (items : List Item) (shown : List Bool) (skipped i : ℕ) (p : i < leng
   rest-masked e = rest-by ∙ rw e
 
 -- ---- the loop
-
-and-true : (a : Bool) → (a && true) ≡ a
-and-true true = refl
-and-true false = refl
 
 pub record Mixing (items : List Item) (shown : List Bool) (skipped below : ℕ) (ok : Bool) (left i : ℕ) : Type 0 where
   pub from : skipped ≤ i

@@ -1,6 +1,6 @@
 -- What the scope says of the passes in words, proved of the definitions. Assumes nothing.
 use mathlib.Core.Path.{_≡_, refl, ap, _∙_}
-use mathlib.Core.Bool.{Bool, true, false, not, _&&_, _||_}
+use mathlib.Core.Bool.{Bool, true, false, not, _||_, and-false}
 use mathlib.Core.Logic.{_⊎_, inl, ⊎-elim, ⊎-map}
 use mathlib.Core.List.{List, []}
 use Prim.Native.Nat.{ℕ, _<_}
@@ -96,11 +96,7 @@ module _ (clear : Color) where
   empty-new unchanged = empty-solid unchanged Absent refl
 
   pub empty-counted : (unchanged : Bool) (n : ℕ) → (n ≡ 0 → ⊥) → outcomeOf clear unchanged (Kept n) [] .decision ≡ Solid clear 0
-  empty-counted unchanged n h = empty-solid unchanged (Kept n) (rw (ne-eqb n 0 h) (by unchanged))
-    where
-      by : (a : Bool) → (a && false) ≡ false
-      by true = refl
-      by false = refl
+  empty-counted unchanged n h = empty-solid unchanged (Kept n) (rw (ne-eqb n 0 h) (and-false unchanged))
 
   pub empty-recolored : (previous : PreviousCount) → outcomeOf clear false previous [] .decision ≡ Solid clear 0
   empty-recolored Absent = empty-solid false Absent refl

@@ -20,7 +20,11 @@ is-clip-requires : tie.Need-is-clip-requires
 is-clip-requires c κs = search needs
 
 returns : tie.Need-returns
-returns c = composed _ _ _ (c .before .before .before .before .before .before .before .open-clip .ensures) (c .before .before .before .before .before .before .is-clipped .ensures) (c .before .before .before .before .before .draw .ensures) (c .before .before .before .before .close-clip .ensures) (c .before .before .is-clip .ensures)
+returns c =
+    let closed = c .before .before .before .before in
+    let drawn = closed .before in
+    let clipped = drawn .before in
+    composed _ _ _ (clipped .before .open-clip .ensures) (clipped .is-clipped .ensures) (drawn .draw .ensures) (closed .close-clip .ensures) (c .before .before .is-clip .ensures)
 
 pub clip-step-spec : {M : Type 1} → statement M
 clip-step-spec =

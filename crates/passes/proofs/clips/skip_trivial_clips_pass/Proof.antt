@@ -37,10 +37,13 @@ clip-step-requires c κs = tt
 mark-requires : tie.Need-mark-requires Inv-loop μ-loop
 mark-requires c κs =
     let l = c .before .before .before .before .before in
-    omega (arith, c .before .before .before .before .loop-test .taken, l .loop .inv .unclipped-same, l .before .before .before .fill2 .kept .0, l .before .before .before .before .before .before .before .before .before .before .before .before .before .before .before .pre .3)
+    let filled = l .before .before .before in
+    omega (arith, c .before .before .before .before .loop-test .taken, l .loop .inv .unclipped-same, filled .fill2 .kept .0, filled .before .before .before .before .before .before .before .before .before .before .before .before .pre .3)
 
 add-i : tie.Need-add-i Inv-loop μ-loop
-add-i c = omega (arith, c .before .before .before .before .before .before .before .before .before .loop-test .taken, c .before .before .before .before .before .before .before .before .before .before .before .before .before .before .before .before .before .before .before .before .before .before .before .before .before .fits .n)
+add-i c =
+    let turn = c .before .before .before .before .before .before .before .before .before in
+    omega (arith, turn .loop-test .taken, turn .before .before .before .before .before .before .before .before .before .before .before .before .before .before .before .before .fits .n)
 
 loop-less : tie.Need-loop-less Inv-loop μ-loop
 loop-less c = omega (arith, c .before .before .before .before .before .before .before .before .before .loop-test .taken)

@@ -18,8 +18,10 @@ skip-to-requires c κs = search needs
 
 returns : tie.Need-returns
 returns c =
-    let a = c .before .before .before .before .before .before .before .args in
-    looked (a .x) (a .unclipped) (a .i) (a .found) (c .before .before .before .before .before .tells .ensures) (c .before .before .before .before .first-of .ensures) (c .before .before .before .hides .ensures) (c .before .before .skip-to .ensures)
+    let first = c .before .before .before .before in
+    let told = first .before in
+    let a = told .before .before .args in
+    looked (a .x) (a .unclipped) (a .i) (a .found) (told .tells .ensures) (first .first-of .ensures) (c .before .before .before .hides .ensures) (c .before .before .skip-to .ensures)
 
 pub look-at-spec : {M : Type 1} → statement M
 look-at-spec =

@@ -31,31 +31,51 @@ item-at-requires c κs =
     (a .pre .0, a .pre .1, omega (arith, c .before .before .before .loop .inv .reached, c .before .before .loop-test .taken))
 
 shared-slice-read-look-at : tie.Need-shared-slice-read-look-at Inv-loop μ-loop
-shared-slice-read-look-at c = omega (arith, c .before .before .before .before .before .loop .inv .reached, c .before .before .before .before .loop-test .taken, c .before .before .before .before .before .before .before .before .before .before .before .before .pre .3)
+shared-slice-read-look-at c =
+    let turn = c .before .before .before .before in
+    omega (arith, turn .before .loop .inv .reached, turn .loop-test .taken, turn .before .before .before .before .before .before .before .before .pre .3)
 
 look-at-requires : tie.Need-look-at-requires Inv-loop μ-loop
 look-at-requires c κs = tt
 
 shared-slice-read-hides : tie.Need-shared-slice-read-hides Inv-loop μ-loop
-shared-slice-read-hides c = omega (arith, c .before .before .before .before .before .before .before .loop .inv .reached, c .before .before .before .before .before .before .loop-test .taken, c .before .before .before .before .before .before .before .before .before .before .before .before .before .before .pre .3)
+shared-slice-read-hides c =
+    let turn = c .before .before .before .before .before .before in
+    omega (arith, turn .before .loop .inv .reached, turn .loop-test .taken, turn .before .before .before .before .before .before .before .before .pre .3)
 
 hides-requires : tie.Need-hides-requires Inv-loop μ-loop
 hides-requires c κs = tt
 
 returns : tie.Need-returns Inv-loop μ-loop
 returns c =
-    let turn = c .before .before .before .before .before .before .before .before in
+    let seen = c .before .before .before in
+    let read = seen .before .before in
+    let turn = read .before .before .before in
+    let p = turn .loop-test .taken in
     let a = turn .before .before .before .before .before .before .before .before .args in
-    look-found (turn .before .loop .inv) (turn .loop-test .taken) (c .before .before .before .before .before .before .if1 .taken) (item-read (tableOf (a .layers .now) (a .colors .now) (a .count)) (a .n) (a .ids .now) (a .covers .now) (a .segments .now) (turn .before .loop .i - 1) (omega (arith, turn .before .loop .inv .reached, turn .loop-test .taken)) (c .before .before .before .before .before .item-at .ensures)) (c .before .before .before .look-at .ensures) (c .before .hides .ensures) (c .if2 .taken)
+    let i = turn .before .loop .i - 1 in
+    look-found (turn .before .loop .inv) p (read .before .if1 .taken)
+    (item-read (tableOf (a .layers .now) (a .colors .now) (a .count)) (a .n) (a .ids .now) (a .covers .now) (a .segments .now) i (omega (arith, turn .before .loop .inv .reached)) (read .item-at .ensures))
+    (seen .look-at .ensures)
+    (c .before .hides .ensures)
+    (c .if2 .taken)
 
 loop-less : tie.Need-loop-less Inv-loop μ-loop
 loop-less c = omega (arith, c .before .before .before .before .before .before .before .before .loop-test .taken)
 
 loop-again : tie.Need-loop-again Inv-loop μ-loop
 loop-again c =
-    let turn = c .before .before .before .before .before .before .before .before in
+    let seen = c .before .before .before in
+    let read = seen .before .before in
+    let turn = read .before .before .before in
+    let p = turn .loop-test .taken in
     let a = turn .before .before .before .before .before .before .before .before .args in
-    look-next (turn .before .loop .inv) (turn .loop-test .taken) (c .before .before .before .before .before .before .if1 .taken) (item-read (tableOf (a .layers .now) (a .colors .now) (a .count)) (a .n) (a .ids .now) (a .covers .now) (a .segments .now) (turn .before .loop .i - 1) (omega (arith, turn .before .loop .inv .reached, turn .loop-test .taken)) (c .before .before .before .before .before .item-at .ensures)) (c .before .before .before .look-at .ensures) (c .before .hides .ensures) (c .if2 .left)
+    let i = turn .before .loop .i - 1 in
+    look-next (turn .before .loop .inv) p (read .before .if1 .taken)
+    (item-read (tableOf (a .layers .now) (a .colors .now) (a .count)) (a .n) (a .ids .now) (a .covers .now) (a .segments .now) i (omega (arith, turn .before .loop .inv .reached)) (read .item-at .ensures))
+    (seen .look-at .ensures)
+    (c .before .hides .ensures)
+    (c .if2 .left)
 
 loop-less-2 : tie.Need-loop-less-2 Inv-loop μ-loop
 loop-less-2 c = omega (arith, c .before .before .loop-test .taken)

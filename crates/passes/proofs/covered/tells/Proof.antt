@@ -21,8 +21,12 @@ to-opaque-requires c κs = search needs
 
 returns-2 : tie.Need-returns-2
 returns-2 c =
-    let a = c .before .before .before .before .before .before .args in
-    tells-opaque (a .x) (a .unclipped) (c .before .solid-color .result) (c .before .before .before .before .before .is-partial .ensures) (c .before .before .before .before .if1 .left) (c .before .before .before .is-opaque .ensures) (c .before .before .if2 .taken) (c .before .solid-color .ensures) (c .to-opaque .ensures)
+    let opaque = c .before .before .before in
+    let partial = opaque .before .before in
+    let a = partial .before .args in
+    tells-opaque (a .x) (a .unclipped) (c .before .solid-color .result) (partial .is-partial .ensures) (opaque .before .if1 .left) (opaque .is-opaque .ensures) (c .before .before .if2 .taken)
+    (c .before .solid-color .ensures)
+    (c .to-opaque .ensures)
 
 returns-3 : tie.Need-returns-3
 returns-3 c =

@@ -45,12 +45,16 @@ loop-less c = omega (arith, c .before .before .before .before .before .before .l
 
 loop-again : tie.Need-loop-again Inv-loop μ-loop
 loop-again c =
-    let turn = c .before .before .before .before .before .before in
-    let a = turn .before .before .before .before .before .before .before in
-    mix-look (turn .before .loop .inv) (length-items _ _ _ _ _) (a .pre .2) (turn .loop-test .taken) (c .before .before .before .before .if1 .taken) (c .before .before .before .if2 .taken)
+    let read = c .before .before in
+    let turn = read .before .before .before .before in
+    let p = turn .loop-test .taken in
+    let s = turn .before .before .before .before .before .before .before in
+    let a = s .args in
+    mix-look (turn .before .loop .inv) (length-items _ _ _ _ _) (s .pre .2) p (read .before .before .if1 .taken) (read .before .if2 .taken)
     (c .is-color .ensures
     ∙ ap hasColor (c .before .solid-color .ensures)
-    ∙ ap (λ (x : Item). hasColor (solidColor (x .func))) (item-read (tableOf (a .args .layers .now) (a .args .colors .now) (a .args .count)) (a .args .n) (a .args .ids .now) (a .args .covers .now) (a .args .segments .now) (turn .before .loop .i) (turn .loop-test .taken) (c .before .before .item-at .ensures)))
+    ∙ ap (λ (x : Item). hasColor (solidColor (x .func)))
+    (item-read (tableOf (a .layers .now) (a .colors .now) (a .count)) (a .n) (a .ids .now) (a .covers .now) (a .segments .now) (turn .before .loop .i) p (read .item-at .ensures)))
 
 sub-left : tie.Need-sub-left Inv-loop μ-loop
 sub-left c = omega (arith, c .if2 .left)

@@ -19,8 +19,12 @@ same-length c = search needs
 
 returns : tie.Need-returns
 returns c =
-    let a = c .before .before .before .before .before .before .before .before .before .before .before .args in
-    decided-kept (itemsOf (tableOf (a .layers .now) (a .colors .now) (a .count)) (entriesOf (a .n) (a .ids .now) (a .covers .now) (a .segments .now))) (a .previous) (a .clear) (a .clear-unchanged) (length-items _ _ _ _ _) (c .before .before .before .before .before .is-kept .ensures) (c .before .before .before .before .if1 .taken) (c .before .before .fill .ensures)
+    let kept = c .before .before .before .before .before in
+    let a = kept .before .before .before .before .before .before .args in
+    decided-kept (itemsOf (tableOf (a .layers .now) (a .colors .now) (a .count)) (entriesOf (a .n) (a .ids .now) (a .covers .now) (a .segments .now))) (a .previous) (a .clear) (a .clear-unchanged) (length-items _ _ _ _ _)
+    (kept .is-kept .ensures)
+    (c .before .before .before .before .if1 .taken)
+    (c .before .before .fill .ensures)
 
 were-removed-requires : tie.Need-were-removed-requires
 were-removed-requires c κs = search needs
@@ -33,8 +37,14 @@ same-length-2 c = search needs
 
 returns-2 : tie.Need-returns-2
 returns-2 c =
-    let a = c .before .before .before .before .before .before .before .before .before .before .before .before .args in
-    decided-all (itemsOf (tableOf (a .layers .now) (a .colors .now) (a .count)) (entriesOf (a .n) (a .ids .now) (a .covers .now) (a .segments .now))) (a .previous) (a .clear) (a .clear-unchanged) (length-items _ _ _ _ _) (c .before .before .before .before .before .before .is-kept .ensures) (c .before .before .before .before .before .if1 .left) (c .before .before .before .before .were-removed .ensures) (c .before .before .run-passes .ensures)
+    let removed = c .before .before .before .before in
+    let kept = removed .before .before in
+    let a = kept .before .before .before .before .before .before .args in
+    decided-all (itemsOf (tableOf (a .layers .now) (a .colors .now) (a .count)) (entriesOf (a .n) (a .ids .now) (a .covers .now) (a .segments .now))) (a .previous) (a .clear) (a .clear-unchanged) (length-items _ _ _ _ _)
+    (kept .is-kept .ensures)
+    (removed .before .if1 .left)
+    (removed .were-removed .ensures)
+    (c .before .before .run-passes .ensures)
 
 pub decide-spec : {M : Type 1} → statement M
 decide-spec =

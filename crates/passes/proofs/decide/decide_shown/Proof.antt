@@ -19,8 +19,13 @@ mix-requires c κs = search needs
 
 returns : tie.Need-returns
 returns c =
-    let a = c .before .before .before .before .before .before .before .before .before .before .args in
-    decided {whole = coveredOf (itemsOf (tableOf (a .layers .now) (a .colors .now) (a .count)) (entriesOf (a .n) (a .ids .now) (a .covers .now) (a .segments .now))) (a .shown .now) (a .unclipped .now) (a .removed)} (a .clear) (itemsOf (tableOf (a .layers .now) (a .colors .now) (a .count)) (entriesOf (a .n) (a .ids .now) (a .covers .now) (a .segments .now))) (a .shown .now) (c .before .before .before .skip-fully-covered-layers-pass .ensures) (c .before .bottom-of .ensures) (c .mix .ensures)
+    let pass = c .before .before .before in
+    let a = pass .before .before .before .before .before .before .before .args in
+    let items = itemsOf (tableOf (a .layers .now) (a .colors .now) (a .count)) (entriesOf (a .n) (a .ids .now) (a .covers .now) (a .segments .now)) in
+    decided {whole = coveredOf items (a .shown .now) (a .unclipped .now) (a .removed)} (a .clear) items (a .shown .now)
+    (pass .skip-fully-covered-layers-pass .ensures)
+    (c .before .bottom-of .ensures)
+    (c .mix .ensures)
 
 pub decide-shown-spec : {M : Type 1} → statement M
 decide-shown-spec =

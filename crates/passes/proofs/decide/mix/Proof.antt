@@ -23,12 +23,18 @@ returns c = mixed-settled _ (c .before .bottom .given .1)
 returns-2 : tie.Need-returns-2
 returns-2 c =
     let a = c .before .before .before .before .before .before .before .before .before .before .args in
-    mixed-solid (shownOf (a .skipped) (itemsOf (tableOf (a .layers .now) (a .colors .now) (a .count)) (entriesOf (a .n) (a .ids .now) (a .covers .now) (a .segments .now))) (a .shown .now)) (c .before .before .before .bottom2 .given .1) (c .before .are-solid .ensures) (c .if1 .taken)
+    mixed-solid (shownOf (a .skipped) (itemsOf (tableOf (a .layers .now) (a .colors .now) (a .count)) (entriesOf (a .n) (a .ids .now) (a .covers .now) (a .segments .now))) (a .shown .now))
+    (c .before .before .before .bottom2 .given .1)
+    (c .before .are-solid .ensures)
+    (c .if1 .taken)
 
 returns-3 : tie.Need-returns-3
 returns-3 c =
     let a = c .before .before .before .before .before .before .before .before .before .before .args in
-    mixed-paint (shownOf (a .skipped) (itemsOf (tableOf (a .layers .now) (a .colors .now) (a .count)) (entriesOf (a .n) (a .ids .now) (a .covers .now) (a .segments .now))) (a .shown .now)) (c .before .before .before .bottom2 .given .1) (c .before .are-solid .ensures) (c .if1 .left)
+    mixed-paint (shownOf (a .skipped) (itemsOf (tableOf (a .layers .now) (a .colors .now) (a .count)) (entriesOf (a .n) (a .ids .now) (a .covers .now) (a .segments .now))) (a .shown .now))
+    (c .before .before .before .bottom2 .given .1)
+    (c .before .are-solid .ensures)
+    (c .if1 .left)
 
 pub mix-spec : {M : Type 1} → statement M
 mix-spec =
