@@ -1,3 +1,4 @@
 -- A row of tiles: what the contracts of its operations say.
 pub mod Refusal
 pub mod Opening
+pub mod Working

@@ -1,5 +1,6 @@
 // A row of tiles (`paint_tile_row` of painter/mod.rs), as operations that a caller makes one after the other. Each judges first and then works; a
 // refusal says its number and leaves everything as it was.
+pub mod judging;
 pub mod opening;
 
 // Why a call is turned down. specs/Refusal.antt has the numbers.

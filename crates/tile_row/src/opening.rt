@@ -16,7 +16,7 @@ ghost use Rattle.queue.specs.Opening.{openingAnswer};
 ghost use Rattle.tile_row.specs.Opening.{hasBadEnds, openVerdict, openedAnswer, stateOf, OpensRow};
 
 // A number that is not negative, as a natural one; 0 for one that is.
-fn natural(z: i32) -> u32
+pub fn natural(z: i32) -> u32
     ensures { λ r. ⌜ r ≡ plus z ⌝ }
 {
     if z < 0 { 0 } else { z as u32 }
