@@ -1,0 +1,72 @@
+// The job text of the row program, read into a lent layer table and a lent row. `table` and `row` write them.
+pub mod row;
+pub mod table;
+
+use job_text::Head;
+use job_text::Numbers;
+ghost use Rattle.job.specs.Read.{Judged, outcomeOn, Left, JobRead};
+
+pub enum Reading {
+    // The numbers of block 1, how many layers the table has, and how many segments the row.
+    Accepted(Head, usize, usize),
+    // A lent array is too short for the job.
+    NoRoom,
+    // Refusal 10.
+    Malformed,
+}
+
+// Writes a job whose numbers are read and judged: the table and the row, where there is room for both.
+fn write_job(
+    head: Head,
+    layer_numbers: &[i32],
+    n: usize,
+    segment_numbers: &[i32],
+    m: usize,
+    count: usize,
+    layers: &mut [u32],
+    colors: &mut [f32],
+    row: &mut [u64],
+) -> Reading
+    requires { ⌜ Judged (now «layer_numbers») n (now «segment_numbers») m count ⌝ }
+    ensures { λ r. ⌜ Left (outcomeOn head (now («layer_numbers» .entry)) n (now («segment_numbers» .entry)) m (now (layers .entry)) (now (colors .entry)) (now (row .entry)))
+        (now (layers .entry)) (now (colors .entry)) (now (row .entry)) r (now (layers .exit)) (now (colors .exit)) (now (row .exit)) ⌝ }
+{
+    let has_room = (n <= layers.len() / 8) & (n <= colors.len() / 4) & (count <= row.len());
+    if !has_room {
+        return Reading::NoRoom;
+    }
+    table::write_words(layer_numbers, n, layers);
+    table::write_colors(layer_numbers, n, colors);
+    row::write_row(segment_numbers, m, head.row, row);
+    Reading::Accepted(head, n, count)
+}
+
+// Reads a job text. Refusal 10, and arrays that are too short, leave every array as it was.
+pub fn read_job(text: &[u8], layers: &mut [u32], colors: &mut [f32], row: &mut [u64]) -> Reading
+    ensures { λ r. ⌜ JobRead (now (text .entry)) (now (layers .entry)) (now (colors .entry)) (now (row .entry)) r
+        (now (layers .exit)) (now (colors .exit)) (now (row .exit)) ⌝ }
+{
+    let mut head_numbers = [0i32; 4];
+    let mut layer_numbers = [0i32; 512];
+    let mut segment_numbers = [0i32; 3584];
+    let Numbers::Job(n, m, count) = job_text::read_numbers(
+        text,
+        &mut head_numbers,
+        &mut layer_numbers,
+        &mut segment_numbers,
+    ) else {
+        return Reading::Malformed;
+    };
+    let head = job_text::head_of(&head_numbers);
+    write_job(
+        head,
+        &layer_numbers,
+        n,
+        &segment_numbers,
+        m,
+        count,
+        layers,
+        colors,
+        row,
+    )
+}

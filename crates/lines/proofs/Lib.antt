@@ -1,0 +1,9 @@
+-- Laws of lines of numbers as text.
+pub mod Steps
+pub mod Laws
+pub mod PrefixReading
+pub mod Starting
+pub mod LineReading
+pub mod LinesReading
+pub mod Blocks
+pub mod Stored

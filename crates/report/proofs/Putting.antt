@@ -1,0 +1,31 @@
+-- Each answer of `put`, and the part of a buffer that holds a line.
+-- Assumes nothing.
+use mathlib.Core.Path.{_≡_, sym, ap, subst, _∙_}
+use mathlib.Core.List.{List}
+use mathlib.Core.Option.{some}
+use Prim.Native.Nat.{ℕ, _+_, _<_, _≤_}
+use native.Mathlib.Omega.{arith}
+use borrow.Author.Tests.{le-leb, lt-leb}
+use lib.ListN.{length, take, drop}
+use lib.Seq.{sets-eq, take-at}
+use Rattle.decimal.specs.Print.{Printing}
+use Rattle.report.specs.declared.Printed.{Printed}
+use Rattle.report.specs.declared.Printed.the-variants.{Next, Full}
+use Rattle.report.specs.Put.{Put, LineWritten}
+
+pub full : {text out : List ℕ} {at : ℕ} → length out < at + length text → Put text out at Full out
+full {text} {out} {at} h = let e = lt-leb (at + length text) (length out) h in record { answer = rw e; printed = rw e }
+
+pub next : {text out out′ : List ℕ} {at i : ℕ} → at + length text ≤ length out → Printing text out at i out′ → Put text out at (Next i) out′
+next {text} {out} {out′} {at} h p =
+    let e = le-leb (at + length text) (length out) h in
+    record { answer = rw e (ap some (p .answer)); printed = rw e (p .printed) }
+
+-- the line is the front of its buffer
+pub front : {text out out′ : List ℕ} {r : ℕ} → LineWritten text out r out′ → take r out′ ≡ text
+front {text} {out} {out′} {r} w =
+    ap (take r) (w .written ∙ sets-eq text out 0 (omega (arith, w .fits))) ∙ take-at text (drop (0 + length text) out) r (sym (w .answer))
+
+pub put-line : {text part buffer buffer′ out out′ : List ℕ} {at i : ℕ} {r : Printed} → LineWritten text buffer i buffer′ → part ≡ take i buffer′
+    → Put part out at r out′ → Put text out at r out′
+put-line {out = out} {out′ = out′} {at = at} {r = r} w e p = subst (λ (t : List ℕ). Put t out at r out′) (e ∙ front w) p

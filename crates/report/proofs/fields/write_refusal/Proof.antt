@@ -1,0 +1,35 @@
+-- `write_refusal` meets its contract: its parts, joined. Assumes nothing.
+use native.Mathlib.Omega.{arith}
+use borrow.Author.Needs.{needs}
+use Rattle.report.proofs.Lines.{refusal-of}
+use Rattle.report.proofs.fields.write_refusal.Statement.{statement}
+use Rattle.report.proofs.fields.write_refusal.Tie as tie
+
+slice-aggregate-print-bytes : tie.Need-slice-aggregate-print-bytes
+slice-aggregate-print-bytes c = search needs
+
+print-bytes-requires : tie.Need-print-bytes-requires
+print-bytes-requires c κs = search needs
+
+print-number-requires : tie.Need-print-number-requires
+print-number-requires c κs = search needs
+
+same-length : tie.Need-same-length
+same-length c = search needs
+
+returns : tie.Need-returns
+returns c =
+    let p = c .before .before in
+    let q = p .before .before .before .before in
+    let s = q .before .before .before .before in
+    refusal-of (s .args .number) (q .print-bytes .ensures) (p .print-number .ensures .0) (omega (arith, p .print-number .ensures .1, q .print-bytes .ensures .answer, s .pre))
+
+pub write-refusal-spec : {M : Type 1} → statement M
+write-refusal-spec =
+    tie.close
+    (tie.spec
+    slice-aggregate-print-bytes
+    print-bytes-requires
+    print-number-requires
+    same-length
+    returns)

@@ -1,0 +1,30 @@
+-- What printing into a lent buffer promises: the line stands from place `at` on and the other entries are as they were, where it has room, and
+-- else the buffer is as it was.
+use mathlib.Core.Path.{_≡_}
+use mathlib.Core.Bool.{Bool, cond}
+use mathlib.Core.List.{List}
+use mathlib.Core.Option.{Option, some, none}
+use Prim.Native.Nat.{ℕ, _+_, _≤_}
+use lib.Dec.{leb}
+use lib.ListN.{length}
+use lib.Seq.{sets}
+use Rattle.report.specs.declared.Printed.{Printed}
+use Rattle.report.specs.declared.Printed.the-variants.{Next, Full}
+
+abbrev pub hasRoom : List ℕ → List ℕ → ℕ → Bool
+hasRoom text out at = leb (at + length text) (length out)
+
+-- the cases of the answer
+abbrev pub placeOf : Printed → Option ℕ
+placeOf (Next i) = some i
+placeOf Full = none
+
+pub record Put (text out : List ℕ) (at : ℕ) (r : Printed) (out′ : List ℕ) : Type 0 where
+  pub answer : placeOf r ≡ cond (hasRoom text out at) (some (at + length text)) none
+  pub printed : out′ ≡ cond (hasRoom text out at) (sets out at text) out
+
+-- what the inner writers promise: the line stands at the front, and its length is answered
+pub record LineWritten (text out : List ℕ) (r : ℕ) (out′ : List ℕ) : Type 0 where
+  pub answer : r ≡ length text
+  pub fits : length text ≤ length out
+  pub written : out′ ≡ sets out 0 text
