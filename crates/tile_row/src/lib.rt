@@ -2,6 +2,7 @@
 // refusal says its number and leaves everything as it was.
 pub mod judging;
 pub mod opening;
+pub mod working;
 
 // Why a call is turned down. specs/Refusal.antt has the numbers.
 pub enum Refusal {
