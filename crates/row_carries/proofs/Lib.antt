@@ -1,0 +1,3 @@
+-- Laws of the carries of a row, that the theorem of the row cites.
+pub mod Merged
+pub mod Handed

@@ -1,0 +1,2 @@
+-- The carries of a row that is worked from its opening on.
+pub mod Carries
