@@ -3,3 +3,4 @@ pub mod Merged
 pub mod Handed
 pub mod Parts
 pub mod Carried
+pub mod Planes
