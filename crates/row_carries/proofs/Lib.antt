@@ -4,3 +4,4 @@ pub mod Handed
 pub mod Parts
 pub mod Carried
 pub mod Planes
+pub mod Covered
