@@ -2,20 +2,20 @@
 -- of its covers so far in each row; an EvenOdd one agrees with that sum modulo 32; a dropped carry counts as zeros'. Assumes nothing.
 use mathlib.Core.Path.{_≡_, refl, sym, ap, ap₂, _∙_}
 use mathlib.Core.Bool.{Bool, true, false, cond}
-use mathlib.Core.List.{List, []}
+use mathlib.Core.List.{List}
 use Prim.Native.Nat.{ℕ, zero, suc, _+_, _<_}
 use native.Mathlib.Nat.{add-zero}
 use native.Mathlib.Omega.{arith}
 use lib.IntN.{ℤ, pos}
 use lib.ListN.{length, getD}
-use Rattle.laws.proofs.Rows.{getD-tabulate}
+use Rattle.laws.specs.Integer.{modℤ}
 use Rattle.pixel_segment.specs.Field.{cpu}
 use Rattle.pixel_segment.specs.Search.{leftPart, tilePart, layerPart}
 use Rattle.styling.specs.Ascending.{strictlyAscends}
-use Rattle.styling.specs.declared.FillRule.{FillRule}
+use Rattle.styling.specs.declared.FillRule.the-variants.{NonZero, EvenOdd}
 use Rattle.styling.specs.declared.Layer.{Layer}
-use Rattle.cover.specs.Carry.{coverIn, carryOf}
-use Rattle.cover.specs.Cover.{coverAt, isEmpty, Agrees}
+use Rattle.cover.specs.Carry.{carryOf}
+use Rattle.cover.specs.Cover.{coverAt, isEmpty}
 use Rattle.cover.specs.Plane.{planeOf}
 use Rattle.cover.specs.WholeRow.{partOf, leftCover, rowPlane, FromRow}
 use Rattle.cover.proofs.Agreement.{agrees-refl}
@@ -23,11 +23,10 @@ use Rattle.cover.proofs.Carries.{carry-length}
 use Rattle.cover.proofs.Filled.{getD-default}
 use Rattle.cover.proofs.FromRow.{carry-from-row, dropped-from-row, plane-from-row}
 use Rattle.queue.specs.Queue.{Carry, idsIn, zeros, heldIn}
-use Rattle.queue.specs.Opening.{openQueue, ofLayer}
+use Rattle.queue.specs.Opening.{openQueue}
 use Rattle.queue.proofs.Columns.{areWide}
 use Rattle.queue.proofs.Openings.{opening-ascends, opening-wide, opening-at}
 use Rattle.queue.proofs.Queues.{noCarry, held-at}
-use Rattle.tile_layers.specs.Listing.{layersIn, incomingOf}
 use Rattle.tile_layers.specs.Carrying.{ruleIn, handedOn}
 use Rattle.tile_layers.proofs.Handing.{handed-wide}
 use Rattle.tile_layers.proofs.Ordering.{listedIds, list-ascends}
@@ -51,39 +50,34 @@ module _ {ty : ℕ} {row : List ℕ} (r : InOrder ty row) (table : List Layer) (
   -- ---- a queue in order
 
   pub queue-ascends : (n : ℕ) → strictlyAscends (idsIn (queueAfter table row from n)) ≡ true
-  queue-ascends zero = rw (queue-first table row from) (opening-ascends (leftPart (pos from) row))
+  queue-ascends zero = rw (queue-first table row from) (opening-ascends _)
   queue-ascends (suc n) =
       rw (queue-next table row from n)
-      (handed-ascends table 0 (layersAt table row from n)
-      (list-ascends (queueAfter table row from n) (tilePart (pos (from + n)) row) (queue-ascends n) (tile-ordered r (from + n))))
+      (handed-ascends table 0 _ (list-ascends _ _ (queue-ascends n) (tile-ordered r _)))
 
   -- each layer of a tile is listed once, ascending
   pub layers-ascend : (n : ℕ) → strictlyAscends (listedIds (layersAt table row from n)) ≡ true
-  layers-ascend n = list-ascends (queueAfter table row from n) (tilePart (pos (from + n)) row) (queue-ascends n) (tile-ordered r (from + n))
+  layers-ascend n = list-ascends _ _ (queue-ascends n) (tile-ordered r _)
 
   -- every cover has a number for each of 16 pixel rows
   pub queue-wide : (n : ℕ) → areWide (queueAfter table row from n) ≡ true
-  queue-wide zero = rw (queue-first table row from) (opening-wide (leftPart (pos from) row))
+  queue-wide zero = rw (queue-first table row from) (opening-wide _)
   queue-wide (suc n) = rw (queue-next table row from n) (handed-wide table (layersAt table row from n))
 
   -- ---- the layers of a tile
 
   pub listed-is : (n i : ℕ) → i < length (layersAt table row from n) → ListedIs table row from n (getD (layersAt table row from n) i noListed)
   listed-is n i h =
-      let q = queueAfter table row from n in
-      let part = tilePart (pos (from + n)) row in
       record {
-        cover-is = listed-cover q part (queue-ascends n) (tile-ordered r (from + n)) i h;
-        own-is = listed-own q part (queue-ascends n) (tile-ordered r (from + n)) i h ∙ tile-layer r (from + n) (getD (layersIn q part) i noListed .id);
+        cover-is = listed-cover _ _ (queue-ascends n) (tile-ordered r _) i h;
+        own-is = listed-own _ _ (queue-ascends n) (tile-ordered r _) i h ∙ tile-layer r (from + n) (getD (layersAt table row from n) i noListed .id);
       }
 
   pub unlisted-is : (n id : ℕ) → isUnlisted (layersAt table row from n) id ≡ true → UnlistedIs table row from n id
   unlisted-is n id h =
-      let q = queueAfter table row from n in
-      let part = tilePart (pos (from + n)) row in
       record {
-        cover-is = unlisted-cover q part (queue-ascends n) (tile-ordered r (from + n)) id h;
-        own-is = sym (tile-layer r (from + n) id) ∙ unlisted-none q part (queue-ascends n) (tile-ordered r (from + n)) id h;
+        cover-is = unlisted-cover _ _ (queue-ascends n) (tile-ordered r _) id h;
+        own-is = sym (tile-layer r (from + n) id) ∙ unlisted-none _ _ (queue-ascends n) (tile-ordered r _) id h;
       }
 
   -- ---- what the queue holds of a layer
@@ -91,11 +85,11 @@ module _ {ty : ℕ} {row : List ℕ} (r : InOrder ty row) (table : List Layer) (
   -- the layer's carry past tile from + n, or zeros where it is dropped
   pub held-next : (n id : ℕ) → heldIn (queueAfter table row from (suc n)) id ≡ orDropped (ruleIn table id) (carryOf cpu 16 (heldIn (queueAfter table row from n) id) (partOf cpu (suc (from + n)) id row))
   held-next n id =
-      let q = queueAfter table row from n in
-      let part = tilePart (pos (from + n)) row in
       ap (λ (c : List Carry). heldIn c id) (queue-next table row from n)
       ∙ handed-held table 0 (layersAt table row from n) id (layers-ascend n)
-      ∙ ap₂ (λ (c : List ℤ) (o : List ℕ). orDropped (ruleIn table id) (carryOf cpu 16 c o)) (list-held q part id (queue-ascends n)) (list-own q part id ∙ tile-layer r (from + n) id)
+      ∙ ap₂ (λ (c : List ℤ) (o : List ℕ). orDropped (ruleIn table id) (carryOf cpu 16 c o))
+      (list-held _ _ id (queue-ascends n))
+      (list-own (queueAfter table row from n) _ id ∙ tile-layer r (from + n) id)
 
   first-from-row : (id : ℕ) → FromRow cpu 16 (ruleIn table id) (suc from) id row (heldIn (queueAfter table row from 0) id)
   unfolding leftCover
@@ -103,7 +97,7 @@ module _ {ty : ℕ} {row : List ℕ} (r : InOrder ty row) (table : List Layer) (
       record {
         at =
             λ y h.
-            rw (queue-first table row from, opening-at (leftPart (pos from) row) id y, left-layer r from id)
+            rw (queue-first table row from, opening-at _ id y, left-layer r from id)
             (agrees-refl (ruleIn table id) (leftCover cpu (suc from) id row y));
       }
 
@@ -129,6 +123,15 @@ module _ {ty : ℕ} {row : List ℕ} (r : InOrder ty row) (table : List Layer) (
       let q = queueAfter table row from n in
       let id = getD q i noCarry .id in
       rw (← held-at 0 q i id (queue-ascends n) h refl) (held-from-row n id)
+
+  -- the two rules in plain words: a NonZero carry is the exact sum, an EvenOdd one agrees with it modulo 32
+  pub held-exact : (n id : ℕ) → ruleIn table id ≡ NonZero → (y : ℕ) → y < 16 → coverAt (heldIn (queueAfter table row from n) id) y ≡ leftCover cpu (suc (from + n)) id row y
+  held-exact n id e y h =
+      let c : FromRow cpu 16 NonZero (suc (from + n)) id row (heldIn (queueAfter table row from n) id) = rw e at (held-from-row n id) in c .at y h
+
+  pub held-modulo : (n id : ℕ) → ruleIn table id ≡ EvenOdd → (y : ℕ) → y < 16 → modℤ 32 (coverAt (heldIn (queueAfter table row from n) id) y) ≡ modℤ 32 (leftCover cpu (suc (from + n)) id row y)
+  held-modulo n id e y h =
+      let c : FromRow cpu 16 EvenOdd (suc (from + n)) id row (heldIn (queueAfter table row from n) id) = rw e at (held-from-row n id) in c .at y h
 
   -- the plane that a tile's part and carry give is the whole row's
   pub plane-is : (n id : ℕ) → planeOf cpu 16 (ruleIn table id) (coverAt (heldIn (queueAfter table row from n) id)) (layerPart id (tilePart (pos (from + n)) row)) ≡ rowPlane cpu 16 (ruleIn table id) (suc (from + n)) id row

@@ -1,8 +1,8 @@
 -- A layer that is passed over as covered lies under one that hides it, by the whole row. Assumes nothing.
 use mathlib.Core.Path.{_≡_, refl, sym, ap, ap₂, _∙_}
-use mathlib.Core.Bool.{Bool, true, false, false≢true}
+use mathlib.Core.Bool.{true, false, false≢true}
 use mathlib.Core.List.{List, [], _∷_, map}
-use Prim.Native.Nat.{ℕ, suc, _+_, _≤_, _<_}
+use Prim.Native.Nat.{ℕ, _<_}
 use native.Mathlib.Omega.{arith}
 use lib.ListN.{length, getD, length-map}
 use Rattle.laws.specs.Answer.{Answer, refused, given}
@@ -16,7 +16,7 @@ use Rattle.tile_layers.specs.Listing.{Listed}
 use Rattle.tile_layers.proofs.Ordering.{listedIds}
 use Rattle.passes.specs.Clips.{isClip}
 use Rattle.passes.specs.Covered.{itemAt}
-use Rattle.passes.specs.Decide.{Outcome, outcomeOf}
+use Rattle.passes.specs.Decide.{Outcome}
 use Rattle.passes.specs.Entry.{Entry}
 use Rattle.passes.specs.Item.{itemFrom, itemOf, itemsOf}
 use Rattle.passes.specs.Rules.{needsClip, isAscending, Over}

@@ -4,13 +4,13 @@ use mathlib.Core.Path.{_≡_, refl, sym, ap, ap₂, _∙_}
 use mathlib.Core.Bool.{Bool, true, false, cond, not}
 use mathlib.Core.Logic.{⊎-elim}
 use mathlib.Core.List.{List, [], _∷_, map}
-use Prim.Native.Nat.{ℕ, suc, _≤_, _<_}
+use Prim.Native.Nat.{ℕ, suc, _≤_}
 use native.Mathlib.Omega.{arith}
 use borrow.Author.Tests.{le-leb}
 use lib.Dec.{leb}
 use lib.IntN.{ℤ}
 use Rattle.laws.specs.Lists.{filter}
-use Rattle.laws.proofs.Bools.{both}
+use Rattle.laws.proofs.Bools.{both, either-way}
 use Rattle.laws.proofs.Orders.{eq-or-ne}
 use Rattle.pixel_segment.specs.Field.{cpu}
 use Rattle.styling.specs.Ascending.{strictlyAscendsFrom}
@@ -25,7 +25,7 @@ use Rattle.queue.proofs.Queues.{held-here, held-past}
 use Rattle.tile_layers.specs.Listing.{Listed, incomingOf}
 use Rattle.tile_layers.specs.Carrying.{ruleIn, carryFor, isKept, handedOn}
 use Rattle.tile_layers.proofs.Ordering.{listedIds}
-use Rattle.row_carries.proofs.Merged.{ownIn, own-past, unlisted-held, unlisted-own, low-unlisted, head-held, head-own, either-way}
+use Rattle.row_carries.proofs.Merged.{ownIn, own-past, unlisted-held, unlisted-own, low-unlisted, head-held, head-own}
 
 -- ---- they ascend
 

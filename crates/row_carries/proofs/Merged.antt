@@ -7,20 +7,20 @@ use mathlib.Core.List.{List, [], _∷_, _++_, map, append-nil}
 use Prim.Native.Nat.{ℕ, zero, suc, _≤_, _<_}
 use native.Mathlib.Nat.{not-suc-le-zero, le-of-suc-le-suc}
 use native.Mathlib.Omega.{arith}
-use borrow.Author.Tests.{eq-eqb, ne-eqb, eqb-true, eqb-false, ltb-true, ltb-false}
+use borrow.Author.Tests.{eq-eqb, ne-eqb, eqb-true, eqb-false, not-true, ltb-true, ltb-false}
 use lib.Dec.{eqb, ltb}
 use lib.IntN.{ℤ}
 use lib.ListN.{length, getD, length-map, List·getD-map}
-use Rattle.laws.specs.Lists.{all, filter}
-use Rattle.laws.proofs.Bools.{both, left, right}
+use Rattle.laws.proofs.Bools.{both, left, right, either-way}
 use Rattle.laws.proofs.Orders.{eq-or-ne}
 use Rattle.pixel_segment.specs.Field.{cpu, layerIdOf}
 use Rattle.pixel_segment.specs.Order.{Ordered}
 use Rattle.styling.specs.Ascending.{strictlyAscendsFrom, strictlyAscends}
-use Rattle.styling.proofs.Ascents.{ascends-head, ascends-tail, ascends-low, ascends-weaken}
+use Rattle.styling.proofs.Ascents.{ascends-head, ascends-tail, ascends-low}
 use Rattle.queue.specs.Queue.{Carry, idsIn, zeros, heldIn}
 use Rattle.queue.specs.Opening.{ofLayer}
-use Rattle.queue.proofs.Queues.{held-here, held-past, held-none, length-ids, getD-ids}
+use Rattle.queue.proofs.Openings.{held-low}
+use Rattle.queue.proofs.Queues.{held-here, held-past}
 use Rattle.tile_layers.specs.Groups.{Group, single, joinTo, groupsOf}
 use Rattle.tile_layers.specs.Listing.{Listed, carried, fresh, joined, listOf, layersIn, incomingOf}
 use Rattle.tile_layers.proofs.Ordering.{listedIds, list-ascends}
@@ -39,10 +39,6 @@ own-here l ls id e = rw (eq-eqb (l .id) id e)
 pub own-past : (l : Listed) (ls : List Listed) (id : ℕ) → (l .id ≡ id → ⊥) → ownIn (l ∷ ls) id ≡ ownIn ls id
 unfolding ownIn
 own-past l ls id e = rw (ne-eqb (l .id) id e)
-
-pub either-way {ℓ} : {A : Type ℓ} (t : Bool) (x : A) → cond t x x ≡ x
-either-way true x = refl
-either-way false x = refl
 
 carried-own : (q : List Carry) (id : ℕ) → ownIn (map carried q) id ≡ []
 unfolding ownIn
@@ -74,9 +70,6 @@ unfolding ownIn
 own-join w [] id = refl
 own-join w (g ∷ gs) id = by (eqb (layerIdOf cpu w) (g .id)) refl
   where
-    rest : List ℕ
-    rest = ownIn (map fresh gs) id
-
     twice : (t : Bool) → cond t (w ∷ (g .own ++ ownIn (map fresh gs) id)) (ownIn (map fresh gs) id) ≡ cond t (w ∷ cond t (g .own ++ ownIn (map fresh gs) id) (ownIn (map fresh gs) id)) (cond t (g .own ++ ownIn (map fresh gs) id) (ownIn (map fresh gs) id))
     twice true = refl
     twice false = refl
@@ -105,11 +98,6 @@ carried-held : (q : List Carry) (id : ℕ) → heldIn (incomingOf (map carried q
 unfolding heldIn
 carried-held [] id = refl
 carried-held (c ∷ q) id = ap (λ (o : List ℤ). cond (eqb (c .id) id) (c .cover) o) (carried-held q id)
-
--- nothing is held below the least id
-held-low : (low : ℕ) (q : List Carry) (id : ℕ) → strictlyAscendsFrom low (idsIn q) ≡ true → id < low → heldIn q id ≡ zeros
-held-low low q id h l =
-    held-none q id (λ i p e. omega (arith, ascends-low low (idsIn q) h i (rw (length-ids q) p), getD-ids q i, e))
 
 -- a list has the covers of its queue
 held-merged : (low : ℕ) (q : List Carry) (gs : List Group) (id : ℕ) → strictlyAscendsFrom low (idsIn q) ≡ true → heldIn (incomingOf (listOf q gs)) id ≡ heldIn q id
@@ -144,11 +132,7 @@ list-held q part id a = held-merged 0 q (groupsOf part) id a
 -- ---- a layer that is not listed
 
 apart : (l : Listed) (ls : List Listed) (id : ℕ) → isUnlisted (l ∷ ls) id ≡ true → l .id ≡ id → ⊥
-apart l ls id h = eqb-false (l .id) id (turned (eqb (l .id) id) (left (not (eqb (l .id) id)) (isUnlisted ls id) h))
-  where
-    turned : (t : Bool) → not t ≡ true → t ≡ false
-    turned true e = sym e
-    turned false e = refl
+apart l ls id h = eqb-false (l .id) id (not-true (eqb (l .id) id) (left (not (eqb (l .id) id)) (isUnlisted ls id) h))
 
 pub unlisted-held : (ls : List Listed) (id : ℕ) → isUnlisted ls id ≡ true → heldIn (incomingOf ls) id ≡ zeros
 unfolding heldIn

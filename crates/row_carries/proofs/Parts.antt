@@ -1,12 +1,12 @@
 -- The parts of a row in order, found by search, are the parts that the whole row has of a layer: what lies in a tile, and what lies left of it.
 -- The stored number of tile t is t + 1. Assumes nothing.
-use mathlib.Core.Path.{_≡_, refl, sym, ap, _∙_}
-use mathlib.Core.Bool.{Bool, true, false, cond, _&&_}
-use mathlib.Core.List.{List, [], _∷_}
+use mathlib.Core.Path.{_≡_, sym, ap, _∙_}
+use mathlib.Core.List.{List}
 use Prim.Native.Nat.{ℕ, suc}
 use lib.Dec.{eqb, ltb}
 use lib.IntN.{ℤ, pos}
 use Rattle.laws.specs.Lists.{filter}
+use Rattle.laws.proofs.Filtered.{filter-twice}
 use Rattle.pixel_segment.specs.Field.{cpu, tileXOf, layerIdOf}
 use Rattle.pixel_segment.specs.Order.{Ordered}
 use Rattle.pixel_segment.specs.Search.{leftPart, tilePart, layerPart}
@@ -16,14 +16,6 @@ use Rattle.pixel_segment.proofs.TileLayers.{layers-ordered}
 use Rattle.cover.specs.WholeRow as WholeRow
 use Rattle.queue.specs.Opening.{ofLayer}
 use Rattle.row_carries.specs.Carries.{InOrder}
-
-filter-twice : {A : Type 0} (p q : A → Bool) (l : List A) → filter q (filter p l) ≡ filter (λ x. p x && q x) l
-filter-twice p q [] = refl
-filter-twice p q (x ∷ xs) = by (p x) (filter-twice p q xs)
-  where
-    by : (t : Bool) → filter q (filter p xs) ≡ filter (λ y. p y && q y) xs → filter q (cond t (x ∷ filter p xs) (filter p xs)) ≡ cond (t && q x) (x ∷ filter (λ y. p y && q y) xs) (filter (λ y. p y && q y) xs)
-    by true r = ap (λ (ys : List _). cond (q x) (x ∷ ys) ys) r
-    by false r = r
 
 module _ {ty : ℕ} {row : List ℕ} (r : InOrder ty row) (t : ℕ) where
   tile-is : tilePart (pos t) row ≡ filter (λ w. eqb (tileXOf cpu w) (suc t)) row

@@ -1,10 +1,11 @@
 -- Planes that the whole row gives in a tile: coverage 0 of a layer that is not listed there, coverage 1 of one that is full there. Assumes
 -- nothing.
 use mathlib.Core.Path.{_≡_, refl, sym, ap, ap₂, _∙_}
-use mathlib.Core.Bool.{Bool, true, false, not, _&&_, false≢true}
+use mathlib.Core.Bool.{true, false, not, false≢true}
 use mathlib.Core.List.{List, [], _∷_, map}
 use Prim.Native.Nat.{ℕ, suc, _+_, _<_}
 use native.Mathlib.Omega.{arith}
+use borrow.Author.Tests.{not-true}
 use lib.Ieee.{Float, binary32, ofBits}
 use lib.IntN.{ℤ, pos}
 use lib.ListN.{length, getD, replicate, length-replicate, getD-replicate, length-map}
@@ -23,11 +24,11 @@ use Rattle.styling.specs.declared.Layer.{Layer}
 use Rattle.cover.specs.Coverage.{coverageOf}
 use Rattle.cover.specs.Cover.{coverAt, emptyAt, fullAt, isFull}
 use Rattle.cover.specs.Plane.{inPlaces, planeOf}
-use Rattle.cover.specs.WholeRow.{partOf, leftCover, rowPlane, FromRow}
+use Rattle.cover.specs.WholeRow.{leftCover, rowPlane, FromRow}
 use Rattle.cover.proofs.Coverages.{coverage-zero, coverage-one}
 use Rattle.cover.proofs.Filled.{getD-default}
 use Rattle.cover.proofs.FromRow.{plane-from-row, full-from-row, empty-plane, full-plane}
-use Rattle.queue.specs.Queue.{zeros, heldIn}
+use Rattle.queue.specs.Queue.{zeros}
 use Rattle.queue.proofs.Openings.{held-wide}
 use Rattle.tile_layers.specs.Listing.{Listed, hasAny}
 use Rattle.tile_layers.specs.Carrying.{ruleFrom, ruleIn}
@@ -73,13 +74,9 @@ is-full : (a : Answer Layer) (e : Entry) → itemFrom a e .full ≡ true → Ful
 is-full (refused n) e h = absurd (false≢true h)
 is-full (given l) e h =
     record {
-      alone = turned (e .segments) (Bools.left (not (e .segments)) (isFull (l .props .«fill_rule») (e .cover)) h);
+      alone = not-true (e .segments) (Bools.left (not (e .segments)) (isFull (l .props .«fill_rule») (e .cover)) h);
       full = Bools.right (not (e .segments)) (isFull (l .props .«fill_rule») (e .cover)) h;
     }
-  where
-    turned : (t : Bool) → not t ≡ true → t ≡ false
-    turned true q = sym q
-    turned false q = refl
 
 no-segments : (own : List ℕ) → hasAny own ≡ false → own ≡ []
 no-segments [] h = refl
