@@ -50,10 +50,9 @@ module _ {ty : ℕ} {row : List ℕ} (r : InOrder ty row) (table : List Layer) (
   -- ---- a queue in order
 
   pub queue-ascends : (n : ℕ) → strictlyAscends (idsIn (queueAfter table row from n)) ≡ true
-  queue-ascends zero = rw (queue-first table row from) (opening-ascends _)
-  queue-ascends (suc n) =
-      rw (queue-next table row from n)
-      (handed-ascends table 0 _ (list-ascends _ _ (queue-ascends n) (tile-ordered r _)))
+  unfolding queueAfter
+  queue-ascends zero = opening-ascends _
+  queue-ascends (suc n) = handed-ascends table 0 _ (list-ascends _ _ (queue-ascends n) (tile-ordered r _))
 
   -- each layer of a tile is listed once, ascending
   pub layers-ascend : (n : ℕ) → strictlyAscends (listedIds (layersAt table row from n)) ≡ true
@@ -61,8 +60,9 @@ module _ {ty : ℕ} {row : List ℕ} (r : InOrder ty row) (table : List Layer) (
 
   -- every cover has a number for each of 16 pixel rows
   pub queue-wide : (n : ℕ) → areWide (queueAfter table row from n) ≡ true
-  queue-wide zero = rw (queue-first table row from) (opening-wide _)
-  queue-wide (suc n) = rw (queue-next table row from n) (handed-wide table (layersAt table row from n))
+  unfolding queueAfter
+  queue-wide zero = opening-wide _
+  queue-wide (suc n) = handed-wide table _
 
   -- ---- the layers of a tile
 
@@ -92,12 +92,12 @@ module _ {ty : ℕ} {row : List ℕ} (r : InOrder ty row) (table : List Layer) (
       (list-own (queueAfter table row from n) _ id ∙ tile-layer r (from + n) id)
 
   first-from-row : (id : ℕ) → FromRow cpu 16 (ruleIn table id) (suc from) id row (heldIn (queueAfter table row from 0) id)
-  unfolding leftCover
+  unfolding queueAfter leftCover
   first-from-row id =
       record {
         at =
             λ y h.
-            rw (queue-first table row from, opening-at _ id y, left-layer r from id)
+            rw (opening-at (leftPart (pos from) row) id y, left-layer r from id)
             (agrees-refl (ruleIn table id) (leftCover cpu (suc from) id row y));
       }
 
