@@ -2,25 +2,24 @@
 -- after it. Stands for 'each writes its 256 coverages into a lent plane and gives its mark', for 'bit 2 × column + h of a mark is set when a draw
 -- uses the octet: some coverage is above 0 and no needed clip is lacking', and for 'a clip layer's mark is 0; it writes its whole plane'.
 use mathlib.Core.Path.{_≡_}
-use mathlib.Core.Bool.{Bool, true, cond}
+use mathlib.Core.Bool.{Bool, cond}
 use mathlib.Core.List.{List, map}
 use Prim.Native.Nat.{ℕ, _≤_}
 use lib.Ieee.{Float}
 use lib.IntN.{ℤ}
 use lib.ListN.{length}
-use Rattle.laws.specs.Answer.{given}
 use Rattle.laws.specs.Lists.{over, filter}
 use Rattle.pixel_segment.specs.Field.{cpu}
 use Rattle.pixel_segment.specs.Search.{layerPart}
 use Rattle.styling.specs.Lookup.{lookup}
-use Rattle.styling.specs.Table.{Table, tableOf}
+use Rattle.styling.specs.Table.{Table}
 use Rattle.styling.specs.declared.Func.{Func}
 use Rattle.styling.specs.declared.Func.the-variants.{Draw, Clip}
 use Rattle.styling.specs.declared.Layer.{Layer}
 use Rattle.cover.specs.Carry.{isLight}
 use Rattle.cover.specs.Mark.{markOf}
 use Rattle.cover.specs.Paint.{partPlane}
-use Rattle.queue.specs.Queue.{Carry, queueOf, heldIn, Queued}
+use Rattle.queue.specs.Queue.{Carry, heldIn, Queued}
 use Rattle.tile_layers.specs.Listing.{Listed, layersIn, isGiven}
 use Rattle.tile_layers.specs.Walk.{Walks}
 use Rattle.passes.specs.Item.{itemsOf}
@@ -63,12 +62,9 @@ pub record Paints (table : List Layer) (queue : List Carry) (part : List ℕ) (i
   pub mark-is : r .mark ≡ markIn table queue part id layer clip
   pub plane-is : plane ≡ over (planeIn queue part id layer) old
 
--- what painting asks: a judged table that has the layer, a judged queue of n carries, a part that ascends by layer, a plane of 256 numbers, and
--- that number 9 does not apply
-pub record Paintable (n : ℕ) (ids : List ℕ) (covers : List ℤ) (part : List ℕ) (words : List ℕ) (floats : List Float) (count id : ℕ) (layer : Layer) (plane : List Float) : Type 0 where
+-- what painting asks: a judged queue of n carries, a part that ascends by layer, a judged table, and a plane of 256 numbers
+pub record Ready (n : ℕ) (ids : List ℕ) (covers : List ℤ) (part : List ℕ) (words : List ℕ) (floats : List Float) (count : ℕ) (plane : List Float) : Type 0 where
   pub queued : Queued n ids covers
   pub walks : Walks n ids part
   pub table : Table words floats count
-  pub found : lookup (tableOf words floats count) id ≡ given layer
-  pub light : isLightIn (queueOf n ids covers) part id ≡ true
   pub room : 256 ≤ length plane

@@ -8,11 +8,14 @@ use pixel_segment::parts;
 use styling::Func;
 use styling::Layer;
 ghost use mathlib.Core.Path.{_≡_};
+ghost use mathlib.Core.Bool.{true};
 ghost use Prim.Native.Nat.{_≤_};
 ghost use lib.ListN.{length};
+ghost use Rattle.laws.specs.Answer.{given};
+ghost use Rattle.styling.specs.Lookup.{lookup};
 ghost use Rattle.styling.specs.Table.{tableOf};
 ghost use Rattle.queue.specs.Queue.{queueOf};
-ghost use Rattle.painter.specs.Painting.{markFor, Paintable, Paints};
+ghost use Rattle.painter.specs.Painting.{markFor, isLightIn, Ready, Paints};
 
 // What painting gives: the painter's clip after it, and the mark.
 pub struct Painting {
@@ -51,7 +54,7 @@ pub fn paint(
     clip: Clip,
     plane: &mut [f32],
 ) -> Painting
-    requires { ⌜ Paintable n (now ids) (now covers) (now part) (now layers) (now colors) count id layer (now plane) ⌝ }
+    requires { ⌜ Ready n (now ids) (now covers) (now part) (now layers) (now colors) count (now plane) × (lookup (tableOf (now layers) (now colors) count) id ≡ given layer) × (isLightIn (queueOf n (now ids) (now covers)) (now part) id ≡ true) ⌝ }
     ensures { λ r. ⌜ Paints (tableOf (now (layers .entry)) (now (colors .entry)) count) (queueOf n (now (ids .entry)) (now (covers .entry))) (now (part .entry)) id layer clip (now (plane .entry)) r (now (plane .exit)) ⌝ }
 {
     let props = layer.props;

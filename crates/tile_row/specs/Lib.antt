@@ -2,3 +2,4 @@
 pub mod Refusal
 pub mod Opening
 pub mod Working
+pub mod Painting

@@ -2,6 +2,7 @@
 // refusal says its number and leaves everything as it was.
 pub mod judging;
 pub mod opening;
+pub mod painting;
 
 use painter::Clip;
 

@@ -17,12 +17,12 @@ incoming-requires c κs = search needs
 paint-requires : tie.Need-paint-requires
 paint-requires c κs =
     let s = c .before .before .before .before .before .before .before .before .before in
-    (rw (c .before .incoming .ensures, c .before .before .of-layer .ensures) (s .pre .light), s .pre .room)
+    (rw (c .before .incoming .ensures, c .before .before .of-layer .ensures) (s .pre .2), s .pre .0 .room)
 
 needs-clip-requires : tie.Need-needs-clip-requires
 needs-clip-requires c κs =
     let s = c .before .before .before .before .before .before .before .before .before .before .before .before in
-    (s .pre .walks, omega (arith, s .pre .queued .covers-long), s .pre .table)
+    (s .pre .0 .walks, omega (arith, s .pre .0 .queued .covers-long), s .pre .0 .table)
 
 alive-at-requires : tie.Need-alive-at-requires
 alive-at-requires c κs = search needs
@@ -30,7 +30,7 @@ alive-at-requires c κs = search needs
 clip-after-requires : tie.Need-clip-after-requires
 clip-after-requires c κs =
     let s = c .before .before .before .before .before .before .before .before .before .before .before .before .before .before in
-    last-small (s .pre .table) (s .args .id) (s .args .layer) (s .pre .found)
+    last-small (s .pre .0 .table) (s .args .id) (s .args .layer) (s .pre .1)
 
 mark-for-requires : tie.Need-mark-for-requires
 mark-for-requires c κs = search needs
