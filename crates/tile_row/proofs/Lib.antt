@@ -1,2 +1,3 @@
 -- Laws of a row's operations.
 pub mod Verdicts
+pub mod PaintVerdicts

@@ -27,15 +27,15 @@ use Rattle.tile_row.specs.declared.Verdict.{Verdict}
 use Rattle.tile_row.specs.declared.Verdict.the-variants.{Pass, Refuse}
 
 -- a line that passes: its condition does not apply, and the lines below it pass
-passed : (t : Bool) (r : Refusal) (v : Verdict) → unless t r v ≡ Pass → (t ≡ false) × (v ≡ Pass)
+pub passed : (t : Bool) (r : Refusal) (v : Verdict) → unless t r v ≡ Pass → (t ≡ false) × (v ≡ Pass)
 passed true r v e = absurd (let z : _≡_ {A = ℕ} 0 1 = cc in omega arith)
 passed false r v e = (refl, e)
 
-or-left : (a b : Bool) → (a || b) ≡ false → a ≡ false
+pub or-left : (a b : Bool) → (a || b) ≡ false → a ≡ false
 or-left true b e = e
 or-left false b e = refl
 
-or-right : (a b : Bool) → (a || b) ≡ false → b ≡ false
+pub or-right : (a b : Bool) → (a || b) ≡ false → b ≡ false
 or-right true b e = absurd (let z : _≡_ {A = ℕ} 0 1 = cc in omega arith)
 or-right false b e = e
 

@@ -198,7 +198,16 @@ pub fn paint_layer(
     ensures { λ r. ⌜ PaintsLayer state tile layer (now (row .entry)) (now (layers .entry)) (now (colors .entry)) count (now (ids .entry)) (now (covers .entry)) (now (plane .entry)) r (now (plane .exit)) ⌝ }
 {
     match judge_painting(
-        state, tile, layer, row, layers, colors, count, ids, covers, plane,
+        state,
+        tile,
+        layer,
+        row,
+        layers,
+        colors,
+        count,
+        ids,
+        covers,
+        plane,
     ) {
         Verdict::Refuse(refusal) => Painted {
             state: state,
