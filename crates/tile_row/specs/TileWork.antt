@@ -32,7 +32,7 @@ use Rattle.tile_row.specs.declared.Refusal.{Refusal}
 use Rattle.tile_row.specs.declared.Verdict.{Verdict}
 use Rattle.tile_row.specs.declared.Verdict.the-variants.{Pass, Refuse}
 use Rattle.tile_row.specs.declared.RowState.{RowState}
-use Rattle.tile_row.specs.declared.Clip.the-variants.{Absent}
+use Rattle.painter.specs.declared.Clip.the-variants.{Absent}
 use Rattle.tile_row.specs.declared.working.TileDone.{TileDone}
 use Rattle.tile_row.specs.declared.working.TileWorked.{TileWorked}
 use Rattle.tile_row.specs.declared.working.WorkAnswer.{WorkAnswer}

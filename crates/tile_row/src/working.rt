@@ -1,5 +1,4 @@
 // The work on a tile as a public operation.
-use crate::Clip;
 use crate::Refusal;
 use crate::RowState;
 use crate::Verdict;
@@ -8,6 +7,7 @@ use cached_tile::kept::Kept;
 use cached_tile::kept::Settled;
 use layer_workbench::PreviousClear;
 use layer_workbench::Worked;
+use painter::Clip;
 use passes::Index;
 use passes::decide::Decision;
 use pixel_segment::parts;
