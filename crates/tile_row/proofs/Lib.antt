@@ -1,3 +1,4 @@
 -- Laws of a row's operations.
 pub mod Verdicts
 pub mod PaintVerdicts
+pub mod PaintCases
