@@ -2,3 +2,4 @@
 pub mod Verdicts
 pub mod TileWorks
 pub mod PaintVerdicts
+pub mod PaintCases
