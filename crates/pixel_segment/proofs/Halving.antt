@@ -1,6 +1,6 @@
 -- Laws of the halving: how a turn of the search's loop goes. Assumes nothing.
 use mathlib.Core.Path.{_≡_, refl, sym, ap, ap₂, _∙_}
-use mathlib.Core.Bool.{Bool, true, false, cond}
+use mathlib.Core.Bool.{Bool, true, false, cond, false≢true}
 use mathlib.Core.List.{List, [], _∷_}
 use mathlib.Core.Logic.{⊎-elim}
 use Prim.Native.Nat.{ℕ, zero, suc, _+_, _-_, _/_, _≤_, _<_}
@@ -14,6 +14,7 @@ use Rattle.pixel_segment.specs.Order.{isGt}
 use Rattle.pixel_segment.specs.Search.{halved, ended, searchOf, afterOf}
 use Rattle.pixel_segment.specs.declared.order.Ordering.{Ordering}
 use Rattle.pixel_segment.specs.declared.order.Ordering.the-variants.{Less, Equal, Greater}
+use Rattle.pixel_segment.specs.declared.search.Found.{Found}
 use Rattle.pixel_segment.specs.declared.search.Found.the-variants.{At, Absent}
 
 module _ (at : ℕ → Ordering) (l : List ℕ) where
@@ -107,3 +108,24 @@ after-le at l =
 -- what is found is found inside
 pub found-lt : (at : ℕ → Ordering) (l : List ℕ) (i : ℕ) → searchOf at l ≡ At i → i < length l
 found-lt at l i e = rw e at (after-le at l)
+
+abbrev isAt : Found → Bool
+isAt (At k) = true
+isAt (Absent k) = false
+
+-- and has the key
+pub found-equal : (at : ℕ → Ordering) (l : List ℕ) (i : ℕ) → searchOf at l ≡ At i → at (getD l i 0) ≡ Equal
+found-equal at l i e =
+    ⊎-elim
+    (λ (none : length l ≤ 0). absurd (false≢true (ap isAt (search-empty at l (omega arith) ∙ e))))
+    (λ (some : 0 < length l).
+    let s = halved at l (length l) 0 (length l) in
+    by s (at (getD l s 0)) refl (sym (search-is at l some) ∙ e))
+    (le-or-lt (length l) 0)
+  where
+    by : (s : ℕ) (o : Ordering) → at (getD l s 0) ≡ o → ended o s ≡ At i → at (getD l i 0) ≡ Equal
+    by s Less p q = absurd (false≢true (ap isAt q))
+    by s Equal p q =
+        let same : s ≡ i = omega (arith, ap afterOf q) in
+        ap (λ (k : ℕ). at (getD l k 0)) (sym same) ∙ p
+    by s Greater p q = absurd (false≢true (ap isAt q))

@@ -116,7 +116,7 @@ module _ (at : ℕ → Ordering) where
     pub not-past : s ≤ n - 1
     pub not-before : n ≤ s + 1
 
-  above-from : (l : List ℕ) (a b i : ℕ) → Split l a b → i < length l → isGt (at (getD l i 0)) ≡ true → a + b ≤ i
+  pub above-from : (l : List ℕ) (a b i : ℕ) → Split l a b → i < length l → isGt (at (getD l i 0)) ≡ true → a + b ≤ i
   above-from l a b i s h e =
       ⊎-elim (λ p. p)
       (λ (p : i < a + b).
@@ -127,7 +127,7 @@ module _ (at : ℕ → Ordering) where
       (le-or-lt a i)))
       (le-or-lt (a + b) i)
 
-  below-to : (l : List ℕ) (a b i : ℕ) → Split l a b → i < length l → isGt (at (getD l i 0)) ≡ false → i < a + b
+  pub below-to : (l : List ℕ) (a b i : ℕ) → Split l a b → i < length l → isGt (at (getD l i 0)) ≡ false → i < a + b
   below-to l a b i s h e =
       ⊎-elim (λ (p : a + b ≤ i). absurd (false≢true (sym e ∙ ap isGt (s .high i p h)))) (λ p. p) (le-or-lt (a + b) i)
 

@@ -8,7 +8,7 @@ ghost use lib.ListN.{length};
 ghost use Rattle.pixel_segment.specs.Search.{Ending, between, leftPart, tilePart, layerPart};
 
 // The place after the last segment with the key, or where such a segment would stand.
-fn search_end(segments: &[u64], key: Key) -> usize
+pub fn search_end(segments: &[u64], key: Key) -> usize
     ensures { λ r. ⌜ Ending key (now (segments .entry)) r ⌝ }
 {
     match search::search_last_by_key(segments, key) {
