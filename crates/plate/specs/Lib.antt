@@ -1,0 +1,3 @@
+-- Rows of a plate: what its contracts say.
+pub mod Rows
+pub mod Crop

@@ -1,0 +1,82 @@
+// Which part of all segments of a plate is a row (painter/mod.rs: `for_each_row`, `print_row`). None of these functions refuses anything.
+use pixel_segment::parts;
+use pixel_segment::search;
+use pixel_segment::search::Found;
+use pixel_segment::search::Key;
+ghost use mathlib.Core.Path.{_≡_};
+ghost use Rattle.plate.specs.Rows.{castOf, Started, notNegative, Placed, rowPart};
+ghost use Rattle.plate.specs.Crop.{isInCrop};
+
+// Where a part of the segments starts, and where it ends: one past its last segment.
+pub struct Part {
+    pub start: usize,
+    pub end: usize,
+}
+
+// The rows that a crop leaves: all, or those from the first number up to the second, which is not among them.
+pub enum Crop {
+    Absent,
+    Rows(usize, usize),
+}
+
+// A row number as the Rust casts it, `j as i16`: its low 16 bits, signed.
+fn cast(j: usize) -> i16
+    ensures { λ r. ⌜ r ≡ castOf «j» ⌝ }
+{
+    (((j % 65536 + 32768) % 65536) as i32 - 32768) as i16
+}
+
+// Where the segments start whose tile y is not negative: past the last one that `for_each_row` finds with a negative tile y, or at 0.
+pub fn find_not_negative(segments: &[u64]) -> usize
+    ensures { λ r. ⌜ Started (now (segments .entry)) r ⌝ }
+{
+    match search::search_last_by_tile_y_not_negative(segments, false) {
+        Found::At(last) => last + 1,
+        Found::Absent(_) => 0,
+    }
+}
+
+// The segments without the content of negative tile y.
+pub fn skip_negative(segments: &[u64]) -> &[u64]
+    ensures { λ r. ⌜ now r ≡ notNegative (now (segments .entry)) ⌝ }
+{
+    let start = find_not_negative(segments);
+    &segments[start..]
+}
+
+// Where row j stands, as `print_row` finds it: its last segment, and before that the last one of the row above. Nothing where it has none.
+pub fn find_row(segments: &[u64], j: usize) -> Part
+    ensures { λ r. ⌜ Placed «j» (now (segments .entry)) r ⌝ }
+{
+    let tile_y = cast(j);
+    match search::search_last_by_tile_y(segments, tile_y) {
+        Found::At(last) => {
+            let start = parts::search_end(&segments[..last], Key::TileY(tile_y - 1));
+            Part {
+                start: start,
+                end: last + 1,
+            }
+        },
+        Found::Absent(_) => Part { start: 0, end: 0 },
+    }
+}
+
+// The segments of row j.
+pub fn in_row(segments: &[u64], j: usize) -> &[u64]
+    ensures { λ r. ⌜ now r ≡ rowPart «j» (now (segments .entry)) ⌝ }
+{
+    let part = find_row(segments, j);
+    let start = part.start;
+    let end = part.end;
+    &segments[start..end]
+}
+
+// Whether row j is printed: `print_row` skips the rows outside a crop.
+pub fn is_in_crop(crop: Crop, j: usize) -> bool
+    ensures { λ r. ⌜ r ≡ isInCrop crop «j» ⌝ }
+{
+    match crop {
+        Crop::Absent => true,
+        Crop::Rows(start, end) => (start <= j) & (j < end),
+    }
+}
