@@ -1,6 +1,6 @@
 -- The parts that searches find in a row in order are what they are called: the segments that pass the test, in their order. Assumes nothing.
-use mathlib.Core.Path.{_≡_, refl, ap, ap₂, sym, _∙_, fun-ext}
-use mathlib.Core.Bool.{Bool, true, false, cond, not}
+use mathlib.Core.Path.{_≡_, refl, ap, ap₂, sym, subst₂, _∙_, fun-ext}
+use mathlib.Core.Bool.{Bool, true, false, cond, not, false≢true}
 use mathlib.Core.Logic.{⊎-elim}
 use mathlib.Core.List.{List, [], _∷_, _++_}
 use Prim.Native.Nat.{ℕ, zero, suc, _+_, _-_, _≤_, _<_}
@@ -8,17 +8,18 @@ use native.Mathlib.Nat.{zero-add}
 use native.Mathlib.Omega.{arith}
 use borrow.Author.Tests.{lt-ltb, le-ltb, le-leb, lt-leb}
 use lib.Dec.{ltb, leb, eqb}
-use lib.ListN.{length, take, drop, take-append-drop, length-take, length-drop}
+use lib.ListN.{length, getD, take, drop, take-append-drop, length-take, length-drop}
 use lib.Seq.{getD-take, getD-drop}
 use Rattle.laws.specs.Lists.{all, filter}
 use Rattle.laws.specs.Sum.{countBy}
 use Rattle.laws.proofs.Every.{all-intro}
 use Rattle.laws.proofs.Orders.{le-or-lt}
-use Rattle.laws.proofs.Filtered.{filter-middle, filter-ext}
+use Rattle.laws.proofs.Filtered.{filter-all, filter-none, filter-append, filter-middle, filter-ext}
 use Rattle.pixel_segment.specs.Field.{cpu, tileOf, tileXOf, layerIdOf}
 use Rattle.pixel_segment.specs.Order.{compareOf, compareBool, isRow, Ordered, Words}
 use Rattle.pixel_segment.specs.Search.{searchOf, orderAt, Sorted, isLt, isEq, lastOf, afterOf, between, leftPart, tilePart, layerPart}
 use Rattle.pixel_segment.specs.declared.order.Ordering.{Ordering}
+use Rattle.pixel_segment.specs.declared.order.Ordering.the-variants.{Equal, Greater}
 use Rattle.pixel_segment.specs.declared.search.Key.the-variants.{TileXAtLeast}
 use Rattle.pixel_segment.proofs.Sorted.{Split, splits, sorted-search}
 use Rattle.pixel_segment.proofs.Keys.{compare-tile, le-tile, is-eq, is-lt, sorted-by, sorted-at-least, tile-x-ordered}
@@ -80,14 +81,18 @@ below-is k m =
     (le-or-lt k m)
 
 module _ (f : ℕ → ℕ) (k : ℕ) (l : List ℕ) (o : Ordered f l) where
-  -- where the search for a number below k ends: after all that are below
-  pub after-below : afterOf (searchOf (λ w. compareBool (leb k (f w)) false) l) ≡ countBy (λ w. ltb (f w) k) l
-  after-below =
-      after-search (λ w. compareBool (leb k (f w)) false) l (sorted-at-least f k l o)
-      ∙ ap₂ _+_
+  -- the search for a number below k finds the last of all that are below
+  pub search-below : searchOf (λ w. compareBool (leb k (f w)) false) l ≡ lastOf 0 (countBy (λ w. ltb (f w) k) l)
+  search-below =
+      sorted-search (λ w. compareBool (leb k (f w)) false) l (sorted-at-least f k l o)
+      ∙ ap₂ lastOf
       (none-counted (λ w. isLt (compareBool (leb k (f w)) false)) l (λ w. never-less (leb k (f w))))
       (count-ext (λ w. isEq (compareBool (leb k (f w)) false)) (λ w. ltb (f w) k) l (λ w. below-is k (f w)))
-      ∙ zero-add (countBy (λ w. ltb (f w) k) l)
+
+  -- where it ends: after all that are below
+  pub after-below : afterOf (searchOf (λ w. compareBool (leb k (f w)) false) l) ≡ countBy (λ w. ltb (f w) k) l
+  after-below =
+      ap afterOf search-below ∙ after-last 0 (countBy (λ w. ltb (f w) k) l) ∙ zero-add (countBy (λ w. ltb (f w) k) l)
 
   -- the elements with the number k stand between the two ends
   pub equal-part : between (afterOf (searchOf (λ w. compareBool (leb k (f w)) false) l)) (afterOf (searchOf (λ w. compareOf (f w) k) l)) l ≡ filter (λ w. eqb (f w) k) l
@@ -116,6 +121,40 @@ module _ (f : ℕ → ℕ) (k : ℕ) (l : List ℕ) (o : Ordered f l) where
       ∙ ap (λ (n : ℕ). take (countBy (λ w. isEq (at w)) l) (drop n l)) (sym none)
       ∙ sym (having-part at l s)
       ∙ filter-ext (λ w. isEq (at w)) (λ w. ltb (f w) k) l (λ w. below-is k (f w))
+
+  -- and those from it on stand last
+  pub from-part : drop (countBy (λ w. ltb (f w) k) l) l ≡ filter (λ w. leb k (f w)) l
+  from-part =
+      let n = countBy (λ w. ltb (f w) k) l in
+      let at : ℕ → Ordering = λ w. compareBool (leb k (f w)) false in
+      let p : ℕ → Bool = λ w. leb k (f w) in
+      let cut : Split at l 0 n =
+      subst₂ (Split at l)
+      (none-counted (λ w. isLt (at w)) l (λ w. never-less (leb k (f w))))
+      (count-ext (λ w. isEq (at w)) (λ w. ltb (f w) k) l (λ w. below-is k (f w)))
+      (splits at l (sorted-at-least f k l o)) in
+      sym
+      (ap (filter p) (sym (take-append-drop n l))
+      ∙ filter-append p (take n l) (drop n l)
+      ∙ ap₂ _++_
+      (filter-none p (take n l)
+      (all-intro (λ w. not (p w)) (take n l) 0
+      (λ i h.
+      let q : i < n = omega (arith, length-take n l) in
+      ap (λ (w : ℕ). not (p w)) (getD-take n l i 0 q) ∙ not-from (p (getD l i 0)) (cut .mid i (omega arith) (omega arith)))))
+      (filter-all p (drop n l)
+      (all-intro p (drop n l) 0
+      (λ i h.
+      let q : n + i < length l = omega (arith, length-drop n l) in
+      ap p (getD-drop n l i 0) ∙ from (p (getD l (n + i) 0)) (cut .high (n + i) (omega arith) q)))))
+    where
+      not-from : (b : Bool) → compareBool b false ≡ Equal → not b ≡ true
+      not-from true e = absurd (false≢true (ap isEq e))
+      not-from false e = refl
+
+      from : (b : Bool) → compareBool b false ≡ Greater → b ≡ true
+      from true e = refl
+      from false e = absurd (false≢true (sym (ap isEq e)))
 
 -- ---- the parts of a row in order, and of a tile's part
 

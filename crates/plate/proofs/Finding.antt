@@ -1,39 +1,27 @@
 -- A row that a search found, and one that it did not: where it stands. Assumes nothing.
-use mathlib.Core.Path.{_≡_, refl, ap, ap₂, sym, subst, _∙_}
-use mathlib.Core.Bool.{Bool, true, false, cond, false≢true}
+use mathlib.Core.Path.{_≡_, ap, ap₂, sym, subst, _∙_}
 use mathlib.Core.List.{List}
 use Prim.Native.Nat.{ℕ, _+_, _<_}
 use native.Mathlib.Omega.{arith}
 use native.Mathlib.Numerals.{add-one}
 use lib.IntN.{ℤ, pos, subℕ, _-ℤ_}
-use lib.Signed.{ltZ}
 use lib.ListN.{getD, take, length-take}
 use mir.Syntax.{w16}
 use mir.Val.{SFits}
-use Rattle.laws.proofs.Parts.{equal, difference, taken, lt-false}
+use Rattle.laws.proofs.Parts.{difference, taken}
 use Rattle.laws.proofs.Machine.{sfits}
 use Rattle.pixel_segment.specs.Field.{cpu, tileOf, tileYOf}
-use Rattle.pixel_segment.specs.Order.{compareℤ}
 use Rattle.pixel_segment.specs.Search.{searchOf, orderAt, isEq, Ending}
-use Rattle.pixel_segment.specs.declared.order.Ordering.the-variants.{Less, Equal, Greater}
 use Rattle.pixel_segment.specs.declared.search.Found.the-variants.{At, Absent}
 use Rattle.pixel_segment.specs.declared.search.Key.the-variants.{TileY}
 use Rattle.pixel_segment.proofs.Halving.{found-lt, found-equal}
 use Rattle.plate.specs.declared.Part.{Part}
 use Rattle.plate.specs.Rows.{castOf, placeBy, placeOf, Placed}
-
--- two whole numbers that compare equal are equal
-compared : (a b : ℤ) → compareℤ a b ≡ Equal → a ≡ b
-compared a b e = by (ltZ a b) (ltZ b a) refl refl e
-  where
-    by : (s t : Bool) → ltZ a b ≡ s → ltZ b a ≡ t → cond s Less (cond t Greater Equal) ≡ Equal → a ≡ b
-    by true t p q r = absurd (false≢true (ap isEq r))
-    by false true p q r = absurd (false≢true (ap isEq r))
-    by false false p q r = equal a b (omega (arith, lt-false a b p, lt-false b a q))
+use Rattle.plate.proofs.Neighbours.{compared}
 
 -- a segment that is found has the tile y
 pub found-tile : (t : ℤ) (l : List ℕ) (i : ℕ) → searchOf (orderAt (TileY t)) l ≡ At i → tileOf (tileYOf cpu (getD l i 0)) ≡ t
-found-tile t l i e = compared (tileOf (tileYOf cpu (getD l i 0))) t (found-equal (orderAt (TileY t)) l i e)
+found-tile t l i e = compared (tileOf (tileYOf cpu (getD l i 0))) t (ap isEq (found-equal (orderAt (TileY t)) l i e))
 
 -- no tile y is below -1, so the number of the row above fits
 pub above-fits : (t : ℤ) (l : List ℕ) (i : ℕ) → searchOf (orderAt (TileY t)) l ≡ At i → SFits w16 (t -ℤ pos 1)

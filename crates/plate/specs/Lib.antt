@@ -1,3 +1,4 @@
 -- Rows of a plate: what its contracts say.
 pub mod Rows
 pub mod Crop
+pub mod Sorted
