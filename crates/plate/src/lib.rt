@@ -21,7 +21,7 @@ pub enum Crop {
 
 // A row number as the Rust casts it, `j as i16`: its low 16 bits, signed.
 fn cast(j: usize) -> i16
-    ensures { λ r. ⌜ r ≡ castOf «j» ⌝ }
+    ensures { λ r. ⌜ r ≡ castOf j ⌝ }
 {
     (((j % 65536 + 32768) % 65536) as i32 - 32768) as i16
 }
@@ -46,7 +46,7 @@ pub fn skip_negative(segments: &[u64]) -> &[u64]
 
 // Where row j stands, as `print_row` finds it: its last segment, and before that the last one of the row above. Nothing where it has none.
 pub fn find_row(segments: &[u64], j: usize) -> Part
-    ensures { λ r. ⌜ Placed «j» (now (segments .entry)) r ⌝ }
+    ensures { λ r. ⌜ Placed j (now (segments .entry)) r ⌝ }
 {
     let tile_y = cast(j);
     match search::search_last_by_tile_y(segments, tile_y) {
@@ -63,7 +63,7 @@ pub fn find_row(segments: &[u64], j: usize) -> Part
 
 // The segments of row j.
 pub fn in_row(segments: &[u64], j: usize) -> &[u64]
-    ensures { λ r. ⌜ now r ≡ rowPart «j» (now (segments .entry)) ⌝ }
+    ensures { λ r. ⌜ now r ≡ rowPart j (now (segments .entry)) ⌝ }
 {
     let part = find_row(segments, j);
     let start = part.start;
@@ -73,7 +73,7 @@ pub fn in_row(segments: &[u64], j: usize) -> &[u64]
 
 // Whether row j is printed: `print_row` skips the rows outside a crop.
 pub fn is_in_crop(crop: Crop, j: usize) -> bool
-    ensures { λ r. ⌜ r ≡ isInCrop crop «j» ⌝ }
+    ensures { λ r. ⌜ r ≡ isInCrop crop j ⌝ }
 {
     match crop {
         Crop::Absent => true,

@@ -1,0 +1,10 @@
+-- A vertical crop by numbers.
+use mathlib.Core.Bool.{Bool, true, false}
+use Prim.Native.Nat.{ℕ}
+use Rattle.plate.specs.declared.Crop.{Crop}
+use Rattle.plate.specs.declared.Crop.the-variants.{Absent, Rows}
+
+-- where none is given, its start and end play no part
+abbrev pub cropOf : Bool → ℕ → ℕ → Crop
+cropOf true start end = Rows start end
+cropOf false start end = Absent
