@@ -4,6 +4,7 @@ pub mod cached;
 pub mod covers;
 pub mod layers;
 pub mod library;
+pub mod plates;
 pub mod random;
 pub mod scene;
 pub mod tally;

@@ -1,6 +1,8 @@
 //! The proved library, as the crate `ffi` exports it. Nothing checks these declarations against its source: keep them beside it. A lent
 //! slice is a pointer and a length.
 
+use std::ops::Range;
+
 use reference::plain::{Cached, Rgba};
 
 /// What a refused call must leave as it was.
@@ -25,6 +27,9 @@ mod ffi {
         pub fn ffi_search_last_by_layer_id(segments: *const u64, len: usize, layer_id: u32, place: *mut usize) -> bool;
         pub fn ffi_search_last_by_tile_x_at_least(segments: *const u64, len: usize, start: i16, wanted: bool, place: *mut usize) -> bool;
         pub fn ffi_search_last_by_tile_y_not_negative(segments: *const u64, len: usize, wanted: bool, place: *mut usize) -> bool;
+        pub fn ffi_find_not_negative(segments: *const u64, len: usize) -> usize;
+        pub fn ffi_find_row(segments: *const u64, len: usize, j: usize, end: *mut usize) -> usize;
+        pub fn ffi_is_in_crop(is_given: bool, start: usize, end: usize, j: usize) -> bool;
         pub fn ffi_is_empty(covers: *const [i8; 16], rule: u32) -> bool;
         pub fn ffi_is_full(covers: *const [i8; 16], rule: u32) -> bool;
         pub fn ffi_carry(part: *const u64, len: usize, covers: *mut [i8; 16]) -> u32;
@@ -121,6 +126,24 @@ pub fn search_last_by_key(segments: &[u64], key: Key) -> Result<usize, usize> {
     } else {
         Err(place)
     }
+}
+
+/// Where the segments start that have no negative tile y.
+pub fn find_not_negative(segments: &[u64]) -> usize {
+    unsafe { ffi::ffi_find_not_negative(segments.as_ptr(), segments.len()) }
+}
+
+/// Where row j stands.
+pub fn find_row(segments: &[u64], j: usize) -> Range<usize> {
+    let mut end = 0;
+    let start = unsafe { ffi::ffi_find_row(segments.as_ptr(), segments.len(), j, &mut end) };
+    start..end
+}
+
+/// Where no crop is given, the numbers passed leave no row.
+pub fn is_in_crop(crop: Option<(usize, usize)>, j: usize) -> bool {
+    let (start, end) = crop.unwrap_or((0, 0));
+    unsafe { ffi::ffi_is_in_crop(crop.is_some(), start, end, j) }
 }
 
 pub fn is_empty(cover: [i8; 16], rule: u32) -> bool {

@@ -8,6 +8,7 @@ use crate::{
     utils::simd::reach::lanes,
 };
 
+pub mod plate;
 pub mod recorder;
 pub mod row;
 

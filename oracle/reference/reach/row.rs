@@ -200,7 +200,7 @@ pub fn carry(words: &[u64], incoming: Option<[i8; 16]>, record: &Record) -> Opti
     carry.map(|carry| bytes_of(carry.cover))
 }
 
-fn segments_of(words: &[u64]) -> Vec<Segment> {
+pub(super) fn segments_of(words: &[u64]) -> Vec<Segment> {
     words.iter().map(|&word| crate::pixel_segment::of_word(word)).collect()
 }
 
