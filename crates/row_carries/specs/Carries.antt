@@ -2,7 +2,7 @@
 -- the first tile alone. Stands for 'carries' of 'Opening' and 'One tile'; proofs/ has that they are what the whole row says.
 use mathlib.Core.Path.{_≡_}
 use mathlib.Core.Bool.{Bool, true, not}
-use mathlib.Core.List.{List, []}
+use mathlib.Core.List.{List}
 use Prim.Native.Nat.{ℕ, zero, suc, _+_}
 use lib.Dec.{eqb}
 use lib.IntN.{pos}
@@ -29,10 +29,6 @@ queueAfter table row from (suc n) = handedOn table (layersIn (queueAfter table r
 -- the layers of tile from + n
 abbrev pub layersAt : List Layer → List ℕ → ℕ → ℕ → List Listed
 layersAt table row from n = layersIn (queueAfter table row from n) (tilePart (pos (from + n)) row)
-
--- a listed layer where a list has none
-abbrev pub noListed : Listed
-noListed = record { id = 0; cover = []; own = [] }
 
 -- no listed layer has the id
 abbrev pub isUnlisted : List Listed → ℕ → Bool
