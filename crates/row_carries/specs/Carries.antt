@@ -1,5 +1,6 @@
 -- The carries of a row that is worked from its opening on: the queue before each tile, and the layers of each tile, by the row, the table and
--- the first tile alone. Stands for 'carries' of 'Opening' and 'One tile'; proofs/ has that they are what the whole row says.
+-- the first tile alone. Stands for 'worked by this document from the opening on, never from a returned queue or state'; proofs/Carried has that
+-- the carries are what the whole row says.
 use mathlib.Core.Path.{_≡_}
 use mathlib.Core.Bool.{Bool, true, not}
 use mathlib.Core.List.{List}

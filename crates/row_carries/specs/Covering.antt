@@ -1,5 +1,5 @@
--- What lies over a layer that is passed over as covered, by the whole row: 'only a layer above it, full and opaque, hides it'. The theorem of
--- the row says so of every skipped layer.
+-- What lies over a layer that is passed over as covered, by the whole row. Stands for 'a skipped one, masked off or not, is passed over as
+-- covered' of demand 3: such a layer can't be seen.
 use mathlib.Core.Path.{_≡_}
 use mathlib.Core.Bool.{true, false}
 use mathlib.Core.List.{List, map}
