@@ -3,3 +3,5 @@ pub mod Verdicts
 pub mod TileWorks
 pub mod PaintVerdicts
 pub mod PaintCases
+pub mod Holding
+pub mod WorkSteps
