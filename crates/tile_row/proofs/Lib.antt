@@ -5,3 +5,5 @@ pub mod PaintVerdicts
 pub mod PaintCases
 pub mod Holding
 pub mod WorkSteps
+pub mod PaintSteps
+pub mod Run
