@@ -7,3 +7,5 @@ pub mod Holding
 pub mod WorkSteps
 pub mod PaintSteps
 pub mod Run
+pub mod Runs
+pub mod Example

@@ -186,3 +186,10 @@ module _ {o : OpenRow} {p : Past} {h : Held} (is-open : IsOpen o) (holds : Holds
         record { answer = answer; state = state; plane = d .plane-is ∙ covers-due v refl },
         after-paint (r .answer) v answer state,
       )
+
+  -- what is due meets the contract
+  pub gives-paint : {r : Painted} {back : List Float} → paintAnswer (r .answer) ≡ paintDue o p c .answer → r .state ≡ paintDue o p c .state → back ≡ paintDue o p c .plane → PaintsLayer (h .state) (c .tile) (c .layer) (o .row) (o .words) (o .floats) (o .count) (h .taken .ids) (h .taken .covers) (c .plane) r back
+  unfolding carries part
+  gives-paint {r} {back} answer state plane =
+      let v = paintDueVerdict o (p .tiles) c in
+      rw verdict-due (record { answer = answer ∙ sym (answer-due v refl); state-is = state ∙ sym (state-due v); plane-is = plane ∙ sym (covers-due v refl) })

@@ -59,17 +59,17 @@ given-state tileY from to false true n s e = (refl, cc, refl)
 given-state tileY from to false false n s e = absurd (let z : _≡_ {A = ℕ} 0 1 = cc in omega arith)
 
 module _ (tileY from to : ℤ) (row words : List ℕ) (floats : List Float) (count : ℕ) (lent back : Columns) (s : RowState) where
-  q : List Carry
+  pub q : List Carry
   q = openQueue (leftPart from row)
 
   -- what an accepted opening says, and leaves
-  record Accepted : Type 0 where
-    passes : openVerdict tileY from to row words floats count (lent .ids) (lent .covers) ≡ Pass
-    few : length q ≤ 256
-    state : s ≡ openState tileY from to (length q)
-    back-is : back ≡ record { ids = over (idsIn q) (lent .ids); covers = over (coversIn q) (lent .covers) }
+  pub record Accepted : Type 0 where
+    pub passes : openVerdict tileY from to row words floats count (lent .ids) (lent .covers) ≡ Pass
+    pub few : length q ≤ 256
+    pub state : s ≡ openState tileY from to (length q)
+    pub back-is : back ≡ record { ids = over (idsIn q) (lent .ids); covers = over (coversIn q) (lent .covers) }
 
-  accepted : OpensRow tileY from to row words floats count (lent .ids) (lent .covers) (opened.Row s) (back .ids) (back .covers) → Accepted
+  pub accepted : OpensRow tileY from to row words floats count (lent .ids) (lent .covers) (opened.Row s) (back .ids) (back .covers) → Accepted
   unfolding openCount q
   accepted g = by (openVerdict tileY from to row words floats count (lent .ids) (lent .covers)) refl (g .answer) (g .ids-are) (g .covers-are)
     where
@@ -84,7 +84,7 @@ module _ (tileY from to : ℤ) (row words : List ℕ) (floats : List Float) (cou
             back-is = λ j. record { ids = (i ∙ ap (λ (n : Answer ℕ). writtenIf n (idsIn q) (lent .ids)) (t .2)) j; covers = (c ∙ ap (λ (n : Answer ℕ). writtenIf n (coversIn q) (lent .covers)) (t .2)) j };
           }
 
-  is-open : Words row → Accepted → IsOpen (openRow tileY from to row words floats count)
+  pub is-open : Words row → Accepted → IsOpen (openRow tileY from to row words floats count)
   is-open w a =
       let t = opening-passed tileY from to row words floats count (lent .ids) (lent .covers) (a .passes) in
       record {
@@ -104,7 +104,7 @@ module _ (tileY from to : ℤ) (row words : List ℕ) (floats : List Float) (cou
       queue-first (tableOn (openRow tileY from to row words floats count)) row (plus from) ∙ ap (λ (t : ℤ). openQueue (leftPart t row)) natural
 
   -- the caller holds the opening's carries
-  held-first : Words row → Accepted → Holds (openRow tileY from to row words floats count) atFirst (record { state = s; queue = back; taken = back })
+  pub held-first : Words row → Accepted → Holds (openRow tileY from to row words floats count) atFirst (record { state = s; queue = back; taken = back })
   held-first w a =
       let o = openRow tileY from to row words floats count in
       let t = opening-passed tileY from to row words floats count (lent .ids) (lent .covers) (a .passes) in
