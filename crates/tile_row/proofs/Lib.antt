@@ -3,6 +3,7 @@ pub mod Verdicts
 pub mod TileWorks
 pub mod PaintVerdicts
 pub mod PaintCases
+pub mod RowCases
 pub mod Holding
 pub mod WorkSteps
 pub mod PaintSteps
