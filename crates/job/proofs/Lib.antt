@@ -7,4 +7,5 @@ pub mod Tables
 pub mod Rows
 pub mod Outcomes
 pub mod Records
+pub mod Room
 pub mod Examples

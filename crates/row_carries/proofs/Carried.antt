@@ -27,10 +27,11 @@ use Rattle.queue.specs.Opening.{openQueue}
 use Rattle.queue.proofs.Columns.{areWide}
 use Rattle.queue.proofs.Openings.{opening-ascends, opening-wide, opening-at}
 use Rattle.queue.proofs.Queues.{noCarry, held-at}
+use Rattle.tile_layers.specs.Listing.{noListed}
 use Rattle.tile_layers.specs.Carrying.{ruleIn, handedOn}
 use Rattle.tile_layers.proofs.Handing.{handed-wide}
 use Rattle.tile_layers.proofs.Ordering.{listedIds, list-ascends}
-use Rattle.row_carries.specs.Carries.{InOrder, queueAfter, layersAt, noListed, isUnlisted}
+use Rattle.row_carries.specs.Carries.{InOrder, queueAfter, layersAt, isUnlisted}
 use Rattle.row_carries.specs.Listed.{ListedIs, UnlistedIs}
 use Rattle.row_carries.proofs.Handed.{orDropped, handed-ascends, handed-held}
 use Rattle.row_carries.proofs.Merged.{list-held, list-own, listed-cover, listed-own, unlisted-cover, unlisted-none}

@@ -12,7 +12,7 @@ use Rattle.styling.specs.declared.Color.{Color}
 use Rattle.styling.specs.declared.Func.{Func}
 use Rattle.styling.specs.declared.Func.the-variants.{Draw, Clip}
 use Rattle.styling.specs.declared.Layer.{Layer}
-use Rattle.tile_layers.specs.Listing.{Listed}
+use Rattle.tile_layers.specs.Listing.{noListed, Listed}
 use Rattle.tile_layers.proofs.Ordering.{listedIds}
 use Rattle.passes.specs.Clips.{isClip}
 use Rattle.passes.specs.Covered.{itemAt}
@@ -26,7 +26,7 @@ use Rattle.cached_tile.specs.Kept.{previousCount}
 use Rattle.cached_tile.specs.declared.kept.Kept as kept
 use Rattle.layer_workbench.specs.Work.{entryOf, clearUnchanged, countFrom, outcomeOn, outcomeIn}
 use Rattle.layer_workbench.specs.declared.PreviousClear.{PreviousClear}
-use Rattle.row_carries.specs.Carries.{InOrder, layersAt, noListed}
+use Rattle.row_carries.specs.Carries.{InOrder, layersAt}
 use Rattle.row_carries.specs.Covering.{itemsAt, idAt, CoveredUnder}
 use Rattle.row_carries.proofs.Carried.{layers-ascend}
 use Rattle.row_carries.proofs.Planes.{item-listed, full-ones}

@@ -22,9 +22,9 @@ use Rattle.queue.specs.Opening.{ofLayer}
 use Rattle.queue.proofs.Openings.{held-low}
 use Rattle.queue.proofs.Queues.{held-here, held-past}
 use Rattle.tile_layers.specs.Groups.{Group, single, joinTo, groupsOf}
-use Rattle.tile_layers.specs.Listing.{Listed, carried, fresh, joined, listOf, layersIn, incomingOf}
+use Rattle.tile_layers.specs.Listing.{noListed, Listed, carried, fresh, joined, listOf, layersIn, incomingOf}
 use Rattle.tile_layers.proofs.Ordering.{listedIds, list-ascends}
-use Rattle.row_carries.specs.Carries.{noListed, isUnlisted}
+use Rattle.row_carries.specs.Carries.{isUnlisted}
 
 -- ---- the segments that a list holds of a layer
 

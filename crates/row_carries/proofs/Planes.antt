@@ -30,13 +30,13 @@ use Rattle.cover.proofs.Filled.{getD-default}
 use Rattle.cover.proofs.FromRow.{plane-from-row, full-from-row, empty-plane, full-plane}
 use Rattle.queue.specs.Queue.{zeros}
 use Rattle.queue.proofs.Openings.{held-wide}
-use Rattle.tile_layers.specs.Listing.{Listed, hasAny}
+use Rattle.tile_layers.specs.Listing.{noListed, Listed, hasAny}
 use Rattle.tile_layers.specs.Carrying.{ruleFrom, ruleIn}
 use Rattle.passes.specs.Covered.{itemAt}
 use Rattle.passes.specs.Entry.{Entry}
 use Rattle.passes.specs.Item.{itemFrom, itemOf, itemsOf}
 use Rattle.layer_workbench.specs.Work.{entryOf}
-use Rattle.row_carries.specs.Carries.{InOrder, queueAfter, layersAt, noListed, isUnlisted}
+use Rattle.row_carries.specs.Carries.{InOrder, queueAfter, layersAt, isUnlisted}
 use Rattle.row_carries.specs.Covering.{itemsAt, idAt}
 use Rattle.row_carries.specs.Listed.{ListedIs, UnlistedIs}
 use Rattle.row_carries.proofs.Carried.{queue-wide, listed-is, unlisted-is, held-from-row}

@@ -1,8 +1,9 @@
 -- The carries of a row that is worked from its opening on: the queue before each tile, and the layers of each tile, by the row, the table and
--- the first tile alone. Stands for 'carries' of 'Opening' and 'One tile'; proofs/ has that they are what the whole row says.
+-- the first tile alone. Stands for 'worked by this document from the opening on, never from a returned queue or state'; proofs/Carried has that
+-- the carries are what the whole row says.
 use mathlib.Core.Path.{_≡_}
 use mathlib.Core.Bool.{Bool, true, not}
-use mathlib.Core.List.{List, []}
+use mathlib.Core.List.{List}
 use Prim.Native.Nat.{ℕ, zero, suc, _+_}
 use lib.Dec.{eqb}
 use lib.IntN.{pos}
@@ -29,10 +30,6 @@ queueAfter table row from (suc n) = handedOn table (layersIn (queueAfter table r
 -- the layers of tile from + n
 abbrev pub layersAt : List Layer → List ℕ → ℕ → ℕ → List Listed
 layersAt table row from n = layersIn (queueAfter table row from n) (tilePart (pos (from + n)) row)
-
--- a listed layer where a list has none
-abbrev pub noListed : Listed
-noListed = record { id = 0; cover = []; own = [] }
 
 -- no listed layer has the id
 abbrev pub isUnlisted : List Listed → ℕ → Bool

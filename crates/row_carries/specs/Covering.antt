@@ -1,5 +1,5 @@
--- What lies over a layer that is passed over as covered, by the whole row: 'only a layer above it, full and opaque, hides it'. The theorem of
--- the row says so of every skipped layer.
+-- What lies over a layer that is passed over as covered, by the whole row. Stands for 'a skipped one, masked off or not, is passed over as
+-- covered' of demand 3: such a layer can't be seen.
 use mathlib.Core.Path.{_≡_}
 use mathlib.Core.Bool.{true, false}
 use mathlib.Core.List.{List, map}
@@ -10,6 +10,7 @@ use Rattle.styling.specs.Style.{isOpaque}
 use Rattle.styling.specs.declared.Layer.{Layer}
 use Rattle.cover.specs.Coverage.{coverageOf}
 use Rattle.cover.specs.WholeRow.{rowPlane}
+use Rattle.tile_layers.specs.Listing.{noListed}
 use Rattle.tile_layers.specs.Carrying.{ruleIn}
 use Rattle.passes.specs.Clips.{isClip}
 use Rattle.passes.specs.Covered.{itemAt}
@@ -18,7 +19,7 @@ use Rattle.passes.specs.Item.{itemsOf}
 use Rattle.passes.specs.Rules.{needsClip}
 use Rattle.passes.specs.declared.item.Item.{Item}
 use Rattle.layer_workbench.specs.Work.{entryOf}
-use Rattle.row_carries.specs.Carries.{layersAt, noListed}
+use Rattle.row_carries.specs.Carries.{layersAt}
 
 -- what the passes read of the layers of tile from + n
 abbrev pub itemsAt : List Layer → List ℕ → ℕ → ℕ → List Item

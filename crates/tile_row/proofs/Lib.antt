@@ -3,3 +3,10 @@ pub mod Verdicts
 pub mod TileWorks
 pub mod PaintVerdicts
 pub mod PaintCases
+pub mod RowCases
+pub mod Holding
+pub mod WorkSteps
+pub mod PaintSteps
+pub mod Run
+pub mod Runs
+pub mod Example

@@ -1,5 +1,5 @@
 -- What a painting's verdict tells, and the whole operation from it. Assumes nothing.
-use mathlib.Core.Path.{_≡_, refl, ap, sym, _∙_}
+use mathlib.Core.Path.{_≡_, refl, ap, sym, subst, _∙_}
 use mathlib.Core.Bool.{Bool, true, false, not, _||_, false≢true}
 use mathlib.Core.List.{List}
 use Prim.Native.Nat.{ℕ, suc, _+_, _≤_}
@@ -12,12 +12,10 @@ use lib.ListN.{length}
 use lib.Signed.{ltZ}
 use Rattle.laws.specs.Answer.{Answer, refused, given}
 use Rattle.laws.specs.Integer.{plus, minus}
-use Rattle.laws.proofs.Parts.{whole, equal, difference, lt-false}
-use Rattle.pixel_segment.specs.Field.{cpu, layerIdOf, tileOf}
+use Rattle.laws.proofs.Parts.{whole, equal, lt-false}
+use Rattle.pixel_segment.specs.Field.{cpu, layerIdOf}
 use Rattle.pixel_segment.specs.Order.{isRow, Ordered, Words}
 use Rattle.pixel_segment.specs.Search.{tilePart}
-use Rattle.pixel_segment.proofs.TileLayers.{layers-ordered}
-use Rattle.pixel_segment.proofs.TileParts.{tile-part}
 use Rattle.styling.specs.Lookup.{lookup}
 use Rattle.styling.specs.Table as table
 use Rattle.styling.specs.declared.Layer.{Layer}
@@ -26,6 +24,7 @@ use Rattle.queue.specs.Queue as queue
 use Rattle.queue.specs.Queue.{Carry}
 use Rattle.queue.proofs.Judging.{queued, ordered}
 use Rattle.tile_layers.specs.Listing.{isGiven}
+use Rattle.row_carries.proofs.Parts.{tile-ordered}
 use Rattle.painter.specs.Clip.{clipAfter}
 use Rattle.painter.specs.Painting.{planeIn, markIn, isLightIn, Ready, Paints}
 use Rattle.painter.specs.declared.painting.Painting as painting
@@ -83,17 +82,9 @@ was-worked s tile e =
       few = ltb-false 4095 (s .to) (or-right a b (or-left (a || b) c e3));
     }
 
--- a tile number and its stored form
-stored : (z : ℤ) → minus z ≡ 0 → z ≡ tileOf (suc (plus z))
-unfolding tileOf
-stored z h = equal z _ (omega (arith, h, difference (suc (plus z)) 1))
-
--- a tile's part of a row in order ascends by layer
-part-ordered : (ty : ℕ) (tile : ℤ) (row : List ℕ) → Words row → isRow cpu ty row ≡ true → minus tile ≡ 0 → Ordered (layerIdOf cpu) (tilePart tile row)
-part-ordered ty tile row w h z =
-    let t = suc (plus tile) in
-    let part = ap (λ (x : ℤ). tilePart x row) (stored tile z) ∙ tile-part ty t row w h in
-    rw part (layers-ordered ty t row w h)
+-- a tile that is not negative, as a natural number
+natural : (z : ℤ) → minus z ≡ 0 → pos (plus z) ≡ z
+natural z h = equal (pos (plus z)) z (omega (arith, h, whole z))
 
 module _ (s : RowState) (tile : ℤ) (row words : List ℕ) (floats : List Float) (count : ℕ) (ids : List ℕ) (covers : List ℤ) (plane : List Float) where
   -- ---- 1 to 5
@@ -146,7 +137,7 @@ module _ (s : RowState) (tile : ℤ) (row words : List ℕ) (floats : List Float
         walks = record {
           few = ordered (s .taken) ids (p .in-queue) .few;
           long = q .ids-long;
-          ordered = part-ordered (suc (s .«tile_y»)) tile row w (p .in-row) (p .worked .not-negative);
+          ordered = subst (λ (t : ℤ). Ordered (layerIdOf cpu) (tilePart t row)) (natural tile (p .worked .not-negative)) (tile-ordered (record { words = w; is-row = p .in-row }) (plus tile));
         };
         table = judged.table (p .in-table);
         room = p .plane-room;

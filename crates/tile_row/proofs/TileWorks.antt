@@ -15,9 +15,6 @@ use Rattle.laws.proofs.Parts.{whole, equal, lt-false}
 use Rattle.pixel_segment.specs.Field.{cpu, layerIdOf}
 use Rattle.pixel_segment.specs.Order.{Words, Ordered, isRow}
 use Rattle.pixel_segment.specs.Search.{tilePart}
-use Rattle.pixel_segment.proofs.Keys.{tile-suc}
-use Rattle.pixel_segment.proofs.TileParts.{tile-part}
-use Rattle.pixel_segment.proofs.TileLayers.{layers-ordered}
 use Rattle.styling.specs.Table as table
 use Rattle.styling.proofs.Judging as table-judging
 use Rattle.styling.specs.declared.Layer.{Layer}
@@ -25,6 +22,7 @@ use Rattle.queue.specs.Queue as queue
 use Rattle.queue.proofs.Judging as queue-judging
 use Rattle.tile_layers.specs.Listing.{Listed, layersIn, areKnown, areLight}
 use Rattle.tile_layers.specs.Carrying.{handedOn}
+use Rattle.row_carries.proofs.Parts.{tile-ordered}
 use Rattle.layer_workbench.specs.Work.{outcomeIn, Works, ListWritten, QueueWritten, Rooms}
 use Rattle.layer_workbench.specs.declared.Worked.{Worked}
 use Rattle.tile_row.specs.Working.{isListShort, isNotNext, workVerdict, listVerdict}
@@ -80,11 +78,6 @@ list-passed layers ls e =
     let eight = passed _ _ _ (seven .1) in
     let nine = passed _ _ _ (eight .1) in
     record { few = ltb-false 256 (length ls) (seven .0); known = not-false _ (eight .0); light = not-false _ (nine .0) }
-
--- the part of a tile ascends by layer
-pub part-ordered : (ty n : ℕ) (row : List ℕ) → Words row → isRow cpu ty row ≡ true → Ordered (layerIdOf cpu) (tilePart (pos n) row)
-part-ordered ty n row w r =
-    subst (Ordered (layerIdOf cpu)) (sym (tile-part ty (suc n) row w r) ∙ ap (λ (t : ℤ). tilePart t row) (tile-suc n)) (layers-ordered ty (suc n) row w r)
 
 module _ (a : WorkArgs) (lent : WorkLent) where
   pub record Passed : Type 0 where
@@ -151,7 +144,7 @@ module _ (a : WorkArgs) (lent : WorkLent) where
             record {
               few = q .few;
               long = omega (arith, q .few, room .ids-long);
-              ordered = subst (λ (t : ℤ). Ordered (layerIdOf cpu) (tilePart t (a .row))) (sym (n .is-tile)) (part-ordered _ (a .state .next) (a .row) w (p .in-row));
+              ordered = subst (λ (t : ℤ). Ordered (layerIdOf cpu) (tilePart t (a .row))) (sym (n .is-tile)) (tile-ordered (record { words = w; is-row = p .in-row }) (a .state .next));
             };
         covers-long = omega (arith, q .few, room .covers-long);
         in-table = table-judging.table (p .in-table);

@@ -88,6 +88,10 @@ pub record WorkChoice : Type 0 where
   pub previous : PreviousClear
   pub lent : WorkLent
 
+-- 1: the lent queue or the lent list has fewer than 256 entries
+abbrev pub isLentShort : WorkLent → Bool
+isLentShort lent = queue.isShort (lent .queueIds) (lent .queueCovers) || isListShort (lent .listIds) (lent .listCovers) (lent .listSegments) (lent .listShown)
+
 -- 2: the tile is not the one after the n that are worked, or that one is past the end
 abbrev pub isNotDue : OpenRow → ℕ → ℤ → Bool
 isNotDue o n tile = leb (o .to) (o .from + n) || ltZ tile (pos 0) || not (eqb (plus tile) (o .from + n))
@@ -95,9 +99,7 @@ isNotDue o n tile = leb (o .to) (o .from + n) || ltZ tile (pos 0) || not (eqb (p
 -- the lowest refusal that applies. 3, 4 and 5 don't, after an accepted opening
 abbrev pub workDueVerdict : OpenRow → ℕ → WorkChoice → Verdict
 workDueVerdict o n c =
-    unless
-    (queue.isShort (c .lent .queueIds) (c .lent .queueCovers) || isListShort (c .lent .listIds) (c .lent .listCovers) (c .lent .listSegments) (c .lent .listShown))
-    Room
+    unless (isLentShort (c .lent)) Room
     (unless (isNotDue o n (c .tile)) Tile
     (unless (tagOutOfRange (c .kept)) Tag
     (listVerdict (tableOn o) (layersOn o n))))

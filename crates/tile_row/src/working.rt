@@ -79,7 +79,7 @@ fn done(state: RowState, worked: Worked) -> TileWorked
 }
 
 // The work on a tile that 1 to 6 don't refuse: judged by 7 to 9, and then done.
-fn work_judged(
+pub fn work_judged(
     state: RowState,
     tile: i32,
     row: &[u64],

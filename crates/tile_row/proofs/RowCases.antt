@@ -1,0 +1,136 @@
+-- Both sides of the edges of an opening's and a tile work's refusals, computed over the definitions that the contracts cite. Assumes nothing.
+use mathlib.Core.Path.{_≡_, refl}
+use mathlib.Core.Bool.{true, false}
+use mathlib.Core.List.{List, [], _∷_}
+use Prim.Native.Nat.{ℕ}
+use lib.IntN.{ℤ, pos, negsuc}
+use lib.ListN.{replicate}
+use Rattle.laws.specs.Lists.{tabulate}
+use Rattle.pixel_segment.specs.Field.{cpu, coverOf}
+use Rattle.pixel_segment.specs.Order.{ascendsFrom}
+use Rattle.pixel_segment.specs.Pack.{wordOf}
+use Rattle.styling.specs.Ascending.{strictlyAscendsFrom}
+use Rattle.styling.specs.Lookup.{lookup}
+use Rattle.styling.specs.Table.{isShort, isValid, isTable, layerAt, tableOf}
+use Rattle.styling.specs.declared.Layer.{Layer}
+use Rattle.cover.specs.Carry.{isLight}
+use Rattle.queue.specs.Queue.{zeros, isQueue}
+use Rattle.cached_tile.specs.declared.kept.Kept as kept
+use Rattle.tile_layers.specs.Listing.{Listed}
+use Rattle.painter.specs.declared.Clip.the-variants.{Absent}
+use Rattle.tile_row.specs.Opening.{openVerdict}
+use Rattle.tile_row.specs.Working.{workVerdict, listVerdict}
+use Rattle.tile_row.specs.declared.Refusal.the-variants.{Room, Tile, Row, Queue, Tag, Layers, Missing, Covers}
+use Rattle.tile_row.specs.declared.RowState.{RowState}
+use Rattle.tile_row.specs.declared.Verdict.{Verdict}
+use Rattle.tile_row.specs.declared.Verdict.the-variants.{Pass, Refuse}
+
+-- ---- openings, of a row and no layers, with a queue of `room` entries
+
+abbrev opened : ℤ → ℤ → ℤ → List ℕ → ℕ → Verdict
+opened tileY from to row room = openVerdict tileY from to row [] [] 0 (replicate room 0) (replicate 4096 (pos 0))
+
+-- 1: 256 entries pass, 255 don't; an empty row passes, and so does from = to
+pub queue-passes : opened (pos 0) (pos 3) (pos 3) [] 256 ≡ Pass
+unfolding openVerdict isShort isValid isTable ascendsFrom strictlyAscendsFrom
+queue-passes = refl
+
+pub queue-lacks : opened (pos 0) (pos 3) (pos 3) [] 255 ≡ Refuse Room
+unfolding openVerdict isShort
+queue-lacks = refl
+
+-- 2: row 2,046 and tiles up to 4,095 pass; row 2,047, from -1, to 4,096 and from above to don't
+pub ends-pass : opened (pos 2046) (pos 0) (pos 4095) [] 256 ≡ Pass
+unfolding openVerdict isShort isValid isTable ascendsFrom strictlyAscendsFrom
+ends-pass = refl
+
+pub row-past : opened (pos 2047) (pos 0) (pos 4095) [] 256 ≡ Refuse Tile
+unfolding openVerdict isShort
+row-past = refl
+
+pub from-below : opened (pos 0) (negsuc 0) (pos 4) [] 256 ≡ Refuse Tile
+unfolding openVerdict isShort
+from-below = refl
+
+pub to-past : opened (pos 0) (pos 0) (pos 4096) [] 256 ≡ Refuse Tile
+unfolding openVerdict isShort
+to-past = refl
+
+pub from-past : opened (pos 0) (pos 4) (pos 3) [] 256 ≡ Refuse Tile
+unfolding openVerdict isShort
+from-past = refl
+
+-- 3: layers 6, 7 in one tile pass, 7, 6 don't; nor does a segment of row 1 in row 0
+abbrev segment : ℕ → ℤ → ℕ
+segment layer tileY = wordOf cpu layer (pos 0) tileY 0 0 32 (pos 16)
+
+pub ascending : opened (pos 0) (pos 0) (pos 4) (segment 6 (pos 0) ∷ segment 7 (pos 0) ∷ []) 256 ≡ Pass
+unfolding openVerdict isShort isValid isTable ascendsFrom strictlyAscendsFrom
+ascending = refl
+
+pub descending : opened (pos 0) (pos 0) (pos 4) (segment 7 (pos 0) ∷ segment 6 (pos 0) ∷ []) 256 ≡ Refuse Row
+unfolding openVerdict isShort ascendsFrom
+descending = refl
+
+pub other-row : opened (pos 0) (pos 0) (pos 4) (segment 6 (pos 1) ∷ []) 256 ≡ Refuse Row
+unfolding openVerdict isShort ascendsFrom
+other-row = refl
+
+-- ---- tile works: tiles 0 to 4, of which 2 is the next; two carries with the ids a and b are left
+
+abbrev worked : ℤ → ℕ → ℕ → ℕ → Verdict
+worked tile a b tag =
+    workVerdict false (record { «tile_y» = 0; from = 0; to = 4; next = 2; left = 2; taken = 0; clip = Absent }) tile [] [] [] 0
+    (record { given = true; tile = record { tags = tag; «layer_count» = replicate 3 0; «solid_color» = replicate 4 0 } })
+    (a ∷ b ∷ replicate 254 0)
+
+pub next-passes : worked (pos 2) 3 4 3 ≡ Pass
+unfolding workVerdict isShort isValid isTable ascendsFrom isQueue strictlyAscendsFrom
+next-passes = refl
+
+-- 2: tile 3 after tile 1
+pub skips-one : worked (pos 3) 3 4 3 ≡ Refuse Tile
+unfolding workVerdict
+skips-one = refl
+
+-- 5: ids 4, 4
+pub equal-ids : worked (pos 2) 4 4 3 ≡ Refuse Queue
+unfolding workVerdict isShort isValid isTable ascendsFrom isQueue strictlyAscendsFrom
+equal-ids = refl
+
+-- 6: tag 4
+pub tag-past : worked (pos 2) 3 4 4 ≡ Refuse Tag
+unfolding workVerdict isShort isValid isTable ascendsFrom isQueue strictlyAscendsFrom
+tag-past = refl
+
+-- ---- lists
+
+abbrev listed : ℤ → ℕ → Listed
+listed cover id = record { id = id; cover = replicate 16 cover; own = wordOf cpu id (pos 0) (pos 0) 3 0 32 (negsuc 7) ∷ [] }
+
+-- 7: 257 layers; 256 are not turned down by it
+pub layers-past : listVerdict [] (tabulate 257 (listed (pos 0))) ≡ Refuse Layers
+unfolding listVerdict
+layers-past = refl
+
+pub layers-pass : listVerdict [] (tabulate 256 (listed (pos 0))) ≡ Refuse Missing
+unfolding listVerdict lookup
+layers-pass = refl
+
+-- a table of one draw, layer 5
+abbrev table : List Layer
+table = tableOf (5 ∷ replicate 7 0) [] 1
+
+-- 8: layer 9 is not in it
+pub missing : listVerdict table (listed (pos 0) 9 ∷ []) ≡ Refuse Missing
+unfolding listVerdict lookup tableOf layerAt
+missing = refl
+
+-- 9: 120 and -8 are refused, 119 and -8 pass
+pub too-large : listVerdict table (listed (pos 120) 5 ∷ []) ≡ Refuse Covers
+unfolding listVerdict lookup tableOf layerAt isLight coverOf
+too-large = refl
+
+pub large : listVerdict table (listed (pos 119) 5 ∷ []) ≡ Pass
+unfolding listVerdict lookup tableOf layerAt isLight coverOf
+large = refl
