@@ -8,8 +8,10 @@ use Rattle.laws.specs.Answer.{Answer}
 use Rattle.cached_tile.specs.declared.SolidColor.{SolidColor}
 use Rattle.cached_tile.specs.Kept.{Writing}
 use Rattle.pixel_segment.specs.declared.search.Found.{Found}
+use Rattle.tile_row.specs.declared.RowState.{RowState}
 use Rattle.ffi.specs.Numbers.{numberOf, valueOr, isFound, placeOf}
 use Rattle.ffi.specs.Cached.{isGiven, givenOr, colorOr, writtenOr}
+use Rattle.ffi.specs.Rows.{wordsOr, countsOr}
 
 -- a search: whether the key was found, and the place
 pub searched : {f g : Found} {r : Bool} {p : ℕ} → f ≡ g → (r ≡ isFound f) × (p ≡ placeOf f) → (r ≡ isFound g) × (p ≡ placeOf g)
@@ -30,3 +32,7 @@ colored {r = r} {p = p} old e told = subst (λ (h : SolidColor). (r ≡ h .given
 -- settling
 pub settled : {a b : Answer Writing} {r : ℕ} {p : Bool} (old : Bool) → a ≡ b → (r ≡ numberOf a) × (p ≡ writtenOr a old) → (r ≡ numberOf b) × (p ≡ writtenOr b old)
 settled {r = r} {p = p} old e told = subst (λ (h : Answer Writing). (r ≡ numberOf h) × (p ≡ writtenOr h old)) e told
+
+-- an operation that gives a state
+pub staged : {a b : Answer RowState} {r : ℕ} {w k : List ℕ} (words counts : List ℕ) → a ≡ b → (r ≡ numberOf a) × ((w ≡ wordsOr a words) × (k ≡ countsOr a counts)) → (r ≡ numberOf b) × ((w ≡ wordsOr b words) × (k ≡ countsOr b counts))
+staged {r = r} {w = w} {k = k} words counts e told = subst (λ (h : Answer RowState). (r ≡ numberOf h) × ((w ≡ wordsOr h words) × (k ≡ countsOr h counts))) e told

@@ -3,3 +3,4 @@ pub mod Numbers
 pub mod Covers
 pub mod Cached
 pub mod Layers
+pub mod Rows

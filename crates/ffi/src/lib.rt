@@ -4,4 +4,5 @@
 pub mod cached;
 pub mod covers;
 pub mod layers;
+pub mod rows;
 pub mod words;

@@ -2,8 +2,11 @@
 
 pub mod cached;
 pub mod covers;
+pub mod judge;
 pub mod layers;
 pub mod library;
+pub mod memory;
+pub mod openings;
 pub mod random;
 pub mod scene;
 pub mod tally;

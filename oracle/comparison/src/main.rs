@@ -2,7 +2,7 @@
 
 use std::{env, process::ExitCode};
 
-use comparison::{cached, covers, layers, tally::Tally, words};
+use comparison::{cached, covers, layers, openings, tally::Tally, words};
 
 fn main() -> ExitCode {
     let numbers: Vec<u64> = env::args().skip(1).filter_map(|word| word.parse().ok()).collect();
@@ -15,5 +15,6 @@ fn main() -> ExitCode {
     covers::compare(&mut tally);
     cached::compare(&mut tally);
     layers::compare(&mut tally);
+    openings::compare(&mut tally);
     tally.end()
 }
