@@ -9,5 +9,6 @@ pub mod memory;
 pub mod openings;
 pub mod random;
 pub mod scene;
+pub mod stored;
 pub mod tally;
 pub mod words;
