@@ -1,12 +1,12 @@
--- The worked cases P1 to P6 and P8 to P12 as one table (P7 comes with painting) of theorems about the definitions. A case that computes is proved where it stands.
+-- The worked cases P1 to P12 as one table of theorems about the definitions. A case that computes is proved where it stands.
 use mathlib.Core.Path.{_≡_, refl}
 use mathlib.Core.Bool.{true, false}
 use mathlib.Core.List.{List, [], _∷_}
 use mathlib.Core.Option.{some, none}
 use Prim.Native.Nat.{ℕ}
-use lib.Ieee.{binary32, odd, ofBits}
+use lib.Ieee.{binary32, odd, ofBits, nan}
 use lib.IntN.{ℤ, pos, negsuc}
-use lib.ListN.{replicate}
+use lib.ListN.{getD, replicate}
 use Rattle.laws.specs.Answer.{refused, given}
 use Rattle.cached_tile.specs.Kept.{write, keep, settleOf, settledKept}
 use Rattle.cached_tile.specs.Tile.{layerCountOf, updateCount}
@@ -21,7 +21,18 @@ use Rattle.pixel_segment.specs.Pack.{packOf, wordOf}
 use Rattle.pixel_segment.specs.Search.{searchOf, halved, orderAt}
 use Rattle.pixel_segment.specs.declared.search.Found.the-variants.{At, Absent}
 use Rattle.pixel_segment.specs.declared.search.Key.the-variants.{LayerId}
+use Rattle.styling.specs.declared.BlendMode.the-variants.{Over}
+use Rattle.styling.specs.declared.Fill.the-variants.{Gradient}
 use Rattle.styling.specs.declared.FillRule.the-variants.{NonZero, EvenOdd}
+use Rattle.styling.specs.declared.Func.{Func}
+use Rattle.styling.specs.declared.Func.the-variants.{Draw, Clip}
+use Rattle.styling.specs.declared.Layer.{Layer}
+use Rattle.queue.specs.Queue.{Carry}
+use Rattle.painter.specs.Clip.{aliveAt, clipAfter}
+use Rattle.painter.specs.Painting.{needsIn, markIn, planeIn}
+use Rattle.painter.specs.declared.Clip as painter
+use Rattle.painter.specs.declared.Clip.the-variants.{Absent}
+use Rattle.painter.proofs.Cases.{P7-needs, P7-mark, P7-plane}
 
 -- words of the layers 1, 3, 3, 3 and 7
 abbrev pub words : List ℕ
@@ -41,6 +52,23 @@ tileOf0 count color = record { tags = 0; «layer_count» = count; «solid_color�
 
 abbrev pub keptOf0 : List ℕ → List ℕ → Kept
 keptOf0 count color = record { given = true; tile = tileOf0 count color }
+
+-- P7: clip layer 1 with span 1, clip layer 2 with span 5, and a clipped draw at 3, each with half a cover in every row from the left
+abbrev pub layerOf : ℕ → Func → Layer
+layerOf id func = record { id = id; props = record { «fill_rule» = NonZero; func = func }; «is_unchanged» = false }
+
+abbrev pub clippedDraw : Layer
+clippedDraw = layerOf 3 (Draw (record { «is_clipped» = true; fill = Gradient; «blend_mode» = Over }))
+
+abbrev pub threeLayers : List Layer
+threeLayers = layerOf 1 (Clip 1) ∷ layerOf 2 (Clip 5) ∷ clippedDraw ∷ []
+
+abbrev pub threeCarries : List Carry
+threeCarries = record { id = 1; cover = sixteen (pos 8) } ∷ record { id = 2; cover = sixteen (pos 8) } ∷ record { id = 3; cover = sixteen (pos 8) } ∷ []
+
+-- the painter's clip once layers 1 and 2 are painted
+abbrev pub secondClip : painter.Clip
+secondClip = clipAfter (Clip 5) 2 (clipAfter (Clip 1) 1 Absent)
 
 pub record Cases : Type 0 where
   pub p1 : packOf 5 (pos 2) (pos 0) 3 4 32 (pos 16) ≡ given 0x0020060000534810
@@ -64,6 +92,10 @@ pub record Cases : Type 0 where
   pub p6-full-even-odd : isFull EvenOdd (sixteen (negsuc 15)) ≡ true
   pub p6-double : isFull EvenOdd (sixteen (pos 48)) ≡ true
   pub p6-double-not-full : isFull NonZero (sixteen (pos 48)) ≡ false
+  pub p7-clip : aliveAt secondClip 3 ≡ Absent
+  pub p7-needs : needsIn threeLayers threeCarries [] (clippedDraw .props .func) 3 ≡ true
+  pub p7-mark : markIn threeLayers threeCarries [] 3 clippedDraw secondClip ≡ 0
+  pub p7-plane : (getD (planeIn threeCarries [] 3 clippedDraw) 0 nan ≡ ofBits binary32 0x3F000000) × (getD (planeIn threeCarries [] 3 clippedDraw) 255 nan ≡ ofBits binary32 0x3F000000)
   pub p8-previous : (count color : List ℕ) → layerCountOf (tileOf0 count color) ≡ none
   pub p8-kept : (count color : List ℕ) → layerCountOf (updateCount (tileOf0 count color) (some 16777217)) ≡ some 1
   pub p8-tag : (count color : List ℕ) → updateCount (tileOf0 count color) (some 16777217) .tags ≡ 2
@@ -105,6 +137,10 @@ cases =
       p6-full-even-odd = refl;
       p6-double = refl;
       p6-double-not-full = refl;
+      p7-clip = refl;
+      p7-needs = P7-needs;
+      p7-mark = P7-mark;
+      p7-plane = P7-plane;
       p8-previous = λ count color. refl;
       p8-kept = λ count color. refl;
       p8-tag = λ count color. refl;

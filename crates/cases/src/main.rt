@@ -1,5 +1,6 @@
-// The worked cases P1 to P6 and P8 to P12, run; P7 comes with painting. What each check requires is proved from the contracts of the functions that it calls alone; the same cases
+// The worked cases P1 to P12, run. What each check requires is proved from the contracts of the functions that it calls alone; the same cases
 // stand as theorems about the definitions in specs/Cases.antt.
+mod clips;
 mod covers;
 mod tiles;
 mod words;
@@ -16,6 +17,7 @@ fn main() {
     check::expect(covers::p6_empty());
     check::expect(covers::p6_full());
     check::expect(covers::p6_double());
+    check::expect(clips::p7());
     check::expect(tiles::p8_kept());
     check::expect(tiles::p8_dropped());
     check::expect(covers::p9());

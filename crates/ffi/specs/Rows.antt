@@ -6,8 +6,8 @@ use lib.IntN.{ℤ}
 use Rattle.laws.specs.Answer.{Answer, refused, given}
 use Rattle.tile_row.specs.Opening.{openCount, stateOf}
 use Rattle.tile_row.specs.declared.RowState.{RowState}
-use Rattle.tile_row.specs.declared.Clip.{Clip}
-use Rattle.tile_row.specs.declared.Clip.the-variants.{Absent, Until}
+use Rattle.painter.specs.declared.Clip.{Clip}
+use Rattle.painter.specs.declared.Clip.the-variants.{Absent, Until}
 
 -- whether the painter has a clip, and the clip's last layer
 abbrev pub clipFlag : Clip → ℕ

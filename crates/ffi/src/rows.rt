@@ -1,6 +1,6 @@
 // A row of tiles. A state is lent as its numbers: tile y, from, to, the next tile, whether the painter has a clip (0 or 1) and the clip's last
 // layer; and beside them how many carries the queue has that is left, and how many the one had that was taken in.
-use tile_row::Clip;
+use painter::Clip;
 use tile_row::Opened;
 use tile_row::Refusal;
 use tile_row::RowState;

@@ -1,6 +1,6 @@
 -- Laws of filtered lists: a list that passes a test whole, or nowhere, and a part in the middle of a list. Assumes nothing.
 use mathlib.Core.Path.{_≡_, refl, ap, ap₂, _∙_}
-use mathlib.Core.Bool.{Bool, true, false, cond, not, false≢true}
+use mathlib.Core.Bool.{Bool, true, false, cond, not, _&&_, false≢true}
 use mathlib.Core.List.{List, [], _∷_, _++_, append-nil}
 use Prim.Native.Nat.{_≤_}
 use native.Mathlib.Omega.{arith}
@@ -64,6 +64,15 @@ all-kept p q (x ∷ xs) h = by (p x) (all-kept p q xs (right (q x) (all q xs) h)
 pub filter-ext : {A : Type 0} (p q : A → Bool) (l : List A) → ((x : A) → p x ≡ q x) → filter p l ≡ filter q l
 filter-ext p q [] h = refl
 filter-ext {A} p q (x ∷ xs) h = ap₂ (λ (t : Bool) (r : List A). cond t (x ∷ r) r) (h x) (filter-ext p q xs h)
+
+-- to filter twice is to filter by both tests
+pub filter-twice : {A : Type 0} (p q : A → Bool) (l : List A) → filter q (filter p l) ≡ filter (λ x. p x && q x) l
+filter-twice p q [] = refl
+filter-twice {A} p q (x ∷ xs) = by (p x) (filter-twice p q xs)
+  where
+    by : (t : Bool) → filter q (filter p xs) ≡ filter (λ y. p y && q y) xs → filter q (cond t (x ∷ filter p xs) (filter p xs)) ≡ cond (t && q x) (x ∷ filter (λ y. p y && q y) xs) (filter (λ y. p y && q y) xs)
+    by true r = ap (λ (ys : List A). cond (q x) (x ∷ ys) ys) r
+    by false r = r
 
 pub length-filter : {A : Type 0} (p : A → Bool) (l : List A) → length (filter p l) ≤ length l
 length-filter p [] = omega arith

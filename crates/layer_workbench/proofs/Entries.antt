@@ -1,19 +1,18 @@
 -- A list written to its columns is what the passes read there. Assumes nothing.
-use mathlib.Core.Path.{_≡_, refl, ap, ap₂, sym, _∙_}
+use mathlib.Core.Path.{_≡_, ap, ap₂, sym, _∙_}
 use mathlib.Core.Bool.{Bool, true, false}
-use mathlib.Core.List.{List, [], _∷_, map}
+use mathlib.Core.List.{List, [], map}
 use Prim.Native.Nat.{ℕ, _+_, _*_, _≤_, _<_}
 use native.Mathlib.Omega.{arith}
-use lib.IntN.{ℤ, pos}
+use lib.IntN.{ℤ}
 use lib.ListN.{length, getD, drop, length-map, length-append, List·getD-append, List·getD-map}
-use Rattle.laws.specs.Lists.{tabulate, over}
-use Rattle.laws.proofs.Rows.{is-tabulate, getD-tabulate, length-tabulate, length-over}
+use Rattle.laws.specs.Lists.{over}
+use Rattle.laws.proofs.Rows.{is-tabulate, getD-tabulate}
 use Rattle.cover.specs.Entry.{entryOf}
-use Rattle.cover.proofs.Entries.{entry-length, entry-at}
 use Rattle.queue.specs.Queue.{Carry, carryAt, queueOf, idsIn, coversIn}
 use Rattle.queue.proofs.Columns.{areWide, length-covers, reads-back}
-use Rattle.tile_layers.specs.Listing.{Listed, hasAny, incomingOf, segmentsOf}
-use Rattle.passes.specs.Entry.{Entry, entryAt, entriesOf}
+use Rattle.tile_layers.specs.Listing.{Listed, noListed, hasAny, incomingOf, segmentsOf}
+use Rattle.passes.specs.Entry.{entryAt, entriesOf}
 use Rattle.passes.proofs.Listing.{cover-entry}
 use Rattle.layer_workbench.specs.Work as Work
 
@@ -21,9 +20,6 @@ use Rattle.layer_workbench.specs.Work as Work
 over-long : (xs old : List ℤ) → length xs ≤ length (over xs old)
 unfolding over
 over-long xs old = omega (arith, length-append xs (drop (length xs) old))
-
-abbrev noListed : Listed
-noListed = record { id = 0; cover = []; own = [] }
 
 module _ (ls : List Listed) (ids : List ℕ) (covers : List ℤ) (segments : List Bool) (wide : areWide (incomingOf ls) ≡ true) where
   newIds : List ℕ

@@ -120,7 +120,7 @@ held-wide (c ∷ q) id h =
 -- ---- what is held for a layer, a word at a time
 
 -- nothing below the least id
-held-low : (low : ℕ) (q : List Carry) (id : ℕ) → strictlyAscendsFrom low (idsIn q) ≡ true → id < low → heldIn q id ≡ zeros
+pub held-low : (low : ℕ) (q : List Carry) (id : ℕ) → strictlyAscendsFrom low (idsIn q) ≡ true → id < low → heldIn q id ≡ zeros
 held-low low q id h l =
     held-none q id (λ i p e. omega (arith, ascends-low low (idsIn q) h i (rw (length-ids q) p), getD-ids q i, e))
 

@@ -23,6 +23,10 @@ pub record Listed : Type 0 where
   pub cover : List ℤ
   pub own : List ℕ
 
+-- a listed layer where a list has none
+abbrev pub noListed : Listed
+noListed = record { id = 0; cover = []; own = [] }
+
 -- a carry alone, segments alone, and both
 abbrev pub carried : Carry → Listed
 carried c = record { id = c .id; cover = c .cover; own = [] }

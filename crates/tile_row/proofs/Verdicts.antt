@@ -1,20 +1,20 @@
 -- What a passed opening's verdict tells. Assumes nothing.
 use mathlib.Core.Path.{_≡_, refl, ap, sym, _∙_}
-use mathlib.Core.Bool.{Bool, true, false, cond, not, _||_}
+use mathlib.Core.Bool.{Bool, true, false, _||_}
 use mathlib.Core.List.{List}
-use Prim.Native.Nat.{ℕ, suc, _+_, _≤_, _<_}
+use Prim.Native.Nat.{ℕ, suc, _≤_}
 use native.Mathlib.Omega.{arith}
+use borrow.Author.Tests.{not-false}
 use lib.Ieee.{Float}
 use lib.IntN.{ℤ, pos}
 use lib.Signed.{ltZ}
-use borrow.Author.Tests.{not-true, not-false}
 use Rattle.laws.specs.Integer.{plus, minus}
 use Rattle.laws.proofs.Parts.{whole, lt-false}
 use Rattle.pixel_segment.specs.Field.{cpu}
 use Rattle.pixel_segment.specs.Order.{isRow}
 use Rattle.styling.specs.Table as table
 use Rattle.queue.specs.Queue as queue
-use Rattle.laws.specs.Answer.{Answer, refused, given}
+use Rattle.laws.specs.Answer.{Answer, refused}
 use Rattle.pixel_segment.specs.Search.{leftPart}
 use Rattle.queue.specs.Queue.{idsIn, coversIn}
 use Rattle.queue.specs.Opening.{openQueue, openAnswer, writtenIf, Opens}
@@ -27,15 +27,15 @@ use Rattle.tile_row.specs.declared.Verdict.{Verdict}
 use Rattle.tile_row.specs.declared.Verdict.the-variants.{Pass, Refuse}
 
 -- a line that passes: its condition does not apply, and the lines below it pass
-passed : (t : Bool) (r : Refusal) (v : Verdict) → unless t r v ≡ Pass → (t ≡ false) × (v ≡ Pass)
+pub passed : (t : Bool) (r : Refusal) (v : Verdict) → unless t r v ≡ Pass → (t ≡ false) × (v ≡ Pass)
 passed true r v e = absurd (let z : _≡_ {A = ℕ} 0 1 = cc in omega arith)
 passed false r v e = (refl, e)
 
-or-left : (a b : Bool) → (a || b) ≡ false → a ≡ false
+pub or-left : (a b : Bool) → (a || b) ≡ false → a ≡ false
 or-left true b e = e
 or-left false b e = refl
 
-or-right : (a b : Bool) → (a || b) ≡ false → b ≡ false
+pub or-right : (a b : Bool) → (a || b) ≡ false → b ≡ false
 or-right true b e = absurd (let z : _≡_ {A = ℕ} 0 1 = cc in omega arith)
 or-right false b e = e
 

@@ -2,3 +2,7 @@
 pub mod Refusal
 pub mod Opening
 pub mod Working
+pub mod TileWork
+pub mod Painting
+pub mod Due
+pub mod Run

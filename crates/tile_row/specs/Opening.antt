@@ -23,7 +23,7 @@ use Rattle.tile_row.specs.declared.Refusal.the-variants.{Room, Tile, Row
 use Rattle.tile_row.specs.declared.Verdict.{Verdict}
 use Rattle.tile_row.specs.declared.Verdict.the-variants.{Pass, Refuse}
 use Rattle.tile_row.specs.declared.RowState.{RowState}
-use Rattle.tile_row.specs.declared.Clip.the-variants.{Absent}
+use Rattle.painter.specs.declared.Clip.the-variants.{Absent}
 use Rattle.tile_row.specs.declared.Opened.{Opened}
 use Rattle.tile_row.specs.declared.Opened.the-variants as opened
 

@@ -3,14 +3,13 @@
 use mathlib.Core.Path.{_≡_}
 use mathlib.Core.Bool.{Bool, not, _||_}
 use mathlib.Core.List.{List}
-use Prim.Native.Nat.{ℕ, suc, _+_, _/_}
+use Prim.Native.Nat.{ℕ, suc, _/_}
 use lib.Dec.{ltb, leb, eqb}
 use lib.Ieee.{Float}
 use lib.IntN.{ℤ, pos}
 use lib.ListN.{length}
 use lib.Signed.{ltZ}
 use Rattle.laws.specs.Integer.{plus}
-use Rattle.laws.specs.Lists.{over}
 use Rattle.pixel_segment.specs.Field.{cpu}
 use Rattle.pixel_segment.specs.Order.{isRow}
 use Rattle.styling.specs.Table as table
@@ -22,7 +21,7 @@ use Rattle.tile_layers.specs.Listing.{Listed, isTooMany, areKnown, areLight}
 use Rattle.tile_row.specs.Refusal.{unless}
 use Rattle.tile_row.specs.declared.Refusal.the-variants.{Room, Tile, Row, Table, Queue, Tag, Layers, Missing, Covers}
 use Rattle.tile_row.specs.declared.Verdict.{Verdict}
-use Rattle.tile_row.specs.declared.Verdict.the-variants.{Pass, Refuse}
+use Rattle.tile_row.specs.declared.Verdict.the-variants.{Pass}
 use Rattle.tile_row.specs.declared.RowState.{RowState}
 use Rattle.tile_row.specs.declared.judging.ListJudged.{ListJudged}
 

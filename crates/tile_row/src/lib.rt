@@ -2,6 +2,10 @@
 // refusal says its number and leaves everything as it was.
 pub mod judging;
 pub mod opening;
+pub mod painting;
+pub mod working;
+
+use painter::Clip;
 
 // Why a call is turned down. specs/Refusal.antt has the numbers.
 pub enum Refusal {
@@ -20,12 +24,6 @@ pub enum Refusal {
 pub enum Verdict {
     Pass,
     Refuse(Refusal),
-}
-
-// The painter's clip: none, or one that lives up to a layer id.
-pub enum Clip {
-    Absent,
-    Until(u32),
 }
 
 // Where a caller stands in a row: the row and its tiles from..to, the next tile, how many carries are left in the queue and how many the last

@@ -1,9 +1,9 @@
 // Opening a tile row.
-use crate::Clip;
 use crate::Opened;
 use crate::Refusal;
 use crate::RowState;
 use crate::Verdict;
+use painter::Clip;
 use pixel_segment::order;
 use pixel_segment::parts;
 use queue::opening;

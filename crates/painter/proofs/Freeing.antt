@@ -1,0 +1,102 @@
+-- The walk that finds whether a draw is freed: the latest clip so far and the layers that are left give the latest clip of all. Assumes nothing.
+use mathlib.Core.Path.{_≡_, refl, sym, ap, _∙_}
+use mathlib.Core.Bool.{Bool, true, false, cond, _&&_}
+use mathlib.Core.List.{List, [], _∷_, map}
+use mathlib.Core.Option.{Option, some, none}
+use Prim.Native.Nat.{ℕ, _+_, _≤_}
+use lib.Dec.{ltb, leb}
+use lib.IntN.{ℤ}
+use lib.ListN.{length, drop}
+use Rattle.laws.specs.Answer.{Answer, refused, given}
+use Rattle.laws.proofs.Drops.{cons-rest}
+use Rattle.laws.specs.Lists.{filter}
+use Rattle.styling.specs.Lookup.{lookup}
+use Rattle.styling.specs.declared.Layer.{Layer}
+use Rattle.cover.specs.Entry as entries
+use Rattle.queue.specs.Queue.{queueOf, zeros}
+use Rattle.tile_layers.specs.Listing.{Listed, layersIn, isGiven}
+use Rattle.tile_layers.specs.Walk.{listedAt, leftOf, Stepped, Moved}
+use Rattle.tile_layers.specs.declared.walk.Next.{Next}
+use Rattle.tile_layers.proofs.Walking.{Walking, walk-start, walk-here, walk-next, walk-end}
+use Rattle.tile_layers.proofs.Filling.{has-between}
+use Rattle.passes.specs.Clips.{isClip}
+use Rattle.passes.specs.Entry.{Entry}
+use Rattle.passes.specs.Item.{itemFor, itemFrom, itemOf, itemsOf}
+use Rattle.passes.specs.Rules.{lastOf, latestClip, isFreed}
+use Rattle.passes.specs.declared.item.Item.{Item}
+use Rattle.layer_workbench.specs.Work.{entryOf}
+use Rattle.painter.specs.Freed.{freedAfter, freedBy}
+use Rattle.painter.specs.Painting.{itemsIn}
+
+module _ (table : List Layer) (id : ℕ) where
+  -- the latest clip once one more layer is met
+  abbrev latestWith : Item → Option Item → Option Item
+  latestWith x found = cond (isClip (x .func) && ltb (x .id) id) (some x) found
+
+  abbrev latestAfter : Answer Layer → Entry → Option Item → Option Item
+  latestAfter a e found = cond (isGiven a) (latestWith (itemFrom a e) found) found
+
+  latest-cons : (l : Listed) (ls : List Listed) (found : Option Item) → latestClip (itemsIn table (l ∷ ls)) id found ≡ latestClip (itemsIn table ls) id (latestAfter (lookup table (l .id)) (entryOf l) found)
+  unfolding latestClip
+  latest-cons l ls found = by (isGiven (lookup table (l .id)))
+    where
+      rest : List Listed
+      rest = filter (λ k. isGiven (lookup table (k .id))) ls
+
+      by : (t : Bool) → latestClip (itemsOf table (map entryOf (cond t (l ∷ filter (λ k. isGiven (lookup table (k .id))) ls) (filter (λ k. isGiven (lookup table (k .id))) ls)))) id found ≡ latestClip (itemsIn table ls) id (cond t (latestWith (itemOf table (entryOf l)) found) found)
+      by true = refl
+      by false = refl
+
+  latest-nil : (found : Option Item) → latestClip (itemsIn table []) id found ≡ found
+  unfolding latestClip
+  latest-nil found = refl
+
+  freed-with : (x : Item) (found : Option Item) (freed : Bool) → freed ≡ isFreed found id → freedAfter x id freed ≡ isFreed (latestWith x found) id
+  freed-with x found freed e = by (isClip (x .func) && ltb (x .id) id)
+    where
+      by : (t : Bool) → cond t (leb id (lastOf (x .id) (x .func)) && x .full) freed ≡ isFreed (cond t (some x) found) id
+      by true = refl
+      by false = e
+
+  freed-by : (a : Answer Layer) (e : Entry) (found : Option Item) (freed : Bool) → freed ≡ isFreed found id → freedBy a e id freed ≡ isFreed (latestAfter a e found) id
+  freed-by (refused n) e found freed h = h
+  freed-by (given l) e found freed h = freed-with (itemFor l e) found freed h
+
+module _ (n : ℕ) (ids : List ℕ) (covers : List ℤ) (part : List ℕ) (table : List Layer) (id : ℕ) where
+  abbrev whole : List Listed
+  whole = layersIn (queueOf n ids covers) part
+
+  pub record Freeing (freed : Bool) (i j : ℕ) : Type 0 where
+    pub k : ℕ
+    pub walking : Walking n ids covers part i j k
+    pub found : Option Item
+    pub freed-is : freed ≡ isFreed found id
+    pub left : latestClip (itemsIn table (drop k whole)) id found ≡ latestClip (itemsIn table whole) id none
+
+  pub free-start : Freeing false 0 0
+  free-start = record { k = 0; walking = walk-start n ids covers part; found = none; freed-is = refl; left = refl }
+
+  pub free-next : {i j : ℕ} {freed : Bool} → Freeing freed i j → (r : Next) → Stepped n ids covers part i j r → Moved n part i j r → (cover : List ℤ) (freed′ : Bool) → cover ≡ cond (r .carried) (entries.entryOf 16 i covers) zeros → freed′ ≡ freedBy (lookup table (r .id)) (record { id = r .id; cover = cover; segments = ltb j (r .end) }) id freed → Freeing freed′ (r .i) (r .end)
+  free-next {i} {j} {freed} s r p m cover freed′ ec ef =
+      let x = listedAt covers part i j r in
+      let e = walk-here n ids covers part (s .walking) r p in
+      let rest = leftOf n ids covers part (r .i) (r .end) in
+      record {
+        k = s .k + 1;
+        walking = walk-next n ids covers part (s .walking) r p m;
+        found = latestAfter table id (lookup table (x .id)) (entryOf x) (s .found);
+        freed-is = ef ∙ (rw (ec, has-between j (r .end) part (m .high-j)) (freed-by table id (lookup table (x .id)) (entryOf x) (s .found) freed (s .freed-is)));
+        left =
+            ap (λ (ls : List Listed). latestClip (itemsIn table ls) id (latestAfter table id (lookup table (x .id)) (entryOf x) (s .found))) (cons-rest whole (s .k) e)
+            ∙ sym (latest-cons table id x rest (s .found))
+            ∙ ap (λ (ls : List Listed). latestClip (itemsIn table ls) id (s .found)) (sym e)
+            ∙ s .left;
+      }
+
+  pub free-end : {i j : ℕ} {freed : Bool} → Freeing freed i j → n + length part ≤ i + j → freed ≡ isFreed (latestClip (itemsIn table whole) id none) id
+  free-end s h =
+      s .freed-is
+      ∙ ap (λ (o : Option Item). isFreed o id)
+      (sym (latest-nil table id (s .found))
+      ∙ ap (λ (ls : List Listed). latestClip (itemsIn table ls) id (s .found)) (sym (walk-end n ids covers part (s .walking) h))
+      ∙ s .left)

@@ -1,0 +1,15 @@
+-- After an accepted tile work the table has every listed layer, and the layers that rule over a painted one are all that are listed, as the passes
+-- see them. Assumes nothing.
+use mathlib.Core.Path.{_≡_, ap}
+use mathlib.Core.Bool.{true}
+use mathlib.Core.List.{List, map}
+use Rattle.laws.proofs.Filtered.{filter-all}
+use Rattle.styling.specs.Lookup.{lookup}
+use Rattle.styling.specs.declared.Layer.{Layer}
+use Rattle.tile_layers.specs.Listing.{Listed, isGiven, areKnown}
+use Rattle.passes.specs.Item.{itemsOf}
+use Rattle.layer_workbench.specs.Work.{entryOf}
+use Rattle.painter.specs.Painting.{itemsIn}
+
+pub items-known : (table : List Layer) (ls : List Listed) → areKnown table ls ≡ true → itemsIn table ls ≡ itemsOf table (map entryOf ls)
+items-known table ls h = ap (λ (ks : List Listed). itemsOf table (map entryOf ks)) (filter-all (λ l. isGiven (lookup table (l .id))) ls h)

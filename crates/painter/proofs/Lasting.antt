@@ -1,0 +1,56 @@
+-- The last layer id that a clip of a judged table reaches fits 32 bits. Assumes nothing.
+use mathlib.Core.Path.{_≡_, refl, sym, ap, _∙_}
+use mathlib.Core.Bool.{Bool, true}
+use mathlib.Core.Logic.{⊎-elim}
+use mathlib.Core.List.{List, [], _∷_}
+use Prim.Native.Nat.{ℕ, _+_, _≤_, _<_}
+use native.Mathlib.Omega.{arith}
+use borrow.Author.Tests.{leb-true, le-leb}
+use lib.Dec.{leb}
+use lib.Ieee.{Float}
+use Rattle.laws.specs.Answer.{given}
+use Rattle.laws.specs.Lists.{all}
+use Rattle.laws.proofs.Bools.{left, right}
+use Rattle.laws.proofs.Every.{all-intro}
+use Rattle.laws.proofs.Orders.{eq-or-ne}
+use Rattle.styling.specs.Lookup.{lookup}
+use Rattle.styling.specs.Table.{layerAt, Table, tableOf}
+use Rattle.styling.proofs.Listed.{length-table, getD-table, layer-id}
+use Rattle.styling.proofs.Looking.{lookup-hit, lookup-pass, lookup-id}
+use Rattle.styling.proofs.Ranges.{id-le, span-le}
+use Rattle.styling.specs.declared.Func.{Func}
+use Rattle.styling.specs.declared.Func.the-variants.{Draw, Clip}
+use Rattle.styling.specs.declared.Layer.{Layer}
+use Rattle.passes.specs.Rules.{lastOf}
+
+-- where a function is a clip, its last layer id is a sum
+pub last-sum : (id span : ℕ) (func : Func) → func ≡ Clip span → lastOf id func ≤ 4294967295 → id + span ≤ 4294967295
+last-sum id span func e h = rw e at h
+
+last-le : (id : ℕ) (func : Func) → id ≤ 2097151 → ((n : ℕ) → func ≡ Clip n → n ≤ 2097151) → lastOf id func ≤ 4294967295
+last-le id (Draw style) h k = omega arith
+last-le id (Clip span) h k = omega (arith, k span refl)
+
+-- the layer that is looked up passes a test that all pass
+looked-passes : (p : Layer → Bool) (ls : List Layer) (id : ℕ) (l : Layer) → all p ls ≡ true → lookup ls id ≡ given l → p l ≡ true
+unfolding lookup
+looked-passes p [] id l h e = let clash : _≡_ {A = ℕ} 0 1 = cc in absurd (omega arith)
+looked-passes p (x ∷ ls) id l h e =
+    ⊎-elim
+    (λ q. let same : x ≡ l = cc (lookup-hit x ls id q) in ap p (sym same) ∙ left (p x) (all p ls) h)
+    (λ q. looked-passes p ls id l (right (p x) (all p ls) h) (sym (lookup-pass x ls id q) ∙ e))
+    (eq-or-ne (x .id) id)
+
+-- the last layer id of the layer that is found
+pub last-small : {words : List ℕ} {floats : List Float} {count : ℕ} → Table words floats count → (id : ℕ) (layer : Layer) → lookup (tableOf words floats count) id ≡ given layer → lastOf id (layer .props .func) ≤ 4294967295
+last-small {words} {floats} {count} t id layer e =
+    let table = tableOf words floats count in
+    let test : Layer → Bool = λ l. leb (lastOf (l .id) (l .props .func)) 4294967295 in
+    let each : all test table ≡ true =
+    all-intro test table (layerAt words floats 0)
+    (λ i h.
+    let at : i < count = rw (length-table words floats count) at h in
+    ap test (getD-table words floats count (layerAt words floats 0) i at)
+    ∙ le-leb (lastOf (layerAt words floats i .id) (layerAt words floats i .props .func)) 4294967295
+    (last-le (layerAt words floats i .id) (layerAt words floats i .props .func) (rw (layer-id words floats i) (id-le t at)) (λ n q. span-le t at q))) in
+    rw (← lookup-id table id layer e) (leb-true (lastOf (layer .id) (layer .props .func)) 4294967295 (looked-passes test table id layer each e))

@@ -1,0 +1,20 @@
+-- How the code finds whether a draw needs a clip: over the list in one walk, keeping whether the latest clip so far frees the draw.
+use mathlib.Core.Bool.{Bool, cond, _&&_}
+use Prim.Native.Nat.{ℕ}
+use lib.Dec.{ltb, leb}
+use Rattle.laws.specs.Answer.{Answer, refused, given}
+use Rattle.styling.specs.declared.Layer.{Layer}
+use Rattle.passes.specs.Clips.{isClip}
+use Rattle.passes.specs.Entry.{Entry}
+use Rattle.passes.specs.Item.{itemFor}
+use Rattle.passes.specs.Rules.{lastOf}
+use Rattle.passes.specs.declared.item.Item.{Item}
+
+-- once the listed layer x is met: a clip below the layer id decides anew
+abbrev pub freedAfter : Item → ℕ → Bool → Bool
+freedAfter x id freed = cond (isClip (x .func) && ltb (x .id) id) (leb id (lastOf (x .id) (x .func)) && x .full) freed
+
+-- by what the table has for an entry
+abbrev pub freedBy : Answer Layer → Entry → ℕ → Bool → Bool
+freedBy (refused n) e id freed = freed
+freedBy (given l) e id freed = freedAfter (itemFor l e) id freed

@@ -1,0 +1,4 @@
+-- Painting one layer in one tile: what its contracts say.
+pub mod Clip
+pub mod Painting
+pub mod Freed

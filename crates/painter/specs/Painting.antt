@@ -1,0 +1,70 @@
+-- One layer painted in one tile: its 256 coverages from the queue that the tile took in and the tile's part of the row, its mark, and the clip
+-- after it. Stands for 'each writes its 256 coverages into a lent plane and gives its mark', for 'bit 2 × column + h of a mark is set when a draw
+-- uses the octet: some coverage is above 0 and no needed clip is lacking', and for 'a clip layer's mark is 0; it writes its whole plane'.
+use mathlib.Core.Path.{_≡_}
+use mathlib.Core.Bool.{Bool, cond}
+use mathlib.Core.List.{List, map}
+use Prim.Native.Nat.{ℕ, _≤_}
+use lib.Ieee.{Float}
+use lib.IntN.{ℤ}
+use lib.ListN.{length}
+use Rattle.laws.specs.Lists.{over, filter}
+use Rattle.pixel_segment.specs.Field.{cpu}
+use Rattle.pixel_segment.specs.Search.{layerPart}
+use Rattle.styling.specs.Lookup.{lookup}
+use Rattle.styling.specs.Table.{Table}
+use Rattle.styling.specs.declared.Func.{Func}
+use Rattle.styling.specs.declared.Func.the-variants.{Draw, Clip}
+use Rattle.styling.specs.declared.Layer.{Layer}
+use Rattle.cover.specs.Carry.{isLight}
+use Rattle.cover.specs.Mark.{markOf}
+use Rattle.cover.specs.Paint.{partPlane}
+use Rattle.queue.specs.Queue.{Carry, heldIn, Queued}
+use Rattle.tile_layers.specs.Listing.{Listed, layersIn, isGiven}
+use Rattle.tile_layers.specs.Walk.{Walks}
+use Rattle.passes.specs.Item.{itemsOf}
+use Rattle.passes.specs.Rules.{needsClip}
+use Rattle.passes.specs.declared.item.Item.{Item}
+use Rattle.layer_workbench.specs.Work.{entryOf}
+use Rattle.painter.specs.Clip.{aliveAt, clipAfter, lacksClip}
+use Rattle.painter.specs.declared.Clip as painter
+use Rattle.painter.specs.declared.painting.Painting as painting
+
+-- the listed layers that the table has: a layer that it lacks is no clip. After an accepted tile work it has them all
+abbrev pub itemsIn : List Layer → List Listed → List Item
+itemsIn table ls = itemsOf table (map entryOf (filter (λ l. isGiven (lookup table (l .id))) ls))
+
+-- a draw of the layer id needs a clip in the tile
+abbrev pub needsIn : List Layer → List Carry → List ℕ → Func → ℕ → Bool
+needsIn table queue part func id = needsClip (itemsIn table (layersIn queue part)) func id
+
+-- a clip layer uses no octet, nor does a draw that lacks its clip
+abbrev pub markFor : Func → Bool → painter.Clip → List Float → ℕ
+markFor (Clip span) needs alive plane = 0
+markFor (Draw style) needs alive plane = cond (lacksClip needs alive) 0 (markOf plane)
+
+-- the coverages of the layer in the tile
+abbrev pub planeIn : List Carry → List ℕ → ℕ → Layer → List Float
+planeIn queue part id layer = partPlane cpu (layer .props .«fill_rule») (heldIn queue id) (layerPart id part)
+
+-- its mark
+abbrev pub markIn : List Layer → List Carry → List ℕ → ℕ → Layer → painter.Clip → ℕ
+markIn table queue part id layer clip =
+    markFor (layer .props .func) (needsIn table queue part (layer .props .func) id) (aliveAt clip id) (planeIn queue part id layer)
+
+-- number 9 does not apply to the layer in the tile
+abbrev pub isLightIn : List Carry → List ℕ → ℕ → Bool
+isLightIn queue part id = isLight cpu 16 (heldIn queue id) (layerPart id part)
+
+-- the clip after it, the mark, and the plane: the coverages over what it held
+pub record Paints (table : List Layer) (queue : List Carry) (part : List ℕ) (id : ℕ) (layer : Layer) (clip : painter.Clip) (old : List Float) (r : painting.Painting) (plane : List Float) : Type 0 where
+  pub clip-is : r .clip ≡ clipAfter (layer .props .func) id clip
+  pub mark-is : r .mark ≡ markIn table queue part id layer clip
+  pub plane-is : plane ≡ over (planeIn queue part id layer) old
+
+-- what painting asks: a judged queue of n carries, a part that ascends by layer, a judged table, and a plane of 256 numbers
+pub record Ready (n : ℕ) (ids : List ℕ) (covers : List ℤ) (part : List ℕ) (words : List ℕ) (floats : List Float) (count : ℕ) (plane : List Float) : Type 0 where
+  pub queued : Queued n ids covers
+  pub walks : Walks n ids part
+  pub table : Table words floats count
+  pub room : 256 ≤ length plane

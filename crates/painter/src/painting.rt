@@ -1,0 +1,73 @@
+// One layer of a tile painted, from the queue that the tile took in.
+use crate::Clip;
+use crate::clips;
+use crate::freed;
+use cover::mark;
+use cover::plane;
+use pixel_segment::parts;
+use styling::Func;
+use styling::Layer;
+ghost use mathlib.Core.Path.{_≡_};
+ghost use mathlib.Core.Bool.{true};
+ghost use Prim.Native.Nat.{_≤_};
+ghost use lib.ListN.{length};
+ghost use Rattle.laws.specs.Answer.{given};
+ghost use Rattle.styling.specs.Lookup.{lookup};
+ghost use Rattle.styling.specs.Table.{tableOf};
+ghost use Rattle.queue.specs.Queue.{queueOf};
+ghost use Rattle.painter.specs.Painting.{markFor, isLightIn, Ready, Paints};
+
+// What painting gives: the painter's clip after it, and the mark.
+pub struct Painting {
+    pub clip: Clip,
+    pub mark: u32,
+}
+
+// The mark of a layer whose coverages the plane holds.
+fn mark_for(func: Func, needs: bool, alive: Clip, plane: &[f32]) -> u32
+    requires { ⌜ 256 ≤ length (now plane) ⌝ }
+    ensures { λ r. ⌜ r ≡ markFor func needs alive (now (plane .entry)) ⌝ }
+{
+    match func {
+        Func::Clip(_) => 0,
+        Func::Draw(_) => {
+            if clips::lacks_clip(needs, alive) {
+                0
+            } else {
+                mark::mark_of(plane)
+            }
+        }
+    }
+}
+
+// Paints the layer `id` of the table, whose record is `layer`: its coverages into the plane, its mark, and the clip after it.
+pub fn paint(
+    ids: &[u32],
+    covers: &[i8],
+    n: usize,
+    part: &[u64],
+    layers: &[u32],
+    colors: &[f32],
+    count: usize,
+    id: u32,
+    layer: Layer,
+    clip: Clip,
+    plane: &mut [f32],
+) -> Painting
+    requires { ⌜ Ready n (now ids) (now covers) (now part) (now layers) (now colors) count (now plane) × (lookup (tableOf (now layers) (now colors) count) id ≡ given layer) × (isLightIn (queueOf n (now ids) (now covers)) (now part) id ≡ true) ⌝ }
+    ensures { λ r. ⌜ Paints (tableOf (now (layers .entry)) (now (colors .entry)) count) (queueOf n (now (ids .entry)) (now (covers .entry))) (now (part .entry)) id layer clip (now (plane .entry)) r (now (plane .exit)) ⌝ }
+{
+    let props = layer.props;
+    let rule = props.fill_rule;
+    let func = props.func;
+    let own = parts::of_layer(part, id);
+    plane::paint(own, queue::incoming(ids, covers, n, id), rule, plane);
+    let needs = freed::needs_clip(ids, covers, n, part, layers, colors, count, func, id);
+    let alive = clips::alive_at(clip, id);
+    let after = clips::clip_after(func, id, clip);
+    let mark = mark_for(func, needs, alive, plane);
+    Painting {
+        clip: after,
+        mark: mark,
+    }
+}

@@ -1,0 +1,42 @@
+-- What lies over a layer that is passed over as covered, by the whole row. Stands for 'a skipped one, masked off or not, is passed over as
+-- covered' of demand 3: such a layer can't be seen.
+use mathlib.Core.Path.{_≡_}
+use mathlib.Core.Bool.{true, false}
+use mathlib.Core.List.{List, map}
+use Prim.Native.Nat.{ℕ, suc, _+_, _≤_, _<_}
+use lib.ListN.{length, getD, replicate}
+use Rattle.pixel_segment.specs.Field.{cpu}
+use Rattle.styling.specs.Style.{isOpaque}
+use Rattle.styling.specs.declared.Layer.{Layer}
+use Rattle.cover.specs.Coverage.{coverageOf}
+use Rattle.cover.specs.WholeRow.{rowPlane}
+use Rattle.tile_layers.specs.Listing.{noListed}
+use Rattle.tile_layers.specs.Carrying.{ruleIn}
+use Rattle.passes.specs.Clips.{isClip}
+use Rattle.passes.specs.Covered.{itemAt}
+use Rattle.passes.specs.Decide.{Outcome}
+use Rattle.passes.specs.Item.{itemsOf}
+use Rattle.passes.specs.Rules.{needsClip}
+use Rattle.passes.specs.declared.item.Item.{Item}
+use Rattle.layer_workbench.specs.Work.{entryOf}
+use Rattle.row_carries.specs.Carries.{layersAt}
+
+-- what the passes read of the layers of tile from + n
+abbrev pub itemsAt : List Layer → List ℕ → ℕ → ℕ → List Item
+itemsAt table row from n = itemsOf table (map entryOf (layersAt table row from n))
+
+-- the id of the layer that is listed in a place
+abbrev pub idAt : List Layer → List ℕ → ℕ → ℕ → ℕ → ℕ
+idAt table row from n i = getD (layersAt table row from n) i noListed .id
+
+-- the layer in place i lies under a shown one with a higher id: a draw that is opaque, needs no clip, and has coverage 1 in all 256 pixels
+pub record CoveredUnder (table : List Layer) (row : List ℕ) (from n : ℕ) (o : Outcome) (i : ℕ) : Type 0 where
+  pub place : ℕ
+  pub listed : place < length (layersAt table row from n)
+  pub not-skipped : o .skipped ≤ place
+  pub is-shown : getD (o .shown) place false ≡ true
+  pub above : idAt table row from n i < idAt table row from n place
+  pub draws : isClip (itemAt (itemsAt table row from n) place .func) ≡ false
+  pub opaque : isOpaque (itemAt (itemsAt table row from n) place .func) ≡ true
+  pub unclipped : needsClip (itemsAt table row from n) (itemAt (itemsAt table row from n) place .func) (idAt table row from n place) ≡ false
+  pub ones : rowPlane cpu 16 (ruleIn table (idAt table row from n place)) (suc (from + n)) (idAt table row from n place) row ≡ replicate 256 (coverageOf 512)
