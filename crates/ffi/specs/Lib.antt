@@ -4,3 +4,5 @@ pub mod Covers
 pub mod Cached
 pub mod Layers
 pub mod Rows
+pub mod Work
+pub mod Painting

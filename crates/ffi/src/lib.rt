@@ -4,5 +4,7 @@
 pub mod cached;
 pub mod covers;
 pub mod layers;
+pub mod painting;
 pub mod rows;
 pub mod words;
+pub mod working;

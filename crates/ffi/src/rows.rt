@@ -12,9 +12,9 @@ ghost use Rattle.queue.specs.Opening.{openQueue, writtenIf};
 ghost use Rattle.tile_row.specs.Refusal as refusals;
 ghost use Rattle.tile_row.specs.Opening.{openCount, openedAnswer};
 ghost use Rattle.ffi.specs.Numbers.{numberOf};
-ghost use Rattle.ffi.specs.Rows.{openOf, clipFlag, clipLast, wordsOf, countsOf, wordsOr, countsOr};
+ghost use Rattle.ffi.specs.Rows.{openOf, clipFlag, clipLast, clipOf, stateFrom, wordsOf, countsOf, wordsOr, countsOr};
 
-fn number_of(refusal: Refusal) -> u32
+pub fn number_of(refusal: Refusal) -> u32
     ensures { λ r. ⌜ r ≡ refusals.numberOf refusal ⌝ }
 {
     match refusal {
@@ -48,7 +48,31 @@ fn clip_last(clip: Clip) -> u32
     }
 }
 
-fn put_state(from: RowState, words: &mut [u32; 6], counts: &mut [usize; 2])
+fn to_clip(flag: u32, last: u32) -> Clip
+    ensures { λ r. ⌜ r ≡ clipOf flag last ⌝ }
+{
+    if flag == 0 {
+        Clip::Absent
+    } else {
+        Clip::Until(last)
+    }
+}
+
+pub fn to_state(words: [u32; 6], counts: [usize; 2]) -> RowState
+    ensures { λ r. ⌜ r ≡ stateFrom words counts ⌝ }
+{
+    RowState {
+        tile_y: words[0],
+        from: words[1],
+        to: words[2],
+        next: words[3],
+        left: counts[0],
+        taken: counts[1],
+        clip: to_clip(words[4], words[5]),
+    }
+}
+
+pub fn put_state(from: RowState, words: &mut [u32; 6], counts: &mut [usize; 2])
     ensures { λ _. ⌜ now (words .exit) ≡ wordsOf from ⌝ }
     ensures { λ _. ⌜ now (counts .exit) ≡ countsOf from ⌝ }
 {
