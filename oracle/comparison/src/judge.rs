@@ -155,3 +155,35 @@ pub fn work(tile: &Tile<'_>, row: &[u64], table: &LentTable) -> u32 {
         0
     }
 }
+
+/// Painting a layer of the tile just worked, whose queue had as many carries as the state says were taken in.
+pub fn painting(tile: &Tile<'_>, layer: u32, row: &[u64], table: &LentTable) -> u32 {
+    let [tile_y, from, to, next, ..] = tile.state.words.map(i64::from);
+    if tile.lent_short || table.is_short() {
+        return 1;
+    }
+    if tile_y > 2046 || to > 4095 || next <= from || next > to || tile.tile < 0 || i64::from(tile.tile) + 1 != next {
+        return 2;
+    }
+    if !is_row(row, tile_y) {
+        return 3;
+    }
+    if !table.is_valid() {
+        return 4;
+    }
+    if tile.state.counts[1] > 256 || !ascend(&tile.queue.iter().map(|carry| carry.id).collect::<Vec<_>>()) {
+        return 5;
+    }
+    if table.ids().binary_search(&layer).is_err() {
+        return 8;
+    }
+    let mut loads = Loads::default();
+    loads.add_carries(tile.queue);
+    loads.add_words(row.iter().filter(|&&word| tile_x(word) == i64::from(tile.tile)));
+    loads.0.retain(|&id, _| id == layer);
+    if loads.is_heavy() {
+        9
+    } else {
+        0
+    }
+}

@@ -61,6 +61,13 @@ mod ffi {
             list_segments: *mut bool, list_segments_len: usize, list_shown: *mut bool, list_shown_len: usize,
             told: *mut [usize; 4], bottom: *mut [f32; 4],
         ) -> u32;
+        pub fn ffi_paint_layer(
+            state: *mut [u32; 6], counts: *mut [usize; 2], tile: i32, layer: u32,
+            row: *const u64, row_len: usize,
+            layers: *const u32, layers_len: usize, colors: *const f32, colors_len: usize, count: usize,
+            ids: *const u32, ids_len: usize, covers: *const i8, covers_len: usize,
+            plane: *mut f32, plane_len: usize, mark: *mut u32,
+        ) -> u32;
         pub fn ffi_settle(given: bool, tile: *mut [u8; 8], color: *const [u8; 4], is_written: *mut bool) -> u32;
     }
 }
@@ -356,4 +363,47 @@ pub fn work_tile(work: &Work, memory: &mut Memory) -> u32 {
     };
     *bottom = color.map(f32::to_bits);
     number
+}
+
+/// What painting may write.
+#[derive(Clone, Debug)]
+pub struct Canvas {
+    pub state: State,
+    pub plane: Vec<f32>,
+    pub mark: u32,
+}
+
+impl PartialEq for Canvas {
+    fn eq(&self, other: &Self) -> bool {
+        let bits = |plane: &[f32]| plane.iter().map(|number| number.to_bits()).collect::<Vec<_>>();
+        (self.state, self.mark, bits(&self.plane)) == (other.state, other.mark, bits(&other.plane))
+    }
+}
+
+/// The number of the refusal; the canvas holds what the call left. Of the work only tile, row, table and queue are read.
+pub fn paint_layer(work: &Work, layer: u32, canvas: &mut Canvas) -> u32 {
+    let Work { tile, row, table, queue, .. } = work;
+    let Canvas { state, plane, mark } = canvas;
+    unsafe {
+        ffi::ffi_paint_layer(
+            &mut state.words,
+            &mut state.counts,
+            *tile,
+            layer,
+            row.as_ptr(),
+            row.len(),
+            table.layers.as_ptr(),
+            table.layers.len(),
+            table.colors.as_ptr(),
+            table.colors.len(),
+            table.count,
+            queue.ids.as_ptr(),
+            queue.ids.len(),
+            queue.covers.as_ptr(),
+            queue.covers.len(),
+            plane.as_mut_ptr(),
+            plane.len(),
+            mark,
+        )
+    }
 }

@@ -2,7 +2,7 @@
 
 use std::{env, process::ExitCode};
 
-use comparison::{cached, covers, layers, openings, stored, tally::Tally, words};
+use comparison::{cached, calls, covers, layers, openings, paintings, rows, stored, tally::Tally, words};
 
 fn main() -> ExitCode {
     if env::args().nth(1).as_deref() == Some("answers") {
@@ -20,5 +20,8 @@ fn main() -> ExitCode {
     cached::compare(&mut tally);
     layers::compare(&mut tally);
     openings::compare(&mut tally);
+    rows::compare(&mut tally);
+    calls::compare(&mut tally);
+    paintings::compare(&mut tally);
     tally.end()
 }
