@@ -4,3 +4,6 @@ pub mod Covers
 pub mod Cached
 pub mod Layers
 pub mod Plates
+pub mod Rows
+pub mod Work
+pub mod Painting

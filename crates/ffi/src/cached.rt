@@ -11,7 +11,7 @@ ghost use Rattle.cached_tile.specs.Kept.{settleOf, settledKept, settlementOf};
 ghost use Rattle.ffi.specs.Numbers.{numberOf};
 ghost use Rattle.ffi.specs.Cached.{tileOf, bytesOf, keptOf, isGiven, givenOr, countIf, colorIf, colorOr, writtenOr};
 
-fn to_tile(bytes: [u8; 8]) -> CachedTile
+pub fn to_tile(bytes: [u8; 8]) -> CachedTile
     ensures { λ r. ⌜ r ≡ tileOf bytes ⌝ }
 {
     CachedTile {
@@ -21,7 +21,7 @@ fn to_tile(bytes: [u8; 8]) -> CachedTile
     }
 }
 
-fn to_bytes(tile: CachedTile) -> [u8; 8]
+pub fn to_bytes(tile: CachedTile) -> [u8; 8]
     ensures { λ r. ⌜ r ≡ bytesOf tile ⌝ }
 {
     let count = tile.layer_count;

@@ -11,7 +11,7 @@ ghost use Rattle.styling.specs.Style.{isOpaque};
 ghost use Rattle.styling.specs.Table.{isShort, isTable};
 ghost use Rattle.ffi.specs.Layers.{colorOf, drawOf};
 
-fn to_color(numbers: [f32; 4]) -> Color
+pub fn to_color(numbers: [f32; 4]) -> Color
     ensures { λ r. ⌜ r ≡ colorOf numbers ⌝ }
 {
     Color {

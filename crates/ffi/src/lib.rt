@@ -4,5 +4,8 @@
 pub mod cached;
 pub mod covers;
 pub mod layers;
+pub mod painting;
 pub mod plates;
+pub mod rows;
 pub mod words;
+pub mod working;

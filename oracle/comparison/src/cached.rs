@@ -14,7 +14,7 @@ pub fn compare(tally: &mut Tally) {
     tally.random("settling", settle);
 }
 
-fn any_tile(random: &mut Random) -> Cached {
+pub fn any_tile(random: &mut Random) -> Cached {
     let mut bytes = random.word().to_le_bytes();
     if !random.once_in(4) {
         bytes[0] %= 4;
@@ -22,7 +22,7 @@ fn any_tile(random: &mut Random) -> Cached {
     Cached(bytes)
 }
 
-fn any_count(random: &mut Random) -> Option<u32> {
+pub fn any_count(random: &mut Random) -> Option<u32> {
     let edges = [0, 1, 255, 256, 65_535, 65_536, 0xFF_FFFF, 0x100_0000, 0x100_0001, u32::MAX];
     match random.below(4) {
         0 => None,
@@ -31,7 +31,7 @@ fn any_count(random: &mut Random) -> Option<u32> {
     }
 }
 
-fn any_color(random: &mut Random) -> Option<[u8; 4]> {
+pub fn any_color(random: &mut Random) -> Option<[u8; 4]> {
     let color = (random.word() as u32).to_le_bytes();
     (!random.once_in(3)).then_some(color)
 }

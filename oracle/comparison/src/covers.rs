@@ -27,7 +27,7 @@ fn judged(cover: [i8; 16]) -> [bool; 4] {
 }
 
 /// Covers that are nearly empty or full, and any.
-fn any_cover(random: &mut Random) -> [i8; 16] {
+pub fn any_cover(random: &mut Random) -> [i8; 16] {
     let any: [i8; 16] = [(); 16].map(|()| random.within(-127..=127) as i8);
     let whole = [0, 16, -16, 32, -32, 48, -48, 64, -64, 96, 112];
     let one = random.pick(&whole);
@@ -75,7 +75,7 @@ fn lowest(kind: &mut Kind) {
 }
 
 /// Segments of one layer in one tile, light enough or not.
-fn any_part(random: &mut Random, layer_id: u32) -> Vec<u64> {
+pub fn any_part(random: &mut Random, layer_id: u32) -> Vec<u64> {
     let len = random.pick(&[0, 1, 5, 20, 60]);
     let widest = random.pick(&[1, 4, 31]);
     (0..len)
@@ -88,7 +88,7 @@ fn any_part(random: &mut Random, layer_id: u32) -> Vec<u64> {
 }
 
 /// Number 9: a pixel row whose absolute covers add up to more than 127.
-fn is_heavy(part: &[u64], cover: [i8; 16]) -> bool {
+pub fn is_heavy(part: &[u64], cover: [i8; 16]) -> bool {
     let mut loads = cover.map(|byte| u32::from(byte.unsigned_abs()));
     for &word in part {
         let cover = ((word & 63) as i32 + 32) % 64 - 32;

@@ -3,6 +3,7 @@
 use reference::plain::{color_of, Record, Rgba, MODES};
 
 use crate::{
+    judge::LentTable,
     library,
     random::Random,
     scene::{any_color, any_table, LAYER_LIMIT},
@@ -66,15 +67,18 @@ fn opaque(kind: &mut Kind) {
 }
 
 /// The table as it is lent: eight words and four floats a record.
-pub fn lent(records: &[Record]) -> (Vec<u32>, Vec<f32>) {
+pub fn lent(records: &[Record]) -> LentTable {
     let words = |r: &Record| [r.id, r.rule, r.func, r.span, r.clipped, r.fill, r.mode, r.unchanged];
-    (records.iter().flat_map(words).collect(), records.iter().flat_map(|r| r.color).collect())
+    LentTable {
+        layers: records.iter().flat_map(words).collect(),
+        colors: records.iter().flat_map(|r| r.color).collect(),
+        count: records.len(),
+    }
 }
 
-/// Numbers 1 and 4, on tables with a word changed, a record twice or out of its place, or lent too short.
-fn tables(kind: &mut Kind) {
-    let random = &mut kind.random;
-    let mut records = any_table(random);
+/// A table with a word changed, a record twice or out of its place, or lent too short; at times as it was.
+pub fn damaged(random: &mut Random, records: &[Record]) -> LentTable {
+    let mut records = records.to_vec();
     if random.once_in(6) && records.len() > 1 {
         let i = random.below(records.len() - 1);
         records.swap(i, i + 1);
@@ -83,8 +87,7 @@ fn tables(kind: &mut Kind) {
         let i = random.below(records.len() - 1);
         records[i + 1].id = records[i].id;
     }
-    let (mut layers, mut colors) = lent(&records);
-    let mut count = records.len();
+    let LentTable { mut layers, mut colors, mut count } = lent(&records);
     if random.once_in(3) && count > 0 {
         let at = random.below(layers.len());
         layers[at] = random.pick(&[0, 1, 2, 3, 15, 16, LAYER_LIMIT, LAYER_LIMIT + 1, u32::MAX]);
@@ -98,17 +101,16 @@ fn tables(kind: &mut Kind) {
         5 => count = random.below(count + 1),
         _ => (),
     }
-    let is_short = layers.len() / 8 < count || colors.len() / 4 < count;
-    let is_table = !is_short && is_valid(&layers[..8 * count]);
-    kind.note(if is_short { "refused by 1" } else if is_table { "accepted" } else { "refused by 4" });
-    let ours = library::judge_table(&layers, &colors, count);
-    kind.case(ours == (is_short, is_table), || format!("{layers:?}, {} floats, {count}: expected {is_short}, {is_table}, the library {ours:?}", colors.len()));
+    LentTable { layers, colors, count }
 }
 
-/// Ids strictly ascending, everything in its range.
-fn is_valid(layers: &[u32]) -> bool {
-    let limits = [LAYER_LIMIT, 1, 1, LAYER_LIMIT, 1, 2, 15, 1];
-    let in_range = layers.iter().enumerate().all(|(at, &word)| word <= limits[at % 8]);
-    let ids: Vec<u32> = layers.iter().step_by(8).copied().collect();
-    in_range && ids.windows(2).all(|pair| pair[0] < pair[1])
+/// Numbers 1 and 4.
+fn tables(kind: &mut Kind) {
+    let records = any_table(&mut kind.random);
+    let table = damaged(&mut kind.random, &records);
+    let is_short = table.is_short();
+    let is_table = !is_short && table.is_valid();
+    kind.note(if is_short { "refused by 1" } else if is_table { "accepted" } else { "refused by 4" });
+    let ours = library::judge_table(&table.layers, &table.colors, table.count);
+    kind.case(ours == (is_short, is_table), || format!("{table:?}: expected {is_short}, {is_table}, the library {ours:?}"));
 }

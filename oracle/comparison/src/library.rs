@@ -5,6 +5,8 @@ use std::ops::Range;
 
 use reference::plain::{Cached, Rgba};
 
+use crate::judge::LentTable;
+
 /// What a refused call must leave as it was.
 pub const UNTOUCHED: u64 = 0xA5A5_5A5A_DEAD_BEEF;
 
@@ -46,6 +48,31 @@ mod ffi {
         pub fn ffi_solid_color(tile: *const [u8; 8], color: *mut [u8; 4]) -> bool;
         pub fn ffi_update_layer_count(tile: *mut [u8; 8], given: bool, count: u32, previous: *mut u32) -> bool;
         pub fn ffi_update_solid_color(tile: *mut [u8; 8], given: bool, color: *const [u8; 4], previous: *mut [u8; 4]) -> bool;
+        pub fn ffi_open_tile_row(
+            tile_y: i32, from: i32, to: i32,
+            row: *const u64, row_len: usize,
+            layers: *const u32, layers_len: usize, colors: *const f32, colors_len: usize, count: usize,
+            ids: *mut u32, ids_len: usize, covers: *mut i8, covers_len: usize,
+            state: *mut [u32; 6], counts: *mut [usize; 2],
+        ) -> u32;
+        pub fn ffi_work_tile(
+            state: *mut [u32; 6], counts: *mut [usize; 2], tile: i32,
+            row: *const u64, row_len: usize,
+            layers: *const u32, layers_len: usize, colors: *const f32, colors_len: usize, count: usize,
+            is_kept: bool, kept: *mut [u8; 8], clear: *const [f32; 4], is_previous: bool, previous: *const [f32; 4],
+            ids: *const u32, ids_len: usize, covers: *const i8, covers_len: usize,
+            next_ids: *mut u32, next_ids_len: usize, next_covers: *mut i8, next_covers_len: usize,
+            list_ids: *mut u32, list_ids_len: usize, list_covers: *mut i8, list_covers_len: usize,
+            list_segments: *mut bool, list_segments_len: usize, list_shown: *mut bool, list_shown_len: usize,
+            told: *mut [usize; 4], bottom: *mut [f32; 4],
+        ) -> u32;
+        pub fn ffi_paint_layer(
+            state: *mut [u32; 6], counts: *mut [usize; 2], tile: i32, layer: u32,
+            row: *const u64, row_len: usize,
+            layers: *const u32, layers_len: usize, colors: *const f32, colors_len: usize, count: usize,
+            ids: *const u32, ids_len: usize, covers: *const i8, covers_len: usize,
+            plane: *mut f32, plane_len: usize, mark: *mut u32,
+        ) -> u32;
         pub fn ffi_settle(given: bool, tile: *mut [u8; 8], color: *const [u8; 4], is_written: *mut bool) -> u32;
     }
 }
@@ -247,4 +274,159 @@ const UNTOUCHED_COLOR: [u8; 4] = [0xA5, 0x5A, 0xDE, 0xAD];
 fn told<T: PartialEq>(given: bool, value: T, untouched: T) -> Option<T> {
     assert!(given || value == untouched, "what is not given is not written");
     given.then_some(value)
+}
+
+/// Where a caller stands in a row: tile y, from, to, the next tile, whether the painter has a clip and its last layer; how many carries are left and
+/// how many were taken in.
+#[derive(Clone, Copy, Debug, Eq, PartialEq)]
+pub struct State {
+    pub words: [u32; 6],
+    pub counts: [usize; 2],
+}
+
+/// A lent queue: ids, and 16 bytes of cover for each.
+#[derive(Clone, Debug, Eq, PartialEq)]
+pub struct Queue {
+    pub ids: Vec<u32>,
+    pub covers: Vec<i8>,
+}
+
+/// The number of the refusal; the queue and the state hold what the call left.
+pub fn open_tile_row(tile_y: i32, from: i32, to: i32, row: &[u64], table: &LentTable, queue: &mut Queue, state: &mut State) -> u32 {
+    unsafe {
+        ffi::ffi_open_tile_row(
+            tile_y,
+            from,
+            to,
+            row.as_ptr(),
+            row.len(),
+            table.layers.as_ptr(),
+            table.layers.len(),
+            table.colors.as_ptr(),
+            table.colors.len(),
+            table.count,
+            queue.ids.as_mut_ptr(),
+            queue.ids.len(),
+            queue.covers.as_mut_ptr(),
+            queue.covers.len(),
+            &mut state.words,
+            &mut state.counts,
+        )
+    }
+}
+
+/// All that tile work may write: what it is told by, the queue handed on, the list's four columns. `told` is the decision, of a solid tile how many
+/// shown layers lie before those to mix, how many layers are listed, how many are skipped.
+#[derive(Clone, Debug, Eq, PartialEq)]
+pub struct Memory {
+    pub state: State,
+    pub kept: [u8; 8],
+    pub next: Queue,
+    pub list: Queue,
+    pub segments: Vec<bool>,
+    pub shown: Vec<bool>,
+    pub told: [usize; 4],
+    /// The bits of the bottom colour.
+    pub bottom: [u32; 4],
+}
+
+/// What tile work reads.
+#[derive(Clone, Debug)]
+pub struct Work {
+    pub tile: i32,
+    pub row: Vec<u64>,
+    pub table: LentTable,
+    pub is_kept: bool,
+    pub clear: Rgba,
+    pub previous: Option<Rgba>,
+    pub queue: Queue,
+}
+
+/// The number of the refusal; the memory holds what the call left.
+pub fn work_tile(work: &Work, memory: &mut Memory) -> u32 {
+    let Work { tile, row, table, is_kept, clear, previous, queue } = work;
+    let Memory { state, kept, next, list, segments, shown, told, bottom } = memory;
+    let mut color = bottom.map(f32::from_bits);
+    let number = unsafe {
+        ffi::ffi_work_tile(
+            &mut state.words,
+            &mut state.counts,
+            *tile,
+            row.as_ptr(),
+            row.len(),
+            table.layers.as_ptr(),
+            table.layers.len(),
+            table.colors.as_ptr(),
+            table.colors.len(),
+            table.count,
+            *is_kept,
+            kept,
+            clear,
+            previous.is_some(),
+            &previous.unwrap_or([7.0; 4]),
+            queue.ids.as_ptr(),
+            queue.ids.len(),
+            queue.covers.as_ptr(),
+            queue.covers.len(),
+            next.ids.as_mut_ptr(),
+            next.ids.len(),
+            next.covers.as_mut_ptr(),
+            next.covers.len(),
+            list.ids.as_mut_ptr(),
+            list.ids.len(),
+            list.covers.as_mut_ptr(),
+            list.covers.len(),
+            segments.as_mut_ptr(),
+            segments.len(),
+            shown.as_mut_ptr(),
+            shown.len(),
+            told,
+            &mut color,
+        )
+    };
+    *bottom = color.map(f32::to_bits);
+    number
+}
+
+/// What painting may write.
+#[derive(Clone, Debug)]
+pub struct Canvas {
+    pub state: State,
+    pub plane: Vec<f32>,
+    pub mark: u32,
+}
+
+impl PartialEq for Canvas {
+    fn eq(&self, other: &Self) -> bool {
+        let bits = |plane: &[f32]| plane.iter().map(|number| number.to_bits()).collect::<Vec<_>>();
+        (self.state, self.mark, bits(&self.plane)) == (other.state, other.mark, bits(&other.plane))
+    }
+}
+
+/// The number of the refusal; the canvas holds what the call left. Of the work only tile, row, table and queue are read.
+pub fn paint_layer(work: &Work, layer: u32, canvas: &mut Canvas) -> u32 {
+    let Work { tile, row, table, queue, .. } = work;
+    let Canvas { state, plane, mark } = canvas;
+    unsafe {
+        ffi::ffi_paint_layer(
+            &mut state.words,
+            &mut state.counts,
+            *tile,
+            layer,
+            row.as_ptr(),
+            row.len(),
+            table.layers.as_ptr(),
+            table.layers.len(),
+            table.colors.as_ptr(),
+            table.colors.len(),
+            table.count,
+            queue.ids.as_ptr(),
+            queue.ids.len(),
+            queue.covers.as_ptr(),
+            queue.covers.len(),
+            plane.as_mut_ptr(),
+            plane.len(),
+            mark,
+        )
+    }
 }

@@ -1,10 +1,14 @@
-//! `comparison N SEED`: N random cases of each kind on both sides. The last line says how many were compared and how many differ.
+//! `comparison answers` prints the Rust's answers for the crate `compare`. `comparison N SEED`: N random cases of each kind on both sides. The last line says how many were compared and how many differ.
 
 use std::{env, process::ExitCode};
 
-use comparison::{cached, covers, layers, plates, tally::Tally, words};
+use comparison::{cached, calls, covers, layers, openings, paintings, plates, rows, stored, tally::Tally, words};
 
 fn main() -> ExitCode {
+    if env::args().nth(1).as_deref() == Some("answers") {
+        print!("{}", stored::answers());
+        return ExitCode::SUCCESS;
+    }
     let numbers: Vec<u64> = env::args().skip(1).filter_map(|word| word.parse().ok()).collect();
     let [n, seed] = numbers[..] else {
         eprintln!("usage: comparison N SEED");
@@ -16,5 +20,9 @@ fn main() -> ExitCode {
     cached::compare(&mut tally);
     layers::compare(&mut tally);
     plates::compare(&mut tally);
+    openings::compare(&mut tally);
+    rows::compare(&mut tally);
+    calls::compare(&mut tally);
+    paintings::compare(&mut tally);
     tally.end()
 }

@@ -8,7 +8,7 @@ use crate::{
     tally::{caught, Kind, Tally},
 };
 
-type Segment = cpu::PixelSegment<16, 16>;
+pub type Segment = cpu::PixelSegment<16, 16>;
 
 pub fn compare(tally: &mut Tally) {
     tally.random("PixelSegment::new", pack);
@@ -25,12 +25,12 @@ pub fn compare(tally: &mut Tally) {
     tally.random("search_last_by_key, tile y not negative", |kind| search(kind, |random, _| Key::TileYNotNegative(random.once_in(2))));
 }
 
-fn segment(word: u64) -> Segment {
+pub fn segment(word: u64) -> Segment {
     pixel_segment::of_word(word)
 }
 
 /// A value at or beside an edge of its field, or any of its type.
-fn any_fields(random: &mut Random) -> Fields {
+pub fn any_fields(random: &mut Random) -> Fields {
     let layer_edges = [0, 1, (1 << 21) - 1, 1 << 21, (1 << 21) + 1, u32::MAX];
     Fields {
         layer_id: if random.once_in(2) { random.pick(&layer_edges) } else { random.word() as u32 },
@@ -44,7 +44,7 @@ fn any_fields(random: &mut Random) -> Fields {
 }
 
 /// A tile number: near `near`, at an edge of its type or of its field, or any.
-fn tile(random: &mut Random, near: i16) -> i16 {
+pub fn tile(random: &mut Random, near: i16) -> i16 {
     let edges = [i16::MIN, -7, -2, -1, 0, 1, 2046, 2047, 4094, 4095, 32766, 32767];
     match random.below(4) {
         0 => random.pick(&edges),
@@ -54,7 +54,7 @@ fn tile(random: &mut Random, near: i16) -> i16 {
     }
 }
 
-fn layer(random: &mut Random, near: u32) -> u32 {
+pub fn layer(random: &mut Random, near: u32) -> u32 {
     match random.below(3) {
         0 => near,
         1 => near.wrapping_add(random.within(-1..=1) as u32),
@@ -134,7 +134,7 @@ fn fields(kind: &mut Kind) {
 }
 
 /// Any word; at times with fields that are all zeros or all ones.
-fn any_word(random: &mut Random) -> u64 {
+pub fn any_word(random: &mut Random) -> u64 {
     let mut word = random.word();
     let mut shift = 0;
     for width in [6, 6, 4, 4, 21, 12, 11] {
@@ -163,7 +163,7 @@ fn order(kind: &mut Kind) {
 }
 
 /// Words whose fields are few, so that keys meet; sorted at times by the Rust's order, at times nearly.
-fn any_row(random: &mut Random) -> Vec<u64> {
+pub fn any_row(random: &mut Random) -> Vec<u64> {
     let len = match random.below(8) {
         0 => random.below(3),
         7 => random.below(600),

@@ -69,6 +69,11 @@ impl<'t> Row<'t> {
         queue(&self.workbench).iter().map(carry_of).collect()
     }
 
+    /// Another queue in place of the one that the last tile handed on.
+    pub fn take_queue(&mut self, queue: &[Carry]) {
+        self.workbench.init(queue.iter().map(|carry| CoverCarry { cover: cover_of(carry.cover), layer_id: carry.id }));
+    }
+
     /// `drive_tile_painting` for the next tile. The list, the masks and the decision are those of the same functions, called once more on
     /// a copy of the queue and of the cached tile.
     pub fn work(&mut self, tile: usize, frame: &Frame, cached: Option<Cached>) -> Worked {

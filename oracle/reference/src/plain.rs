@@ -32,6 +32,11 @@ pub fn color_of([r, g, b, a]: Rgba) -> Color {
     Color { r, g, b, a }
 }
 
+/// A colour blended over another, by the Rust's own rule.
+pub fn blend(below: Rgba, mode: u32, color: Rgba) -> Rgba {
+    MODES[mode as usize].blend(color_of(below), color_of(color)).to_array()
+}
+
 /// A record of the layer table.
 #[derive(Clone, Copy, Debug)]
 pub struct Record {

@@ -1,0 +1,41 @@
+-- `painting::ffi_paint_layer` meets its contract. It tells what painting answers. Assumes nothing.
+use mir.Facts.{toZ-ofZ}
+use Rattle.ffi.proofs.Told.{painted}
+use borrow.Author.Needs.{needs}
+use Rattle.ffi.proofs.painting.ffi_paint_layer.Statement.{statement}
+use Rattle.ffi.proofs.painting.ffi_paint_layer.Tie as tie
+use Rattle.ffi.proofs.painting.ffi_paint_layer.Reads as reads
+use Rattle.ffi.proofs.painting.ffi_paint_layer.Lts as lts
+use Rattle.ffi.proofs.painting.put_painted.Reads as put-painted-reads
+use Rattle.ffi.proofs.rows.to_state.Reads as to-state-reads
+use Rattle.tile_row.proofs.painting.paint_layer.Reads as paint-layer-reads
+
+to-state-requires : tie.Need-to-state-requires
+to-state-requires c κs = search needs
+
+paint-layer-requires : tie.Need-paint-layer-requires
+paint-layer-requires c κs = search needs
+
+put-painted-requires : tie.Need-put-painted-requires
+put-painted-requires c κs = search needs
+
+same-length : tie.Need-same-length
+same-length c = search needs
+
+returns : tie.Need-returns
+returns c =
+    let s = c .before .before .before .before .before .before .before .before .before .before .before .before .before .before .before .before .before in
+    let paints = rw (c .before .before .before .before .before .before .before .before .before .to-state .ensures, toZ-ofZ (s .fits .tile)) at (c .before .before .before .before .before .before .before .paint-layer .ensures) in
+    let told = painted (s .args .words .now) (s .args .counts .now) (s .args .mark .now) (paints .answer) (paints .state-is) (c .put-painted .ensures) in
+    record {
+      number = told .0;
+      words-are = told .1 .0;
+      counts-are = told .1 .1 .0;
+      mark-is = told .1 .1 .1;
+      plane-is = paints .plane-is;
+    }
+
+pub ffi-paint-layer-spec : {M : Type 1} → statement M
+ffi-paint-layer-spec =
+    tie.close
+    (tie.spec to-state-requires paint-layer-requires put-painted-requires same-length returns)

@@ -1,0 +1,43 @@
+-- `working::put_worked` meets its contract. Assumes nothing.
+use mathlib.Core.Path.{refl}
+use borrow.Author.Needs.{needs}
+use Rattle.ffi.proofs.working.put_worked.Statement.{statement}
+use Rattle.ffi.proofs.working.put_worked.Tie as tie
+use Rattle.ffi.proofs.working.put_worked.Reads as reads
+use Rattle.ffi.proofs.working.put_worked.Lts as lts
+use Rattle.ffi.proofs.rows.number_of.Reads as number-of-reads
+use Rattle.ffi.proofs.rows.put_state.Reads as put-state-reads
+use Rattle.ffi.proofs.working.put_done.Reads as put-done-reads
+
+enum-known-answer : tie.Need-enum-known-answer
+enum-known-answer c = search needs
+
+number-of-requires : tie.Need-number-of-requires
+number-of-requires c κs = search needs
+
+enum-known-answer-2 : tie.Need-enum-known-answer-2
+enum-known-answer-2 c = search needs
+
+put-state-requires : tie.Need-put-state-requires
+put-state-requires c κs = search needs
+
+put-done-requires : tie.Need-put-done-requires
+put-done-requires c κs = search needs
+
+returns : tie.Need-returns
+returns c = rw (c .before .before .answer .given .1) (c .number-of .ensures, (refl, (refl, (refl, refl))))
+
+returns-2 : tie.Need-returns-2
+returns-2 c = rw (c .before .before .before .before .before .before .before .answer2 .given .1) (refl, (c .before .before .before .put-state .ensures .0, (c .before .before .before .put-state .ensures .1, c .put-done .ensures)))
+
+pub put-worked-spec : {M : Type 1} → statement M
+put-worked-spec =
+    tie.close
+    (tie.spec
+    enum-known-answer
+    number-of-requires
+    enum-known-answer-2
+    put-state-requires
+    put-done-requires
+    returns
+    returns-2)

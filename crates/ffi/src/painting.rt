@@ -1,0 +1,69 @@
+// Painting a layer of the tile just worked.
+use crate::rows;
+use tile_row::RowState;
+use tile_row::painting;
+use tile_row::painting::PaintAnswer;
+ghost use mathlib.Core.Path.{_≡_};
+ghost use Rattle.tile_row.specs.Painting.{paintAnswer};
+ghost use Rattle.ffi.specs.Numbers.{numberOf, valueOr};
+ghost use Rattle.ffi.specs.Rows.{stateFrom, wordsIf, countsIf};
+ghost use Rattle.ffi.specs.Painting.{PaintTold};
+
+fn put_painted(
+    answer: PaintAnswer,
+    state: RowState,
+    words: &mut [u32; 6],
+    counts: &mut [usize; 2],
+    mark: &mut u32,
+) -> u32
+    ensures { λ r. ⌜ r ≡ numberOf (paintAnswer answer) ⌝ }
+    ensures { λ _. ⌜ now (words .exit) ≡ wordsIf (paintAnswer answer) state (now (words .entry)) ⌝ }
+    ensures { λ _. ⌜ now (counts .exit) ≡ countsIf (paintAnswer answer) state (now (counts .entry)) ⌝ }
+    ensures { λ _. ⌜ now (mark .exit) ≡ valueOr (paintAnswer answer) (now (mark .entry)) ⌝ }
+{
+    match answer {
+        PaintAnswer::Refused(refusal) => rows::number_of(refusal),
+        PaintAnswer::Mark(octets) => {
+            rows::put_state(state, words, counts);
+            *mark = octets;
+            0
+        },
+    }
+}
+
+// 0, the coverages in `plane`, their mark in `mark` and the state with the painter's clip, or the number of the refusal.
+#[no_mangle]
+pub extern "C" fn ffi_paint_layer(
+    words: &mut [u32; 6],
+    counts: &mut [usize; 2],
+    tile: i32,
+    layer: u32,
+    row: &[u64],
+    layers: &[u32],
+    colors: &[f32],
+    count: usize,
+    ids: &[u32],
+    covers: &[i8],
+    plane: &mut [f32],
+    mark: &mut u32,
+) -> u32
+    ensures { λ r. ⌜ PaintTold (stateFrom (now (words .entry)) (now (counts .entry))) tile layer (now (row .entry)) (now (layers .entry)) (now (colors .entry)) count (now (ids .entry)) (now (covers .entry)) (now (plane .entry)) (now (words .entry)) (now (counts .entry)) (now (mark .entry)) r (now (words .exit)) (now (counts .exit)) (now (mark .exit)) (now (plane .exit)) ⌝ }
+{
+    let state_words = *words;
+    let state_counts = *counts;
+    let painted = painting::paint_layer(
+        rows::to_state(state_words, state_counts),
+        tile,
+        layer,
+        row,
+        layers,
+        colors,
+        count,
+        ids,
+        covers,
+        plane,
+    );
+    let state = painted.state;
+    let answer = painted.answer;
+    put_painted(answer, state, words, counts, mark)
+}

@@ -1,0 +1,55 @@
+//! Every arrangement of up to three layers in one tile: draws, clipped draws and clips, covered in each way, changed or not.
+
+use reference::plain::Record;
+
+use crate::{
+    library::Fields,
+    scene::word,
+};
+
+/// What a layer is: clip or draw, clipped, span, fill, alpha.
+const SORTS: [(u32, u32, u32, u32, f32); 8] = [
+    (0, 0, 0, 0, 1.0),
+    (0, 0, 0, 0, 0.5),
+    (0, 0, 0, 1, 1.0),
+    (0, 1, 0, 0, 1.0),
+    (0, 1, 0, 0, 0.5),
+    (1, 0, 0, 0, 0.0),
+    (1, 0, 1, 0, 0.0),
+    (1, 0, 2, 0, 0.0),
+];
+
+/// How a layer covers the tile: by a carry of this cover in each row, and by a segment in the tile.
+const COVERS: [(i8, bool); 5] = [(16, false), (8, false), (0, false), (16, true), (0, true)];
+
+/// How many ways there are for one layer.
+const WAYS: usize = SORTS.len() * COVERS.len() * 2;
+
+/// How many arrangements there are of `layers` layers.
+pub fn count(layers: u32) -> usize {
+    WAYS.pow(layers)
+}
+
+/// The arrangement of a number: its layers have the ids 1, 2 and 3, the even ones EvenOdd.
+pub fn arrangement(layers: u32, number: usize) -> (Vec<u64>, Vec<Record>) {
+    let mut rest = number;
+    let (mut words, mut records) = (Vec::new(), Vec::new());
+    for id in 1..=layers {
+        let way = rest % WAYS;
+        rest /= WAYS;
+        let (func, clipped, span, fill, alpha) = SORTS[way % SORTS.len()];
+        let (carry, segment) = COVERS[way / SORTS.len() % COVERS.len()];
+        let unchanged = (way / SORTS.len() / COVERS.len()) as u32;
+        let color = [id as f32 / 4.0, 0.5, 0.25, alpha];
+        records.push(Record { id, rule: id % 2 ^ 1, func, span, clipped, fill, mode: 0, unchanged, color });
+        let fields = |tile_x, local_y, cover| Fields { layer_id: id, tile_x, tile_y: 0, local_x: 3, local_y, double_area_multiplier: 32, cover };
+        if carry != 0 || !segment {
+            words.extend((0..16).map(|local_y| word(fields(-1, local_y, carry))));
+        }
+        if segment {
+            words.push(word(fields(0, 5, 4)));
+        }
+    }
+    words.sort();
+    (words, records)
+}
