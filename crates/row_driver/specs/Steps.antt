@@ -11,7 +11,7 @@ use lib.ListN.{length, getD}
 use Rattle.laws.specs.Answer.{given}
 use Rattle.pixel_segment.specs.Search.{tilePart}
 use Rattle.styling.specs.Lookup.{lookup}
-use Rattle.styling.specs.Table.{Table, tableOf}
+use Rattle.styling.specs.Table.{Table}
 use Rattle.styling.specs.declared.Layer.{Layer}
 use Rattle.queue.specs.Queue.{Carry, queueOf, idsIn, isShort, isQueue, Queued}
 use Rattle.cached_tile.specs.Kept.{noTile}
@@ -24,7 +24,7 @@ use Rattle.painter.specs.declared.Clip.the-variants.{Absent}
 use Rattle.tile_row.specs.Working.{isListShort}
 use Rattle.tile_row.specs.Painting.{layerIn}
 use Rattle.tile_row.specs.TileWork.{WorkArgs, WorkLent, tableIn, listedIn, outcomeFor, carriesFor, layersVerdict, workedBy, GivesWork, Judged}
-use Rattle.tile_row.specs.Due.{OpenRow, stateOn}
+use Rattle.tile_row.specs.Due.{OpenRow}
 use Rattle.tile_row.specs.Holding.{IsOpen, Holds}
 use Rattle.tile_row.specs.Run.{Columns, Held, atFirst}
 use Rattle.tile_row.specs.declared.RowState.{RowState}

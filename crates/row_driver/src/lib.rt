@@ -9,10 +9,9 @@ use tile_row::RowState;
 use tile_row::opening;
 use tile_row::working::WorkAnswer;
 ghost use mathlib.Core.Path.{_≡_};
-ghost use Prim.Native.Nat.{_+_, _*_, _≤_};
+ghost use Prim.Native.Nat.{_+_, _≤_, min};
 ghost use lib.ListN.{length};
 ghost use lib.Seq.{sets};
-ghost use Rattle.tile_row.specs.Run.{Columns};
 ghost use Rattle.row_driver.specs.Lines.{linesFrom, lineWords};
 ghost use Rattle.row_driver.specs.Driven.{dueTiles, drivingOf, rowDriving, Drives};
 ghost use Rattle.row_driver.specs.Steps as steps;
@@ -32,16 +31,23 @@ pub enum Driven {
     Refused(Refusal, usize),
 }
 
+fn least(a: u32, b: u32) -> u32
+    ensures { λ r. ⌜ r ≡ min a b ⌝ }
+{
+    if a < b { a } else { b }
+}
+
 // How many tiles of from..to the row has.
 fn due_tiles(from: i32, to: i32, tiles: i32) -> usize
     ensures { λ r. ⌜ r ≡ dueTiles from to tiles ⌝ }
 {
-    let last = opening::natural(to);
-    let many = opening::natural(tiles);
-    let end = if last < many { last } else { many };
-    let end = if end < 4095 { end } else { 4095 };
+    let end = least(least(opening::natural(to), opening::natural(tiles)), 4095);
     let first = opening::natural(from);
-    if end < first { 0 } else { (end - first) as usize }
+    if end < first {
+        0
+    } else {
+        (end - first) as usize
+    }
 }
 
 fn write_line(lines: &mut [u32], at: usize, line: Line)
@@ -175,8 +181,28 @@ pub fn drive_row(
     }
     let mut ids = [0u32; 256];
     let mut covers = [0i8; 4096];
-    match opening::open_tile_row(tile_y, from, to, row, layers, colors, count, &mut ids, &mut covers) {
+    match opening::open_tile_row(
+        tile_y,
+        from,
+        to,
+        row,
+        layers,
+        colors,
+        count,
+        &mut ids,
+        &mut covers,
+    ) {
         Opened::Refused(refusal) => Driven::Refused(refusal, 0),
-        Opened::Row(state) => drive_open(state, n, row, layers, colors, count, &mut ids, &mut covers, lines),
+        Opened::Row(state) => drive_open(
+            state,
+            n,
+            row,
+            layers,
+            colors,
+            count,
+            &mut ids,
+            &mut covers,
+            lines,
+        ),
     }
 }

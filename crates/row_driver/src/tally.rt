@@ -3,7 +3,9 @@ use cover::mark;
 use painter::Clip;
 use painter::painting;
 ghost use mathlib.Core.Path.{_≡_};
-ghost use Prim.Native.Nat.{_≤_};
+ghost use mathlib.Core.Bool.{cond};
+ghost use Prim.Native.Nat.{_+_, _≤_};
+ghost use lib.Count.{ones};
 ghost use lib.ListN.{length, take};
 ghost use Rattle.styling.specs.Table.{tableOf};
 ghost use Rattle.queue.specs.Queue.{queueOf};
@@ -15,6 +17,13 @@ pub struct Tally {
     pub clip: Clip,
     pub shown: u32,
     pub octets: u32,
+}
+
+// How many octets a mark has, at most 32.
+fn used_octets(mark: u32) -> u32
+    ensures { λ r. ⌜ (r ≡ ones mark) × (r ≤ 32) ⌝ }
+{
+    mark::octets(mark)
 }
 
 // Counts a shown layer, and paints it where the tile is painted.
@@ -32,7 +41,7 @@ fn tally_layer(
     plane: &mut [f32],
 ) -> Tally
     requires { ⌜ Painter n (now ids) (now covers) (now part) (now layers) (now colors) count × Paintable (tableOf (now layers) (now colors) count) (queueOf n (now ids) (now covers)) (now part) id × (256 ≤ length (now plane)) × (tally .shown ≤ 256) × (tally .octets ≤ 8192) ⌝ }
-    ensures { λ r. ⌜ r ≡ tallyNext paints (tableOf (now (layers .entry)) (now (colors .entry)) count) (queueOf n (now (ids .entry)) (now (covers .entry))) (now (part .entry)) tally id ⌝ }
+    ensures { λ r. ⌜ (r ≡ tallyNext paints (tableOf (now (layers .entry)) (now (colors .entry)) count) (queueOf n (now (ids .entry)) (now (covers .entry))) (now (part .entry)) tally id) × (r .octets ≤ tally .octets + 32) ⌝ }
 {
     let clip = tally.clip;
     if !paints {
@@ -44,13 +53,60 @@ fn tally_layer(
     }
     let found = tile_row::painting::record_of(layers, colors, count, id);
     let painted = painting::paint(
-        ids, covers, n, part, layers, colors, count, id, found, clip, plane,
+        ids,
+        covers,
+        n,
+        part,
+        layers,
+        colors,
+        count,
+        id,
+        found,
+        clip,
+        plane,
     );
     let after = painted.clip;
     Tally {
         clip: after,
         shown: tally.shown + 1,
-        octets: tally.octets + mark::octets(painted.mark),
+        octets: tally.octets + used_octets(painted.mark),
+    }
+}
+
+// A listed layer: one that is masked off leaves the tally.
+fn tally_entry(
+    shown: bool,
+    paints: bool,
+    ids: &[u32],
+    covers: &[i8],
+    n: usize,
+    part: &[u64],
+    layers: &[u32],
+    colors: &[f32],
+    count: usize,
+    id: u32,
+    tally: Tally,
+    plane: &mut [f32],
+) -> Tally
+    requires { ⌜ Painter n (now ids) (now covers) (now part) (now layers) (now colors) count × Paintable (tableOf (now layers) (now colors) count) (queueOf n (now ids) (now covers)) (now part) id × (256 ≤ length (now plane)) × (tally .shown ≤ 256) × (tally .octets ≤ 8192) ⌝ }
+    ensures { λ r. ⌜ (r ≡ cond shown (tallyNext paints (tableOf (now (layers .entry)) (now (colors .entry)) count) (queueOf n (now (ids .entry)) (now (covers .entry))) (now (part .entry)) tally id) tally) × (r .octets ≤ tally .octets + 32) ⌝ }
+{
+    if shown {
+        tally_layer(
+            paints,
+            ids,
+            covers,
+            n,
+            part,
+            layers,
+            colors,
+            count,
+            id,
+            tally,
+            plane,
+        )
+    } else {
+        tally
     }
 }
 
@@ -80,21 +136,20 @@ pub fn tally_shown(
     };
     let mut i = skipped;
     while i < listed {
-        if list_shown[i] {
-            tally = tally_layer(
-                paints,
-                ids,
-                covers,
-                n,
-                part,
-                layers,
-                colors,
-                count,
-                list_ids[i],
-                tally,
-                &mut plane,
-            );
-        }
+        tally = tally_entry(
+            list_shown[i],
+            paints,
+            ids,
+            covers,
+            n,
+            part,
+            layers,
+            colors,
+            count,
+            list_ids[i],
+            tally,
+            &mut plane,
+        );
         i += 1;
     }
     tally

@@ -183,11 +183,37 @@ pub fn turn(
 {
     if in_a {
         work_line(
-            state, tile, row, layers, colors, count, a_ids, a_covers, b_ids, b_covers, list_ids, list_covers, list_segments, list_shown,
+            state,
+            tile,
+            row,
+            layers,
+            colors,
+            count,
+            a_ids,
+            a_covers,
+            b_ids,
+            b_covers,
+            list_ids,
+            list_covers,
+            list_segments,
+            list_shown,
         )
     } else {
         work_line(
-            state, tile, row, layers, colors, count, b_ids, b_covers, a_ids, a_covers, list_ids, list_covers, list_segments, list_shown,
+            state,
+            tile,
+            row,
+            layers,
+            colors,
+            count,
+            b_ids,
+            b_covers,
+            a_ids,
+            a_covers,
+            list_ids,
+            list_covers,
+            list_segments,
+            list_shown,
         )
     }
 }
