@@ -31,6 +31,7 @@ use Rattle.passes.specs.Rules.{needsClip}
 use Rattle.passes.specs.declared.item.Item.{Item}
 use Rattle.row_carries.proofs.Carried.{plane-is}
 use Rattle.painter.specs.Clip.{aliveAt, clipAfter}
+use Rattle.painter.specs.declared.Clip as painter
 use Rattle.painter.specs.Painting.{markFor, planeIn, markIn}
 use Rattle.painter.proofs.Items.{items-known}
 use Rattle.tile_row.specs.Refusal.{numberOf, unless}
@@ -45,7 +46,7 @@ use Rattle.tile_row.specs.declared.painting.Painted.{Painted}
 use Rattle.tile_row.specs.declared.painting.PaintAnswer.{PaintAnswer}
 use Rattle.tile_row.specs.declared.painting.PaintAnswer.the-variants as painted
 use Rattle.tile_row.proofs.Verdicts.{passed, or-left, or-right}
-use Rattle.tile_row.proofs.Holding.{HoldsQueue, IsOpen, Took, Holds}
+use Rattle.tile_row.specs.Holding.{HoldsQueue, IsOpen, Took, Holds}
 
 -- 2: in a row that is open, what the state says is what the calls before say
 no-tile : (from n : ℕ) → leb (from + n) from ≡ eqb n 0
@@ -97,6 +98,18 @@ last-tile o (suc n) tile k t e =
       is-tile = rw before (equal tile (pos (o .from + n)) (omega (arith, whole tile, natural, same)));
     }
 
+-- the coverages and the mark of a layer in the tile from + n, of the carries that the tile takes in and its part of the row
+module _ {o : OpenRow} (is-open : IsOpen o) (n id : ℕ) where
+  pub row-plane : planeIn (queueOn o n) (tilePart (pos (o .from + n)) (o .row)) id (layerIn (tableOn o) id) ≡ planeOn o n id
+  row-plane =
+      ap (λ (rule : FillRule). planeOf cpu 16 rule (coverAt (heldIn (queueOn o n) id)) (layerPart id (tilePart (pos (o .from + n)) (o .row)))) (rule-is (tableOn o) id)
+      ∙ plane-is (is-open .in-order) (tableOn o) (o .from) n id
+
+  pub row-mark : areKnown (tableOn o) (layersOn o n) ≡ true → (clip : painter.Clip) → markIn (tableOn o) (queueOn o n) (tilePart (pos (o .from + n)) (o .row)) id (layerIn (tableOn o) id) clip ≡ markOn o n id clip
+  row-mark known clip =
+      let f = funcOn o id in
+      ap₂ (λ (items : List Item) (plane : List Float). markFor f (needsClip items f id) (aliveAt clip id) plane) (items-known (tableOn o) (layersOn o n) known) row-plane
+
 module _ {o : OpenRow} {p : Past} {h : Held} (is-open : IsOpen o) (holds : Holds o p h) (c : PaintChoice) where
   carries : List Carry
   carries = queueOf (h .state .taken) (h .taken .ids) (h .taken .covers)
@@ -136,20 +149,14 @@ module _ {o : OpenRow} {p : Past} {h : Held} (is-open : IsOpen o) (holds : Holds
       passed (isNotLast o (p .tiles) (c .tile)) Tile below (one .1) .0
 
   -- the coverages and the mark
-  row-plane : planeIn (queueOn o (p .tiles - 1)) (tilePart (pos (o .from + (p .tiles - 1))) (o .row)) (c .layer) (layerIn (tableOn o) (c .layer)) ≡ planeOn o (p .tiles - 1) (c .layer)
-  row-plane =
-      ap (λ (rule : FillRule). planeOf cpu 16 rule (coverAt (heldIn (queueOn o (p .tiles - 1)) (c .layer))) (layerPart (c .layer) (tilePart (pos (o .from + (p .tiles - 1))) (o .row)))) (rule-is (tableOn o) (c .layer))
-      ∙ plane-is (is-open .in-order) (tableOn o) (o .from) (p .tiles - 1) (c .layer)
-
   plane-due : isNotLast o (p .tiles) (c .tile) ≡ false → planeIn carries part (c .layer) (layerIn (tableOn o) (c .layer)) ≡ planeOn o (p .tiles - 1) (c .layer)
-  plane-due e = ap₂ (λ (q : List Carry) (l : List ℕ). planeIn q l (c .layer) (layerIn (tableOn o) (c .layer))) (carries-due e) (part-due e) ∙ row-plane
+  plane-due e = ap₂ (λ (q : List Carry) (l : List ℕ). planeIn q l (c .layer) (layerIn (tableOn o) (c .layer))) (carries-due e) (part-due e) ∙ row-plane is-open (p .tiles - 1) (c .layer)
 
   mark-due : isNotLast o (p .tiles) (c .tile) ≡ false → markIn (tableOn o) carries part (c .layer) (layerIn (tableOn o) (c .layer)) (h .state .clip) ≡ markOn o (p .tiles - 1) (c .layer) (p .clip)
   mark-due e =
-      let f = funcOn o (c .layer) in
       ap₂ (λ (q : List Carry) (l : List ℕ). markIn (tableOn o) q l (c .layer) (layerIn (tableOn o) (c .layer)) (h .state .clip)) (carries-due e) (part-due e)
       ∙ ap (λ (s : RowState). markIn (tableOn o) (queueOn o (p .tiles - 1)) (tilePart (pos (o .from + (p .tiles - 1))) (o .row)) (c .layer) (layerIn (tableOn o) (c .layer)) (s .clip)) (holds .state)
-      ∙ ap₂ (λ (items : List Item) (plane : List Float). markFor f (needsClip items f (c .layer)) (aliveAt (p .clip) (c .layer)) plane) (items-known (tableOn o) (layersOn o (p .tiles - 1)) (last e .known)) row-plane
+      ∙ row-mark is-open (p .tiles - 1) (c .layer) (last e .known) (p .clip)
 
   -- by the verdict, what the contract gives is what is due
   answer-due : (v : Verdict) → paintDueVerdict o (p .tiles) c ≡ v → answerBy v (markIn (tableOn o) carries part (c .layer) (layerIn (tableOn o) (c .layer)) (h .state .clip)) ≡ paintDueBy v o p c .answer

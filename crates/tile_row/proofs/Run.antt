@@ -35,7 +35,8 @@ use Rattle.tile_row.specs.declared.Opened.the-variants as opened
 use Rattle.tile_row.specs.declared.Verdict.{Verdict}
 use Rattle.tile_row.specs.declared.Verdict.the-variants.{Pass, Refuse}
 use Rattle.tile_row.proofs.Verdicts.{Passed, opening-passed, or-right, passed}
-use Rattle.tile_row.proofs.Holding.{HoldsQueue, holds-written, IsOpen, Holds}
+use Rattle.tile_row.specs.Holding.{HoldsQueue, IsOpen, Holds}
+use Rattle.tile_row.proofs.Holding.{holds-written}
 use Rattle.tile_row.proofs.WorkSteps.{right-work}
 use Rattle.tile_row.proofs.PaintSteps.{right-paint}
 

@@ -29,7 +29,7 @@ use Rattle.tile_row.specs.declared.painting.Painted.{Painted}
 use Rattle.tile_row.specs.declared.painting.PaintAnswer.{PaintAnswer}
 use Rattle.tile_row.specs.declared.painting.PaintAnswer.the-variants as painted
 use lib.ListN.{length}
-use Rattle.tile_row.proofs.Holding.{IsOpen, Holds}
+use Rattle.tile_row.specs.Holding.{IsOpen, Holds}
 use Rattle.tile_row.proofs.WorkSteps.{work-due, right-work}
 use Rattle.tile_row.proofs.PaintSteps.{gives-paint, right-paint}
 

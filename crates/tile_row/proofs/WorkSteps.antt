@@ -42,7 +42,8 @@ use Rattle.tile_row.specs.declared.working.WorkAnswer.{WorkAnswer}
 use Rattle.tile_row.specs.declared.working.WorkAnswer.the-variants as worked
 use Rattle.tile_row.proofs.Verdicts.{passed, or-left, or-right}
 use Rattle.tile_row.proofs.TileWorks.{IsNext, is-next, list-passed}
-use Rattle.tile_row.proofs.Holding.{HoldsQueue, holds-written, IsOpen, Holds}
+use Rattle.tile_row.specs.Holding.{HoldsQueue, IsOpen, Holds}
+use Rattle.tile_row.proofs.Holding.{holds-written}
 
 or-false : (b : Bool) → (b || false) ≡ b
 or-false true = refl
@@ -67,16 +68,16 @@ module _ {o : OpenRow} {p : Past} {h : Held} (is-open : IsOpen o) (holds : Holds
   tile-due : isNotNext (h .state) (c .tile) ≡ isNotDue o (p .tiles) (c .tile)
   tile-due = rw (holds .state) (next-due o p (c .tile) (is-open .tile-y) (is-open .last))
 
-  args-due : argsVerdict (workArgs o h c) (c .lent) ≡ unless (isLentShort (c .lent)) Room (unless (isNotDue o (p .tiles) (c .tile)) Tile (unless (tagOutOfRange (c .kept)) Tag Pass))
+  pub args-due : argsVerdict (workArgs o h c) (c .lent) ≡ unless (isLentShort (c .lent)) Room (unless (isNotDue o (p .tiles) (c .tile)) Tile (unless (tagOutOfRange (c .kept)) Tag Pass))
   unfolding workVerdict
   args-due =
       rw (short-due, tile-due, holds .state, is-open .in-order .is-row, is-open .in-table, holds .queue .ordered)
 
   -- the tile, once it is due
-  due-tile : isNotDue o (p .tiles) (c .tile) ≡ false → c .tile ≡ pos (o .from + p .tiles)
+  pub due-tile : isNotDue o (p .tiles) (c .tile) ≡ false → c .tile ≡ pos (o .from + p .tiles)
   due-tile e = is-next (stateOn o p) (c .tile) (next-due o p (c .tile) (is-open .tile-y) (is-open .last) ∙ e) .is-tile
 
-  layers-due : isNotDue o (p .tiles) (c .tile) ≡ false → listedIn (workArgs o h c) ≡ layersOn o (p .tiles)
+  pub layers-due : isNotDue o (p .tiles) (c .tile) ≡ false → listedIn (workArgs o h c) ≡ layersOn o (p .tiles)
   layers-due e =
       ap₂ (λ (q : List Carry) (t : ℤ). layersIn q (tilePart t (o .row)))
       (ap (λ (s : RowState). queueOf (s .left) (h .queue .ids) (h .queue .covers)) (holds .state) ∙ holds .queue .reads)

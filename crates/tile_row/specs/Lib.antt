@@ -6,3 +6,4 @@ pub mod TileWork
 pub mod Painting
 pub mod Due
 pub mod Run
+pub mod Holding

@@ -141,7 +141,7 @@ fn judge_painting(
 }
 
 // The record of a layer. Refusal 8 keeps out one that the table lacks.
-fn record_of(layers: &[u32], colors: &[f32], count: usize, id: u32) -> Layer
+pub fn record_of(layers: &[u32], colors: &[f32], count: usize, id: u32) -> Layer
     requires { ⌜ Table (now layers) (now colors) count ⌝ }
     ensures { λ r. ⌜ r ≡ layerIn (tableOf (now (layers .entry)) (now (colors .entry)) count) id ⌝ }
 {

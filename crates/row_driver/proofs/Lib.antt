@@ -1,0 +1,7 @@
+-- Laws of a driven row.
+pub mod Tallying
+pub mod Listed
+pub mod LineLaws
+pub mod Turning
+pub mod Driving
+pub mod Opening

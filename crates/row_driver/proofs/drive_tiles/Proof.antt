@@ -1,0 +1,268 @@
+-- `drive_tiles` meets its contract: each turn is a tile of `Turning`, and the lines that are written go by `Driving`. Assumes nothing.
+use mathlib.Core.Path.{_≡_, refl, ap, _∙_}
+use Prim.Native.Nat.{_+_, _*_, _-_, _^_, _<_}
+use native.Mathlib.Numerals.{add-one}
+use native.Mathlib.Omega.{arith}
+use borrow.Author.Needs.{needs}
+use lib.IntN.{pos}
+use lib.ListN.{length}
+use lib.Seq.{sets}
+use mir.Syntax.{w32}
+use mir.Val.{toZ}
+use mir.Facts.{toZ-pos}
+use Rattle.laws.proofs.Machine.{small}
+use Rattle.painter.specs.declared.Clip.the-variants.{Absent}
+use Rattle.tile_row.specs.Holding.{Holds}
+use Rattle.tile_row.specs.Run.{Columns}
+use Rattle.row_driver.specs.Lines.{lineWords}
+use Rattle.row_driver.specs.Steps.{ListColumns, heldBy, rowBy}
+use Rattle.row_driver.specs.declared.Line.{Line}
+use Rattle.row_driver.proofs.drive_tiles.Statement.{statement}
+use Rattle.row_driver.proofs.drive_tiles.Tie as tie
+use Rattle.row_driver.proofs.Turning as turning
+use Rattle.row_driver.proofs.Driving.{Driving, start, next, done, refused}
+
+abbrev Inv-loop : tie.InvT-loop
+Inv-loop n row layers colors count a-ids₀ a-covers₀ b-ids₀ b-covers₀ list-ids₀ list-covers₀ list-segments₀ list-shown₀ lines₀ at₀ in-a₀ i₀ a-ids a-covers b-ids b-covers list-ids list-covers list-segments list-shown lines at in-a i =
+    Driving (rowBy at₀ row layers colors count) n lines₀ i lines
+    × Holds (rowBy at₀ row layers colors count) (record { tiles = i; clip = Absent }) (heldBy in-a at (record { ids = a-ids; covers = a-covers }) (record { ids = b-ids; covers = b-covers }))
+    × (length a-ids ≡ length a-ids₀)
+    × (length a-covers ≡ length a-covers₀)
+    × (length b-ids ≡ length b-ids₀)
+    × (length b-covers ≡ length b-covers₀)
+    × (length list-ids ≡ length list-ids₀)
+    × (length list-covers ≡ length list-covers₀)
+    × (length list-segments ≡ length list-segments₀)
+    × (length list-shown ≡ length list-shown₀)
+
+abbrev μ-loop : tie.MeasureT-loop
+μ-loop n row layers colors count a-ids₀ a-covers₀ b-ids₀ b-covers₀ list-ids₀ list-covers₀ list-segments₀ list-shown₀ lines₀ at₀ in-a₀ i₀ a-ids a-covers b-ids b-covers list-ids list-covers list-segments list-shown lines at in-a i =
+    n - i
+
+loop-holds : tie.Need-loop-holds Inv-loop μ-loop
+loop-holds c =
+    let p = c .before .before .before .before .before .before .before .before .before .pre in (start (p .room), p .holds, refl, refl, refl, refl, refl, refl, refl, refl)
+
+cast-turn : tie.Need-cast-turn Inv-loop μ-loop
+cast-turn c =
+    let s = c .before .before .before .before .before .before .before .before .before .before .before .before in
+    let a = s .args in
+    let p = s .pre in
+    let l = c .before .before .loop in
+    let h = c .before .loop-test .taken in
+    let left : Columns = record { ids = l .a-ids; covers = l .a-covers } in
+    let right : Columns = record { ids = l .b-ids; covers = l .b-covers } in
+    let list₀ : ListColumns = record { ids = a .list-ids .now; covers = a .list-covers .now; segments = a .list-segments .now; shown = a .list-shown .now } in
+    let list : ListColumns = record { ids = l .list-ids; covers = l .list-covers; segments = l .list-segments; shown = l .list-shown } in
+    let inside : a .state .from + l .i < a .state .to = omega (arith, h, p .inside) in
+    let long = turning.list-kept list₀ list (l .inv .6) (l .inv .7) (l .inv .8) (l .inv .9) (p .list-long) in
+    let next-is = turning.tile-is (l .in-a) left right (p .is-open) (l .inv .1) inside list long in
+    let low : l .at .next < 2 ^ 31 = omega (arith, next-is, inside, p .is-open .last) in
+    let tile : toZ w32 (l .at .next) ≡ pos (a .state .from + l .i) = toZ-pos w32 low ∙ ap pos next-is in
+    small w32 (pos (l .at .next)) low
+
+turn-requires : tie.Need-turn-requires Inv-loop μ-loop
+turn-requires c κs =
+    let s = c .before .before .before .before .before .before .before .before .before .before .before .before .before .before .before .before .before .before .before .before in
+    let a = s .args in
+    let p = s .pre in
+    let l = c .before .before .before .before .before .before .before .before .before .before .loop in
+    let h = c .before .before .before .before .before .before .before .before .before .loop-test .taken in
+    let left : Columns = record { ids = l .a-ids; covers = l .a-covers } in
+    let right : Columns = record { ids = l .b-ids; covers = l .b-covers } in
+    let list₀ : ListColumns = record { ids = a .list-ids .now; covers = a .list-covers .now; segments = a .list-segments .now; shown = a .list-shown .now } in
+    let list : ListColumns = record { ids = l .list-ids; covers = l .list-covers; segments = l .list-segments; shown = l .list-shown } in
+    let inside : a .state .from + l .i < a .state .to = omega (arith, h, p .inside) in
+    let long = turning.list-kept list₀ list (l .inv .6) (l .inv .7) (l .inv .8) (l .inv .9) (p .list-long) in
+    let next-is = turning.tile-is (l .in-a) left right (p .is-open) (l .inv .1) inside list long in
+    let low : l .at .next < 2 ^ 31 = omega (arith, next-is, inside, p .is-open .last) in
+    let tile : toZ w32 (l .at .next) ≡ pos (a .state .from + l .i) = toZ-pos w32 low ∙ ap pos next-is in
+    rw tile (turning.workable (l .in-a) left right (p .is-open) (l .inv .1) inside list long)
+
+enum-known-answer : tie.Need-enum-known-answer Inv-loop μ-loop
+enum-known-answer c =
+    search needs
+
+same-length : tie.Need-same-length Inv-loop μ-loop
+same-length c =
+    c .before .before .before .before .before .before .before .before .before .before .before .before .before .before .before .before .before .before .turn .kept .1 .1 .1 .1 .1 .1 .1 .0 ∙ c .before .before .before .before .before .before .before .before .before .before .before .before .before .before .before .before .before .before .before .before .before .before .before .before .before .before .before .before .before .loop .inv .2
+
+same-length-2 : tie.Need-same-length-2 Inv-loop μ-loop
+same-length-2 c =
+    c .before .before .before .before .before .before .before .before .before .before .before .before .before .before .before .before .before .before .turn .kept .1 .1 .1 .1 .1 .1 .1 .1 .0 ∙ c .before .before .before .before .before .before .before .before .before .before .before .before .before .before .before .before .before .before .before .before .before .before .before .before .before .before .before .before .before .loop .inv .3
+
+same-length-3 : tie.Need-same-length-3 Inv-loop μ-loop
+same-length-3 c =
+    c .before .before .before .before .before .before .before .before .before .before .before .before .before .before .before .before .before .before .turn .kept .1 .1 .1 .1 .1 .1 .1 .1 .1 .0 ∙ c .before .before .before .before .before .before .before .before .before .before .before .before .before .before .before .before .before .before .before .before .before .before .before .before .before .before .before .before .before .loop .inv .4
+
+same-length-4 : tie.Need-same-length-4 Inv-loop μ-loop
+same-length-4 c =
+    c .before .before .before .before .before .before .before .before .before .before .before .before .before .before .before .before .before .before .turn .kept .1 .1 .1 .1 .1 .1 .1 .1 .1 .1 .0 ∙ c .before .before .before .before .before .before .before .before .before .before .before .before .before .before .before .before .before .before .before .before .before .before .before .before .before .before .before .before .before .loop .inv .5
+
+same-length-5 : tie.Need-same-length-5 Inv-loop μ-loop
+same-length-5 c =
+    c .before .before .before .before .before .before .before .before .before .before .before .before .before .before .before .before .before .before .turn .kept .1 .1 .1 .1 .1 .1 .1 .1 .1 .1 .1 .0 ∙ c .before .before .before .before .before .before .before .before .before .before .before .before .before .before .before .before .before .before .before .before .before .before .before .before .before .before .before .before .before .loop .inv .6
+
+same-length-6 : tie.Need-same-length-6 Inv-loop μ-loop
+same-length-6 c =
+    c .before .before .before .before .before .before .before .before .before .before .before .before .before .before .before .before .before .before .turn .kept .1 .1 .1 .1 .1 .1 .1 .1 .1 .1 .1 .1 .0 ∙ c .before .before .before .before .before .before .before .before .before .before .before .before .before .before .before .before .before .before .before .before .before .before .before .before .before .before .before .before .before .loop .inv .7
+
+same-length-7 : tie.Need-same-length-7 Inv-loop μ-loop
+same-length-7 c =
+    c .before .before .before .before .before .before .before .before .before .before .before .before .before .before .before .before .before .before .turn .kept .1 .1 .1 .1 .1 .1 .1 .1 .1 .1 .1 .1 .1 .0 ∙ c .before .before .before .before .before .before .before .before .before .before .before .before .before .before .before .before .before .before .before .before .before .before .before .before .before .before .before .before .before .loop .inv .8
+
+same-length-8 : tie.Need-same-length-8 Inv-loop μ-loop
+same-length-8 c =
+    c .before .before .before .before .before .before .before .before .before .before .before .before .before .before .before .before .before .before .turn .kept .1 .1 .1 .1 .1 .1 .1 .1 .1 .1 .1 .1 .1 .1 .0 ∙ c .before .before .before .before .before .before .before .before .before .before .before .before .before .before .before .before .before .before .before .before .before .before .before .before .before .before .before .before .before .loop .inv .9
+
+same-length-9 : tie.Need-same-length-9 Inv-loop μ-loop
+same-length-9 c =
+    c .before .before .before .before .before .before .before .before .before .before .before .before .before .before .before .before .before .before .before .before .before .before .before .before .before .before .before .before .before .loop .inv .0 .long
+
+returns : tie.Need-returns Inv-loop μ-loop
+returns c =
+    let s = c .before .before .before .before .before .before .before .before .before .before .before .before .before .before .before .before .before .before .before .before .before .before .before .before .before .before .before .before .before .before .before .before .before .before .before .before .before .before .before in
+    let a = s .args in
+    let p = s .pre in
+    let l = c .before .before .before .before .before .before .before .before .before .before .before .before .before .before .before .before .before .before .before .before .before .before .before .before .before .before .before .before .before .loop in
+    let h = c .before .before .before .before .before .before .before .before .before .before .before .before .before .before .before .before .before .before .before .before .before .before .before .before .before .before .before .before .loop-test .taken in
+    let left : Columns = record { ids = l .a-ids; covers = l .a-covers } in
+    let right : Columns = record { ids = l .b-ids; covers = l .b-covers } in
+    let list₀ : ListColumns = record { ids = a .list-ids .now; covers = a .list-covers .now; segments = a .list-segments .now; shown = a .list-shown .now } in
+    let list : ListColumns = record { ids = l .list-ids; covers = l .list-covers; segments = l .list-segments; shown = l .list-shown } in
+    let inside : a .state .from + l .i < a .state .to = omega (arith, h, p .inside) in
+    let long = turning.list-kept list₀ list (l .inv .6) (l .inv .7) (l .inv .8) (l .inv .9) (p .list-long) in
+    let next-is = turning.tile-is (l .in-a) left right (p .is-open) (l .inv .1) inside list long in
+    let low : l .at .next < 2 ^ 31 = omega (arith, next-is, inside, p .is-open .last) in
+    let tile : toZ w32 (l .at .next) ≡ pos (a .state .from + l .i) = toZ-pos w32 low ∙ ap pos next-is in
+    let t = rw tile at (c .before .before .before .before .before .before .before .before .before .before .before .before .before .before .before .before .before .before .turn .ensures) in
+    refused (l .inv .0) h (turning.refused-is (l .in-a) left right (p .is-open) (l .inv .1) inside list long _ _ _ t (c .before .answer .given .1))
+
+enum-told : tie.Need-enum-told Inv-loop μ-loop
+enum-told c =
+    search needs
+
+mul-write-line : tie.Need-mul-write-line Inv-loop μ-loop
+mul-write-line c =
+    let p = c .before .before .before .before .before .before .before .before .before .before .before .before .before .before .before .before .before .before .before .before .before .before .before .before .before .before .before .before .before .before .before .before .before .before .before .before .before .before .before .pre in omega (arith, c .before .before .before .before .before .before .before .before .before .before .before .before .before .before .before .before .before .before .before .before .before .before .before .before .before .before .before .before .loop-test .taken, p .inside, p .is-open .last)
+
+write-line-requires : tie.Need-write-line-requires Inv-loop μ-loop
+write-line-requires c κs =
+    let v = c .before .before .before .before .before .before .before .before .before .before .before .before .before .before .before .before .before .before .before .before .before .before .before .before .before .before .before .before .before .loop .inv .0 in omega (arith, c .before .before .before .before .before .before .before .before .before .before .before .before .before .before .before .before .before .before .before .before .before .before .before .before .before .before .before .before .loop-test .taken, v .long, v .room)
+
+add-i : tie.Need-add-i Inv-loop μ-loop
+add-i c =
+    let p = c .before .before .before .before .before .before .before .before .before .before .before .before .before .before .before .before .before .before .before .before .before .before .before .before .before .before .before .before .before .before .before .before .before .before .before .before .before .before .before .before .before .before .before .pre in omega (arith, c .before .before .before .before .before .before .before .before .before .before .before .before .before .before .before .before .before .before .before .before .before .before .before .before .before .before .before .before .before .before .before .before .loop-test .taken, p .inside, p .is-open .last)
+
+loop-less : tie.Need-loop-less Inv-loop μ-loop
+loop-less c =
+    omega (arith, c .before .before .before .before .before .before .before .before .before .before .before .before .before .before .before .before .before .before .before .before .before .before .before .before .before .before .before .before .before .before .before .before .loop-test .taken)
+
+loop-again : tie.Need-loop-again Inv-loop μ-loop
+loop-again c =
+    let s = c .before .before .before .before .before .before .before .before .before .before .before .before .before .before .before .before .before .before .before .before .before .before .before .before .before .before .before .before .before .before .before .before .before .before .before .before .before .before .before .before .before .before .before in
+    let a = s .args in
+    let p = s .pre in
+    let l = c .before .before .before .before .before .before .before .before .before .before .before .before .before .before .before .before .before .before .before .before .before .before .before .before .before .before .before .before .before .before .before .before .before .loop in
+    let h = c .before .before .before .before .before .before .before .before .before .before .before .before .before .before .before .before .before .before .before .before .before .before .before .before .before .before .before .before .before .before .before .before .loop-test .taken in
+    let left : Columns = record { ids = l .a-ids; covers = l .a-covers } in
+    let right : Columns = record { ids = l .b-ids; covers = l .b-covers } in
+    let list₀ : ListColumns = record { ids = a .list-ids .now; covers = a .list-covers .now; segments = a .list-segments .now; shown = a .list-shown .now } in
+    let list : ListColumns = record { ids = l .list-ids; covers = l .list-covers; segments = l .list-segments; shown = l .list-shown } in
+    let inside : a .state .from + l .i < a .state .to = omega (arith, h, p .inside) in
+    let long = turning.list-kept list₀ list (l .inv .6) (l .inv .7) (l .inv .8) (l .inv .9) (p .list-long) in
+    let next-is = turning.tile-is (l .in-a) left right (p .is-open) (l .inv .1) inside list long in
+    let low : l .at .next < 2 ^ 31 = omega (arith, next-is, inside, p .is-open .last) in
+    let tile : toZ w32 (l .at .next) ≡ pos (a .state .from + l .i) = toZ-pos w32 low ∙ ap pos next-is in
+    let t = rw tile at (c .before .before .before .before .before .before .before .before .before .before .before .before .before .before .before .before .before .before .before .before .before .before .turn .ensures) in
+    let e = c .before .before .before .before .before .enum-told .given .1 in
+    let told = c .before .before .before .write-line .ensures ∙ ap (λ (x : Line). sets (l .lines) (l .i * 5) (lineWords x)) (turning.line-is (l .in-a) left right (p .is-open) (l .inv .1) inside list long _ _ _ t e) in
+    let k = c .before .before .before .before .before .before .before .before .before .before .before .before .before .before .before .before .before .before .before .before .before .before .turn .kept in (
+      next (l .inv .0) h (turning.accepted (l .in-a) left right (p .is-open) (l .inv .1) inside list long _ _ _ t e) told,
+      rw (add-one (l .i)) (turning.holds-next (l .in-a) left right (p .is-open) (l .inv .1) inside list long _ _ _ t e),
+      k .1 .1 .1 .1 .1 .1 .1 .0 ∙ l .inv .2,
+      k .1 .1 .1 .1 .1 .1 .1 .1 .0 ∙ l .inv .3,
+      k .1 .1 .1 .1 .1 .1 .1 .1 .1 .0 ∙ l .inv .4,
+      k .1 .1 .1 .1 .1 .1 .1 .1 .1 .1 .0 ∙ l .inv .5,
+      k .1 .1 .1 .1 .1 .1 .1 .1 .1 .1 .1 .0 ∙ l .inv .6,
+      k .1 .1 .1 .1 .1 .1 .1 .1 .1 .1 .1 .1 .0 ∙ l .inv .7,
+      k .1 .1 .1 .1 .1 .1 .1 .1 .1 .1 .1 .1 .1 .0 ∙ l .inv .8,
+      k .1 .1 .1 .1 .1 .1 .1 .1 .1 .1 .1 .1 .1 .1 .0 ∙ l .inv .9,
+    )
+
+same-length-10 : tie.Need-same-length-10 Inv-loop μ-loop
+same-length-10 c =
+    c .before .loop .inv .2
+
+same-length-11 : tie.Need-same-length-11 Inv-loop μ-loop
+same-length-11 c =
+    c .before .loop .inv .3
+
+same-length-12 : tie.Need-same-length-12 Inv-loop μ-loop
+same-length-12 c =
+    c .before .loop .inv .4
+
+same-length-13 : tie.Need-same-length-13 Inv-loop μ-loop
+same-length-13 c =
+    c .before .loop .inv .5
+
+same-length-14 : tie.Need-same-length-14 Inv-loop μ-loop
+same-length-14 c =
+    c .before .loop .inv .6
+
+same-length-15 : tie.Need-same-length-15 Inv-loop μ-loop
+same-length-15 c =
+    c .before .loop .inv .7
+
+same-length-16 : tie.Need-same-length-16 Inv-loop μ-loop
+same-length-16 c =
+    c .before .loop .inv .8
+
+same-length-17 : tie.Need-same-length-17 Inv-loop μ-loop
+same-length-17 c =
+    c .before .loop .inv .9
+
+same-length-18 : tie.Need-same-length-18 Inv-loop μ-loop
+same-length-18 c =
+    c .before .loop .inv .0 .long
+
+returns-2 : tie.Need-returns-2 Inv-loop μ-loop
+returns-2 c =
+    done (c .before .loop .inv .0) (c .loop-test .left)
+
+pub drive-tiles-spec : {M : Type 1} → statement M
+drive-tiles-spec =
+    tie.close
+    (tie.spec
+    Inv-loop
+    μ-loop
+    loop-holds
+    cast-turn
+    turn-requires
+    enum-known-answer
+    same-length
+    same-length-2
+    same-length-3
+    same-length-4
+    same-length-5
+    same-length-6
+    same-length-7
+    same-length-8
+    same-length-9
+    returns
+    enum-told
+    mul-write-line
+    write-line-requires
+    add-i
+    loop-less
+    loop-again
+    same-length-10
+    same-length-11
+    same-length-12
+    same-length-13
+    same-length-14
+    same-length-15
+    same-length-16
+    same-length-17
+    same-length-18
+    returns-2)

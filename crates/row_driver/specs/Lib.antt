@@ -1,0 +1,5 @@
+-- A whole row driven: what the contracts say.
+pub mod Shown
+pub mod Lines
+pub mod Driven
+pub mod Steps

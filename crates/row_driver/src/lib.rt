@@ -1,0 +1,208 @@
+// A whole tile row driven: opened, each of its tiles worked, the shown layers of a painted tile painted, and a line written for each tile. The row
+// and the table are judged once, at the opening; the tiles are worked by the inner functions, and two queues take turns.
+pub mod tally;
+pub mod tile;
+
+use tile_row::Opened;
+use tile_row::Refusal;
+use tile_row::RowState;
+use tile_row::opening;
+use tile_row::working::WorkAnswer;
+ghost use mathlib.Core.Path.{_≡_};
+ghost use Prim.Native.Nat.{_+_, _≤_, min};
+ghost use lib.ListN.{length};
+ghost use lib.Seq.{sets};
+ghost use Rattle.row_driver.specs.Lines.{linesFrom, lineWords};
+ghost use Rattle.row_driver.specs.Driven.{dueTiles, drivingOf, rowDriving, Drives};
+ghost use Rattle.row_driver.specs.Steps as steps;
+
+// The line of a tile: the decision (0 none, 1 solid, 2 paint), layers listed, layers shown, used octets, carries handed on.
+pub struct Line {
+    pub decision: u32,
+    pub listed: u32,
+    pub shown: u32,
+    pub octets: u32,
+    pub carried: u32,
+}
+
+// How many lines are written: one for each tile that is due, or those before a refusal.
+pub enum Driven {
+    Done(usize),
+    Refused(Refusal, usize),
+}
+
+fn least(a: u32, b: u32) -> u32
+    ensures { λ r. ⌜ r ≡ min a b ⌝ }
+{
+    if a < b { a } else { b }
+}
+
+// How many tiles of from..to the row has.
+fn due_tiles(from: i32, to: i32, tiles: i32) -> usize
+    ensures { λ r. ⌜ r ≡ dueTiles from to tiles ⌝ }
+{
+    let end = least(least(opening::natural(to), opening::natural(tiles)), 4095);
+    let first = opening::natural(from);
+    if end < first {
+        0
+    } else {
+        (end - first) as usize
+    }
+}
+
+fn write_line(lines: &mut [u32], at: usize, line: Line)
+    requires { ⌜ at + 5 ≤ length (now lines) ⌝ }
+    ensures { λ _. ⌜ now (lines .exit) ≡ sets (now (lines .entry)) at (lineWords line) ⌝ }
+{
+    lines[at] = line.decision;
+    lines[at + 1] = line.listed;
+    lines[at + 2] = line.shown;
+    lines[at + 3] = line.octets;
+    lines[at + 4] = line.carried;
+}
+
+// Drives the first n tiles of an open row.
+fn drive_tiles(
+    state: RowState,
+    n: usize,
+    row: &[u64],
+    layers: &[u32],
+    colors: &[f32],
+    count: usize,
+    a_ids: &mut [u32],
+    a_covers: &mut [i8],
+    b_ids: &mut [u32],
+    b_covers: &mut [i8],
+    list_ids: &mut [u32],
+    list_covers: &mut [i8],
+    list_segments: &mut [bool],
+    list_shown: &mut [bool],
+    lines: &mut [u32],
+) -> Driven
+    requires { ⌜ steps.Drivable (steps.rowBy state (now row) (now layers) (now colors) count) state n (record { ids = now «a_ids»; covers = now «a_covers» }) (record { ids = now «b_ids»; covers = now «b_covers» }) (record { ids = now «list_ids»; covers = now «list_covers»; segments = now «list_segments»; shown = now «list_shown» }) (now lines) ⌝ }
+    ensures { λ r. ⌜ Drives (drivingOf (linesFrom (steps.rowBy state (now (row .entry)) (now (layers .entry)) (now (colors .entry)) count) n 0)) (now (lines .entry)) r (now (lines .exit)) ⌝ }
+{
+    let mut at = state;
+    let mut in_a = true;
+    let mut i: usize = 0;
+    while i < n {
+        let step = tile::turn(
+            in_a,
+            at,
+            at.next as i32,
+            row,
+            layers,
+            colors,
+            count,
+            a_ids,
+            a_covers,
+            b_ids,
+            b_covers,
+            list_ids,
+            list_covers,
+            list_segments,
+            list_shown,
+        );
+        let worked = step.worked;
+        let line = step.line;
+        let answer = worked.answer;
+        match answer {
+            WorkAnswer::Refused(refusal) => {
+                return Driven::Refused(refusal, i);
+            }
+            WorkAnswer::Done(_) => {
+                write_line(lines, i * 5, line);
+                at = worked.state;
+                in_a = !in_a;
+                i += 1;
+            }
+        }
+    }
+    Driven::Done(n)
+}
+
+// Drives an open row with a second queue and a list of its own.
+fn drive_open(
+    state: RowState,
+    n: usize,
+    row: &[u64],
+    layers: &[u32],
+    colors: &[f32],
+    count: usize,
+    ids: &mut [u32],
+    covers: &mut [i8],
+    lines: &mut [u32],
+) -> Driven
+    requires { ⌜ steps.Opened (steps.rowBy state (now row) (now layers) (now colors) count) state n (record { ids = now ids; covers = now covers }) (now lines) ⌝ }
+    ensures { λ r. ⌜ Drives (drivingOf (linesFrom (steps.rowBy state (now (row .entry)) (now (layers .entry)) (now (colors .entry)) count) n 0)) (now (lines .entry)) r (now (lines .exit)) ⌝ }
+{
+    let mut next_ids = [0u32; 256];
+    let mut next_covers = [0i8; 4096];
+    let mut list_ids = [0u32; 256];
+    let mut list_covers = [0i8; 4096];
+    let mut list_segments = [false; 256];
+    let mut list_shown = [false; 256];
+    drive_tiles(
+        state,
+        n,
+        row,
+        layers,
+        colors,
+        count,
+        ids,
+        covers,
+        &mut next_ids,
+        &mut next_covers,
+        &mut list_ids,
+        &mut list_covers,
+        &mut list_segments,
+        &mut list_shown,
+        lines,
+    )
+}
+
+// Drives the tiles of from..to that a row of so many tiles has. Five words of `lines` are written for each tile, up to the first that is refused.
+pub fn drive_row(
+    tile_y: i32,
+    from: i32,
+    to: i32,
+    tiles: i32,
+    row: &[u64],
+    layers: &[u32],
+    colors: &[f32],
+    count: usize,
+    lines: &mut [u32],
+) -> Driven
+    ensures { λ r. ⌜ Drives (rowDriving «tile_y» from to tiles (now (row .entry)) (now (layers .entry)) (now (colors .entry)) count (now (lines .entry))) (now (lines .entry)) r (now (lines .exit)) ⌝ }
+{
+    let n = due_tiles(from, to, tiles);
+    if lines.len() / 5 < n {
+        return Driven::Refused(Refusal::Room, 0);
+    }
+    let mut ids = [0u32; 256];
+    let mut covers = [0i8; 4096];
+    match opening::open_tile_row(
+        tile_y,
+        from,
+        to,
+        row,
+        layers,
+        colors,
+        count,
+        &mut ids,
+        &mut covers,
+    ) {
+        Opened::Refused(refusal) => Driven::Refused(refusal, 0),
+        Opened::Row(state) => drive_open(
+            state,
+            n,
+            row,
+            layers,
+            colors,
+            count,
+            &mut ids,
+            &mut covers,
+            lines,
+        ),
+    }
+}

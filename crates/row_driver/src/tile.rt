@@ -1,0 +1,219 @@
+// One tile of a driven row: its work, its shown layers, and its line.
+use crate::Line;
+use crate::tally;
+use crate::tally::Tally;
+use cached_tile::kept::Kept;
+use layer_workbench::PreviousClear;
+use passes::decide::Decision;
+use pixel_segment::parts;
+use styling::Color;
+use tile_row::RowState;
+use tile_row::working;
+use tile_row::working::TileDone;
+use tile_row::working::TileWorked;
+use tile_row::working::WorkAnswer;
+ghost use mathlib.Core.Path.{_≡_};
+ghost use mathlib.Core.Bool.{not};
+ghost use Prim.Native.Nat.{_≤_};
+ghost use Rattle.row_driver.specs.Lines.{clearColor, noPrevious, codeOf, isPaint};
+ghost use Rattle.row_driver.specs.Steps.{argsOf, lentOf, side, Workable, WorksLine, Turns};
+
+// The work on a tile, and its line; the line of a refused tile says nothing.
+pub struct TileLine {
+    pub worked: TileWorked,
+    pub line: Line,
+}
+
+fn clear_color() -> Color
+    ensures { λ r. ⌜ r ≡ clearColor ⌝ }
+{
+    Color {
+        r: 0.0,
+        g: 0.0,
+        b: 0.0,
+        a: 1.0,
+    }
+}
+
+fn no_previous() -> PreviousClear
+    ensures { λ r. ⌜ r ≡ noPrevious ⌝ }
+{
+    PreviousClear {
+        given: false,
+        color: clear_color(),
+    }
+}
+
+fn code_of(decision: Decision) -> u32
+    ensures { λ r. ⌜ r ≡ codeOf decision ⌝ }
+{
+    match decision {
+        Decision::None => 0,
+        Decision::Solid(_, _) => 1,
+        Decision::Paint => 2,
+    }
+}
+
+fn is_paint(decision: Decision) -> bool
+    ensures { λ r. ⌜ r ≡ isPaint decision ⌝ }
+{
+    match decision {
+        Decision::None => false,
+        Decision::Solid(_, _) => false,
+        Decision::Paint => true,
+    }
+}
+
+fn blank() -> Line {
+    Line {
+        decision: 0,
+        listed: 0,
+        shown: 0,
+        octets: 0,
+        carried: 0,
+    }
+}
+
+fn line_of(done: TileDone, tally: Tally, left: usize) -> Line
+    requires { ⌜ (done .listed ≤ 256) × (left ≤ 256) ⌝ }
+    ensures { λ r. ⌜ r ≡ record { decision = codeOf (done .decision); listed = done .listed; shown = tally .shown; octets = tally .octets; carried = left } ⌝ }
+{
+    let decision = done.decision;
+    Line {
+        decision: code_of(decision),
+        listed: done.listed as u32,
+        shown: tally.shown,
+        octets: tally.octets,
+        carried: left as u32,
+    }
+}
+
+// Works a tile, and paints its shown layers where it is to be painted.
+fn work_line(
+    state: RowState,
+    tile: i32,
+    row: &[u64],
+    layers: &[u32],
+    colors: &[f32],
+    count: usize,
+    ids: &[u32],
+    covers: &[i8],
+    next_ids: &mut [u32],
+    next_covers: &mut [i8],
+    list_ids: &mut [u32],
+    list_covers: &mut [i8],
+    list_segments: &mut [bool],
+    list_shown: &mut [bool],
+) -> TileLine
+    requires { ⌜ Workable (argsOf state tile (now row) (now layers) (now colors) count (record { ids = now ids; covers = now covers })) (lentOf (record { ids = now «next_ids»; covers = now «next_covers» }) (record { ids = now «list_ids»; covers = now «list_covers»; segments = now «list_segments»; shown = now «list_shown» })) ⌝ }
+    ensures { λ r. ⌜ WorksLine (argsOf state tile (now (row .entry)) (now (layers .entry)) (now (colors .entry)) count (record { ids = now (ids .entry); covers = now (covers .entry) })) (lentOf (record { ids = now («next_ids» .entry); covers = now («next_covers» .entry) }) (record { ids = now («list_ids» .entry); covers = now («list_covers» .entry); segments = now («list_segments» .entry); shown = now («list_shown» .entry) })) r (lentOf (record { ids = now («next_ids» .exit); covers = now («next_covers» .exit) }) (record { ids = now («list_ids» .exit); covers = now («list_covers» .exit); segments = now («list_segments» .exit); shown = now («list_shown» .exit) })) ⌝ }
+{
+    let worked = working::work_judged(
+        state,
+        tile,
+        row,
+        layers,
+        colors,
+        count,
+        Kept::absent(),
+        clear_color(),
+        no_previous(),
+        ids,
+        covers,
+        next_ids,
+        next_covers,
+        list_ids,
+        list_covers,
+        list_segments,
+        list_shown,
+    );
+    let answer = worked.answer;
+    match answer {
+        WorkAnswer::Refused(_) => TileLine {
+            worked: worked,
+            line: blank(),
+        },
+        WorkAnswer::Done(done) => {
+            let after = worked.state;
+            let decision = done.decision;
+            let skipped = done.skipped;
+            let part = parts::in_tile(row, tile as i16);
+            let tally = tally::tally_shown(
+                is_paint(decision),
+                ids,
+                covers,
+                state.left,
+                part,
+                layers,
+                colors,
+                count,
+                list_ids,
+                list_shown,
+                skipped.0,
+                done.listed,
+            );
+            TileLine {
+                worked: worked,
+                line: line_of(done, tally, after.left),
+            }
+        }
+    }
+}
+
+// Works a tile from the queue whose turn it is, and writes the other.
+pub fn turn(
+    in_a: bool,
+    state: RowState,
+    tile: i32,
+    row: &[u64],
+    layers: &[u32],
+    colors: &[f32],
+    count: usize,
+    a_ids: &mut [u32],
+    a_covers: &mut [i8],
+    b_ids: &mut [u32],
+    b_covers: &mut [i8],
+    list_ids: &mut [u32],
+    list_covers: &mut [i8],
+    list_segments: &mut [bool],
+    list_shown: &mut [bool],
+) -> TileLine
+    requires { ⌜ Workable (argsOf state tile (now row) (now layers) (now colors) count (side «in_a» (record { ids = now «a_ids»; covers = now «a_covers» }) (record { ids = now «b_ids»; covers = now «b_covers» }))) (lentOf (side (not «in_a») (record { ids = now «a_ids»; covers = now «a_covers» }) (record { ids = now «b_ids»; covers = now «b_covers» })) (record { ids = now «list_ids»; covers = now «list_covers»; segments = now «list_segments»; shown = now «list_shown» })) ⌝ }
+    ensures { λ r. ⌜ Turns «in_a» state tile (now (row .entry)) (now (layers .entry)) (now (colors .entry)) count (record { ids = now («a_ids» .entry); covers = now («a_covers» .entry) }) (record { ids = now («b_ids» .entry); covers = now («b_covers» .entry) }) (record { ids = now («list_ids» .entry); covers = now («list_covers» .entry); segments = now («list_segments» .entry); shown = now («list_shown» .entry) }) r (record { ids = now («a_ids» .exit); covers = now («a_covers» .exit) }) (record { ids = now («b_ids» .exit); covers = now («b_covers» .exit) }) (record { ids = now («list_ids» .exit); covers = now («list_covers» .exit); segments = now («list_segments» .exit); shown = now («list_shown» .exit) }) ⌝ }
+{
+    if in_a {
+        work_line(
+            state,
+            tile,
+            row,
+            layers,
+            colors,
+            count,
+            a_ids,
+            a_covers,
+            b_ids,
+            b_covers,
+            list_ids,
+            list_covers,
+            list_segments,
+            list_shown,
+        )
+    } else {
+        work_line(
+            state,
+            tile,
+            row,
+            layers,
+            colors,
+            count,
+            b_ids,
+            b_covers,
+            a_ids,
+            a_covers,
+            list_ids,
+            list_covers,
+            list_segments,
+            list_shown,
+        )
+    }
+}
