@@ -31,11 +31,11 @@ readable-fits count queue ids covers n e = record { there = omega arith; for-ids
 pub cover-is : (r : CarryRecord) → length (r .covers) ≡ 16 → carryOf r .cover ≡ r .covers
 cover-is r e = sym (is-tabulate 16 (λ y. coverAt (r .covers) y) (pos 0) (r .covers) e (λ i h. refl))
 
-ids-append : (s t : List CarryRecord) → idsOf (s ++ t) ≡ idsOf s ++ idsOf t
+pub ids-append : (s t : List CarryRecord) → idsOf (s ++ t) ≡ idsOf s ++ idsOf t
 ids-append [] t = refl
 ids-append (c ∷ s) t = ap (λ (l : List ℕ). c .id ∷ l) (ids-append s t)
 
-covers-append : (s t : List CarryRecord) → coversOf (s ++ t) ≡ coversOf s ++ coversOf t
+pub covers-append : (s t : List CarryRecord) → coversOf (s ++ t) ≡ coversOf s ++ coversOf t
 unfolding coversIn
 covers-append [] t = refl
 covers-append (c ∷ s) t = ap (λ (l : List ℤ). carryOf c .cover ++ l) (covers-append s t) ∙ sym (append-assoc (carryOf c .cover) (coversOf s) (coversOf t))
