@@ -1,0 +1,2 @@
+-- The walks of the two updates, by hand.
+pub mod InLocal

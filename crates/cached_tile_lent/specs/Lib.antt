@@ -1,0 +1,1 @@
+-- Cached tiles that are lent.

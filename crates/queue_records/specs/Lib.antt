@@ -1,0 +1,2 @@
+-- Queues of carry records: what their contracts say.
+pub mod Records

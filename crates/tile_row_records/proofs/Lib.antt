@@ -1,0 +1,5 @@
+-- The walks over lent records, by hand, and their laws.
+pub mod Wide
+pub mod Lending
+pub mod SameQueue
+pub mod SameAnswers

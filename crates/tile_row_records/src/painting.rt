@@ -1,0 +1,69 @@
+// The painting of a layer, from a queue of carry records.
+use queue_records::CarryRecord;
+use queue_records::Columns;
+use tile_row::RowState;
+use tile_row::painting::Painted;
+ghost use mathlib.Core.Path.{_≡_};
+ghost use Rattle.tile_row.specs.Painting.{PaintsLayer};
+ghost use Rattle.queue_records.specs.Records.{idsOf, coversOf};
+ghost use Rattle.tile_row_records.specs.Lent.{idsLent, coversLent};
+
+// The painting from columns that were read.
+pub fn paint_columns(
+    state: RowState,
+    tile: i32,
+    layer: u32,
+    row: &[u64],
+    layers: &[u32],
+    colors: &[f32],
+    count: usize,
+    columns: Columns,
+    plane: &mut [f32],
+) -> Painted
+    ensures { λ r. ⌜ PaintsLayer state tile layer (now (row .entry)) (now (layers .entry)) (now (colors .entry)) count (idsLent columns) (coversLent columns) (now (plane .entry)) r (now (plane .exit)) ⌝ }
+{
+    let n = queue_records::lesser(columns.entries, 256);
+    let end = n * 16;
+    let ids = columns.ids;
+    let covers = columns.covers;
+    tile_row::painting::paint_layer(
+        state,
+        tile,
+        layer,
+        row,
+        layers,
+        colors,
+        count,
+        &ids[..n],
+        &covers[..end],
+        plane,
+    )
+}
+
+// Paints a layer of the tile just worked, as `tile_row::painting::paint_layer` does with the columns that the records stand for.
+pub fn paint_layer(
+    state: RowState,
+    tile: i32,
+    layer: u32,
+    row: &[u64],
+    layers: &[u32],
+    colors: &[f32],
+    count: usize,
+    queue: &[CarryRecord],
+    plane: &mut [f32],
+) -> Painted
+    ensures { λ r. ⌜ PaintsLayer state tile layer (now (row .entry)) (now (layers .entry)) (now (colors .entry)) count (idsOf (now (queue .entry))) (coversOf (now (queue .entry))) (now (plane .entry)) r (now (plane .exit)) ⌝ }
+{
+    let columns = queue_records::read_columns(queue, state.taken);
+    paint_columns(
+        state,
+        tile,
+        layer,
+        row,
+        layers,
+        colors,
+        count,
+        columns,
+        plane,
+    )
+}
