@@ -1,0 +1,2 @@
+-- Laws of the row program.
+pub mod Places

@@ -1,0 +1,1 @@
+-- The row program has no definitions of its own.
