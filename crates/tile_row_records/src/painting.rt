@@ -67,3 +67,30 @@ pub fn paint_layer(
         plane,
     )
 }
+
+// The painting from an array of records, lent to `paint_layer`: plain parameters, for callers that lend no struct.
+pub fn paint_array(
+    state: RowState,
+    tile: i32,
+    layer: u32,
+    row: &[u64],
+    layers: &[u32],
+    colors: &[f32],
+    count: usize,
+    queue: [CarryRecord; 256],
+    plane: &mut [f32],
+) -> Painted
+    ensures { λ r. ⌜ PaintsLayer state tile layer (now (row .entry)) (now (layers .entry)) (now (colors .entry)) count (idsOf queue) (coversOf queue) (now (plane .entry)) r (now (plane .exit)) ⌝ }
+{
+    paint_layer(
+        state,
+        tile,
+        layer,
+        row,
+        layers,
+        colors,
+        count,
+        &queue,
+        plane,
+    )
+}

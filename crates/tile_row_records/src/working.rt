@@ -98,3 +98,44 @@ pub fn work_tile(
         list_shown,
     )
 }
+
+// The work from an array of records, lent to `work_tile`: plain parameters, for callers that lend no struct.
+pub fn work_array(
+    state: RowState,
+    tile: i32,
+    row: &[u64],
+    layers: &[u32],
+    colors: &[f32],
+    count: usize,
+    kept: Kept,
+    clear: Color,
+    previous: PreviousClear,
+    queue: [CarryRecord; 256],
+    next_ids: &mut [u32],
+    next_covers: &mut [i8],
+    list_ids: &mut [u32],
+    list_covers: &mut [i8],
+    list_segments: &mut [bool],
+    list_shown: &mut [bool],
+) -> TileWorked
+    ensures { λ r. ⌜ GivesWork (workOf (record { state = state; tile = tile; row = now (row .entry); words = now (layers .entry); floats = now (colors .entry); count = count; kept = kept; clear = clear; previous = previous; ids = idsOf queue; covers = coversOf queue }) (record { queueIds = now («next_ids» .entry); queueCovers = now («next_covers» .entry); listIds = now («list_ids» .entry); listCovers = now («list_covers» .entry); listSegments = now («list_segments» .entry); listShown = now («list_shown» .entry) })) r (record { queueIds = now («next_ids» .exit); queueCovers = now («next_covers» .exit); listIds = now («list_ids» .exit); listCovers = now («list_covers» .exit); listSegments = now («list_segments» .exit); listShown = now («list_shown» .exit) }) ⌝ }
+{
+    work_tile(
+        state,
+        tile,
+        row,
+        layers,
+        colors,
+        count,
+        kept,
+        clear,
+        previous,
+        &queue,
+        next_ids,
+        next_covers,
+        list_ids,
+        list_covers,
+        list_segments,
+        list_shown,
+    )
+}
