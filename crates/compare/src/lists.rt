@@ -188,3 +188,56 @@ pub fn expect_floats(text: &[u8], cursor: Cursor, found: &[f32]) -> Cursor {
     }
     Cursor { at: at, same: same }
 }
+
+fn hold_flag(text: &[u8], cursor: Cursor, found: bool, stored: bool) -> Cursor {
+    if stored {
+        return text::expect_flag(text, cursor, found);
+    }
+    Cursor {
+        at: cursor.at,
+        same: cursor.same & !found,
+    }
+}
+
+// Whether the first n are the stored ones, and each after them is false.
+pub fn expect_flags(text: &[u8], cursor: Cursor, found: &[bool], n: usize) -> Cursor {
+    let mut at = cursor.at;
+    let mut same = cursor.same;
+    let mut i: usize = 0;
+    while i < found.len() {
+        let held = hold_flag(text, Cursor { at: at, same: same }, found[i], i < n);
+        at = held.at;
+        same = held.same;
+        i += 1;
+    }
+    Cursor { at: at, same: same }
+}
+
+// The first n of one list into another.
+pub fn copy_words(from: &[u32], to: &mut [u32], n: usize) {
+    let mut i: usize = 0;
+    while i < to.len() {
+        if n <= i {
+            return;
+        }
+        if from.len() <= i {
+            return;
+        }
+        to[i] = from[i];
+        i += 1;
+    }
+}
+
+pub fn copy_covers(from: &[i8], to: &mut [i8], n: usize) {
+    let mut i: usize = 0;
+    while i < to.len() {
+        if n <= i {
+            return;
+        }
+        if from.len() <= i {
+            return;
+        }
+        to[i] = from[i];
+        i += 1;
+    }
+}

@@ -3,10 +3,13 @@
 mod covers;
 mod lists;
 mod numbers;
+mod paints;
 mod rows;
+mod stand;
 mod text;
 mod tiles;
 mod words;
+mod works;
 
 use text::Cursor;
 
@@ -32,6 +35,7 @@ fn replay(
         10 => tiles::color(text, at),
         11 => tiles::settle(text, at),
         12 => rows::open(text, at, row, layers, colors),
+        13 => rows::row(text, at, row, layers, colors),
         _ => Cursor {
             at: at,
             same: false,
@@ -106,5 +110,6 @@ fn main() {
     let a9 = section(text, 9, b"cached counts", a8);
     let a10 = section(text, 10, b"cached colours", a9);
     let a11 = section(text, 11, b"settling", a10);
-    section(text, 12, b"openings", a11);
+    let a12 = section(text, 12, b"openings", a11);
+    section(text, 13, b"rows of tiles", a12);
 }

@@ -15,5 +15,6 @@ pub mod random;
 pub mod rows;
 pub mod scene;
 pub mod stored;
+pub mod stored_rows;
 pub mod tally;
 pub mod words;

@@ -10,19 +10,20 @@ use reference::{
         row::{self, Row},
     },
     pixel_segment,
-    plain::{Record, RULES},
+    plain::{Carry, Record, RULES},
     Table,
 };
 
 use crate::{
     cached::{any_color, any_count, any_tile},
     covers::{any_cover, any_part, is_heavy},
-    judge,
+    judge::{self, LentTable},
     layers::{damaged, lent},
     library::{Fields, Key},
     memory::damaged_row,
     random::Random,
     scene::{any_scene, Scene},
+    stored_rows,
     tally::caught,
     words::{any_fields, any_row, any_word, layer, segment, tile, Segment},
 };
@@ -33,18 +34,23 @@ const SEED: u64 = 1;
 /// One line: what is given, and what the Rust answers.
 #[derive(Default)]
 pub struct Line {
-    given: Vec<u64>,
-    answer: Vec<u64>,
+    pub given: Vec<u64>,
+    pub answer: Vec<u64>,
 }
 
 impl Line {
-    fn covers(bytes: &[i8]) -> impl Iterator<Item = u64> + '_ {
+    pub fn text(&self) -> String {
+        let hex = |numbers: &[u64]| numbers.iter().map(|number| format!("{number:x}")).collect::<Vec<_>>().join(" ");
+        format!("{} > {}", hex(&self.given), hex(&self.answer))
+    }
+
+    pub fn covers(bytes: &[i8]) -> impl Iterator<Item = u64> + '_ {
         bytes.iter().map(|&byte| u64::from(byte as u8))
     }
 }
 
 /// The code of a float: its multiple of 1/512, or one beyond them.
-fn float(value: f32) -> u64 {
+pub fn float(value: f32) -> u64 {
     let multiple = value * 512.0;
     if value.is_nan() {
         0x8002
@@ -65,9 +71,7 @@ pub fn answers() -> String {
     let mut block = |name: &str, count: usize, line: fn(&mut Random) -> Line| {
         writeln!(text, "{name} {count:x}").unwrap();
         for _ in 0..count {
-            let Line { given, answer } = line(&mut random);
-            let hex = |numbers: &[u64]| numbers.iter().map(|number| format!("{number:x}")).collect::<Vec<_>>().join(" ");
-            writeln!(text, "{} > {}", hex(&given), hex(&answer)).unwrap();
+            writeln!(text, "{}", line(&mut random).text()).unwrap();
         }
     };
     block("PACK", 150, pack);
@@ -82,6 +86,11 @@ pub fn answers() -> String {
     block("COLOR", 100, color);
     block("SETTLE", 100, settle);
     block("OPEN", 60, open);
+    let rows = stored_rows::rows(&mut random);
+    writeln!(text, "ROW {:x}", rows.len()).unwrap();
+    for row in rows {
+        writeln!(text, "{row}").unwrap();
+    }
     text
 }
 
@@ -198,7 +207,7 @@ fn paint(random: &mut Random) -> Line {
     Line { given, answer }
 }
 
-fn bytes(bytes: &[u8]) -> Vec<u64> {
+pub fn bytes(bytes: &[u8]) -> Vec<u64> {
     bytes.iter().map(|&byte| byte.into()).collect()
 }
 
@@ -239,12 +248,14 @@ fn settle(random: &mut Random) -> Line {
 }
 
 /// A row that is short enough to be stored, with colours that have codes.
-fn small_scene(random: &mut Random) -> Scene {
+pub fn small_scene(random: &mut Random) -> Scene {
     loop {
         let mut scene = any_scene(random);
         let codes = [0.0, 0.25, 0.5, 1.0, 2.0, -0.0, f32::INFINITY, f32::NAN];
         for picture in &mut scene.pictures {
-            let colors = picture.records.iter_mut().flat_map(|record| &mut record.color);
+            let frame = &mut picture.frame;
+            let clears = frame.clear.iter_mut().chain(frame.previous_clear.iter_mut().flatten());
+            let colors = picture.records.iter_mut().flat_map(|record| &mut record.color).chain(clears);
             colors.for_each(|number| if !codes.iter().any(|code| code.to_bits() == number.to_bits()) { *number = 0.75 });
         }
         let picture = &scene.pictures[0];
@@ -269,22 +280,32 @@ fn open(random: &mut Random) -> Line {
     }
     let [tile_y, from, to] = ends;
     let number = judge::opening(tile_y, from, to, &row, &table, false);
+    let answer = if number == 0 { opened(ends, &row) } else { [vec![number.into()], vec![5; 8]].concat() };
+    Line { given: row_given(ends, &table, &row), answer }
+}
+
+/// What an opening is given.
+pub fn row_given(ends: [i32; 3], table: &LentTable, row: &[u64]) -> Vec<u64> {
     let (layers, colors) = (&table.layers[..8 * table.count], &table.colors[..4 * table.count]);
-    let given = [
+    [
         ends.map(|end| u64::from(end as u32)).to_vec(),
         vec![table.count as u64, row.len() as u64],
         layers.iter().map(|&word| word.into()).collect(),
         colors.iter().copied().map(float).collect(),
-        row.clone(),
-    ];
-    let answer = if number == 0 {
-        let carries = Row::open(tile_y as usize, from as usize, to as usize, &row, &Table::new(&[])).queue();
-        let words = [tile_y, from, to, from, 0, 0].map(|word| word as u64);
-        let covers = carries.iter().flat_map(|carry| carry.cover).map(|byte| u64::from(byte as u8));
-        let ids = carries.iter().map(|carry| carry.id.into());
-        [vec![0], words.to_vec(), vec![carries.len() as u64, 0], ids.collect(), covers.collect()].concat()
-    } else {
-        [vec![number.into()], vec![5; 8]].concat()
-    };
-    Line { given: given.concat(), answer }
+        row.to_vec(),
+    ]
+    .concat()
+}
+
+/// What an accepted opening answers.
+pub fn opened([tile_y, from, to]: [i32; 3], row: &[u64]) -> Vec<u64> {
+    let carries = Row::open(tile_y as usize, from as usize, to as usize, row, &Table::new(&[])).queue();
+    let words = [tile_y, from, to, from, 0, 0].map(|word| word as u64);
+    [vec![0], words.to_vec(), vec![carries.len() as u64, 0], queue(&carries)].concat()
+}
+
+/// Carries: ids, then covers.
+pub fn queue(carries: &[Carry]) -> Vec<u64> {
+    let ids = carries.iter().map(|carry| carry.id.into());
+    ids.chain(carries.iter().flat_map(|carry| carry.cover).map(|byte| u64::from(byte as u8))).collect()
 }

@@ -1,0 +1,61 @@
+-- `rows::tiles_in` is safe and ends. Assumes nothing.
+use mathlib.Core.Path.{_≡_, refl, _∙_}
+use Prim.Native.Nat.{_-_}
+use native.Mathlib.Omega.{arith}
+use borrow.Author.Needs.{needs}
+use lib.ListN.{length}
+use Rattle.compare.proofs.rows.tiles_in.Statement.{statement}
+use Rattle.compare.proofs.rows.tiles_in.Tie as tie
+use Rattle.compare.proofs.rows.tiles_in.Reads as reads
+use Rattle.compare.proofs.rows.tiles_in.Lts as lts
+use Rattle.compare.proofs.text.next.Reads as next-reads
+use Rattle.compare.proofs.works.tile.Reads as tile-reads
+
+abbrev Inv-loop : tie.InvT-loop
+Inv-loop text row layers colors count ids₀ covers₀ tiles at₀ same₀ words₀ counts₀ i₀ ids covers at same words counts i = (length ids ≡ length ids₀) × (length covers ≡ length covers₀)
+
+abbrev μ-loop : tie.MeasureT-loop
+μ-loop text row layers colors count ids₀ covers₀ tiles at₀ same₀ words₀ counts₀ i₀ ids covers at same words counts i = tiles .value - i
+
+next-requires : tie.Need-next-requires Inv-loop μ-loop
+next-requires c κs = search needs
+
+loop-holds : tie.Need-loop-holds Inv-loop μ-loop
+loop-holds c = (refl, refl)
+
+tile-requires : tie.Need-tile-requires Inv-loop μ-loop
+tile-requires c κs = search needs
+
+add-i : tie.Need-add-i Inv-loop μ-loop
+add-i c = omega arith
+
+loop-less : tie.Need-loop-less Inv-loop μ-loop
+loop-less c = omega arith
+
+loop-again : tie.Need-loop-again Inv-loop μ-loop
+loop-again c = (c .before .before .before .before .ids .given ∙ c .before .before .before .before .before .before .before .before .before .before .loop .inv .0, c .before .before .covers .given ∙ c .before .before .before .before .before .before .before .before .before .before .loop .inv .1)
+
+same-length : tie.Need-same-length Inv-loop μ-loop
+same-length c = c .before .before .loop .inv .0
+
+same-length-2 : tie.Need-same-length-2 Inv-loop μ-loop
+same-length-2 c = c .before .before .loop .inv .1
+
+returns : tie.Need-returns Inv-loop μ-loop
+returns c = tt
+
+pub tiles-in-spec : {M : Type 1} → statement M
+tiles-in-spec =
+    tie.close
+    (tie.spec
+    Inv-loop
+    μ-loop
+    next-requires
+    loop-holds
+    tile-requires
+    add-i
+    loop-less
+    loop-again
+    same-length
+    same-length-2
+    returns)

@@ -1,0 +1,108 @@
+//! Whole rows among the stored answers: each frame of a row is a case, with the cached tiles that the frame before left.
+
+use reference::{
+    painter::row::Row,
+    plain::{Cached, Decision, Painted, Worked},
+    Table,
+};
+
+use crate::{
+    layers::lent,
+    random::Random,
+    scene::{Picture, Scene},
+    stored::{bytes, float, opened, queue, row_given, small_scene, Line},
+};
+
+/// How many rows are stored, and how many bytes they have at most.
+const ROWS: usize = 40;
+const BYTES: usize = 150_000;
+
+pub fn rows(random: &mut Random) -> Vec<String> {
+    let mut rows = Vec::new();
+    while rows.len() < ROWS && rows.iter().map(String::len).sum::<usize>() < BYTES {
+        let scene = small_scene(random);
+        if scene.to - scene.from < 2 {
+            continue;
+        }
+        let mut cached = vec![Cached::default(); scene.tiles];
+        for picture in &scene.pictures {
+            rows.push(row(random, &scene, picture, &mut cached));
+        }
+    }
+    rows
+}
+
+fn row(random: &mut Random, scene: &Scene, picture: &Picture, cached: &mut [Cached]) -> String {
+    let ends = [scene.tile_y, scene.from, scene.to].map(|end| end as i32);
+    let table = Table::new(&picture.records);
+    let given = row_given(ends, &lent(&picture.records), &picture.words);
+    let mut text = Line { given, answer: opened(ends, &picture.words) }.text();
+    let mut rust = Row::open(scene.tile_y, scene.from, scene.to, &picture.words, &table);
+    text += &format!(" TILES {:x}", scene.to - scene.from);
+    for tile in scene.from..scene.to {
+        let taken = rust.queue().len();
+        let before = cached[tile];
+        let worked = rust.work(tile, &picture.frame, scene.caches.then_some(before));
+        let mut state = vec![ends[0] as u64, ends[1] as u64, ends[2] as u64, tile as u64 + 1, 0, 0, worked.queue.len() as u64, taken as u64];
+        let line = Line { given: tile_given(tile, scene.caches, before, picture), answer: tile_answer(&state, before, &worked) };
+        text += &format!(" TILE {}", line.text());
+        if let Some((_, after)) = worked.cached {
+            cached[tile] = after;
+        }
+        // Some of the layers that are painted, and at times one that is not.
+        let mut layers: Vec<u32> = worked.painted.iter().map(|painted| painted.id).filter(|_| random.once_in(2)).take(2).collect();
+        if let (true, Some(record)) = (random.once_in(6), picture.records.last()) {
+            layers.push(record.id);
+        }
+        text += &format!(" PAINT {:x}", layers.len());
+        for layer in layers {
+            let painted = rust.paint(layer);
+            text += &format!(" {}", Line { given: vec![layer.into()], answer: painted_answer(&mut state, &painted) }.text());
+        }
+    }
+    text
+}
+
+fn tile_given(tile: usize, caches: bool, cached: Cached, picture: &Picture) -> Vec<u64> {
+    let previous = picture.frame.previous_clear;
+    let floats = |color: [f32; 4]| color.map(float).to_vec();
+    [
+        vec![tile as u64, caches.into()],
+        bytes(&cached.0),
+        floats(picture.frame.clear),
+        vec![previous.is_some().into()],
+        floats(previous.unwrap_or([0.0; 4])),
+    ]
+    .concat()
+}
+
+fn tile_answer(state: &[u64], before: Cached, worked: &Worked) -> Vec<u64> {
+    let kept = worked.cached.map_or(before, |(kept, _)| kept);
+    let (decision, first, bottom) = match worked.decision {
+        Decision::None => (0, 0, [5.0; 4]),
+        Decision::Solid { bottom, before, .. } => (1, before as u64, bottom),
+        Decision::Paint => (2, 0, [5.0; 4]),
+    };
+    let list = &worked.list;
+    let covers: Vec<i8> = list.iter().flat_map(|entry| entry.cover).collect();
+    [
+        vec![0],
+        state.to_vec(),
+        bytes(&kept.0),
+        vec![decision, first, list.len() as u64, worked.skipped as u64],
+        bottom.map(float).to_vec(),
+        list.iter().map(|entry| entry.id.into()).collect(),
+        Line::covers(&covers).collect(),
+        list.iter().map(|entry| entry.has_segments.into()).collect(),
+        list.iter().map(|entry| entry.shown.into()).collect(),
+        queue(&worked.queue),
+    ]
+    .concat()
+}
+
+/// The clip is the only part of a state that painting changes.
+fn painted_answer(state: &mut [u64], painted: &Painted) -> Vec<u64> {
+    state[4] = painted.clip.is_some().into();
+    state[5] = painted.clip.unwrap_or(0).into();
+    [vec![0], state.to_vec(), vec![painted.mark.into()], painted.plane.map(float).to_vec()].concat()
+}
