@@ -1,6 +1,7 @@
 // Covers, carries and painted parts.
 use crate::lists;
 use crate::numbers;
+use crate::rooms;
 use crate::text;
 use crate::text::Cursor;
 use ffi::covers;
@@ -50,7 +51,7 @@ pub fn paint(text: &[u8], at: usize, row: &mut [u64]) -> Cursor {
     let count = text::next(text, start);
     let n = numbers::length(count.value);
     let end = lists::fill(text, count.at, row, n);
-    let mut plane = [2.0f32; 256];
+    let mut plane = rooms::plane();
     paint_in(
         text,
         end,

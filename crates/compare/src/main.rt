@@ -4,6 +4,7 @@ mod covers;
 mod lists;
 mod numbers;
 mod paints;
+mod rooms;
 mod rows;
 mod stand;
 mod text;
@@ -34,8 +35,7 @@ fn replay(
         9 => tiles::count(text, at),
         10 => tiles::color(text, at),
         11 => tiles::settle(text, at),
-        12 => rows::open(text, at, row, layers, colors),
-        13 => rows::row(text, at, row, layers, colors),
+        12 | 13 => rows::row(text, at, row, layers, colors),
         _ => Cursor {
             at: at,
             same: false,
@@ -55,9 +55,9 @@ struct Agreed {
 
 // A case in memory of its own.
 fn replay_alone(text: &[u8], kind: u64, at: usize) -> Cursor {
-    let mut row = [0u64; 512];
-    let mut layers = [0u32; 512];
-    let mut colors = [0f32; 256];
+    let mut row = rooms::row();
+    let mut layers = rooms::layers();
+    let mut colors = rooms::colors();
     replay(text, kind, at, &mut row, &mut layers, &mut colors)
 }
 
@@ -96,7 +96,7 @@ fn section(text: &[u8], kind: u64, name: &[u8], at: usize) -> usize {
 }
 
 fn main() {
-    let mut space = [0u8; 524288];
+    let mut space = rooms::text();
     let n = io::read_full(0, &mut space);
     let text: &[u8] = &space[..n];
     let a1 = section(text, 1, b"packing", 0);

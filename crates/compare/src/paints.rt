@@ -1,6 +1,7 @@
 // Painting layers of the tile just worked.
 use crate::lists;
 use crate::numbers;
+use crate::rooms;
 use crate::stand;
 use crate::stand::Stand;
 use crate::text;
@@ -58,7 +59,7 @@ fn layer(
     ids: &[u32],
     covers: &[i8],
 ) -> Stand {
-    let mut plane = [2.0f32; 256];
+    let mut plane = rooms::plane();
     layer_in(
         text,
         stand,

@@ -1,6 +1,7 @@
 // Rows of tiles.
 use crate::lists;
 use crate::numbers;
+use crate::rooms;
 use crate::stand;
 use crate::stand::Stand;
 use crate::text;
@@ -8,9 +9,10 @@ use crate::text::Cursor;
 use crate::works;
 use ffi::rows;
 
-// OPEN tile y, from, to, how many layers, how many words; the layers' words, the layers' colours, the row: the refusal, the state's 6 words and 2
-// counts, which were 5 each, and the carries: ids, then covers. The lent queue was 7 each, and still is past them.
-pub fn open(
+// OPEN or ROW of tile y, from, to, how many layers, how many words; the layers' words, the layers' colours, the row: the refusal, the state's 6
+// words and 2 counts, which were 5 each, and the carries: ids, then covers; then how many tiles, and each tile. The lent queue was 7 each, and
+// still is past the carries.
+pub fn row(
     text: &[u8],
     at: usize,
     row: &mut [u64],
@@ -24,9 +26,9 @@ pub fn open(
     let a1 = lists::fill_words(text, start, layers, 8 * count);
     let a2 = lists::fill_floats(text, a1, colors, 4 * count);
     let end = lists::fill(text, a2, row, n);
-    let mut ids = [7u32; 256];
-    let mut covers = [7i8; 4096];
-    let opened = open_in(
+    let mut ids = rooms::ids();
+    let mut covers = rooms::covers();
+    row_in(
         text,
         end,
         w,
@@ -36,14 +38,10 @@ pub fn open(
         count,
         &mut ids,
         &mut covers,
-    );
-    Cursor {
-        at: opened.at,
-        same: opened.same,
-    }
+    )
 }
 
-pub fn open_in(
+fn open_in(
     text: &[u8],
     at: usize,
     ends: [u64; 5],
@@ -80,36 +78,6 @@ pub fn open_in(
         words: words,
         counts: counts,
     }
-}
-
-// ROW as OPEN is, then how many tiles, and each tile.
-pub fn row(
-    text: &[u8],
-    at: usize,
-    row: &mut [u64],
-    layers: &mut [u32],
-    colors: &mut [f32],
-) -> Cursor {
-    let mut w = [0u64; 5];
-    let start = lists::fill(text, at, &mut w, 5);
-    let count = numbers::length(w[3]);
-    let n = numbers::length(w[4]);
-    let a1 = lists::fill_words(text, start, layers, 8 * count);
-    let a2 = lists::fill_floats(text, a1, colors, 4 * count);
-    let end = lists::fill(text, a2, row, n);
-    let mut ids = [7u32; 256];
-    let mut covers = [7i8; 4096];
-    row_in(
-        text,
-        end,
-        w,
-        lists::front(row, n),
-        lists::front_words(layers, 8 * count),
-        lists::front_floats(colors, 4 * count),
-        count,
-        &mut ids,
-        &mut covers,
-    )
 }
 
 fn row_in(

@@ -2,6 +2,7 @@
 use crate::lists;
 use crate::numbers;
 use crate::paints;
+use crate::rooms;
 use crate::stand;
 use crate::stand::Stand;
 use crate::text;
@@ -65,12 +66,12 @@ pub fn tile(
     ids: &mut [u32],
     covers: &mut [i8],
 ) -> Stand {
-    let mut next_ids = [7u32; 256];
-    let mut next_covers = [7i8; 4096];
-    let mut list_ids = [7u32; 256];
-    let mut list_covers = [7i8; 4096];
-    let mut segments = [false; 256];
-    let mut shown = [false; 256];
+    let mut next_ids = rooms::ids();
+    let mut next_covers = rooms::covers();
+    let mut list_ids = rooms::ids();
+    let mut list_covers = rooms::covers();
+    let mut segments = rooms::flags();
+    let mut shown = rooms::flags();
     tile_in(
         text,
         stand,

@@ -281,7 +281,8 @@ fn open(random: &mut Random) -> Line {
     let [tile_y, from, to] = ends;
     let number = judge::opening(tile_y, from, to, &row, &table, false);
     let answer = if number == 0 { opened(ends, &row) } else { [vec![number.into()], vec![5; 8]].concat() };
-    Line { given: row_given(ends, &table, &row), answer }
+    // No tile follows.
+    Line { given: row_given(ends, &table, &row), answer: [answer, vec![0]].concat() }
 }
 
 /// What an opening is given.

@@ -1,0 +1,51 @@
+// Arrays to lend. Each says only its length: callers then carry no list of that many elements through their proofs.
+ghost use mathlib.Core.Path.{_≡_};
+ghost use lib.ListN.{length};
+
+pub fn text() -> [u8; 524288]
+    ensures { λ r. ⌜ 524288 ≡ length r ⌝ }
+{
+    [0; 524288]
+}
+
+pub fn row() -> [u64; 512]
+    ensures { λ r. ⌜ 512 ≡ length r ⌝ }
+{
+    [0; 512]
+}
+
+pub fn layers() -> [u32; 512]
+    ensures { λ r. ⌜ 512 ≡ length r ⌝ }
+{
+    [0; 512]
+}
+
+pub fn colors() -> [f32; 256]
+    ensures { λ r. ⌜ 256 ≡ length r ⌝ }
+{
+    [0.0; 256]
+}
+
+pub fn ids() -> [u32; 256]
+    ensures { λ r. ⌜ 256 ≡ length r ⌝ }
+{
+    [7; 256]
+}
+
+pub fn covers() -> [i8; 4096]
+    ensures { λ r. ⌜ 4096 ≡ length r ⌝ }
+{
+    [7; 4096]
+}
+
+pub fn flags() -> [bool; 256]
+    ensures { λ r. ⌜ 256 ≡ length r ⌝ }
+{
+    [false; 256]
+}
+
+pub fn plane() -> [f32; 256]
+    ensures { λ r. ⌜ 256 ≡ length r ⌝ }
+{
+    [2.0; 256]
+}
