@@ -1,12 +1,15 @@
-//! Whole rows among the stored answers: each frame of a row is a case, with the cached tiles that the frame before left.
+//! Whole rows among the stored answers: each frame of a row is a case, with the cached tiles that the frame before left. Besides them some of the
+//! arrangements of up to three layers in one tile, in which the passes have most to decide.
 
 use reference::{
-    painter::row::Row,
+    cpu::RGBA,
+    painter::row::{Frame, Row},
     plain::{Cached, Decision, Painted, Worked},
     Table,
 };
 
 use crate::{
+    arrangements::{arrangement, count},
     layers::lent,
     random::Random,
     scene::{Picture, Scene},
@@ -15,7 +18,10 @@ use crate::{
 
 /// How many rows are stored, and how many bytes they have at most.
 const ROWS: usize = 40;
-const BYTES: usize = 150_000;
+const BYTES: usize = 100_000;
+
+/// How many arrangements are stored.
+const ARRANGED: usize = 160;
 
 pub fn rows(random: &mut Random) -> Vec<String> {
     let mut rows = Vec::new();
@@ -26,13 +32,29 @@ pub fn rows(random: &mut Random) -> Vec<String> {
         }
         let mut cached = vec![Cached::default(); scene.tiles];
         for picture in &scene.pictures {
-            rows.push(row(random, &scene, picture, &mut cached));
+            rows.push(row(random, &scene, picture, &mut cached, 2));
         }
     }
+    rows.extend((0..ARRANGED).map(|_| arranged(random)));
     rows
 }
 
-fn row(random: &mut Random, scene: &Scene, picture: &Picture, cached: &mut [Cached]) -> String {
+/// Two or three layers in one tile. The cached tile, where there is one, kept as many layers, one less or one more; the clear colour is the one
+/// before, or another.
+fn arranged(random: &mut Random) -> String {
+    let layers = 2 + random.below(2) as u32;
+    let (words, records) = arrangement(layers, random.below(count(layers)));
+    let clear = [0.25, 0.5, 0.75, 1.0];
+    let previous_clear = random.pick(&[None, Some([0.5; 4]), Some(clear), Some(clear)]);
+    let picture = Picture { words, records, frame: Frame { clear, previous_clear, channels: RGBA } };
+    let kept = (layers + random.pick(&[0, 0, 1, 2])).saturating_sub(random.pick(&[0, 1])) as u8;
+    let mut cached = [Cached([random.below(4) as u8, kept, 0, 0, 1, 2, 3, 4])];
+    let scene = Scene { tile_y: 0, from: 0, to: 1, tiles: 1, caches: !random.once_in(3), pictures: Vec::new() };
+    row(random, &scene, &picture, &mut cached, 8)
+}
+
+/// Of the layers that are painted, one in `once_in` is stored with its plane.
+fn row(random: &mut Random, scene: &Scene, picture: &Picture, cached: &mut [Cached], once_in: usize) -> String {
     let ends = [scene.tile_y, scene.from, scene.to].map(|end| end as i32);
     let table = Table::new(&picture.records);
     let given = row_given(ends, &lent(&picture.records), &picture.words);
@@ -50,7 +72,7 @@ fn row(random: &mut Random, scene: &Scene, picture: &Picture, cached: &mut [Cach
             cached[tile] = after;
         }
         // Some of the layers that are painted, and at times one that is not.
-        let mut layers: Vec<u32> = worked.painted.iter().map(|painted| painted.id).filter(|_| random.once_in(2)).take(2).collect();
+        let mut layers: Vec<u32> = worked.painted.iter().map(|painted| painted.id).filter(|_| random.once_in(once_in)).take(2).collect();
         if let (true, Some(record)) = (random.once_in(6), picture.records.last()) {
             layers.push(record.id);
         }
