@@ -4,7 +4,7 @@
 use reference::{
     cpu::RGBA,
     painter::row::{Frame, Row},
-    plain::{Cached, Decision, Painted, Worked},
+    plain::{Cached, Decision, Painted, Record, Worked},
     Table,
 };
 
@@ -18,10 +18,10 @@ use crate::{
 
 /// How many rows are stored, and how many bytes they have at most.
 const ROWS: usize = 40;
-const BYTES: usize = 100_000;
+const BYTES: usize = 70_000;
 
 /// How many arrangements are stored.
-const ARRANGED: usize = 160;
+const ARRANGED: usize = 120;
 
 pub fn rows(random: &mut Random) -> Vec<String> {
     let mut rows = Vec::new();
@@ -32,29 +32,62 @@ pub fn rows(random: &mut Random) -> Vec<String> {
         }
         let mut cached = vec![Cached::default(); scene.tiles];
         for picture in &scene.pictures {
-            rows.push(row(random, &scene, picture, &mut cached, 2));
+            rows.push(row(random, &scene, picture, &mut cached, some_layers));
         }
     }
     rows.extend((0..ARRANGED).map(|_| arranged(random)));
     rows
 }
 
-/// Two or three layers in one tile. The cached tile, where there is one, kept as many layers, one less or one more; the clear colour is the one
+/// Some of the layers that are painted, and at times one that is not.
+fn some_layers(random: &mut Random, worked: &Worked, picture: &Picture) -> Vec<u32> {
+    let mut layers: Vec<u32> = worked.painted.iter().map(|painted| painted.id).filter(|_| random.once_in(2)).take(2).collect();
+    if let (true, Some(record)) = (random.once_in(6), picture.records.last()) {
+        layers.push(record.id);
+    }
+    layers
+}
+
+/// None, every layer of the table, so that one clip follows another, or the last alone, with no clip painted before it.
+fn none_all_or_last(random: &mut Random, _: &Worked, picture: &Picture) -> Vec<u32> {
+    let ids = picture.records.iter().map(|record| record.id);
+    match random.below(6) {
+        0 => ids.collect(),
+        1 | 2 => ids.last().into_iter().collect(),
+        _ => Vec::new(),
+    }
+}
+
+/// An arrangement of two or three layers; half of them end with a clipped draw above a clip.
+fn any_arrangement(random: &mut Random) -> (Vec<u64>, Vec<Record>) {
+    let layers = 2 + random.below(2) as u32;
+    let is_clipped = random.once_in(2);
+    loop {
+        let (words, records) = arrangement(layers, random.below(count(layers)));
+        let clips = records.iter().any(|record| record.func == 1) && records.last().is_some_and(|record| record.clipped == 1);
+        if clips || !is_clipped {
+            return (words, records);
+        }
+    }
+}
+
+/// An arrangement in one tile. The cached tile, where there is one, kept as many layers, one less or one more; the clear colour is the one
 /// before, or another.
 fn arranged(random: &mut Random) -> String {
-    let layers = 2 + random.below(2) as u32;
-    let (words, records) = arrangement(layers, random.below(count(layers)));
+    let (words, records) = any_arrangement(random);
+    let kept = (records.len() + random.below(3) - 1) as u8;
     let clear = [0.25, 0.5, 0.75, 1.0];
     let previous_clear = random.pick(&[None, Some([0.5; 4]), Some(clear), Some(clear)]);
     let picture = Picture { words, records, frame: Frame { clear, previous_clear, channels: RGBA } };
-    let kept = (layers + random.pick(&[0, 0, 1, 2])).saturating_sub(random.pick(&[0, 1])) as u8;
     let mut cached = [Cached([random.below(4) as u8, kept, 0, 0, 1, 2, 3, 4])];
     let scene = Scene { tile_y: 0, from: 0, to: 1, tiles: 1, caches: !random.once_in(3), pictures: Vec::new() };
-    row(random, &scene, &picture, &mut cached, 8)
+    row(random, &scene, &picture, &mut cached, none_all_or_last)
 }
 
-/// Of the layers that are painted, one in `once_in` is stored with its plane.
-fn row(random: &mut Random, scene: &Scene, picture: &Picture, cached: &mut [Cached], once_in: usize) -> String {
+/// Which layers of a tile are painted after its work.
+type Choice = fn(&mut Random, &Worked, &Picture) -> Vec<u32>;
+
+fn row(random: &mut Random, scene: &Scene, picture: &Picture, cached: &mut [Cached], choice: Choice) -> String {
     let ends = [scene.tile_y, scene.from, scene.to].map(|end| end as i32);
     let table = Table::new(&picture.records);
     let given = row_given(ends, &lent(&picture.records), &picture.words);
@@ -71,11 +104,7 @@ fn row(random: &mut Random, scene: &Scene, picture: &Picture, cached: &mut [Cach
         if let Some((_, after)) = worked.cached {
             cached[tile] = after;
         }
-        // Some of the layers that are painted, and at times one that is not.
-        let mut layers: Vec<u32> = worked.painted.iter().map(|painted| painted.id).filter(|_| random.once_in(once_in)).take(2).collect();
-        if let (true, Some(record)) = (random.once_in(6), picture.records.last()) {
-            layers.push(record.id);
-        }
+        let layers = choice(random, &worked, picture);
         text += &format!(" PAINT {:x}", layers.len());
         for layer in layers {
             let painted = rust.paint(layer);
