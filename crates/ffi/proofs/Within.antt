@@ -1,9 +1,9 @@
 -- What is told of the coverage of a d beyond 8,001, and of one within. Assumes nothing.
 use mathlib.Core.Path.{_≡_, refl}
-use Prim.Native.Nat.{ℕ, _<_, _≤_}
+use Prim.Native.Nat.{_<_, _≤_}
+use borrow.Author.Tests.{lt-ltb, le-ltb}
 use lib.IntN.{ℤ, natAbs}
 use lib.Ieee.{Float}
-use borrow.Author.Tests.{lt-ltb, le-ltb}
 use Rattle.styling.specs.declared.FillRule.{FillRule}
 use Rattle.cover.specs.Coverage.{areaCoverage}
 use Rattle.ffi.specs.Numbers.{numberOf, valueOr}

@@ -5,6 +5,7 @@ use mathlib.Core.List.{List, [], _∷_}
 use Prim.Native.Nat.{ℕ}
 use lib.Ieee.{Float}
 use Rattle.laws.specs.Answer.{Answer, refused, given}
+use Rattle.passes.specs.Decide.{codeOf}
 use Rattle.passes.specs.declared.decide.Decision.{Decision}
 use Rattle.passes.specs.declared.decide.Decision.the-variants.{None, Solid, Paint}
 use Rattle.tile_row.specs.TileWork.{WorkOut, WorkLent}
@@ -12,11 +13,6 @@ use Rattle.tile_row.specs.declared.working.TileDone.{TileDone}
 use Rattle.ffi.specs.Numbers.{numberOf}
 use Rattle.ffi.specs.Cached.{bytesOf}
 use Rattle.ffi.specs.Rows.{wordsIf, countsIf}
-
-abbrev pub decisionCode : Decision → ℕ
-decisionCode None = 0
-decisionCode (Solid color before) = 1
-decisionCode Paint = 2
 
 abbrev pub beforeOf : Decision → ℕ
 beforeOf None = 0
@@ -29,7 +25,7 @@ bottomBy (Solid color before) old = color .r ∷ color .g ∷ color .b ∷ color
 bottomBy Paint old = old
 
 abbrev pub toldOf : TileDone → List ℕ
-toldOf d = decisionCode (d .decision) ∷ beforeOf (d .decision) ∷ d .listed ∷ d .skipped .0 ∷ []
+toldOf d = codeOf (d .decision) ∷ beforeOf (d .decision) ∷ d .listed ∷ d .skipped .0 ∷ []
 
 -- what the lent numbers are afterwards; after a refusal what they were
 abbrev pub toldOr : Answer TileDone → List ℕ → List ℕ

@@ -5,27 +5,25 @@ use crate::layers;
 use crate::rows;
 use cached_tile::kept::Kept;
 use layer_workbench::PreviousClear;
+use passes::decide;
 use passes::decide::Decision;
 use tile_row::RowState;
 use tile_row::working;
 use tile_row::working::TileDone;
 use tile_row::working::WorkAnswer;
 ghost use mathlib.Core.Path.{_≡_};
+ghost use Rattle.passes.specs.Decide.{codeOf};
 ghost use Rattle.tile_row.specs.TileWork.{workOf, workAnswer};
 ghost use Rattle.ffi.specs.Numbers.{numberOf};
 ghost use Rattle.ffi.specs.Cached.{keptOf};
 ghost use Rattle.ffi.specs.Layers.{colorOf};
 ghost use Rattle.ffi.specs.Rows.{stateFrom, wordsIf, countsIf};
-ghost use Rattle.ffi.specs.Work.{decisionCode, beforeOf, bottomBy, toldOf, toldOr, bottomOr, WorkTold};
+ghost use Rattle.ffi.specs.Work.{beforeOf, bottomBy, toldOf, toldOr, bottomOr, WorkTold};
 
 fn code_of(decision: Decision) -> usize
-    ensures { λ r. ⌜ r ≡ decisionCode decision ⌝ }
+    ensures { λ r. ⌜ r ≡ codeOf decision ⌝ }
 {
-    match decision {
-        Decision::None => 0,
-        Decision::Solid(_, _) => 1,
-        Decision::Paint => 2,
-    }
+    decide::code_of(decision) as usize
 }
 
 fn before_of(decision: Decision) -> usize

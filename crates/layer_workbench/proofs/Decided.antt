@@ -1,5 +1,5 @@
 -- What deciding promises, put together. Assumes nothing.
-use mathlib.Core.Path.{_≡_, refl, ap, ap₂, sym, _∙_}
+use mathlib.Core.Path.{_≡_, ap, ap₂, _∙_}
 use mathlib.Core.Bool.{Bool, true}
 use mathlib.Core.List.{List, map}
 use Prim.Native.Nat.{ℕ}
@@ -14,10 +14,10 @@ use Rattle.tile_layers.specs.Listing.{Listed, incomingOf, Lists}
 use Rattle.tile_layers.specs.Carrying.{handedOn, Hands}
 use Rattle.passes.specs.Entry.{Entry, entriesOf}
 use Rattle.passes.specs.Item.{itemsOf}
-use Rattle.passes.specs.Decide.{Outcome, outcomeOf, Deciding}
+use Rattle.passes.specs.Decide.{outcomeOf, Deciding}
 use Rattle.passes.specs.declared.decide.Decided.{Decided}
 use Rattle.passes.specs.declared.unchanged.PreviousCount.{PreviousCount}
-use Rattle.cached_tile.specs.Kept.{previousCount, counted, KeptCounted}
+use Rattle.cached_tile.specs.Kept.{KeptCounted}
 use Rattle.cached_tile.specs.Tile.{countOf}
 use Rattle.cached_tile.specs.declared.kept.Kept as kept
 use Rattle.cached_tile.specs.declared.kept.Counted.{Counted}

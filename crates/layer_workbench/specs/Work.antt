@@ -4,15 +4,15 @@ use mathlib.Core.Path.{_≡_}
 use mathlib.Core.Bool.{Bool, _&&_}
 use mathlib.Core.List.{List, map}
 use mathlib.Core.Option.{Option, some, none}
-use Prim.Native.Nat.{ℕ, _*_, _≤_}
+use Prim.Native.Nat.{ℕ, _≤_}
 use lib.IntN.{ℤ}
-use lib.ListN.{length, drop}
+use lib.ListN.{length}
 use Rattle.laws.specs.Lists.{over}
 use Rattle.styling.specs.Color.{sameColor}
 use Rattle.styling.specs.declared.Color.{Color}
 use Rattle.styling.specs.declared.Layer.{Layer}
 use Rattle.queue.specs.Queue.{Carry, idsIn, coversIn}
-use Rattle.tile_layers.specs.Listing.{Listed, hasAny, layersIn, incomingOf, segmentsOf}
+use Rattle.tile_layers.specs.Listing.{Listed, hasAny, incomingOf, segmentsOf}
 use Rattle.tile_layers.specs.Carrying.{handedOn}
 use Rattle.passes.specs.Entry.{Entry}
 use Rattle.passes.specs.Item.{itemsOf}

@@ -49,6 +49,12 @@ decisionBy Incomplete unchanged clear shown = Paint
 decisionBy (Opaque color) unchanged clear shown = cond unchanged None (cond (areSolid 1 shown) (Solid color 1) Paint)
 decisionBy Absent unchanged clear shown = cond (areSolid 0 shown) (Solid clear 0) Paint
 
+-- the number of a decision: 0 none, 1 solid, 2 paint
+abbrev pub codeOf : Decision → ℕ
+codeOf None = 0
+codeOf (Solid color below) = 1
+codeOf Paint = 2
+
 -- the three columns of the answer: the decision, which layers are not masked off, how many are skipped
 pub record Outcome : Type 0 where
   pub decision : Decision

@@ -16,7 +16,7 @@ ghost use Rattle.styling.specs.Table.{Table, tableOf};
 ghost use Rattle.passes.specs.Entry.{entriesOf};
 ghost use Rattle.passes.specs.Item.{itemsOf, Columns};
 ghost use Rattle.passes.specs.Covered.{coveredOf};
-ghost use Rattle.passes.specs.Decide.{hasColor, shownOf, areSolid, bottomOf, mixedOf, decidedBy, passedOf, outcomeOf, Deciding};
+ghost use Rattle.passes.specs.Decide.{codeOf, hasColor, shownOf, areSolid, bottomOf, mixedOf, decidedBy, passedOf, outcomeOf, Deciding};
 
 // Nothing is drawn; the tile has one colour, mixed over the bottom colour from the shown layers after the first so many; or it is painted.
 pub enum Decision {
@@ -34,6 +34,16 @@ pub struct Decided {
 pub enum Bottom {
     Settled(Decision),
     Under(Color, usize),
+}
+
+pub fn code_of(decision: Decision) -> u32
+    ensures { λ r. ⌜ r ≡ codeOf decision ⌝ }
+{
+    match decision {
+        Decision::None => 0,
+        Decision::Solid(_, _) => 1,
+        Decision::Paint => 2,
+    }
 }
 
 fn is_color(paint: Paint) -> bool

@@ -1,6 +1,7 @@
 -- Laws of a driven row.
 pub mod Tallying
 pub mod Listed
+pub mod ShownIds
 pub mod LineLaws
 pub mod Turning
 pub mod Driving

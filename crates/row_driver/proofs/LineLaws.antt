@@ -13,6 +13,7 @@ use Rattle.queue.specs.Queue.{Carry, idsIn}
 use Rattle.cached_tile.specs.Kept.{noTile}
 use Rattle.tile_layers.specs.Listing.{Listed, incomingOf, areKnown}
 use Rattle.tile_layers.specs.Carrying.{handedOn}
+use Rattle.passes.specs.Decide.{codeOf}
 use Rattle.layer_workbench.specs.Work.{outcomeIn}
 use Rattle.row_carries.proofs.Carried.{queue-next}
 use Rattle.painter.specs.Clip.{clipAfter}
@@ -21,7 +22,7 @@ use Rattle.tile_row.specs.Due.{OpenRow, tableOn, queueOn, layersOn, funcOn, mar
 use Rattle.tile_row.specs.Holding.{IsOpen}
 use Rattle.tile_row.proofs.PaintSteps.{row-mark}
 use Rattle.row_driver.specs.Shown.{shownIn}
-use Rattle.row_driver.specs.Lines.{clearColor, noPrevious, codeOf, isPaint, decidedOn, shownOn, octetsOn, lineOn}
+use Rattle.row_driver.specs.Lines.{clearColor, noPrevious, isPaint, decidedOn, shownOn, octetsOn, lineOn}
 use Rattle.row_driver.specs.Steps.{atStart, tallyNext, tallied}
 use Rattle.row_driver.specs.declared.Line.{Line}
 use Rattle.row_driver.specs.declared.tally.Tally.{Tally}

@@ -27,6 +27,7 @@ use Rattle.tile_layers.specs.Listing.{Listed, noListed, layersIn, incomingOf, i
 use Rattle.tile_layers.proofs.Handing.{handed-few}
 use Rattle.passes.specs.Item.{itemOf}
 use Rattle.passes.proofs.Words.{outcome-long}
+use Rattle.passes.specs.Decide.{codeOf}
 use Rattle.layer_workbench.specs.Work.{entryOf, outcomeOn, clearUnchanged, countFrom}
 use Rattle.cached_tile.specs.Kept.{previousCount}
 use Rattle.row_carries.proofs.Merged.{listed-cover, listed-own}
@@ -43,7 +44,7 @@ use Rattle.tile_row.specs.declared.working.WorkAnswer.the-variants as worked
 use Rattle.tile_row.proofs.TileWorks.{Listable, list-passed}
 use Rattle.tile_row.proofs.PaintVerdicts.{layer-passed}
 use Rattle.row_driver.specs.Shown.{shownIn}
-use Rattle.row_driver.specs.Lines.{codeOf, isPaint}
+use Rattle.row_driver.specs.Lines.{isPaint}
 use Rattle.row_driver.specs.Steps.{atStart, tallied, tallyAt, lineAt, Painter, Paintable, Walkable, Workable}
 use Rattle.row_driver.specs.declared.Line.{Line}
 use Rattle.row_driver.specs.declared.tally.Tally.{Tally}

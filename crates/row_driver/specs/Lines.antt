@@ -11,7 +11,7 @@ use Rattle.styling.specs.declared.Color.{Color}
 use Rattle.queue.specs.Queue.{idsIn}
 use Rattle.cached_tile.specs.Kept.{noTile}
 use Rattle.tile_layers.specs.Listing.{incomingOf}
-use Rattle.passes.specs.Decide.{Outcome}
+use Rattle.passes.specs.Decide.{Outcome, codeOf}
 use Rattle.passes.specs.declared.decide.Decision.{Decision}
 use Rattle.passes.specs.declared.decide.Decision.the-variants.{None, Solid, Paint}
 use Rattle.layer_workbench.specs.Work.{outcomeIn}
@@ -35,12 +35,6 @@ abbrev pub noPrevious : PreviousClear
 noPrevious = record { given = false; color = clearColor }
 
 -- ---- the line of a tile
-
--- the number of a decision in a line
-abbrev pub codeOf : Decision → ℕ
-codeOf None = 0
-codeOf (Solid color below) = 1
-codeOf Paint = 2
 
 abbrev pub isPaint : Decision → Bool
 isPaint None = false

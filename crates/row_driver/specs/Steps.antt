@@ -17,6 +17,7 @@ use Rattle.queue.specs.Queue.{Carry, queueOf, idsIn, isShort, isQueue, Queued}
 use Rattle.cached_tile.specs.Kept.{noTile}
 use Rattle.tile_layers.specs.Listing.{incomingOf}
 use Rattle.tile_layers.specs.Walk.{Walks}
+use Rattle.passes.specs.Decide.{codeOf}
 use Rattle.painter.specs.Clip.{clipAfter}
 use Rattle.painter.specs.Painting.{markIn, isLightIn}
 use Rattle.painter.specs.declared.Clip as painter
@@ -30,7 +31,7 @@ use Rattle.tile_row.specs.Run.{Columns, Held, atFirst}
 use Rattle.tile_row.specs.declared.RowState.{RowState}
 use Rattle.tile_row.specs.declared.Verdict.the-variants.{Pass}
 use Rattle.row_driver.specs.Shown.{shownIn}
-use Rattle.row_driver.specs.Lines.{clearColor, noPrevious, codeOf, isPaint}
+use Rattle.row_driver.specs.Lines.{clearColor, noPrevious, isPaint}
 use Rattle.row_driver.specs.declared.Line.{Line}
 use Rattle.row_driver.specs.declared.tally.Tally.{Tally}
 use Rattle.row_driver.specs.declared.tile.TileLine.{TileLine}

@@ -4,6 +4,7 @@ use crate::tally;
 use crate::tally::Tally;
 use cached_tile::kept::Kept;
 use layer_workbench::PreviousClear;
+use passes::decide;
 use passes::decide::Decision;
 use pixel_segment::parts;
 use styling::Color;
@@ -15,7 +16,8 @@ use tile_row::working::WorkAnswer;
 ghost use mathlib.Core.Path.{_≡_};
 ghost use mathlib.Core.Bool.{not};
 ghost use Prim.Native.Nat.{_≤_};
-ghost use Rattle.row_driver.specs.Lines.{clearColor, noPrevious, codeOf, isPaint};
+ghost use Rattle.passes.specs.Decide.{codeOf};
+ghost use Rattle.row_driver.specs.Lines.{clearColor, noPrevious, isPaint};
 ghost use Rattle.row_driver.specs.Steps.{argsOf, lentOf, side, Workable, WorksLine, Turns};
 
 // The work on a tile, and its line; the line of a refused tile says nothing.
@@ -41,16 +43,6 @@ fn no_previous() -> PreviousClear
     PreviousClear {
         given: false,
         color: clear_color(),
-    }
-}
-
-fn code_of(decision: Decision) -> u32
-    ensures { λ r. ⌜ r ≡ codeOf decision ⌝ }
-{
-    match decision {
-        Decision::None => 0,
-        Decision::Solid(_, _) => 1,
-        Decision::Paint => 2,
     }
 }
 
@@ -80,7 +72,7 @@ fn line_of(done: TileDone, tally: Tally, left: usize) -> Line
 {
     let decision = done.decision;
     Line {
-        decision: code_of(decision),
+        decision: decide::code_of(decision),
         listed: done.listed as u32,
         shown: tally.shown,
         octets: tally.octets,

@@ -1,28 +1,26 @@
 -- The loop that hands carries on: what is written, and what is left of the queue is handed on by the layers that are left. Assumes nothing.
-use mathlib.Core.Path.{_≡_, refl, ap, ap₂, sym, _∙_}
+use mathlib.Core.Path.{_≡_, refl, ap, sym, _∙_}
 use mathlib.Core.Bool.{Bool, true, false, cond, not}
 use mathlib.Core.List.{List, [], _∷_, map}
 use Prim.Native.Nat.{ℕ, _+_, _*_, _≤_, _<_}
 use native.Mathlib.Omega.{arith}
 use lib.IntN.{ℤ}
-use lib.ListN.{length, getD, drop, set, length-map}
-use borrow.Author.Tests.{eq-eqb}
-use Rattle.laws.specs.Lists.{over, all, filter, tabulate}
+use lib.ListN.{length, drop, set, length-map}
+use Rattle.laws.specs.Lists.{all, filter}
 use Rattle.laws.proofs.Bools.{both}
 use Rattle.laws.proofs.Drops.{nil-le, cons-lt, cons-at, cons-rest, map-at}
 use Rattle.laws.proofs.Every.{all-at}
 use Rattle.laws.proofs.Filtered.{all-kept, length-filter}
-use Rattle.laws.proofs.Rows.{filled, filled-more, filled-all, length-filled, length-tabulate}
+use Rattle.laws.proofs.Rows.{filled, filled-more, filled-all, length-filled}
 use Rattle.pixel_segment.specs.Field.{cpu}
 use Rattle.pixel_segment.specs.Search.{between}
 use Rattle.cover.specs.Carry.{isLight, carryOf}
-use Rattle.cover.specs.Cover.{isEmpty}
 use Rattle.cover.specs.Entry.{entryOf, putEntry}
 use Rattle.styling.specs.declared.Layer.{Layer}
 use Rattle.queue.specs.Queue.{Carry, queueOf, idsIn, coversIn, zeros}
 use Rattle.queue.proofs.Columns.{isWide, areWide, length-covers}
 use Rattle.tile_layers.specs.Listing.{Listed, layersIn, areLight}
-use Rattle.tile_layers.specs.Carrying.{ruleIn, carryFor, isKept, handedOn, Hands, Puts, QueueRoom}
+use Rattle.tile_layers.specs.Carrying.{carryFor, isKept, handedOn, Hands, Puts, QueueRoom}
 use Rattle.tile_layers.specs.Walk.{listedAt, leftOf, Stepped, Moved}
 use Rattle.tile_layers.specs.declared.walk.Next.{Next}
 use Rattle.tile_layers.proofs.Walking.{Walking, walk-start, walk-here, walk-next, walk-end}

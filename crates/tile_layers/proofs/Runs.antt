@@ -1,21 +1,18 @@
 -- The groups of a part: a run of segments of one layer, with another layer or nothing after it, is a group. Assumes nothing.
 use mathlib.Core.Path.{_≡_, refl, ap, ap₂, sym, subst₂, _∙_}
 use mathlib.Core.Bool.{Bool, true, false, cond, false≢true}
-use mathlib.Core.Logic.{⊎-elim}
 use mathlib.Core.List.{List, [], _∷_}
 use Prim.Native.Nat.{ℕ, zero, suc, _+_, _-_, _≤_, _<_}
 use native.Mathlib.Nat.{not-suc-le-zero, le-of-suc-le-suc, zero-add, add-zero}
 use native.Mathlib.Omega.{arith}
+use borrow.Author.Tests.{eq-eqb, ne-eqb, eqb-true, le-ltb}
 use lib.Dec.{eqb}
 use lib.ListN.{length, getD, take, drop, length-drop}
 use lib.Seq.{getD-drop, drop-drop}
-use borrow.Author.Tests.{eq-eqb, ne-eqb, eqb-true, le-ltb}
 use Rattle.laws.specs.Sum.{countBy}
-use Rattle.laws.proofs.Orders.{le-or-lt}
 use Rattle.pixel_segment.specs.Field.{cpu, layerIdOf}
 use Rattle.pixel_segment.specs.Order.{Ordered, compareOf}
-use Rattle.pixel_segment.specs.Search.{searchOf, orderAt, between, lastOf, isLt, isEq}
-use Rattle.pixel_segment.specs.declared.order.Ordering.{Ordering}
+use Rattle.pixel_segment.specs.Search.{searchOf, orderAt, lastOf, isLt, isEq}
 use Rattle.pixel_segment.specs.declared.order.Ordering.the-variants.{Less, Equal, Greater}
 use Rattle.pixel_segment.specs.declared.search.Found.the-variants.{At}
 use Rattle.pixel_segment.specs.declared.search.Key.the-variants.{LayerId}

@@ -1,9 +1,8 @@
 -- The survey's loop: what is found so far and what is left make the whole. Assumes nothing.
-use mathlib.Core.Path.{_≡_, refl, sym, ap, ap₂, _∙_}
+use mathlib.Core.Path.{_≡_, refl, sym}
 use mathlib.Core.Bool.{Bool, true, cond, _&&_}
 use mathlib.Core.List.{List}
 use Prim.Native.Nat.{ℕ, _+_, _≤_}
-use native.Mathlib.Omega.{arith}
 use lib.IntN.{ℤ}
 use lib.ListN.{length, drop}
 use Rattle.laws.proofs.Drops.{all-again, all-end}
@@ -17,7 +16,6 @@ use Rattle.queue.specs.Queue.{queueOf, zeros}
 use Rattle.tile_layers.specs.Listing.{Listed, layersIn, isGiven, areKnown, areLight, Surveyed}
 use Rattle.tile_layers.specs.Walk.{Stepped, Moved}
 use Rattle.tile_layers.specs.declared.walk.Next.{Next}
-use Rattle.tile_layers.specs.declared.listing.Survey.{Survey}
 use Rattle.tile_layers.proofs.Walking.{Walking, walk-start, walk-here, walk-next, walk-end, walk-all}
 
 module _ (n : ℕ) (ids : List ℕ) (covers : List ℤ) (part : List ℕ) (table : List Layer) where

@@ -1,14 +1,14 @@
 -- A loop over the layers of a tile: the k-th layer comes next, and what is left is the list from there on. Assumes nothing.
-use mathlib.Core.Path.{_≡_, refl, sym, ap, ap₂, _∙_}
+use mathlib.Core.Path.{_≡_, refl, ap, ap₂, _∙_}
 use mathlib.Core.List.{List, [], _∷_}
-use Prim.Native.Nat.{ℕ, suc, _+_, _≤_, _<_}
+use Prim.Native.Nat.{ℕ, _+_, _≤_}
 use native.Mathlib.Omega.{arith}
 use lib.IntN.{ℤ}
 use lib.ListN.{length, drop, drop-of-length-le}
 use Rattle.laws.proofs.Drops.{nil-le, cons-lt, cons-rest}
 use Rattle.queue.specs.Queue.{queueOf}
 use Rattle.tile_layers.specs.Groups.{groupsOf}
-use Rattle.tile_layers.specs.Listing.{Listed, listOf, layersIn}
+use Rattle.tile_layers.specs.Listing.{listOf, layersIn}
 use Rattle.tile_layers.specs.Walk.{leftOf, listedAt, Stepped, Moved}
 use Rattle.tile_layers.specs.declared.walk.Next.{Next}
 use Rattle.tile_layers.proofs.Steps.{queue-past, no-groups, nothing}

@@ -1,23 +1,22 @@
 -- Every cover of a tile's layers has a number for each of 16 pixel rows. Assumes nothing.
-use mathlib.Core.Path.{_≡_, refl, ap, sym, _∙_}
-use mathlib.Core.Bool.{Bool, true, false, cond, _&&_}
+use mathlib.Core.Path.{_≡_, refl, ap, _∙_}
+use mathlib.Core.Bool.{Bool, true, false, cond}
 use mathlib.Core.List.{List, [], _∷_, map}
-use Prim.Native.Nat.{ℕ, zero, suc, _+_, _*_, _≤_, _<_}
+use Prim.Native.Nat.{ℕ, _*_, _≤_, _<_}
 use native.Mathlib.Omega.{arith}
-use lib.Dec.{ltb, eqb}
-use lib.IntN.{ℤ}
-use lib.ListN.{length, getD}
 use borrow.Author.Tests.{eq-eqb}
-use Rattle.laws.specs.Lists.{tabulate, all}
+use lib.Dec.{ltb}
+use lib.IntN.{ℤ}
+use lib.ListN.{length}
 use Rattle.laws.proofs.Bools.{left, right, both}
 use Rattle.laws.proofs.Every.{all-intro}
 use Rattle.laws.proofs.Rows.{length-tabulate, getD-tabulate}
 use Rattle.cover.specs.Entry.{entryOf}
 use Rattle.cover.proofs.Entries.{entry-length}
-use Rattle.queue.specs.Queue.{Carry, carryAt, queueOf, zeros}
+use Rattle.queue.specs.Queue.{Carry, carryAt, queueOf}
 use Rattle.queue.proofs.Columns.{isWide, areWide}
 use Rattle.tile_layers.specs.Groups.{Group}
-use Rattle.tile_layers.specs.Listing.{Listed, carried, fresh, joined, listOf, incomingOf}
+use Rattle.tile_layers.specs.Listing.{carried, fresh, joined, listOf, incomingOf}
 
 pub queue-wide : (n : ℕ) (ids : List ℕ) (covers : List ℤ) → 16 * n ≤ length covers → areWide (queueOf n ids covers) ≡ true
 unfolding queueOf

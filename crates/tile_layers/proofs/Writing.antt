@@ -6,8 +6,7 @@ use Prim.Native.Nat.{ℕ, _+_, _*_, _≤_, _<_}
 use native.Mathlib.Omega.{arith}
 use lib.Dec.{ltb}
 use lib.IntN.{ℤ}
-use lib.ListN.{length, getD, drop, set, length-map}
-use Rattle.laws.specs.Lists.{over}
+use lib.ListN.{length, set, length-map}
 use Rattle.laws.proofs.Drops.{cons-lt, map-at, map-drop}
 use Rattle.laws.proofs.Rows.{filled, filled-more, filled-all, length-filled}
 use Rattle.cover.specs.Entry.{entryOf, putEntry}
@@ -15,9 +14,9 @@ use Rattle.queue.specs.Queue.{Carry, queueOf, idsIn, coversIn, zeros}
 use Rattle.queue.proofs.Columns.{areWide, length-covers}
 use Rattle.tile_layers.specs.Groups.{groupsOf}
 use Rattle.tile_layers.specs.Listing.{Listed, layersIn, incomingOf, segmentsOf, hasAny, Lists, Room}
-use Rattle.tile_layers.specs.Walk.{listedAt, Stepped, Moved}
+use Rattle.tile_layers.specs.Walk.{Stepped, Moved}
 use Rattle.tile_layers.specs.declared.walk.Next.{Next}
-use Rattle.tile_layers.proofs.Walking.{Walking, walk-start, walk-here, walk-next, walk-end, walk-all}
+use Rattle.tile_layers.proofs.Walking.{Walking, walk-start, walk-here, walk-next, walk-all}
 use Rattle.tile_layers.proofs.Wide.{queue-wide, list-wide}
 use Rattle.tile_layers.proofs.Filling.{put-filled, has-between}
 

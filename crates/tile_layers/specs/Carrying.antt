@@ -15,7 +15,7 @@ use Rattle.cover.specs.Entry.{putEntry}
 use Rattle.styling.specs.Lookup.{lookup}
 use Rattle.styling.specs.declared.Layer.{Layer}
 use Rattle.styling.specs.declared.FillRule.{FillRule}
-use Rattle.styling.specs.declared.FillRule.the-variants.{NonZero, EvenOdd}
+use Rattle.styling.specs.declared.FillRule.the-variants.{NonZero}
 use Rattle.queue.specs.Queue.{Carry, idsIn, coversIn}
 use Rattle.tile_layers.specs.Listing.{Listed}
 

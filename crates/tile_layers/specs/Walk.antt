@@ -1,17 +1,17 @@
 -- How the code walks over a queue and a tile's part in step: what the next layer is. `i` counts the carries that are passed, `j` the segments.
 use mathlib.Core.Path.{_≡_}
-use mathlib.Core.Bool.{Bool, true, cond}
+use mathlib.Core.Bool.{true, cond}
 use mathlib.Core.List.{List, _∷_}
 use Prim.Native.Nat.{ℕ, _+_, _≤_, _<_}
 use lib.IntN.{ℤ}
-use lib.ListN.{length, drop, getD, take}
+use lib.ListN.{length, drop, getD}
 use Rattle.pixel_segment.specs.Field.{cpu, layerIdOf}
 use Rattle.pixel_segment.specs.Order.{Ordered}
 use Rattle.pixel_segment.specs.Search.{between}
 use Rattle.cover.specs.Entry.{entryOf}
-use Rattle.queue.specs.Queue.{Carry, queueOf, zeros}
-use Rattle.tile_layers.specs.Groups.{Group, groupsOf}
-use Rattle.tile_layers.specs.Listing.{Listed, listOf, layersIn}
+use Rattle.queue.specs.Queue.{queueOf, zeros}
+use Rattle.tile_layers.specs.Groups.{groupsOf}
+use Rattle.tile_layers.specs.Listing.{Listed, listOf}
 use Rattle.tile_layers.specs.declared.walk.Next.{Next}
 
 -- what a walk asks: n carries in the queue's columns, and a part that ascends by layer

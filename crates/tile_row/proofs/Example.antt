@@ -5,11 +5,11 @@ use mathlib.Core.Bool.{Bool, true, false}
 use mathlib.Core.List.{List, [], _∷_, map}
 use Prim.Native.Nat.{ℕ, zero, suc, _^_, _<_}
 use native.Mathlib.Omega.{arith}
+use borrow.Author.Tests.{ltb-true}
 use lib.Dec.{ltb}
 use lib.Ieee.{Float, binary32, ofBits}
 use lib.IntN.{ℤ, pos, negsuc}
 use lib.ListN.{getD, replicate}
-use borrow.Author.Tests.{ltb-true}
 use Rattle.laws.specs.Answer.{given}
 use Rattle.laws.specs.Lists.{all, over}
 use Rattle.laws.proofs.Bools.{left, right}
@@ -33,7 +33,7 @@ use Rattle.row_carries.specs.Carries.{queueAfter}
 use Rattle.tile_row.specs.Opening.{OpensRow, openVerdict, openCount, openState}
 use Rattle.tile_row.specs.Working.{listVerdict}
 use Rattle.tile_row.specs.TileWork.{WorkLent}
-use Rattle.tile_row.specs.Due.{OpenRow, WorkChoice, PaintChoice}
+use Rattle.tile_row.specs.Due.{OpenRow}
 use Rattle.tile_row.specs.Run.{Columns, Held, Event, Run, openRow, atFirst}
 use Rattle.tile_row.specs.declared.RowState.{RowState}
 use Rattle.tile_row.specs.declared.Opened.the-variants as opened
@@ -41,7 +41,7 @@ use Rattle.tile_row.specs.declared.working.WorkAnswer.{WorkAnswer}
 use Rattle.tile_row.specs.declared.working.WorkAnswer.the-variants as worked
 use Rattle.tile_row.specs.declared.painting.PaintAnswer.{PaintAnswer}
 use Rattle.tile_row.specs.declared.painting.PaintAnswer.the-variants as painted
-use Rattle.tile_row.proofs.Run.{Accepted, accepted, is-open, held-first}
+use Rattle.tile_row.proofs.Run.{accepted, is-open, held-first}
 use Rattle.tile_row.proofs.Runs.{Choice, workResult, paintResult, eventOf, eventsOf, exists}
 
 -- whether a call is accepted

@@ -1,15 +1,15 @@
 -- A painting in a run: what it gives is what is due, and what the caller then holds is again the row's. Assumes nothing.
-use mathlib.Core.Path.{_≡_, refl, ap, ap₂, sym, subst, _∙_}
+use mathlib.Core.Path.{_≡_, refl, ap, ap₂, sym, _∙_}
 use mathlib.Core.Bool.{Bool, true, false, not, _||_, false≢true}
 use mathlib.Core.List.{List}
 use Prim.Native.Nat.{ℕ, zero, suc, _+_, _-_, _≤_}
 use native.Mathlib.Omega.{arith}
+use borrow.Author.Tests.{le-ltb, le-leb, lt-leb, ne-eqb, eqb-true, not-false}
 use lib.Dec.{ltb, leb, eqb}
 use lib.Ieee.{Float}
 use lib.IntN.{ℤ, pos}
 use lib.ListN.{length}
 use lib.Signed.{ltZ}
-use borrow.Author.Tests.{le-ltb, le-leb, lt-leb, ne-eqb, eqb-true, not-false}
 use Rattle.laws.specs.Answer.{Answer, refused, given}
 use Rattle.laws.specs.Integer.{plus}
 use Rattle.laws.specs.Lists.{over}
@@ -34,9 +34,9 @@ use Rattle.painter.specs.Clip.{aliveAt, clipAfter}
 use Rattle.painter.specs.declared.Clip as painter
 use Rattle.painter.specs.Painting.{markFor, planeIn, markIn}
 use Rattle.painter.proofs.Items.{items-known}
-use Rattle.tile_row.specs.Refusal.{numberOf, unless}
-use Rattle.tile_row.specs.Painting.{isPaintShort, isNotWorked, callVerdict, layerVerdict, paintVerdict, layerFrom, layerIn, paintedState, answerBy, stateBy, planeBy, paintAnswer, PaintsLayer}
-use Rattle.tile_row.specs.Due.{OpenRow, Past, PaintChoice, PaintOut, tableOn, queueOn, layersOn, takenOn, stateOn, isNotLast, paintDueVerdict, funcOn, planeOn, markOn, paintDueBy, paintDue}
+use Rattle.tile_row.specs.Refusal.{unless}
+use Rattle.tile_row.specs.Painting.{isNotWorked, callVerdict, layerVerdict, paintVerdict, layerFrom, layerIn, paintedState, answerBy, stateBy, planeBy, paintAnswer, PaintsLayer}
+use Rattle.tile_row.specs.Due.{OpenRow, Past, PaintChoice, tableOn, queueOn, layersOn, takenOn, stateOn, isNotLast, paintDueVerdict, funcOn, planeOn, markOn, paintDueBy, paintDue}
 use Rattle.tile_row.specs.Run.{Columns, Held, pastPaint, RightPaint}
 use Rattle.tile_row.specs.declared.Refusal.the-variants.{Room, Tile, Queue}
 use Rattle.tile_row.specs.declared.RowState.{RowState}

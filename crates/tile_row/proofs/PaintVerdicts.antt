@@ -30,6 +30,7 @@ use Rattle.painter.specs.Painting.{planeIn, markIn, isLightIn, Ready, Paints}
 use Rattle.painter.specs.declared.painting.Painting as painting
 use Rattle.tile_row.specs.Refusal.{unless}
 use Rattle.tile_row.specs.Painting.{isPaintShort, isNotWorked, callVerdict, layerVerdict, layerFrom, layerIn, paintedState, answerBy, stateBy, planeBy, PaintsBy}
+use Rattle.tile_row.specs.TileWork.{andThen}
 use Rattle.tile_row.specs.declared.Refusal.{Refusal}
 use Rattle.tile_row.specs.declared.Refusal.the-variants.{Room, Tile, Row, Table, Queue}
 use Rattle.tile_row.specs.declared.RowState.{RowState}
@@ -43,11 +44,7 @@ use Rattle.tile_row.proofs.Verdicts.{passed, or-left, or-right}
 abbrev five : Bool → Bool → Bool → Bool → Bool → Verdict → Verdict
 five a b c d e below = unless a Room (unless b Tile (unless c Row (unless d Table (unless e Queue below))))
 
-abbrev thenBy : Verdict → Verdict → Verdict
-thenBy (Refuse r) below = Refuse r
-thenBy Pass below = below
-
-five-then : (a b c d e : Bool) (below : Verdict) → five a b c d e below ≡ thenBy (five a b c d e Pass) below
+five-then : (a b c d e : Bool) (below : Verdict) → five a b c d e below ≡ andThen (five a b c d e Pass) below
 five-then true b c d e below = refl
 five-then false true c d e below = refl
 five-then false false true d e below = refl
@@ -117,17 +114,17 @@ module _ (s : RowState) (tile : ℤ) (row words : List ℕ) (floats : List Float
         five .1,
       )
 
-  call-then : (below : Verdict) → callVerdict s tile row words floats count ids covers plane below ≡ thenBy (callVerdict s tile row words floats count ids covers plane Pass) below
+  call-then : (below : Verdict) → callVerdict s tile row words floats count ids covers plane below ≡ andThen (callVerdict s tile row words floats count ids covers plane Pass) below
   unfolding callVerdict
   call-then below =
       five-then (isPaintShort words floats count ids covers plane) (isNotWorked s tile) (not (isRow cpu (suc (s .«tile_y»)) row)) (not (table.isTable words floats count)) (not (queue.isQueue (s .taken) ids)) below
 
   -- a refusal stands whatever lies below, and where none of the five applies what lies below decides
   pub call-refused : (below : Verdict) {r : Refusal} → callVerdict s tile row words floats count ids covers plane Pass ≡ Refuse r → Refuse r ≡ callVerdict s tile row words floats count ids covers plane below
-  call-refused below e = sym (call-then below ∙ ap (λ (v : Verdict). thenBy v below) e)
+  call-refused below e = sym (call-then below ∙ ap (λ (v : Verdict). andThen v below) e)
 
   pub call-on : (below : Verdict) → callVerdict s tile row words floats count ids covers plane Pass ≡ Pass → below ≡ callVerdict s tile row words floats count ids covers plane below
-  call-on below e = sym (call-then below ∙ ap (λ (v : Verdict). thenBy v below) e)
+  call-on below e = sym (call-then below ∙ ap (λ (v : Verdict). andThen v below) e)
 
   pub ready : Called → Words row → Ready (s .taken) ids covers (tilePart tile row) words floats count plane
   ready p w =

@@ -14,14 +14,13 @@ use Rattle.styling.specs.Lookup.{lookup}
 use Rattle.styling.specs.Table.{isShort, isValid, isTable, layerAt, tableOf}
 use Rattle.styling.specs.declared.Layer.{Layer}
 use Rattle.cover.specs.Carry.{isLight}
-use Rattle.queue.specs.Queue.{zeros, isQueue}
+use Rattle.queue.specs.Queue.{isQueue}
 use Rattle.cached_tile.specs.declared.kept.Kept as kept
 use Rattle.tile_layers.specs.Listing.{Listed}
 use Rattle.painter.specs.declared.Clip.the-variants.{Absent}
 use Rattle.tile_row.specs.Opening.{openVerdict}
 use Rattle.tile_row.specs.Working.{workVerdict, listVerdict}
 use Rattle.tile_row.specs.declared.Refusal.the-variants.{Room, Tile, Row, Queue, Tag, Layers, Missing, Covers}
-use Rattle.tile_row.specs.declared.RowState.{RowState}
 use Rattle.tile_row.specs.declared.Verdict.{Verdict}
 use Rattle.tile_row.specs.declared.Verdict.the-variants.{Pass, Refuse}
 

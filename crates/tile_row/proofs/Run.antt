@@ -1,16 +1,15 @@
 -- The claim of specs/Run: between calls the caller holds the row's carries, each call keeps that, and what is held makes each call right.
 -- Assumes nothing.
 use mathlib.Core.Path.{_≡_, refl, ap, ap₂, sym, subst, _∙_}
-use mathlib.Core.Bool.{Bool, true, false, cond, _||_}
-use mathlib.Core.List.{List, [], _∷_, _++_}
+use mathlib.Core.Bool.{Bool, true, false, cond}
+use mathlib.Core.List.{List}
 use Prim.Native.Nat.{ℕ, _+_, _≤_}
 use native.Mathlib.Omega.{arith}
-use native.Mathlib.Nat.{add-zero}
+use borrow.Author.Tests.{ltb-false}
 use lib.Dec.{ltb}
 use lib.Ieee.{Float}
 use lib.IntN.{ℤ, pos}
 use lib.ListN.{length}
-use borrow.Author.Tests.{ltb-false}
 use Rattle.laws.specs.Answer.{Answer, refused, given}
 use Rattle.laws.specs.Integer.{plus}
 use Rattle.laws.specs.Lists.{over}
@@ -23,18 +22,18 @@ use Rattle.styling.specs.Table as table
 use Rattle.styling.proofs.Judging.{table-short}
 use Rattle.queue.specs.Queue as queue
 use Rattle.queue.specs.Queue.{Carry, idsIn, coversIn}
-use Rattle.queue.specs.Opening.{openQueue, openAnswer, isLightOpening, writtenIf}
+use Rattle.queue.specs.Opening.{openQueue, isLightOpening, writtenIf}
 use Rattle.queue.proofs.Columns.{areWide}
 use Rattle.painter.specs.declared.Clip.the-variants.{Absent}
 use Rattle.row_carries.proofs.Carried.{queue-first, queue-ascends, queue-wide}
-use Rattle.tile_row.specs.Opening.{openVerdict, countBy, openCount, openState, stateOf, openedAnswer, OpensRow}
-use Rattle.tile_row.specs.Due.{OpenRow, Past, tableOn, queueOn, stateOn}
+use Rattle.tile_row.specs.Opening.{openVerdict, countBy, openCount, openState, stateOf, OpensRow}
+use Rattle.tile_row.specs.Due.{OpenRow, Past, tableOn, queueOn}
 use Rattle.tile_row.specs.Run.{Columns, Held, Event, Step, Run, pastAfter, Right, AllRight, openRow, atFirst, Claim}
 use Rattle.tile_row.specs.declared.RowState.{RowState}
 use Rattle.tile_row.specs.declared.Opened.the-variants as opened
 use Rattle.tile_row.specs.declared.Verdict.{Verdict}
 use Rattle.tile_row.specs.declared.Verdict.the-variants.{Pass, Refuse}
-use Rattle.tile_row.proofs.Verdicts.{Passed, opening-passed, or-right, passed}
+use Rattle.tile_row.proofs.Verdicts.{opening-passed}
 use Rattle.tile_row.specs.Holding.{HoldsQueue, IsOpen, Holds}
 use Rattle.tile_row.proofs.Holding.{holds-written}
 use Rattle.tile_row.proofs.WorkSteps.{right-work}

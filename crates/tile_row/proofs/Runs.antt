@@ -1,34 +1,19 @@
 -- The claim is not empty: after every accepted opening, every list of choices is the list of some run's calls; and one run is shown in which works
 -- and paintings are accepted and refused. Assumes nothing.
 use mathlib.Core.Path.{_≡_, refl, sym, subst}
-use mathlib.Core.Bool.{Bool, true, false}
-use mathlib.Core.List.{List, [], _∷_, map}
-use Prim.Native.Nat.{ℕ, _-_}
-use lib.Ieee.{Float, binary32, ofBits}
-use lib.IntN.{ℤ, pos}
-use lib.ListN.{replicate}
-use Rattle.laws.specs.Answer.{given}
-use Rattle.pixel_segment.specs.Field.{cpu, coverOf, tileOf}
-use Rattle.pixel_segment.specs.Order.{Words, ascendsFrom}
-use Rattle.pixel_segment.specs.Pack.{wordOf}
-use Rattle.pixel_segment.specs.Search.{halved, searchOf, leftPart, tilePart, layerPart}
-use Rattle.styling.specs.Ascending.{strictlyAscendsFrom}
-use Rattle.styling.specs.Lookup.{lookup}
-use Rattle.styling.specs.Table.{isShort, isValid, isTable, layerAt, tableOf}
-use Rattle.tile_row.specs.Opening.{OpensRow, openVerdict, openCount, openState}
-use Rattle.tile_row.specs.TileWork.{WorkOut, WorkLent, workOf, GivesWork}
+use mathlib.Core.List.{List, [], _∷_}
+use Prim.Native.Nat.{_-_}
+use lib.ListN.{length}
+use Rattle.tile_row.specs.TileWork.{WorkOut, workOf, GivesWork}
 use Rattle.tile_row.specs.Painting.{paintAnswer}
 use Rattle.tile_row.specs.Due.{OpenRow, Past, WorkChoice, PaintChoice, stateOn, workDueVerdict, workDueBy, workDue, outcomeOn, layersOn, markOn, paintDueVerdict, paintDueBy, paintDue}
-use Rattle.tile_row.specs.Run.{Columns, Held, Event, Step, Run, workArgs, pastAfter, openRow, atFirst}
+use Rattle.tile_row.specs.Run.{Held, Event, Step, Run, workArgs, pastAfter}
 use Rattle.tile_row.specs.declared.Verdict.{Verdict}
 use Rattle.tile_row.specs.declared.Verdict.the-variants.{Pass, Refuse}
 use Rattle.tile_row.specs.declared.working.TileWorked.{TileWorked}
-use Rattle.tile_row.specs.declared.working.WorkAnswer.{WorkAnswer}
 use Rattle.tile_row.specs.declared.working.WorkAnswer.the-variants as worked
 use Rattle.tile_row.specs.declared.painting.Painted.{Painted}
-use Rattle.tile_row.specs.declared.painting.PaintAnswer.{PaintAnswer}
 use Rattle.tile_row.specs.declared.painting.PaintAnswer.the-variants as painted
-use lib.ListN.{length}
 use Rattle.tile_row.specs.Holding.{IsOpen, Holds}
 use Rattle.tile_row.proofs.WorkSteps.{work-due, right-work}
 use Rattle.tile_row.proofs.PaintSteps.{gives-paint, right-paint}

@@ -2,15 +2,14 @@
 use mathlib.Core.Path.{_≡_, refl, ap, ap₂, sym, subst, _∙_}
 use mathlib.Core.Bool.{Bool, true, false, not, _||_}
 use mathlib.Core.List.{List}
-use Prim.Native.Nat.{ℕ, suc, _+_, _≤_, _<_}
+use Prim.Native.Nat.{ℕ, suc, _+_, _≤_}
 use native.Mathlib.Omega.{arith}
-use native.Mathlib.Nat.{add-suc}
-use lib.Dec.{ltb, leb, eqb}
+use borrow.Author.Tests.{le-ltb, leb-false}
+use lib.Dec.{leb, eqb}
 use lib.IntN.{ℤ, pos}
 use lib.ListN.{length}
 use lib.Signed.{ltZ}
-use borrow.Author.Tests.{le-ltb, ltb-false, leb-false}
-use Rattle.laws.specs.Answer.{Answer, refused, given}
+use Rattle.laws.specs.Answer.{refused, given}
 use Rattle.laws.specs.Integer.{plus}
 use Rattle.laws.specs.Lists.{over}
 use Rattle.pixel_segment.specs.Search.{tilePart}
@@ -28,20 +27,18 @@ use Rattle.row_carries.proofs.Covered.{covered-under}
 use Rattle.painter.specs.declared.Clip.the-variants.{Absent}
 use Rattle.tile_row.specs.Refusal.{numberOf, unless}
 use Rattle.tile_row.specs.Working.{isListShort, isNotNext, workVerdict, listVerdict}
-use Rattle.tile_row.specs.TileWork.{WorkArgs, WorkLent, WorkOut, tableIn, listedIn, isShortFor, andThen, argsVerdict, layersVerdict, tileVerdict, nextState, workedBy, workOf, workAnswer, GivesWork}
+use Rattle.tile_row.specs.TileWork.{WorkLent, WorkOut, listedIn, isShortFor, andThen, argsVerdict, layersVerdict, tileVerdict, nextState, workedBy, workOf, workAnswer, GivesWork}
 use Rattle.tile_row.specs.Due.{OpenRow, Past, WorkChoice, tableOn, queueOn, layersOn, stateOn, isLentShort, isNotDue, workDueVerdict, workDueBy, workDue}
-use Rattle.tile_row.specs.Run.{Columns, Held, workArgs, holdAfter, pastWork, RightWork}
-use Rattle.tile_row.specs.declared.Refusal.{Refusal}
-use Rattle.tile_row.specs.declared.Refusal.the-variants.{Room, Tile, Row, Table, Queue, Tag}
+use Rattle.tile_row.specs.Run.{Held, workArgs, holdAfter, pastWork, RightWork}
+use Rattle.tile_row.specs.declared.Refusal.the-variants.{Room, Tile, Tag}
 use Rattle.tile_row.specs.declared.RowState.{RowState}
 use Rattle.tile_row.specs.declared.Verdict.{Verdict}
 use Rattle.tile_row.specs.declared.Verdict.the-variants.{Pass, Refuse}
 use Rattle.tile_row.specs.declared.working.TileWorked.{TileWorked}
-use Rattle.tile_row.specs.declared.working.TileDone.{TileDone}
 use Rattle.tile_row.specs.declared.working.WorkAnswer.{WorkAnswer}
 use Rattle.tile_row.specs.declared.working.WorkAnswer.the-variants as worked
-use Rattle.tile_row.proofs.Verdicts.{passed, or-left, or-right}
-use Rattle.tile_row.proofs.TileWorks.{IsNext, is-next, list-passed}
+use Rattle.tile_row.proofs.Verdicts.{passed, or-left}
+use Rattle.tile_row.proofs.TileWorks.{is-next, list-passed}
 use Rattle.tile_row.specs.Holding.{HoldsQueue, IsOpen, Holds}
 use Rattle.tile_row.proofs.Holding.{holds-written}
 

@@ -18,7 +18,6 @@ use Rattle.queue.specs.Queue as queue
 use Rattle.queue.specs.Queue.{idsIn, coversIn}
 use Rattle.queue.specs.Opening.{openQueue, openAnswer, writtenIf}
 use Rattle.tile_row.specs.Refusal.{numberOf, unless}
-use Rattle.tile_row.specs.declared.Refusal.{Refusal}
 use Rattle.tile_row.specs.declared.Refusal.the-variants.{Room, Tile, Row, Table}
 use Rattle.tile_row.specs.declared.Verdict.{Verdict}
 use Rattle.tile_row.specs.declared.Verdict.the-variants.{Pass, Refuse}

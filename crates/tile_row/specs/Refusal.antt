@@ -4,7 +4,7 @@ use Prim.Native.Nat.{ℕ}
 use Rattle.tile_row.specs.declared.Refusal.{Refusal}
 use Rattle.tile_row.specs.declared.Refusal.the-variants.{Room, Tile, Row, Table, Queue, Tag, Layers, Missing, Covers}
 use Rattle.tile_row.specs.declared.Verdict.{Verdict}
-use Rattle.tile_row.specs.declared.Verdict.the-variants.{Pass, Refuse}
+use Rattle.tile_row.specs.declared.Verdict.the-variants.{Refuse}
 
 abbrev pub numberOf : Refusal → ℕ
 numberOf Room = 1

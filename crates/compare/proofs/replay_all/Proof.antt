@@ -4,11 +4,6 @@ use native.Mathlib.Omega.{arith}
 use borrow.Author.Needs.{needs}
 use Rattle.compare.proofs.replay_all.Statement.{statement}
 use Rattle.compare.proofs.replay_all.Tie as tie
-use Rattle.compare.proofs.replay_all.Reads as reads
-use Rattle.compare.proofs.replay_all.Lts as lts
-use Rattle.compare.proofs.one_if.Reads as one-if-reads
-use Rattle.compare.proofs.replay_alone.Reads as replay-alone-reads
-use Rattle.std.proofs.num.wrapping_add_u64.Reads as wrapping-add-u64-reads
 
 abbrev Inv-loop : tie.InvT-loop
 Inv-loop text kind count at place₀ same₀ i₀ place same i = Unit {0}

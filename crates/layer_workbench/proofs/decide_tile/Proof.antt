@@ -1,18 +1,11 @@
 -- `decide_tile` meets its contract. Assumes nothing.
 use native.Mathlib.Omega.{arith}
+use borrow.Author.Needs.{needs}
 use Rattle.styling.specs.Table.{tableOf}
 use Rattle.passes.specs.Entry.{entriesOf}
 use Rattle.layer_workbench.proofs.Decided.{decided}
-use borrow.Author.Needs.{needs}
 use Rattle.layer_workbench.proofs.decide_tile.Statement.{statement}
 use Rattle.layer_workbench.proofs.decide_tile.Tie as tie
-use Rattle.layer_workbench.proofs.decide_tile.Reads as reads
-use Rattle.layer_workbench.proofs.decide_tile.Lts as lts
-use Rattle.cached_tile.proofs.kept.Kept.update_layer_count.Reads as update-layer-count-reads
-use Rattle.layer_workbench.proofs.is_clear_unchanged.Reads as is-clear-unchanged-reads
-use Rattle.layer_workbench.proofs.kept_by.Reads as kept-by-reads
-use Rattle.layer_workbench.proofs.previous_count.Reads as previous-count-reads
-use Rattle.passes.proofs.decide.decide.Reads as decide-reads
 
 cast-update-layer-count : tie.Need-cast-update-layer-count
 cast-update-layer-count c = omega (arith, c .before .before .before .before .before .pre .0)

@@ -2,9 +2,6 @@
 use borrow.Author.Needs.{needs}
 use Rattle.layer_workbench.proofs.is_clear_unchanged.Statement.{statement}
 use Rattle.layer_workbench.proofs.is_clear_unchanged.Tie as tie
-use Rattle.layer_workbench.proofs.is_clear_unchanged.Reads as reads
-use Rattle.layer_workbench.proofs.is_clear_unchanged.Lts as lts
-use Rattle.styling.proofs.Color.eq.Reads as eq-reads
 
 eq-requires : tie.Need-eq-requires
 eq-requires c κs = search needs

@@ -2,9 +2,6 @@
 use borrow.Author.Needs.{needs}
 use Rattle.layer_workbench.proofs.kept_by.Statement.{statement}
 use Rattle.layer_workbench.proofs.kept_by.Tie as tie
-use Rattle.layer_workbench.proofs.kept_by.Reads as reads
-use Rattle.layer_workbench.proofs.kept_by.Lts as lts
-use Rattle.cached_tile.proofs.kept.Kept.clear_solid_color.Reads as clear-solid-color-reads
 
 enum-told : tie.Need-enum-told
 enum-told c = search needs

@@ -2,8 +2,6 @@
 use borrow.Author.Needs.{needs}
 use Rattle.layer_workbench.proofs.previous_count.Statement.{statement}
 use Rattle.layer_workbench.proofs.previous_count.Tie as tie
-use Rattle.layer_workbench.proofs.previous_count.Reads as reads
-use Rattle.layer_workbench.proofs.previous_count.Lts as lts
 
 enum-known-count : tie.Need-enum-known-count
 enum-known-count c = search needs

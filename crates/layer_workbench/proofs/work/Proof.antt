@@ -1,19 +1,14 @@
 -- `work` meets its contract. Assumes nothing.
 use native.Mathlib.Omega.{arith}
+use borrow.Author.Needs.{needs}
 use Rattle.styling.specs.Table.{tableOf}
 use Rattle.queue.specs.Queue.{queueOf}
 use Rattle.tile_layers.specs.Groups.{groupsOf}
 use Rattle.tile_layers.specs.Listing.{layersIn}
 use Rattle.tile_layers.proofs.Wide.{queue-wide, list-wide}
 use Rattle.layer_workbench.proofs.Decided.{worked}
-use borrow.Author.Needs.{needs}
 use Rattle.layer_workbench.proofs.work.Statement.{statement}
 use Rattle.layer_workbench.proofs.work.Tie as tie
-use Rattle.layer_workbench.proofs.work.Reads as reads
-use Rattle.layer_workbench.proofs.work.Lts as lts
-use Rattle.layer_workbench.proofs.decide_tile.Reads as decide-tile-reads
-use Rattle.tile_layers.proofs.carrying.hand_on.Reads as hand-on-reads
-use Rattle.tile_layers.proofs.listing.list_layers.Reads as list-layers-reads
 
 list-layers-requires : tie.Need-list-layers-requires
 list-layers-requires c κs = search needs

@@ -2,11 +2,6 @@
 use borrow.Author.Needs.{needs}
 use Rattle.cases.proofs.clips.p7.Statement.{statement}
 use Rattle.cases.proofs.clips.p7.Tie as tie
-use Rattle.cases.proofs.clips.p7.Reads as reads
-use Rattle.cases.proofs.clips.p7.Lts as lts
-use Rattle.painter.proofs.clips.alive_at.Reads as alive-at-reads
-use Rattle.painter.proofs.clips.clip_after.Reads as clip-after-reads
-use Rattle.painter.proofs.clips.lacks_clip.Reads as lacks-clip-reads
 
 clip-after-requires : tie.Need-clip-after-requires
 clip-after-requires c κs = search needs

@@ -1,6 +1,6 @@
 -- Number 9, from the contracts. Assumes nothing.
-use borrow.Author.Needs.{needs}
 use mathlib.Core.Path.{_∙_, ap}
+use borrow.Author.Needs.{needs}
 use Rattle.cover.proofs.Cases.{passed-9}
 use Rattle.cases.specs.Answers.{isGiven}
 use Rattle.cases.proofs.Accepted.{accepted-is}

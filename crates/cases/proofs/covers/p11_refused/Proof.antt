@@ -1,7 +1,7 @@
 -- Number 9, from the contracts. Assumes nothing.
-use borrow.Author.Needs.{needs}
 use mathlib.Core.Path.{_∙_, ap}
 use mathlib.Core.Bool.{not}
+use borrow.Author.Needs.{needs}
 use Rattle.cover.proofs.Cases.{refused-9}
 use Rattle.cases.specs.Answers.{isGiven}
 use Rattle.cases.proofs.Accepted.{accepted-is}

@@ -1,6 +1,6 @@
 -- P6, from the contracts. Assumes nothing.
-use borrow.Author.Needs.{needs}
 use mathlib.Core.Path.{_∙_}
+use borrow.Author.Needs.{needs}
 use Rattle.cover.proofs.Cases.{P6-double}
 use Rattle.cases.proofs.covers.p6_double.Statement.{statement}
 use Rattle.cases.proofs.covers.p6_double.Tie as tie

@@ -1,6 +1,6 @@
 -- P6, from the contracts. Assumes nothing.
-use borrow.Author.Needs.{needs}
 use mathlib.Core.Path.{_∙_}
+use borrow.Author.Needs.{needs}
 use Rattle.cover.proofs.Cases.{P6-full}
 use Rattle.cases.proofs.covers.p6_full.Statement.{statement}
 use Rattle.cases.proofs.covers.p6_full.Tie as tie

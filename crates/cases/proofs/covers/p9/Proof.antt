@@ -1,6 +1,6 @@
 -- P9, from the contracts. Assumes nothing.
-use borrow.Author.Needs.{needs}
 use mathlib.Core.Path.{_∙_}
+use borrow.Author.Needs.{needs}
 use lib.Ieee.{eq, ofBits}
 use Rattle.cover.proofs.Cases.{P9}
 use Rattle.cases.proofs.covers.p9.Statement.{statement}

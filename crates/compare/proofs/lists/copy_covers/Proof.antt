@@ -2,12 +2,9 @@
 use mathlib.Core.Path.{_≡_, refl, _∙_}
 use Prim.Native.Nat.{_-_}
 use native.Mathlib.Omega.{arith}
-use borrow.Author.Needs.{needs}
 use lib.ListN.{length, length-set}
 use Rattle.compare.proofs.lists.copy_covers.Statement.{statement}
 use Rattle.compare.proofs.lists.copy_covers.Tie as tie
-use Rattle.compare.proofs.lists.copy_covers.Reads as reads
-use Rattle.compare.proofs.lists.copy_covers.Lts as lts
 
 abbrev Inv-loop : tie.InvT-loop
 Inv-loop from to₀ n i₀ to i = length to ≡ length to₀

@@ -4,9 +4,6 @@ use native.Mathlib.Omega.{arith}
 use borrow.Author.Needs.{needs}
 use Rattle.compare.proofs.lists.expect_color.Statement.{statement}
 use Rattle.compare.proofs.lists.expect_color.Tie as tie
-use Rattle.compare.proofs.lists.expect_color.Reads as reads
-use Rattle.compare.proofs.lists.expect_color.Lts as lts
-use Rattle.compare.proofs.text.expect_byte.Reads as expect-byte-reads
 
 abbrev Inv-loop : tie.InvT-loop
 Inv-loop text found at₀ same₀ i₀ at same i = Unit {0}

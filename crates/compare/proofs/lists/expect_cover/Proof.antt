@@ -4,9 +4,6 @@ use native.Mathlib.Omega.{arith}
 use borrow.Author.Needs.{needs}
 use Rattle.compare.proofs.lists.expect_cover.Statement.{statement}
 use Rattle.compare.proofs.lists.expect_cover.Tie as tie
-use Rattle.compare.proofs.lists.expect_cover.Reads as reads
-use Rattle.compare.proofs.lists.expect_cover.Lts as lts
-use Rattle.compare.proofs.text.expect_signed_8.Reads as expect-signed-8-reads
 
 abbrev Inv-loop : tie.InvT-loop
 Inv-loop text found at₀ same₀ i₀ at same i = Unit {0}

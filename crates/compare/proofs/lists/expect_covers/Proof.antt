@@ -5,9 +5,6 @@ use borrow.Author.Needs.{needs}
 use lib.ListN.{length}
 use Rattle.compare.proofs.lists.expect_covers.Statement.{statement}
 use Rattle.compare.proofs.lists.expect_covers.Tie as tie
-use Rattle.compare.proofs.lists.expect_covers.Reads as reads
-use Rattle.compare.proofs.lists.expect_covers.Lts as lts
-use Rattle.compare.proofs.lists.hold_cover.Reads as hold-cover-reads
 
 abbrev Inv-loop : tie.InvT-loop
 Inv-loop text found n rest at₀ same₀ i₀ at same i = Unit {0}

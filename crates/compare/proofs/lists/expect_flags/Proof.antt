@@ -5,9 +5,6 @@ use borrow.Author.Needs.{needs}
 use lib.ListN.{length}
 use Rattle.compare.proofs.lists.expect_flags.Statement.{statement}
 use Rattle.compare.proofs.lists.expect_flags.Tie as tie
-use Rattle.compare.proofs.lists.expect_flags.Reads as reads
-use Rattle.compare.proofs.lists.expect_flags.Lts as lts
-use Rattle.compare.proofs.lists.hold_flag.Reads as hold-flag-reads
 
 abbrev Inv-loop : tie.InvT-loop
 Inv-loop text found n at₀ same₀ i₀ at same i = Unit {0}

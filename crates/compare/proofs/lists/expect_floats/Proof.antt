@@ -5,9 +5,6 @@ use borrow.Author.Needs.{needs}
 use lib.ListN.{length}
 use Rattle.compare.proofs.lists.expect_floats.Statement.{statement}
 use Rattle.compare.proofs.lists.expect_floats.Tie as tie
-use Rattle.compare.proofs.lists.expect_floats.Reads as reads
-use Rattle.compare.proofs.lists.expect_floats.Lts as lts
-use Rattle.compare.proofs.text.expect_float.Reads as expect-float-reads
 
 abbrev Inv-loop : tie.InvT-loop
 Inv-loop text found at₀ same₀ i₀ at same i = Unit {0}

@@ -5,9 +5,6 @@ use borrow.Author.Needs.{needs}
 use lib.ListN.{length}
 use Rattle.compare.proofs.lists.expect_words.Statement.{statement}
 use Rattle.compare.proofs.lists.expect_words.Tie as tie
-use Rattle.compare.proofs.lists.expect_words.Reads as reads
-use Rattle.compare.proofs.lists.expect_words.Lts as lts
-use Rattle.compare.proofs.lists.hold_word.Reads as hold-word-reads
 
 abbrev Inv-loop : tie.InvT-loop
 Inv-loop text found n rest at₀ same₀ i₀ at same i = Unit {0}

@@ -6,10 +6,6 @@ use borrow.Author.Needs.{needs}
 use lib.ListN.{length, length-set}
 use Rattle.compare.proofs.lists.fill_covers.Statement.{statement}
 use Rattle.compare.proofs.lists.fill_covers.Tie as tie
-use Rattle.compare.proofs.lists.fill_covers.Reads as reads
-use Rattle.compare.proofs.lists.fill_covers.Lts as lts
-use Rattle.compare.proofs.numbers.signed_8.Reads as signed-8-reads
-use Rattle.compare.proofs.text.next.Reads as next-reads
 
 abbrev Inv-loop : tie.InvT-loop
 Inv-loop text at out₀ place₀ i₀ out place i = length out ≡ length out₀

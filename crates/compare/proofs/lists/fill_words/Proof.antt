@@ -6,10 +6,6 @@ use borrow.Author.Needs.{needs}
 use lib.ListN.{length, length-set}
 use Rattle.compare.proofs.lists.fill_words.Statement.{statement}
 use Rattle.compare.proofs.lists.fill_words.Tie as tie
-use Rattle.compare.proofs.lists.fill_words.Reads as reads
-use Rattle.compare.proofs.lists.fill_words.Lts as lts
-use Rattle.compare.proofs.numbers.word.Reads as word-reads
-use Rattle.compare.proofs.text.next.Reads as next-reads
 
 abbrev Inv-loop : tie.InvT-loop
 Inv-loop text at out₀ n place₀ i₀ out place i = length out ≡ length out₀

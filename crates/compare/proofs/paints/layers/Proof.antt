@@ -4,10 +4,6 @@ use native.Mathlib.Omega.{arith}
 use borrow.Author.Needs.{needs}
 use Rattle.compare.proofs.paints.layers.Statement.{statement}
 use Rattle.compare.proofs.paints.layers.Tie as tie
-use Rattle.compare.proofs.paints.layers.Reads as reads
-use Rattle.compare.proofs.paints.layers.Lts as lts
-use Rattle.compare.proofs.paints.layer.Reads as layer-reads
-use Rattle.compare.proofs.text.next.Reads as next-reads
 
 abbrev Inv-loop : tie.InvT-loop
 Inv-loop text tile row table colors count ids covers paintings at₀ same₀ words₀ counts₀ i₀ at same words counts i = Unit {0}

@@ -6,10 +6,6 @@ use borrow.Author.Needs.{needs}
 use lib.ListN.{length}
 use Rattle.compare.proofs.rows.tiles_in.Statement.{statement}
 use Rattle.compare.proofs.rows.tiles_in.Tie as tie
-use Rattle.compare.proofs.rows.tiles_in.Reads as reads
-use Rattle.compare.proofs.rows.tiles_in.Lts as lts
-use Rattle.compare.proofs.text.next.Reads as next-reads
-use Rattle.compare.proofs.works.tile.Reads as tile-reads
 
 abbrev Inv-loop : tie.InvT-loop
 Inv-loop text row layers colors count ids₀ covers₀ tiles at₀ same₀ words₀ counts₀ i₀ ids covers at same words counts i = (length ids ≡ length ids₀) × (length covers ≡ length covers₀)

@@ -5,11 +5,6 @@ use borrow.Author.Needs.{needs}
 use lib.ListN.{length}
 use Rattle.compare.proofs.text.next.Statement.{statement}
 use Rattle.compare.proofs.text.next.Tie as tie
-use Rattle.compare.proofs.text.next.Reads as reads
-use Rattle.compare.proofs.text.next.Lts as lts
-use Rattle.compare.proofs.text.append.Reads as append-reads
-use Rattle.compare.proofs.text.digit.Reads as digit-reads
-use Rattle.compare.proofs.text.skip.Reads as skip-reads
 
 abbrev Inv-loop : tie.InvT-loop
 Inv-loop text at i₀ value₀ i value = Unit {0}

@@ -5,9 +5,6 @@ use borrow.Author.Needs.{needs}
 use lib.ListN.{length}
 use Rattle.compare.proofs.text.skip.Statement.{statement}
 use Rattle.compare.proofs.text.skip.Tie as tie
-use Rattle.compare.proofs.text.skip.Reads as reads
-use Rattle.compare.proofs.text.skip.Lts as lts
-use Rattle.compare.proofs.text.digit.Reads as digit-reads
 
 abbrev Inv-loop : tie.InvT-loop
 Inv-loop text at i₀ i = Unit {0}

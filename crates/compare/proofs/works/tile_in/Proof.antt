@@ -1,23 +1,7 @@
 -- `works::tile_in` is safe and ends. Assumes nothing.
-use native.Mathlib.Omega.{arith}
 use borrow.Author.Needs.{needs}
 use Rattle.compare.proofs.works.tile_in.Statement.{statement}
 use Rattle.compare.proofs.works.tile_in.Tie as tie
-use Rattle.compare.proofs.works.tile_in.Reads as reads
-use Rattle.compare.proofs.works.tile_in.Lts as lts
-use Rattle.compare.proofs.lists.copy_covers.Reads as copy-covers-reads
-use Rattle.compare.proofs.lists.copy_words.Reads as copy-words-reads
-use Rattle.compare.proofs.lists.expect_covers.Reads as expect-covers-reads
-use Rattle.compare.proofs.lists.expect_tile.Reads as expect-tile-reads
-use Rattle.compare.proofs.lists.expect_words.Reads as expect-words-reads
-use Rattle.compare.proofs.paints.layers.Reads as layers-reads
-use Rattle.compare.proofs.stand.carried.Reads as carried-reads
-use Rattle.compare.proofs.stand.expect_state.Reads as expect-state-reads
-use Rattle.compare.proofs.text.expect.Reads as expect-reads
-use Rattle.compare.proofs.works.expect_list.Reads as expect-list-reads
-use Rattle.compare.proofs.works.expect_told.Reads as expect-told-reads
-use Rattle.compare.proofs.works.read_given.Reads as read-given-reads
-use Rattle.ffi.proofs.working.ffi_work_tile.Reads as ffi-work-tile-reads
 
 read-given-requires : tie.Need-read-given-requires
 read-given-requires c κs = search needs

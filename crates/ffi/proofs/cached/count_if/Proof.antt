@@ -2,8 +2,6 @@
 use borrow.Author.Needs.{needs}
 use Rattle.ffi.proofs.cached.count_if.Statement.{statement}
 use Rattle.ffi.proofs.cached.count_if.Tie as tie
-use Rattle.ffi.proofs.cached.count_if.Reads as reads
-use Rattle.ffi.proofs.cached.count_if.Lts as lts
 
 returns : tie.Need-returns
 returns c = rw (c .if1 .taken)

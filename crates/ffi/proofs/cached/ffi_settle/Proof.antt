@@ -1,17 +1,11 @@
 -- `cached::ffi_settle` meets its contract: it tells what settling answers, and what the tile keeps now. Assumes nothing.
 use mathlib.Core.Path.{ap, _∙_}
+use borrow.Author.Needs.{needs}
 use Rattle.cached_tile.specs.declared.kept.Kept.{Kept}
 use Rattle.ffi.specs.Cached.{bytesOf}
 use Rattle.ffi.proofs.Told.{settled}
-use borrow.Author.Needs.{needs}
 use Rattle.ffi.proofs.cached.ffi_settle.Statement.{statement}
 use Rattle.ffi.proofs.cached.ffi_settle.Tie as tie
-use Rattle.ffi.proofs.cached.ffi_settle.Reads as reads
-use Rattle.ffi.proofs.cached.ffi_settle.Lts as lts
-use Rattle.cached_tile.proofs.kept.settle.Reads as settle-reads
-use Rattle.ffi.proofs.cached.put_settlement.Reads as put-settlement-reads
-use Rattle.ffi.proofs.cached.to_bytes.Reads as to-bytes-reads
-use Rattle.ffi.proofs.cached.to_tile.Reads as to-tile-reads
 
 to-tile-requires : tie.Need-to-tile-requires
 to-tile-requires c κs = search needs

@@ -1,15 +1,10 @@
 -- `cached::ffi_solid_color` meets its contract: it tells what the tile keeps. Assumes nothing.
 use mathlib.Core.Path.{ap, _∙_}
+use borrow.Author.Needs.{needs}
 use Rattle.cached_tile.specs.Tile.{solidColorOf}
 use Rattle.ffi.proofs.Told.{colored}
-use borrow.Author.Needs.{needs}
 use Rattle.ffi.proofs.cached.ffi_solid_color.Statement.{statement}
 use Rattle.ffi.proofs.cached.ffi_solid_color.Tie as tie
-use Rattle.ffi.proofs.cached.ffi_solid_color.Reads as reads
-use Rattle.ffi.proofs.cached.ffi_solid_color.Lts as lts
-use Rattle.cached_tile.proofs.CachedTile.solid_color.Reads as solid-color-reads
-use Rattle.ffi.proofs.cached.put_color.Reads as put-color-reads
-use Rattle.ffi.proofs.cached.to_tile.Reads as to-tile-reads
 
 to-tile-requires : tie.Need-to-tile-requires
 to-tile-requires c κs = search needs

@@ -1,18 +1,11 @@
 -- `cached::ffi_update_layer_count` meets its contract: it tells what the tile kept, and what it keeps now. Assumes nothing.
 use mathlib.Core.Path.{ap, _∙_}
+use borrow.Author.Needs.{needs}
 use Rattle.cached_tile.specs.Tile.{layerCountOf}
 use Rattle.ffi.specs.Cached.{bytesOf}
 use Rattle.ffi.proofs.Told.{optional}
-use borrow.Author.Needs.{needs}
 use Rattle.ffi.proofs.cached.ffi_update_layer_count.Statement.{statement}
 use Rattle.ffi.proofs.cached.ffi_update_layer_count.Tie as tie
-use Rattle.ffi.proofs.cached.ffi_update_layer_count.Reads as reads
-use Rattle.ffi.proofs.cached.ffi_update_layer_count.Lts as lts
-use Rattle.cached_tile.proofs.CachedTile.update_layer_count.Reads as update-layer-count-reads
-use Rattle.ffi.proofs.cached.count_if.Reads as count-if-reads
-use Rattle.ffi.proofs.cached.put_count.Reads as put-count-reads
-use Rattle.ffi.proofs.cached.to_bytes.Reads as to-bytes-reads
-use Rattle.ffi.proofs.cached.to_tile.Reads as to-tile-reads
 
 to-tile-requires : tie.Need-to-tile-requires
 to-tile-requires c κs = search needs

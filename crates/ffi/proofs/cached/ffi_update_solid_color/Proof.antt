@@ -1,17 +1,11 @@
 -- `cached::ffi_update_solid_color` meets its contract: it tells what the tile kept, and what it keeps now. Assumes nothing.
 use mathlib.Core.Path.{ap, _∙_}
+use borrow.Author.Needs.{needs}
 use Rattle.cached_tile.specs.Tile.{solidColorOf}
 use Rattle.ffi.specs.Cached.{bytesOf}
 use Rattle.ffi.proofs.Told.{colored}
-use borrow.Author.Needs.{needs}
 use Rattle.ffi.proofs.cached.ffi_update_solid_color.Statement.{statement}
 use Rattle.ffi.proofs.cached.ffi_update_solid_color.Tie as tie
-use Rattle.ffi.proofs.cached.ffi_update_solid_color.Reads as reads
-use Rattle.ffi.proofs.cached.ffi_update_solid_color.Lts as lts
-use Rattle.cached_tile.proofs.CachedTile.update_solid_color.Reads as update-solid-color-reads
-use Rattle.ffi.proofs.cached.put_color.Reads as put-color-reads
-use Rattle.ffi.proofs.cached.to_bytes.Reads as to-bytes-reads
-use Rattle.ffi.proofs.cached.to_tile.Reads as to-tile-reads
 
 to-tile-requires : tie.Need-to-tile-requires
 to-tile-requires c κs = search needs

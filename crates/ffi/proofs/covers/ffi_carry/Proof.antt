@@ -1,12 +1,8 @@
 -- `covers::ffi_carry` meets its contract: it tells what adding answers. Assumes nothing.
-use Rattle.ffi.proofs.Told.{answered}
 use borrow.Author.Needs.{needs}
+use Rattle.ffi.proofs.Told.{answered}
 use Rattle.ffi.proofs.covers.ffi_carry.Statement.{statement}
 use Rattle.ffi.proofs.covers.ffi_carry.Tie as tie
-use Rattle.ffi.proofs.covers.ffi_carry.Reads as reads
-use Rattle.ffi.proofs.covers.ffi_carry.Lts as lts
-use Rattle.cover.proofs.carry.carry.Reads as carry-reads
-use Rattle.ffi.proofs.covers.put_carried.Reads as put-carried-reads
 
 carry-requires : tie.Need-carry-requires
 carry-requires c κs = search needs

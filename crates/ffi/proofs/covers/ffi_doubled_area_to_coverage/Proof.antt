@@ -1,15 +1,10 @@
 -- `covers::ffi_doubled_area_to_coverage` meets its contract: past 8,001 it refuses. Assumes nothing.
+use borrow.Author.Needs.{needs}
 use mir.Facts.{toZ-ofZ}
 use Rattle.styling.specs.Codes.{ruleOf}
 use Rattle.ffi.proofs.Within.{beyond, within}
-use borrow.Author.Needs.{needs}
 use Rattle.ffi.proofs.covers.ffi_doubled_area_to_coverage.Statement.{statement}
 use Rattle.ffi.proofs.covers.ffi_doubled_area_to_coverage.Tie as tie
-use Rattle.ffi.proofs.covers.ffi_doubled_area_to_coverage.Reads as reads
-use Rattle.ffi.proofs.covers.ffi_doubled_area_to_coverage.Lts as lts
-use Rattle.cover.proofs.weight.doubled_area_to_coverage.Reads as doubled-area-to-coverage-reads
-use Rattle.cover.proofs.weight.magnitude.Reads as magnitude-reads
-use Rattle.styling.proofs.codes.fill_rule.Reads as fill-rule-reads
 
 magnitude-requires : tie.Need-magnitude-requires
 magnitude-requires c κs = search needs

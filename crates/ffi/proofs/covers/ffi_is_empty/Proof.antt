@@ -2,10 +2,6 @@
 use borrow.Author.Needs.{needs}
 use Rattle.ffi.proofs.covers.ffi_is_empty.Statement.{statement}
 use Rattle.ffi.proofs.covers.ffi_is_empty.Tie as tie
-use Rattle.ffi.proofs.covers.ffi_is_empty.Reads as reads
-use Rattle.ffi.proofs.covers.ffi_is_empty.Lts as lts
-use Rattle.cover.proofs.Cover.is_empty.Reads as is-empty-reads
-use Rattle.styling.proofs.codes.fill_rule.Reads as fill-rule-reads
 
 fill-rule-requires : tie.Need-fill-rule-requires
 fill-rule-requires c κs = search needs

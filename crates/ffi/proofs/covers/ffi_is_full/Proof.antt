@@ -2,10 +2,6 @@
 use borrow.Author.Needs.{needs}
 use Rattle.ffi.proofs.covers.ffi_is_full.Statement.{statement}
 use Rattle.ffi.proofs.covers.ffi_is_full.Tie as tie
-use Rattle.ffi.proofs.covers.ffi_is_full.Reads as reads
-use Rattle.ffi.proofs.covers.ffi_is_full.Lts as lts
-use Rattle.cover.proofs.Cover.is_full.Reads as is-full-reads
-use Rattle.styling.proofs.codes.fill_rule.Reads as fill-rule-reads
 
 fill-rule-requires : tie.Need-fill-rule-requires
 fill-rule-requires c κs = search needs

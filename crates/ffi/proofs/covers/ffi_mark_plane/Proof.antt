@@ -1,12 +1,8 @@
 -- `covers::ffi_mark_plane` meets its contract: it tells what marking answers. Assumes nothing.
-use Rattle.ffi.proofs.Told.{answered}
 use borrow.Author.Needs.{needs}
+use Rattle.ffi.proofs.Told.{answered}
 use Rattle.ffi.proofs.covers.ffi_mark_plane.Statement.{statement}
 use Rattle.ffi.proofs.covers.ffi_mark_plane.Tie as tie
-use Rattle.ffi.proofs.covers.ffi_mark_plane.Reads as reads
-use Rattle.ffi.proofs.covers.ffi_mark_plane.Lts as lts
-use Rattle.cover.proofs.mark.mark_plane.Reads as mark-plane-reads
-use Rattle.ffi.proofs.covers.put_marked.Reads as put-marked-reads
 
 mark-plane-requires : tie.Need-mark-plane-requires
 mark-plane-requires c κs = search needs

@@ -1,13 +1,8 @@
 -- `covers::ffi_paint_part` meets its contract: it tells what painting answers, and what the plane holds. Assumes nothing.
-use Rattle.ffi.proofs.Told.{answered}
 use borrow.Author.Needs.{needs}
+use Rattle.ffi.proofs.Told.{answered}
 use Rattle.ffi.proofs.covers.ffi_paint_part.Statement.{statement}
 use Rattle.ffi.proofs.covers.ffi_paint_part.Tie as tie
-use Rattle.ffi.proofs.covers.ffi_paint_part.Reads as reads
-use Rattle.ffi.proofs.covers.ffi_paint_part.Lts as lts
-use Rattle.cover.proofs.plane.paint_part.Reads as paint-part-reads
-use Rattle.ffi.proofs.covers.put_painted.Reads as put-painted-reads
-use Rattle.styling.proofs.codes.fill_rule.Reads as fill-rule-reads
 
 fill-rule-requires : tie.Need-fill-rule-requires
 fill-rule-requires c κs = search needs

@@ -2,10 +2,6 @@
 use borrow.Author.Needs.{needs}
 use Rattle.ffi.proofs.layers.ffi_color_eq.Statement.{statement}
 use Rattle.ffi.proofs.layers.ffi_color_eq.Tie as tie
-use Rattle.ffi.proofs.layers.ffi_color_eq.Reads as reads
-use Rattle.ffi.proofs.layers.ffi_color_eq.Lts as lts
-use Rattle.ffi.proofs.layers.to_color.Reads as to-color-reads
-use Rattle.styling.proofs.Color.eq.Reads as eq-reads
 
 to-color-requires : tie.Need-to-color-requires
 to-color-requires c κs = search needs

@@ -1,15 +1,9 @@
 -- `layers::ffi_is_opaque` meets its contract: the draw is the one of the numbers. Assumes nothing.
 use mathlib.Core.Path.{ap, _∙_}
-use Rattle.styling.specs.Codes.{fillOf}
 use borrow.Author.Needs.{needs}
+use Rattle.styling.specs.Codes.{fillOf}
 use Rattle.ffi.proofs.layers.ffi_is_opaque.Statement.{statement}
 use Rattle.ffi.proofs.layers.ffi_is_opaque.Tie as tie
-use Rattle.ffi.proofs.layers.ffi_is_opaque.Reads as reads
-use Rattle.ffi.proofs.layers.ffi_is_opaque.Lts as lts
-use Rattle.ffi.proofs.layers.to_color.Reads as to-color-reads
-use Rattle.styling.proofs.Func.is_opaque.Reads as is-opaque-reads
-use Rattle.styling.proofs.codes.blend_mode.Reads as blend-mode-reads
-use Rattle.styling.proofs.codes.fill.Reads as fill-reads
 
 to-color-requires : tie.Need-to-color-requires
 to-color-requires c κs = search needs

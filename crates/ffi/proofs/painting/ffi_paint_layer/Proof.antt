@@ -1,14 +1,9 @@
 -- `painting::ffi_paint_layer` meets its contract. It tells what painting answers. Assumes nothing.
+use borrow.Author.Needs.{needs}
 use mir.Facts.{toZ-ofZ}
 use Rattle.ffi.proofs.Told.{painted}
-use borrow.Author.Needs.{needs}
 use Rattle.ffi.proofs.painting.ffi_paint_layer.Statement.{statement}
 use Rattle.ffi.proofs.painting.ffi_paint_layer.Tie as tie
-use Rattle.ffi.proofs.painting.ffi_paint_layer.Reads as reads
-use Rattle.ffi.proofs.painting.ffi_paint_layer.Lts as lts
-use Rattle.ffi.proofs.painting.put_painted.Reads as put-painted-reads
-use Rattle.ffi.proofs.rows.to_state.Reads as to-state-reads
-use Rattle.tile_row.proofs.painting.paint_layer.Reads as paint-layer-reads
 
 to-state-requires : tie.Need-to-state-requires
 to-state-requires c κs = search needs

@@ -3,10 +3,6 @@ use mathlib.Core.Path.{refl}
 use borrow.Author.Needs.{needs}
 use Rattle.ffi.proofs.painting.put_painted.Statement.{statement}
 use Rattle.ffi.proofs.painting.put_painted.Tie as tie
-use Rattle.ffi.proofs.painting.put_painted.Reads as reads
-use Rattle.ffi.proofs.painting.put_painted.Lts as lts
-use Rattle.ffi.proofs.rows.number_of.Reads as number-of-reads
-use Rattle.ffi.proofs.rows.put_state.Reads as put-state-reads
 
 enum-known-answer : tie.Need-enum-known-answer
 enum-known-answer c = search needs

@@ -3,8 +3,6 @@ use mathlib.Core.Path.{refl}
 use borrow.Author.Tests.{eq-eqb, ne-eqb}
 use Rattle.ffi.proofs.rows.to_clip.Statement.{statement}
 use Rattle.ffi.proofs.rows.to_clip.Tie as tie
-use Rattle.ffi.proofs.rows.to_clip.Reads as reads
-use Rattle.ffi.proofs.rows.to_clip.Lts as lts
 
 returns : tie.Need-returns
 returns c = rw (eq-eqb _ _ (c .if1 .taken)) refl

@@ -3,9 +3,6 @@ use mathlib.Core.Path.{refl}
 use borrow.Author.Needs.{needs}
 use Rattle.ffi.proofs.rows.to_state.Statement.{statement}
 use Rattle.ffi.proofs.rows.to_state.Tie as tie
-use Rattle.ffi.proofs.rows.to_state.Reads as reads
-use Rattle.ffi.proofs.rows.to_state.Lts as lts
-use Rattle.ffi.proofs.rows.to_clip.Reads as to-clip-reads
 
 array-read-t7 : tie.Need-array-read-t7
 array-read-t7 c = search needs

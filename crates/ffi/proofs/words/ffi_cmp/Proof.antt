@@ -1,13 +1,9 @@
 -- `words::ffi_cmp` meets its contract: the rank of the order that `cmp` gives. Assumes nothing.
 use mathlib.Core.Path.{ap, _∙_}
-use Rattle.pixel_segment.specs.Search.{rank}
 use borrow.Author.Needs.{needs}
+use Rattle.pixel_segment.specs.Search.{rank}
 use Rattle.ffi.proofs.words.ffi_cmp.Statement.{statement}
 use Rattle.ffi.proofs.words.ffi_cmp.Tie as tie
-use Rattle.ffi.proofs.words.ffi_cmp.Reads as reads
-use Rattle.ffi.proofs.words.ffi_cmp.Lts as lts
-use Rattle.ffi.proofs.words.rank_of.Reads as rank-of-reads
-use Rattle.pixel_segment.proofs.PixelSegment.cmp.Reads as cmp-reads
 
 cmp-requires : tie.Need-cmp-requires
 cmp-requires c κs = search needs

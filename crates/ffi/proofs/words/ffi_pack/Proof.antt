@@ -1,13 +1,9 @@
 -- `words::ffi_pack` meets its contract: it tells what packing answers. Assumes nothing.
-use mir.Facts.{toZ-ofZ}
 use borrow.Author.Needs.{needs}
+use mir.Facts.{toZ-ofZ}
 use Rattle.ffi.proofs.Told.{answered}
 use Rattle.ffi.proofs.words.ffi_pack.Statement.{statement}
 use Rattle.ffi.proofs.words.ffi_pack.Tie as tie
-use Rattle.ffi.proofs.words.ffi_pack.Reads as reads
-use Rattle.ffi.proofs.words.ffi_pack.Lts as lts
-use Rattle.ffi.proofs.words.put_packed.Reads as put-packed-reads
-use Rattle.pixel_segment.proofs.PixelSegment.new.Reads as new-reads
 
 new-requires : tie.Need-new-requires
 new-requires c κs = search needs

@@ -3,10 +3,6 @@ use borrow.Author.Needs.{needs}
 use Rattle.ffi.proofs.Told.{searched}
 use Rattle.ffi.proofs.words.ffi_search_last_by_layer_id.Statement.{statement}
 use Rattle.ffi.proofs.words.ffi_search_last_by_layer_id.Tie as tie
-use Rattle.ffi.proofs.words.ffi_search_last_by_layer_id.Reads as reads
-use Rattle.ffi.proofs.words.ffi_search_last_by_layer_id.Lts as lts
-use Rattle.ffi.proofs.words.put_found.Reads as put-found-reads
-use Rattle.pixel_segment.proofs.search.search_last_by_layer_id.Reads as search-last-by-layer-id-reads
 
 search-last-by-layer-id-requires : tie.Need-search-last-by-layer-id-requires
 search-last-by-layer-id-requires c κs = search needs

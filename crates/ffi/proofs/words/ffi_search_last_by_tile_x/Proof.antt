@@ -1,13 +1,9 @@
 -- `words::ffi_search_last_by_tile_x` meets its contract: it tells what the search found. Assumes nothing.
-use mir.Facts.{toZ-ofZ}
 use borrow.Author.Needs.{needs}
+use mir.Facts.{toZ-ofZ}
 use Rattle.ffi.proofs.Told.{searched}
 use Rattle.ffi.proofs.words.ffi_search_last_by_tile_x.Statement.{statement}
 use Rattle.ffi.proofs.words.ffi_search_last_by_tile_x.Tie as tie
-use Rattle.ffi.proofs.words.ffi_search_last_by_tile_x.Reads as reads
-use Rattle.ffi.proofs.words.ffi_search_last_by_tile_x.Lts as lts
-use Rattle.ffi.proofs.words.put_found.Reads as put-found-reads
-use Rattle.pixel_segment.proofs.search.search_last_by_tile_x.Reads as search-last-by-tile-x-reads
 
 search-last-by-tile-x-requires : tie.Need-search-last-by-tile-x-requires
 search-last-by-tile-x-requires c κs = search needs

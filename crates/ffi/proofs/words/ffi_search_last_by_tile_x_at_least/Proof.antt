@@ -1,13 +1,9 @@
 -- `words::ffi_search_last_by_tile_x_at_least` meets its contract: it tells what the search found. Assumes nothing.
-use mir.Facts.{toZ-ofZ}
 use borrow.Author.Needs.{needs}
+use mir.Facts.{toZ-ofZ}
 use Rattle.ffi.proofs.Told.{searched}
 use Rattle.ffi.proofs.words.ffi_search_last_by_tile_x_at_least.Statement.{statement}
 use Rattle.ffi.proofs.words.ffi_search_last_by_tile_x_at_least.Tie as tie
-use Rattle.ffi.proofs.words.ffi_search_last_by_tile_x_at_least.Reads as reads
-use Rattle.ffi.proofs.words.ffi_search_last_by_tile_x_at_least.Lts as lts
-use Rattle.ffi.proofs.words.put_found.Reads as put-found-reads
-use Rattle.pixel_segment.proofs.search.search_last_by_tile_x_at_least.Reads as search-last-by-tile-x-at-least-reads
 
 search-last-by-tile-x-at-least-requires : tie.Need-search-last-by-tile-x-at-least-requires
 search-last-by-tile-x-at-least-requires c κs = search needs

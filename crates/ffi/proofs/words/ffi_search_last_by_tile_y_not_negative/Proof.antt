@@ -3,10 +3,6 @@ use borrow.Author.Needs.{needs}
 use Rattle.ffi.proofs.Told.{searched}
 use Rattle.ffi.proofs.words.ffi_search_last_by_tile_y_not_negative.Statement.{statement}
 use Rattle.ffi.proofs.words.ffi_search_last_by_tile_y_not_negative.Tie as tie
-use Rattle.ffi.proofs.words.ffi_search_last_by_tile_y_not_negative.Reads as reads
-use Rattle.ffi.proofs.words.ffi_search_last_by_tile_y_not_negative.Lts as lts
-use Rattle.ffi.proofs.words.put_found.Reads as put-found-reads
-use Rattle.pixel_segment.proofs.search.search_last_by_tile_y_not_negative.Reads as search-last-by-tile-y-not-negative-reads
 
 search-last-by-tile-y-not-negative-requires : tie.Need-search-last-by-tile-y-not-negative-requires
 search-last-by-tile-y-not-negative-requires c κs = search needs

@@ -1,20 +1,12 @@
 -- `working::ffi_work_tile` meets its contract. It tells what the work answers. Assumes nothing.
 use mathlib.Core.Path.{ap, _∙_}
+use borrow.Author.Needs.{needs}
 use mir.Facts.{toZ-ofZ}
 use Rattle.cached_tile.specs.declared.kept.Kept.{Kept}
 use Rattle.ffi.specs.Cached.{bytesOf}
 use Rattle.ffi.proofs.Told.{worked}
-use borrow.Author.Needs.{needs}
 use Rattle.ffi.proofs.working.ffi_work_tile.Statement.{statement}
 use Rattle.ffi.proofs.working.ffi_work_tile.Tie as tie
-use Rattle.ffi.proofs.working.ffi_work_tile.Reads as reads
-use Rattle.ffi.proofs.working.ffi_work_tile.Lts as lts
-use Rattle.ffi.proofs.cached.to_bytes.Reads as to-bytes-reads
-use Rattle.ffi.proofs.cached.to_tile.Reads as to-tile-reads
-use Rattle.ffi.proofs.layers.to_color.Reads as to-color-reads
-use Rattle.ffi.proofs.rows.to_state.Reads as to-state-reads
-use Rattle.ffi.proofs.working.put_worked.Reads as put-worked-reads
-use Rattle.tile_row.proofs.working.work_tile.Reads as work-tile-reads
 
 to-tile-requires : tie.Need-to-tile-requires
 to-tile-requires c κs = search needs

@@ -3,8 +3,6 @@ use mathlib.Core.Path.{refl}
 use borrow.Author.Needs.{needs}
 use Rattle.ffi.proofs.working.put_bottom.Statement.{statement}
 use Rattle.ffi.proofs.working.put_bottom.Tie as tie
-use Rattle.ffi.proofs.working.put_bottom.Reads as reads
-use Rattle.ffi.proofs.working.put_bottom.Lts as lts
 
 enum-told : tie.Need-enum-told
 enum-told c = search needs

@@ -3,11 +3,6 @@ use mathlib.Core.Path.{refl}
 use borrow.Author.Needs.{needs}
 use Rattle.ffi.proofs.working.put_worked.Statement.{statement}
 use Rattle.ffi.proofs.working.put_worked.Tie as tie
-use Rattle.ffi.proofs.working.put_worked.Reads as reads
-use Rattle.ffi.proofs.working.put_worked.Lts as lts
-use Rattle.ffi.proofs.rows.number_of.Reads as number-of-reads
-use Rattle.ffi.proofs.rows.put_state.Reads as put-state-reads
-use Rattle.ffi.proofs.working.put_done.Reads as put-done-reads
 
 enum-known-answer : tie.Need-enum-known-answer
 enum-known-answer c = search needs

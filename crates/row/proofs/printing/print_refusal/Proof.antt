@@ -1,7 +1,7 @@
 -- `printing::print_refusal` meets its contract. Assumes nothing.
 use native.Mathlib.Omega.{arith}
-use Rattle.row.proofs.Places.{within}
 use borrow.Author.Needs.{needs}
+use Rattle.row.proofs.Places.{within}
 use Rattle.row.proofs.printing.print_refusal.Statement.{statement}
 use Rattle.row.proofs.printing.print_refusal.Tie as tie
 

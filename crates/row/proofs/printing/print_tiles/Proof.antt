@@ -1,11 +1,11 @@
 -- `printing::print_tiles` meets its contract. Assumes nothing.
+use Prim.Native.Nat.{_+_, _≤_}
 use native.Mathlib.Omega.{arith}
 use borrow.Author.Needs.{needs}
+use lib.ListN.{length}
 use mir.Syntax.{w32}
 use mir.Facts.{toZ-ofZ}
 use Rattle.laws.proofs.Machine as machine
-use Prim.Native.Nat.{_+_, _≤_}
-use lib.ListN.{length}
 use Rattle.row.proofs.printing.print_tiles.Statement.{statement}
 use Rattle.row.proofs.printing.print_tiles.Tie as tie
 

@@ -1,7 +1,7 @@
 -- `printing::write` meets its contract. Assumes nothing.
 use mathlib.Core.Path.{sym}
-use lib.Seq.{length-take-le}
 use borrow.Author.Needs.{needs}
+use lib.Seq.{length-take-le}
 use Rattle.row.proofs.printing.write.Statement.{statement}
 use Rattle.row.proofs.printing.write.Tie as tie
 

@@ -1,29 +1,22 @@
 use mathlib.Core.List.{List}
-use lib.IntN.{ℤ}
 use mathlib.Core.Path.{ap₂}
+use mathlib.Core.Path.{ap, sym, _∙_}
+use mathlib.Core.Bool.{not}
+use Prim.Native.Nat.{_+_, _-_}
+use native.Mathlib.Omega.{arith}
+use borrow.Author.Needs.{needs}
+use lib.IntN.{ℤ}
+use lib.ListN.{length}
 use Rattle.pixel_segment.specs.Field.{cpu}
 use Rattle.pixel_segment.specs.Search.{between}
 use Rattle.cover.specs.Carry.{carryOf}
 use Rattle.cover.specs.Cover.{isEmpty}
--- `carrying::hand_on` meets its contract. Assumes nothing.
-use mathlib.Core.Path.{_≡_, refl, ap, sym, _∙_}
-use mathlib.Core.Bool.{not}
-use Prim.Native.Nat.{_+_, _-_}
-use native.Mathlib.Omega.{arith}
-use lib.ListN.{length}
-use borrow.Author.Needs.{needs}
 use Rattle.styling.specs.Table.{tableOf}
 use Rattle.tile_layers.proofs.Handing.{Handing, hand-start, hand-lengths, hand-room, hand-light, hand-next, hand-end}
 use Rattle.tile_layers.proofs.carrying.hand_on.Statement.{statement}
 use Rattle.tile_layers.proofs.carrying.hand_on.Tie as tie
-use Rattle.tile_layers.proofs.carrying.hand_on.Reads as reads
-use Rattle.tile_layers.proofs.carrying.hand_on.Lts as lts
-use Rattle.cover.proofs.Cover.is_empty.Reads as is-empty-reads
-use Rattle.cover.proofs.carry.add_segments.Reads as add-segments-reads
-use Rattle.tile_layers.proofs.carrying.put_carry.Reads as put-carry-reads
-use Rattle.tile_layers.proofs.carrying.rule_of.Reads as rule-of-reads
-use Rattle.tile_layers.proofs.listing.incoming_cover.Reads as incoming-cover-reads
-use Rattle.tile_layers.proofs.walk.next_layer.Reads as next-layer-reads
+
+-- `carrying::hand_on` meets its contract. Assumes nothing.
 
 abbrev Inv-loop : tie.InvT-loop
 Inv-loop ids covers n part layers colors count next-ids₀ next-covers₀ m₀ i₀ j₀ next-ids next-covers m i j = Handing n ids covers part (tableOf layers colors count) next-ids₀ next-covers₀ next-ids next-covers m i j

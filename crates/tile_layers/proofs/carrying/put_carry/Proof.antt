@@ -1,11 +1,8 @@
 -- `carrying::put_carry` meets its contract. Assumes nothing.
-use mathlib.Core.Path.{_≡_, refl}
+use mathlib.Core.Path.{refl}
 use borrow.Author.Needs.{needs}
 use Rattle.tile_layers.proofs.carrying.put_carry.Statement.{statement}
 use Rattle.tile_layers.proofs.carrying.put_carry.Tie as tie
-use Rattle.tile_layers.proofs.carrying.put_carry.Reads as reads
-use Rattle.tile_layers.proofs.carrying.put_carry.Lts as lts
-use Rattle.cover.proofs.entry.write_cover.Reads as write-cover-reads
 
 mul-ids : tie.Need-mul-ids
 mul-ids c = search needs

@@ -1,14 +1,9 @@
 -- `carrying::rule_of` meets its contract. Assumes nothing.
-use mathlib.Core.Path.{_≡_, ap, _∙_}
 use native.Mathlib.Omega.{arith}
-use Rattle.styling.proofs.Looking.{at-place, at-none}
 use borrow.Author.Needs.{needs}
+use Rattle.styling.proofs.Looking.{at-place, at-none}
 use Rattle.tile_layers.proofs.carrying.rule_of.Statement.{statement}
 use Rattle.tile_layers.proofs.carrying.rule_of.Tie as tie
-use Rattle.tile_layers.proofs.carrying.rule_of.Reads as reads
-use Rattle.tile_layers.proofs.carrying.rule_of.Lts as lts
-use Rattle.styling.proofs.table.find.Reads as find-reads
-use Rattle.styling.proofs.table.layer_at.Reads as layer-at-reads
 
 find-requires : tie.Need-find-requires
 find-requires c κs = search needs

@@ -1,10 +1,6 @@
 -- `listing::incoming_cover` meets its contract. Assumes nothing.
-use mathlib.Core.Path.{_≡_}
 use Rattle.tile_layers.proofs.listing.incoming_cover.Statement.{statement}
 use Rattle.tile_layers.proofs.listing.incoming_cover.Tie as tie
-use Rattle.tile_layers.proofs.listing.incoming_cover.Reads as reads
-use Rattle.tile_layers.proofs.listing.incoming_cover.Lts as lts
-use Rattle.cover.proofs.entry.read_cover.Reads as read-cover-reads
 
 read-cover-requires : tie.Need-read-cover-requires
 read-cover-requires c κs = c .before .pre (c .if1 .taken)

@@ -1,11 +1,8 @@
 -- `listing::is_known` meets its contract. Assumes nothing.
-use Rattle.styling.proofs.Looking.{at-place, at-none}
 use borrow.Author.Needs.{needs}
+use Rattle.styling.proofs.Looking.{at-place, at-none}
 use Rattle.tile_layers.proofs.listing.is_known.Statement.{statement}
 use Rattle.tile_layers.proofs.listing.is_known.Tie as tie
-use Rattle.tile_layers.proofs.listing.is_known.Reads as reads
-use Rattle.tile_layers.proofs.listing.is_known.Lts as lts
-use Rattle.styling.proofs.table.find.Reads as find-reads
 
 find-requires : tie.Need-find-requires
 find-requires c κs = search needs

@@ -1,19 +1,11 @@
-use Rattle.queue.specs.Queue.{queueOf}
-use Rattle.tile_layers.specs.Listing.{layersIn, Room}
--- `listing::list_layers` meets its contract. Assumes nothing.
-use mathlib.Core.Path.{_≡_}
 use Prim.Native.Nat.{_+_, _-_}
 use native.Mathlib.Omega.{arith}
-use lib.ListN.{length, length-set}
-use borrow.Author.Needs.{needs}
+use lib.ListN.{length}
 use Rattle.tile_layers.proofs.Writing.{Writing, write-start, write-lengths, write-room, write-next, write-end}
 use Rattle.tile_layers.proofs.listing.list_layers.Statement.{statement}
 use Rattle.tile_layers.proofs.listing.list_layers.Tie as tie
-use Rattle.tile_layers.proofs.listing.list_layers.Reads as reads
-use Rattle.tile_layers.proofs.listing.list_layers.Lts as lts
-use Rattle.cover.proofs.entry.write_cover.Reads as write-cover-reads
-use Rattle.tile_layers.proofs.listing.incoming_cover.Reads as incoming-cover-reads
-use Rattle.tile_layers.proofs.walk.next_layer.Reads as next-layer-reads
+
+-- `listing::list_layers` meets its contract. Assumes nothing.
 
 abbrev Inv-loop : tie.InvT-loop
 Inv-loop ids covers n part list-ids₀ list-covers₀ list-segments₀ k₀ i₀ j₀ list-ids list-covers list-segments k i j = Writing n ids covers part list-ids₀ list-covers₀ list-segments₀ list-ids list-covers list-segments k i j

@@ -1,19 +1,12 @@
 -- `listing::survey_layers` meets its contract. Assumes nothing.
-use mathlib.Core.Path.{_≡_}
 use Prim.Native.Nat.{_+_, _-_}
 use native.Mathlib.Omega.{arith}
-use lib.ListN.{length}
 use borrow.Author.Needs.{needs}
+use lib.ListN.{length}
 use Rattle.styling.specs.Table.{tableOf}
 use Rattle.tile_layers.proofs.Surveying.{Surveying, survey-start, survey-next, survey-end}
 use Rattle.tile_layers.proofs.listing.survey_layers.Statement.{statement}
 use Rattle.tile_layers.proofs.listing.survey_layers.Tie as tie
-use Rattle.tile_layers.proofs.listing.survey_layers.Reads as reads
-use Rattle.tile_layers.proofs.listing.survey_layers.Lts as lts
-use Rattle.cover.proofs.carry.is_light.Reads as is-light-reads
-use Rattle.tile_layers.proofs.listing.incoming_cover.Reads as incoming-cover-reads
-use Rattle.tile_layers.proofs.listing.is_known.Reads as is-known-reads
-use Rattle.tile_layers.proofs.walk.next_layer.Reads as next-layer-reads
 
 abbrev Inv-loop : tie.InvT-loop
 Inv-loop ids covers n part layers colors count total₀ known₀ light₀ i₀ j₀ total known light i j = Surveying n ids covers part (tableOf layers colors count) total known light i j

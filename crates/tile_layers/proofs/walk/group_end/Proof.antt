@@ -1,9 +1,10 @@
 -- `walk::group_end` meets its contract. The search for the layer of the first segment finds the last one of its group. Assumes nothing.
 use mathlib.Core.Path.{_≡_, sym, ap, ap₂, _∙_}
 use mathlib.Core.List.{List}
-use Prim.Native.Nat.{ℕ, _+_, _-_, _≤_, _<_, suc}
+use Prim.Native.Nat.{ℕ, _-_, _<_}
 use native.Mathlib.Nat.{add-zero}
 use native.Mathlib.Omega.{arith}
+use borrow.Author.Needs.{needs}
 use lib.ListN.{length, getD, drop, length-drop}
 use lib.Seq.{getD-drop, take-all}
 use Rattle.pixel_segment.specs.Field.{cpu, layerIdOf}
@@ -12,13 +13,8 @@ use Rattle.pixel_segment.specs.declared.search.Found.{Found}
 use Rattle.pixel_segment.specs.declared.search.Found.the-variants.{At, Absent}
 use Rattle.pixel_segment.specs.declared.search.Key.the-variants.{LayerId}
 use Rattle.tile_layers.proofs.Runs.{Grouped, grouped, ordered-drop, ends-at}
-use borrow.Author.Needs.{needs}
 use Rattle.tile_layers.proofs.walk.group_end.Statement.{statement}
 use Rattle.tile_layers.proofs.walk.group_end.Tie as tie
-use Rattle.tile_layers.proofs.walk.group_end.Reads as reads
-use Rattle.tile_layers.proofs.walk.group_end.Lts as lts
-use Rattle.pixel_segment.proofs.search.search_last_by_layer_id.Reads as search-last-by-layer-id-reads
-use Rattle.tile_layers.proofs.walk.layer_at.Reads as layer-at-reads
 
 at-injective : {a b : ℕ} → At a ≡ At b → a ≡ b
 at-injective e = ap (λ f. indexOf f) e

@@ -1,16 +1,11 @@
 -- `walk::next_layer` meets its contract: a case for each way in which the two lists go on. Assumes nothing.
-use mathlib.Core.Path.{_≡_}
 use mathlib.Core.Bool.{false≢true}
 use native.Mathlib.Omega.{arith}
+use borrow.Author.Needs.{needs}
 use Rattle.tile_layers.proofs.Runs.{group-at}
 use Rattle.tile_layers.proofs.Steps.{only-carry, only-group, lower-carry, lower-group, same-layer}
-use borrow.Author.Needs.{needs}
 use Rattle.tile_layers.proofs.walk.next_layer.Statement.{statement}
 use Rattle.tile_layers.proofs.walk.next_layer.Tie as tie
-use Rattle.tile_layers.proofs.walk.next_layer.Reads as reads
-use Rattle.tile_layers.proofs.walk.next_layer.Lts as lts
-use Rattle.tile_layers.proofs.walk.group_end.Reads as group-end-reads
-use Rattle.tile_layers.proofs.walk.layer_at.Reads as layer-at-reads
 
 mul-t10 : tie.Need-mul-t10
 mul-t10 c = search needs

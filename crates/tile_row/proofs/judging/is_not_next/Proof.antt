@@ -1,11 +1,8 @@
 -- `judging::is_not_next` meets its contract. Assumes nothing.
-use mir.Facts.{toZ-ofZ}
 use borrow.Author.Needs.{needs}
+use mir.Facts.{toZ-ofZ}
 use Rattle.tile_row.proofs.judging.is_not_next.Statement.{statement}
 use Rattle.tile_row.proofs.judging.is_not_next.Tie as tie
-use Rattle.tile_row.proofs.judging.is_not_next.Reads as reads
-use Rattle.tile_row.proofs.judging.is_not_next.Lts as lts
-use Rattle.tile_row.proofs.opening.natural.Reads as natural-reads
 
 natural-requires : tie.Need-natural-requires
 natural-requires c κs = search needs

@@ -1,15 +1,9 @@
 -- `judging::judge_list` meets its contract. Assumes nothing.
-use mathlib.Core.Path.{_≡_, sym, ap, _∙_}
-use Prim.Native.Nat.{ℕ}
 use borrow.Author.Tests.{lt-ltb, le-ltb}
-use lib.Dec.{ltb}
-use Rattle.tile_row.specs.Working.{listVerdict}
 use borrow.Author.Needs.{needs}
+use Rattle.tile_row.specs.Working.{listVerdict}
 use Rattle.tile_row.proofs.judging.judge_list.Statement.{statement}
 use Rattle.tile_row.proofs.judging.judge_list.Tie as tie
-use Rattle.tile_row.proofs.judging.judge_list.Reads as reads
-use Rattle.tile_row.proofs.judging.judge_list.Lts as lts
-use Rattle.tile_layers.proofs.listing.survey_layers.Reads as survey-layers-reads
 
 survey-layers-requires : tie.Need-survey-layers-requires
 survey-layers-requires c κs = search needs

@@ -1,22 +1,15 @@
 -- `judging::judge_work` meets its contract: a line for each condition, the lowest first. Assumes nothing.
 -- whether the row is in order, as the definition asks it
-use mathlib.Core.Path.{_≡_, sym, ap, _∙_}
+use mathlib.Core.Path.{_≡_, ap, _∙_}
 use Prim.Native.Nat.{ℕ, suc}
 use native.Mathlib.Numerals.{add-one}
+use borrow.Author.Needs.{needs}
 use mir.Facts.{toZ-ofZ}
 use Rattle.pixel_segment.specs.Field.{cpu}
 use Rattle.pixel_segment.specs.Order.{isRow}
 use Rattle.tile_row.specs.Working.{isNotNext, workVerdict}
-use borrow.Author.Needs.{needs}
 use Rattle.tile_row.proofs.judging.judge_work.Statement.{statement}
 use Rattle.tile_row.proofs.judging.judge_work.Tie as tie
-use Rattle.tile_row.proofs.judging.judge_work.Reads as reads
-use Rattle.tile_row.proofs.judging.judge_work.Lts as lts
-use Rattle.cached_tile.proofs.kept.Kept.is_tag_out_of_range.Reads as is-tag-out-of-range-reads
-use Rattle.pixel_segment.proofs.order.is_row.Reads as is-row-reads
-use Rattle.queue.proofs.is_queue.Reads as is-queue-reads
-use Rattle.styling.proofs.table.is_table.Reads as is-table-reads
-use Rattle.tile_row.proofs.judging.is_not_next.Reads as is-not-next-reads
 
 row-told : (c : tie.After-is-row) → c .is-row .result ≡ isRow cpu (suc (c .before .before .before .before .before .before .before .before .before .args .state .«tile_y»)) (c .before .before .before .before .before .before .before .before .before .args .row .now)
 row-told c = c .is-row .ensures ∙ ap (λ (n : ℕ). isRow cpu n (c .before .before .before .before .before .before .before .before .before .args .row .now)) (add-one (c .before .before .before .before .before .before .before .before .before .args .state .«tile_y»))

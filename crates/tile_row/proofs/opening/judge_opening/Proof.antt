@@ -1,26 +1,16 @@
 -- `opening::judge_opening` meets its contract: a line for each condition, the lowest first. Assumes nothing.
 -- whether the row is in order, as the definition asks it
-use mathlib.Core.Path.{_≡_, sym, ap, _∙_}
-use mathlib.Core.Bool.{not, _||_}
+use mathlib.Core.Path.{_≡_, ap, _∙_}
 use Prim.Native.Nat.{ℕ, suc}
 use native.Mathlib.Numerals.{add-one}
-use lib.IntN.{ℤ}
+use borrow.Author.Needs.{needs}
 use mir.Facts.{toZ-ofZ}
 use Rattle.laws.specs.Integer.{plus}
 use Rattle.pixel_segment.specs.Field.{cpu}
 use Rattle.pixel_segment.specs.Order.{isRow}
 use Rattle.tile_row.specs.Opening.{openVerdict, hasBadEnds}
-use borrow.Author.Needs.{needs}
 use Rattle.tile_row.proofs.opening.judge_opening.Statement.{statement}
 use Rattle.tile_row.proofs.opening.judge_opening.Tie as tie
-use Rattle.tile_row.proofs.opening.judge_opening.Reads as reads
-use Rattle.tile_row.proofs.opening.judge_opening.Lts as lts
-use Rattle.pixel_segment.proofs.order.is_row.Reads as is-row-reads
-use Rattle.queue.proofs.is_short.Reads as is-short-reads
-use Rattle.styling.proofs.table.is_short.Reads as table-is-short-reads
-use Rattle.styling.proofs.table.is_table.Reads as is-table-reads
-use Rattle.tile_row.proofs.opening.has_bad_ends.Reads as has-bad-ends-reads
-use Rattle.tile_row.proofs.opening.natural.Reads as natural-reads
 
 row-told : (c : tie.After-is-row) → c .is-row .result ≡ isRow cpu (suc (plus (c .before .before .before .before .before .before .before .before .before .before .before .args .tile-y))) (c .before .before .before .before .before .before .before .before .before .before .before .args .row .now)
 row-told c =

@@ -7,8 +7,6 @@ use Rattle.laws.proofs.Parts.{whole, lt-true, lt-false}
 use Rattle.laws.proofs.Machine.{within, unsigned}
 use Rattle.tile_row.proofs.opening.natural.Statement.{statement}
 use Rattle.tile_row.proofs.opening.natural.Tie as tie
-use Rattle.tile_row.proofs.opening.natural.Reads as reads
-use Rattle.tile_row.proofs.opening.natural.Lts as lts
 
 cast-result : tie.Need-cast-result
 cast-result c =

@@ -2,6 +2,7 @@
 -- the judge's verdict, over the arguments themselves
 use mathlib.Core.Path.{_≡_, sym, _∙_}
 use native.Mathlib.Omega.{arith}
+use borrow.Author.Needs.{needs}
 use mir.Syntax.{w16}
 use mir.Val.{SFits}
 use mir.Facts.{toZ-ofZ}
@@ -11,15 +12,8 @@ use Rattle.queue.proofs.Judging.{room}
 use Rattle.tile_row.specs.Opening.{openVerdict}
 use Rattle.tile_row.specs.declared.Verdict.the-variants.{Pass}
 use Rattle.tile_row.proofs.Verdicts.{Passed, opening-passed, refused-row, opened-row}
-use borrow.Author.Needs.{needs}
 use Rattle.tile_row.proofs.opening.open_tile_row.Statement.{statement}
 use Rattle.tile_row.proofs.opening.open_tile_row.Tie as tie
-use Rattle.tile_row.proofs.opening.open_tile_row.Reads as reads
-use Rattle.tile_row.proofs.opening.open_tile_row.Lts as lts
-use Rattle.pixel_segment.proofs.parts.left_of_tile.Reads as left-of-tile-reads
-use Rattle.queue.proofs.opening.open_queue.Reads as open-queue-reads
-use Rattle.tile_row.proofs.opening.judge_opening.Reads as judge-opening-reads
-use Rattle.tile_row.proofs.opening.opened.Reads as opened-reads
 
 told : (c : tie.After-judge-opening) → c .judge-opening .result ≡ openVerdict (c .before .before .before .before .before .before .before .args .tile-y) (c .before .before .before .before .before .before .before .args .from) (c .before .before .before .before .before .before .before .args .to) (c .before .before .before .before .before .before .before .args .row .now) (c .before .before .before .before .before .before .before .args .layers .now) (c .before .before .before .before .before .before .before .args .colors .now) (c .before .before .before .before .before .before .before .args .count) (c .before .before .before .before .before .before .before .args .ids .now) (c .before .before .before .before .before .before .before .args .covers .now)
 told c =

@@ -1,11 +1,8 @@
 -- `opening::opened` meets its contract. Assumes nothing.
-use mir.Facts.{toZ-ofZ}
 use borrow.Author.Needs.{needs}
+use mir.Facts.{toZ-ofZ}
 use Rattle.tile_row.proofs.opening.opened.Statement.{statement}
 use Rattle.tile_row.proofs.opening.opened.Tie as tie
-use Rattle.tile_row.proofs.opening.opened.Reads as reads
-use Rattle.tile_row.proofs.opening.opened.Lts as lts
-use Rattle.tile_row.proofs.opening.natural.Reads as natural-reads
 
 enum-known-made : tie.Need-enum-known-made
 enum-known-made c = search needs
