@@ -1,0 +1,3 @@
+-- Laws of the printed answer.
+pub mod Placing
+pub mod Telling
