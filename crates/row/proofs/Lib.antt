@@ -1,2 +1,1 @@
--- Laws of the row program.
-pub mod Places
+-- The row program has no laws of its own.

@@ -1,6 +1,6 @@
 -- The text of the lines that a driver told is that of the driven row, and 4,095 lines are never too few.
 -- Assumes nothing.
-use mathlib.Core.Path.{_≡_, refl, ap, ap₂, sym, _∙_}
+use mathlib.Core.Path.{_≡_, refl, ap, ap₂, sym, subst, _∙_}
 use mathlib.Core.List.{List, [], _∷_, _++_, append-nil, append-assoc, flatten}
 use Prim.Native.Nat.{ℕ, zero, suc, _+_, _*_, _/_, _≤_, min}
 use native.Mathlib.Nat.{add-zero, min-le-right}
@@ -16,6 +16,7 @@ use Rattle.row_driver.specs.declared.Driven.{Driven}
 use Rattle.row_driver.specs.declared.Line.{Line}
 use Rattle.job_text.specs.declared.Head.{Head}
 use Rattle.report.specs.Text.{names}
+use Rattle.report.specs.Put.{LineWritten}
 use Rattle.row_text.specs.Answer.{lineText, linesText, lastText, drivingText, headDriving, answerRoom}
 use Rattle.row_text.specs.Told.{lineIn, toldLines, toldText, Tells}
 
@@ -62,7 +63,7 @@ length-words (l ∷ ls) = let more = length-words ls in omega (arith, more)
 -- ---- what a driver told
 
 module _ {d : Driving} {old : List ℕ} {r : Driven} {told : List ℕ} (g : Drives d old r told) where
-  pub told-text : (first : ℕ) → toldText told first (toldBy r) ≡ drivingText first d
+  told-text : (first : ℕ) → toldText told first (toldBy r) ≡ drivingText first d
   unfolding toldText drivingText over
   told-text first =
       ap (toldText told first) (g .answer)
@@ -78,13 +79,18 @@ module _ {d : Driving} {old : List ℕ} {r : Driven} {told : List ℕ} (g : Driv
       let words = length-words (d .lines) in
       record { written = omega arith; few = omega arith; low = low; room = room }
 
--- ---- room for the lines
+-- ---- a row that is driven with room for 4,095 lines
 
-module _ (h : Head) (row words : List ℕ) (floats : List Float) (count : ℕ) (lines : List ℕ) where
-  pub never-short : length lines ≡ 20475
-      → rowDriving (h .row) (h .from) (h .to) (h .tiles) row words floats count lines ≡ headDriving h row words floats count
+module _ (h : Head) (row words : List ℕ) (floats : List Float) (count : ℕ) (lines : List ℕ) (long : length lines ≡ 20475) where
+  never-short : rowDriving (h .row) (h .from) (h .to) (h .tiles) row words floats count lines ≡ headDriving h row words floats count
   unfolding rowDriving
-  never-short long =
+  never-short =
       let due = dueTiles (h .from) (h .to) (h .tiles) in
       let few : due ≤ length lines / 5 = omega (arith, min-le-right (min (plus (h .to)) (plus (h .tiles))) 4095) in
       rw (le-ltb (length lines / 5) due few)
+
+  pub text-is : {r : Driven} {told out out′ : List ℕ} {first n : ℕ} → Drives (rowDriving (h .row) (h .from) (h .to) (h .tiles) row words floats count lines) lines r told
+      → first ≡ plus (h .from) → LineWritten (toldText told first (toldBy r)) out n out′ → LineWritten (drivingText (plus (h .from)) (headDriving h row words floats count)) out n out′
+  text-is {told = told} {out = out} {out′ = out′} {first = first} {n = n} g e w =
+      let is = told-text g first ∙ ap₂ drivingText e never-short in
+      subst (λ (t : List ℕ). LineWritten t out n out′) is w

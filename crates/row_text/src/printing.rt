@@ -78,11 +78,12 @@ fn print_names(out: &mut [u8], at: usize) -> usize
     place_or(at, report::print_names(out, at))
 }
 
-fn print_tile(out: &mut [u8], at: usize, line: TileLine) -> usize
-    requires { ⌜ at + 61 ≤ length (now out) ⌝ }
-    ensures { λ r. ⌜ (Printing (tileText line) (now (out .entry)) at r (now (out .exit))) × (r ≤ at + 61) ⌝ }
+// Prints line i, as that of the given tile.
+fn print_tile(told: &[u32], i: usize, tile: u32, out: &mut [u8], at: usize) -> usize
+    requires { ⌜ (i * 5 + 5 ≤ length (now told)) × (at + 61 ≤ length (now out)) ⌝ }
+    ensures { λ r. ⌜ (Printing (tileText (tileIn (now (told .entry)) i tile)) (now (out .entry)) at r (now (out .exit))) × (r ≤ at + 61) ⌝ }
 {
-    place_or(at, report::print_tile(out, at, line))
+    place_or(at, report::print_tile(out, at, tile_in(told, i, tile)))
 }
 
 pub fn print_refusal(out: &mut [u8], at: usize, number: u32) -> usize
@@ -101,7 +102,7 @@ fn print_lines(told: &[u32], first: u32, n: usize, out: &mut [u8], at: usize) ->
     let mut tile = first;
     let mut i: usize = 0;
     while i < n {
-        end = print_tile(out, end, tile_in(told, i, tile));
+        end = print_tile(told, i, tile, out, end);
         tile += 1;
         i += 1;
     }

@@ -1,51 +1,45 @@
+-- `print_lines` meets its contract: the invariant and its steps are those of `Lining`; the measure is the lines left. Assumes nothing.
+use Prim.Native.Nat.{_-_}
+use native.Mathlib.Omega.{arith}
+use Rattle.row_text.proofs.Lining.{Lining, start, words-there, line-room, next, end-of}
 use Rattle.row_text.proofs.printing.print_lines.Statement.{statement}
 use Rattle.row_text.proofs.printing.print_lines.Tie as tie
-use Rattle.row_text.proofs.printing.print_lines.Reads as reads
-use Rattle.row_text.proofs.printing.print_lines.Lts as lts
-use Rattle.row_text.proofs.printing.print_tile.Reads as print-tile-reads
-use Rattle.row_text.proofs.printing.tile_in.Reads as tile-in-reads
 
 abbrev Inv-loop : tie.InvT-loop
-Inv-loop told first n out₀ at end₀ tile₀ i₀ out end tile i = ?
+Inv-loop told first n out₀ at end₀ tile₀ i₀ out end tile i = Lining told first n out₀ at out end tile i
 
 abbrev μ-loop : tie.MeasureT-loop
-μ-loop told first n out₀ at end₀ tile₀ i₀ out end tile i = ?
+μ-loop told first n out₀ at end₀ tile₀ i₀ out end tile i = n - i
 
--- src/printing.rt:103:5
 loop-holds : tie.Need-loop-holds Inv-loop μ-loop
-loop-holds c = ?
+loop-holds c = start (c .before .before .pre)
 
--- src/printing.rt:104:36
-tile-in-requires : tie.Need-tile-in-requires Inv-loop μ-loop
-tile-in-requires c κs = ?
-
--- src/printing.rt:104:9
 print-tile-requires : tie.Need-print-tile-requires Inv-loop μ-loop
-print-tile-requires c κs = ?
+print-tile-requires c κs =
+    let v = c .before .before .loop .inv in
+    (words-there v (c .before .loop-test .taken), line-room v (c .before .loop-test .taken))
 
--- src/printing.rt:105:9
 add-tile : tie.Need-add-tile Inv-loop μ-loop
-add-tile c = ?
+add-tile c =
+    let v = c .before .before .before .before .before .loop .inv in
+    omega (arith, v .counted, v .asked .low, c .before .before .before .before .loop-test .taken)
 
--- src/printing.rt:106:9
 add-i : tie.Need-add-i Inv-loop μ-loop
-add-i c = ?
+add-i c = omega (arith, c .before .before .before .before .loop-test .taken)
 
--- src/printing.rt:103:5
 loop-less : tie.Need-loop-less Inv-loop μ-loop
-loop-less c = ?
+loop-less c = omega (arith, c .before .before .before .before .loop-test .taken)
 
--- src/printing.rt:103:5
 loop-again : tie.Need-loop-again Inv-loop μ-loop
-loop-again c = ?
+loop-again c =
+    let p = c .before .before in
+    next (p .before .before .before .loop .inv) (p .before .before .loop-test .taken) (p .print-tile .kept .1 .1 .1 .0) (p .print-tile .ensures)
 
--- src/printing.rt:96:1
 same-length : tie.Need-same-length Inv-loop μ-loop
-same-length c = ?
+same-length c = c .before .loop .inv .long
 
--- src/printing.rt:96:1
 returns : tie.Need-returns Inv-loop μ-loop
-returns c = ?
+returns c = end-of (c .before .loop .inv) (omega arith)
 
 pub print-lines-spec : {M : Type 1} → statement M
 print-lines-spec =
@@ -54,7 +48,6 @@ print-lines-spec =
     Inv-loop
     μ-loop
     loop-holds
-    tile-in-requires
     print-tile-requires
     add-tile
     add-i

@@ -1,77 +1,58 @@
+-- `tile_in` meets its contract. Assumes nothing.
 use borrow.Author.Needs.{needs}
 use Rattle.row_text.proofs.printing.tile_in.Statement.{statement}
 use Rattle.row_text.proofs.printing.tile_in.Tie as tie
-use Rattle.row_text.proofs.printing.tile_in.Reads as reads
-use Rattle.row_text.proofs.printing.tile_in.Lts as lts
-use Rattle.row_text.proofs.printing.op_of.Reads as op-of-reads
 
--- src/printing.rt:53:14
 mul-at : tie.Need-mul-at
 mul-at c = search needs
 
--- src/printing.rt:56:19
 mul-op-of : tie.Need-mul-op-of
 mul-op-of c = search needs
 
--- src/printing.rt:56:19
 shared-slice-read-op-of : tie.Need-shared-slice-read-op-of
 shared-slice-read-op-of c = search needs
 
--- src/printing.rt:56:13
 op-of-requires : tie.Need-op-of-requires
 op-of-requires c κs = search needs
 
--- src/printing.rt:57:22
 add-t9 : tie.Need-add-t9
 add-t9 c = search needs
 
--- src/printing.rt:57:17
 mul-t10 : tie.Need-mul-t10
 mul-t10 c = search needs
 
--- src/printing.rt:57:17
 shared-slice-read-t12 : tie.Need-shared-slice-read-t12
 shared-slice-read-t12 c = search needs
 
--- src/printing.rt:58:21
 add-t13 : tie.Need-add-t13
 add-t13 c = search needs
 
--- src/printing.rt:58:16
 mul-t14 : tie.Need-mul-t14
 mul-t14 c = search needs
 
--- src/printing.rt:58:16
 shared-slice-read-t16 : tie.Need-shared-slice-read-t16
 shared-slice-read-t16 c = search needs
 
--- src/printing.rt:59:22
 add-t17 : tie.Need-add-t17
 add-t17 c = search needs
 
--- src/printing.rt:59:17
 mul-t18 : tie.Need-mul-t18
 mul-t18 c = search needs
 
--- src/printing.rt:59:17
 shared-slice-read-t20 : tie.Need-shared-slice-read-t20
 shared-slice-read-t20 c = search needs
 
--- src/printing.rt:60:23
 add-t21 : tie.Need-add-t21
 add-t21 c = search needs
 
--- src/printing.rt:60:18
 mul-t22 : tie.Need-mul-t22
 mul-t22 c = search needs
 
--- src/printing.rt:60:18
 shared-slice-read-t24 : tie.Need-shared-slice-read-t24
 shared-slice-read-t24 c = search needs
 
--- src/printing.rt:49:1
 returns : tie.Need-returns
-returns c = ?
+returns c = rw (c .before .before .before .before .op-of .ensures)
 
 pub tile-in-spec : {M : Type 1} → statement M
 tile-in-spec =
