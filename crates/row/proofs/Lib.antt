@@ -1,1 +1,1 @@
--- The row program has no laws of its own.
+-- No laws of its own.

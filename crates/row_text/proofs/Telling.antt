@@ -70,7 +70,7 @@ module _ {d : Driving} {old : List ℕ} {r : Driven} {told : List ℕ} (g : Driv
       ∙ ap (λ (t : List ℕ). names ++ toldLines t first (length (d .lines)) ++ lastText (d .refusal)) (g .lines-are)
       ∙ ap (λ (t : List ℕ). names ++ t ++ lastText (d .refusal)) (told-lines (d .lines) (drop (length (wordsOf (d .lines))) old) first)
 
-  pub tells : {first : ℕ} {out : List ℕ} → length told ≡ 20475 → first ≤ 2147483647 → answerRoom ≤ length out → Tells told first (toldBy r) out
+  tells : {first : ℕ} {out : List ℕ} → length told ≡ 20475 → first ≤ 2147483647 → answerRoom ≤ length out → Tells told first (toldBy r) out
   unfolding over
   tells {first} {out} long low room =
       let ws = wordsOf (d .lines) in
@@ -89,8 +89,10 @@ module _ (h : Head) (row words : List ℕ) (floats : List Float) (count : ℕ) (
       let few : due ≤ length lines / 5 = omega (arith, min-le-right (min (plus (h .to)) (plus (h .tiles))) 4095) in
       rw (le-ltb (length lines / 5) due few)
 
-  pub text-is : {r : Driven} {told out out′ : List ℕ} {first n : ℕ} → Drives (rowDriving (h .row) (h .from) (h .to) (h .tiles) row words floats count lines) lines r told
-      → first ≡ plus (h .from) → LineWritten (toldText told first (toldBy r)) out n out′ → LineWritten (drivingText (plus (h .from)) (headDriving h row words floats count)) out n out′
-  text-is {told = told} {out = out} {out′ = out′} {first = first} {n = n} g e w =
-      let is = told-text g first ∙ ap₂ drivingText e never-short in
-      subst (λ (t : List ℕ). LineWritten t out n out′) is w
+  module _ {r : Driven} {told : List ℕ} (g : Drives (rowDriving (h .row) (h .from) (h .to) (h .tiles) row words floats count lines) lines r told) {first : ℕ} (e : first ≡ plus (h .from)) where
+    pub all-told : {out : List ℕ} → length told ≡ 20475 → plus (h .from) ≤ 2147483647 → answerRoom ≤ length out → Tells told first (toldBy r) out
+    all-told l low room = tells g l (omega arith) room
+
+    pub text-is : {out out′ : List ℕ} {n : ℕ} → LineWritten (toldText told first (toldBy r)) out n out′
+        → LineWritten (drivingText (plus (h .from)) (headDriving h row words floats count)) out n out′
+    text-is {out} {out′} {n} w = subst (λ (t : List ℕ). LineWritten t out n out′) (told-text g first ∙ ap₂ drivingText e never-short) w

@@ -1,13 +1,30 @@
 -- `drive` meets its contract: what the driver told, with room for every row. Assumes nothing.
-use mathlib.Core.Path.{refl}
+use mathlib.Core.Path.{_≡_, refl}
 use native.Mathlib.Omega.{arith}
 use borrow.Author.Needs.{needs}
+use lib.ListN.{replicate}
 use mir.Syntax.{w32}
+use Rattle.laws.specs.Integer.{plus}
 use Rattle.laws.proofs.Machine as machine
 use Rattle.laws.proofs.Machine.{kept}
-use Rattle.row_text.proofs.Telling.{tells, text-is}
+use Rattle.row_driver.specs.Driven.{rowDriving, Drives}
+use Rattle.row_text.proofs.Telling.{all-told, text-is}
 use Rattle.row_text.proofs.printing.drive.Statement.{statement}
 use Rattle.row_text.proofs.printing.drive.Tie as tie
+
+-- what the driver told
+told-by : (c : tie.After-drive-row)
+    → let a = c .before .before .before .before .before .before .before .before .before .before .args in
+    let d = c .drive-row in
+    Drives (rowDriving (a .head .row) (a .head .from) (a .head .to) (a .head .tiles) (a .row .now) (a .layers .now) (a .colors .now) (a .count) (replicate 20475 0)) (replicate 20475 0) (d .result) (d .last .1 .1 .1 .1 .1 .1 .1 .1 .0)
+told-by c =
+    let h = c .before .before .before .before .before .before .before .before .before .before .args .head in
+    let range = c .before .before .before .before .before .struct-told .given in
+    rw (kept w32 (h .row) (range .0 .1), kept w32 (h .from) (range .1 .1 .0 .1), kept w32 (h .to) (range .1 .1 .1 .0 .1), kept w32 (h .tiles) (range .1 .0 .1)) at (c .drive-row .ensures)
+
+-- the first tile
+first-is : (c : tie.After-natural) → c .natural .result ≡ plus (c .before .before .before .before .before .before .before .before .before .before .before .before .before .args .head .from)
+first-is c = rw (kept w32 (c .before .before .before .before .before .before .before .before .before .before .before .before .before .args .head .from) (c .before .before .before .before .before .before .before .before .struct-told .given .1 .1 .0 .1)) at (c .natural .ensures)
 
 slice-aggregate-drive-row : tie.Need-slice-aggregate-drive-row
 slice-aggregate-drive-row c = search needs
@@ -23,25 +40,19 @@ natural-requires c κs = search needs
 
 print-driven-requires : tie.Need-print-driven-requires
 print-driven-requires c κs =
-    let s = c .before .before .before .before .before .before .before .before .before .before .before .before .before .before in
-    let d = c .before .before .before .before .drive-row in
-    let range = c .before .before .before .before .before .before .before .before .before .struct-told .given in
-    let first = rw (kept w32 (s .args .head .from) (range .1 .1 .0 .1)) at (c .before .natural .ensures) in
-    let low = machine.within w32 (s .args .head .from) (record { sfits = range .1 .1 .0 .1 }) .above in
-    tells (d .ensures) (d .kept .1 .1 .1 .1 .1 .1 .1 .1 .0) (omega (arith, first, low)) (s .pre)
+    let a = c .before .before .before .before .before .before .before .before .before .before .before .before .before .before .args in
+    let low = machine.within w32 (a .head .from) (record { sfits = c .before .before .before .before .before .before .before .before .before .struct-told .given .1 .1 .0 .1 }) .above in
+    all-told (a .head) (a .row .now) (a .layers .now) (a .colors .now) (a .count) (replicate 20475 0) refl (told-by (c .before .before .before .before)) (first-is (c .before))
+    (c .before .before .before .before .drive-row .kept .1 .1 .1 .1 .1 .1 .1 .1 .0) (omega (arith, low)) (c .before .before .before .before .before .before .before .before .before .before .before .before .before .before .pre)
 
 same-length : tie.Need-same-length
 same-length c = search needs
 
 returns : tie.Need-returns
 returns c =
-    let s = c .before .before .before .before .before .before .before .before .before .before .before .before .before .before .before .before .before in
-    let a = s .args in
-    let h = a .head in
-    let range = c .before .before .before .before .before .before .before .before .before .before .before .before .struct-told .given in
-    let first = rw (kept w32 (h .from) (range .1 .1 .0 .1)) at (c .before .before .before .before .natural .ensures) in
-    let g = rw (kept w32 (h .row) (range .0 .1), kept w32 (h .from) (range .1 .1 .0 .1), kept w32 (h .to) (range .1 .1 .1 .0 .1), kept w32 (h .tiles) (range .1 .0 .1)) at (c .before .before .before .before .before .before .before .drive-row .ensures) in
-    text-is h (a .row .now) (a .layers .now) (a .colors .now) (a .count) _ refl g first (c .before .before .print-driven .ensures)
+    let a = c .before .before .before .before .before .before .before .before .before .before .before .before .before .before .before .before .before .args in
+    text-is (a .head) (a .row .now) (a .layers .now) (a .colors .now) (a .count) (replicate 20475 0) refl (told-by (c .before .before .before .before .before .before .before)) (first-is (c .before .before .before .before))
+    (c .before .before .print-driven .ensures)
 
 pub drive-spec : {M : Type 1} → statement M
 drive-spec =
