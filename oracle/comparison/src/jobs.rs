@@ -146,7 +146,8 @@ fn printed(text: &[u8]) -> (Vec<u8>, bool) {
     (output.stdout, output.status.success())
 }
 
-fn check(kind: &mut Kind, text: &[u8]) {
+/// One text on both sides.
+pub fn check(kind: &mut Kind, text: &[u8]) {
     let Some(answer) = answer(text) else {
         kind.case(false, || format!("{}: the Rust panics", told(text)));
         return;

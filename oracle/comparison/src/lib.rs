@@ -19,6 +19,7 @@ pub mod random;
 pub mod rows;
 pub mod scene;
 pub mod stored;
+pub mod stored_jobs;
 pub mod stored_rows;
 pub mod tally;
 pub mod words;
