@@ -1,5 +1,5 @@
 # Sourced: readies what the comparison is built from, and goes to oracle/. That is Debian's packages of the crates that the Rust needs, the
-# static library of the crate `ffi`, proved, and FORMA_SRC.
+# static library of the crate `ffi` and the program `row`, proved, and FORMA_SRC.
 cd "$(dirname "${BASH_SOURCE[0]}")/.."
 FORMA_SRC=$(realpath "${FORMA_SRC:-../shared/docs/src}")
 export FORMA_SRC
@@ -24,4 +24,5 @@ unpack() {
 mkdir -p target/oracle
 [ -f target/oracle/unpacked ] || (cd target/oracle && unpack)
 rt staticlib ffi >target/oracle/staticlib.log 2>&1 || { tail -n 20 target/oracle/staticlib.log >&2; exit 2; }
+rt check row >target/oracle/row.log 2>&1 || { tail -n 20 target/oracle/row.log >&2; exit 2; }
 cd oracle

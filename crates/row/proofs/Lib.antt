@@ -1,2 +1,1 @@
--- Laws of the row program.
-pub mod Places
+-- No laws of its own.

@@ -1,20 +1,22 @@
-//! `comparison answers` prints the Rust's answers for the crate `compare`. `comparison N SEED`: N random cases of each kind on both sides. The last line says how many were compared and how many differ.
+//! `comparison answers` prints the Rust's answers for the crate `compare`, and writes those of the crate `jobs`. `comparison N SEED`: N random cases of
+//! each kind on both sides, or with a word behind, of each kind whose name has it. The last line says how many were compared and how many differ.
 
 use std::{env, process::ExitCode};
 
-use comparison::{cached, calls, covers, layers, openings, paintings, plates, rows, stored, tally::Tally, words};
+use comparison::{cached, calls, covers, jobs, layers, openings, paintings, plates, rows, stored, stored_jobs, tally::Tally, words};
 
 fn main() -> ExitCode {
     if env::args().nth(1).as_deref() == Some("answers") {
         print!("{}", stored::answers());
+        stored_jobs::write();
         return ExitCode::SUCCESS;
     }
-    let numbers: Vec<u64> = env::args().skip(1).filter_map(|word| word.parse().ok()).collect();
+    let numbers: Vec<u64> = env::args().skip(1).take(2).filter_map(|word| word.parse().ok()).collect();
     let [n, seed] = numbers[..] else {
-        eprintln!("usage: comparison N SEED");
+        eprintln!("usage: comparison N SEED [WORD]");
         return ExitCode::from(2);
     };
-    let mut tally = Tally::new(n, seed);
+    let mut tally = Tally::new(n, seed, env::args().nth(3).unwrap_or_default());
     words::compare(&mut tally);
     covers::compare(&mut tally);
     cached::compare(&mut tally);
@@ -24,5 +26,7 @@ fn main() -> ExitCode {
     rows::compare(&mut tally);
     calls::compare(&mut tally);
     paintings::compare(&mut tally);
+    jobs::compare(&mut tally);
+    stored_jobs::compare(&mut tally);
     tally.end()
 }

@@ -18,6 +18,8 @@ const TOLD: u64 = 5;
 pub struct Tally {
     n: u64,
     seed: u64,
+    /// Only kinds with this in their name are tried.
+    only: String,
     compared: u64,
     differ: u64,
 }
@@ -30,8 +32,8 @@ pub struct Kind {
 }
 
 impl Tally {
-    pub fn new(n: u64, seed: u64) -> Self {
-        Self { n, seed, compared: 0, differ: 0 }
+    pub fn new(n: u64, seed: u64, only: String) -> Self {
+        Self { n, seed, only, compared: 0, differ: 0 }
     }
 
     /// N random cases of a kind, whose random numbers depend on its name and on the seed alone.
@@ -40,8 +42,16 @@ impl Tally {
         self.kind(name, |kind| (0..n).for_each(|_| case(kind)));
     }
 
+    /// One of so many parts of N, at least 1.
+    pub fn share(&self, parts: u64) -> u64 {
+        self.n.div_ceil(parts).max(1)
+    }
+
     /// A kind that says itself how many cases it has.
     pub fn kind(&mut self, name: &str, cases: impl FnOnce(&mut Kind)) {
+        if !name.contains(&self.only) {
+            return;
+        }
         let seed = name.bytes().fold(self.seed, |seed, byte| seed.wrapping_mul(0x100_0000_01B3) ^ u64::from(byte));
         let mut kind = Kind { random: Random::new(seed), compared: 0, differ: 0, outcomes: BTreeMap::new() };
         cases(&mut kind);

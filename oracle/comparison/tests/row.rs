@@ -1,6 +1,7 @@
 //! The row driver of the Rust itself: it does what `paint_tile_row` does, and gives the worked cases.
 
 use comparison::{
+    jobs::line,
     library::Fields,
     random::Random,
     scene::{any_scene, word, Picture, Scene},
@@ -8,7 +9,7 @@ use comparison::{
 use reference::{
     cpu::RGBA,
     painter::row::{paint_row, Frame, Row},
-    plain::{Cached, Decision, Record, Worked},
+    plain::{Cached, Decision, Record},
     Table,
 };
 
@@ -31,18 +32,6 @@ fn column(layer_id: u32, tile_x: i16, local_x: u8, cover: i8) -> Vec<u64> {
 fn row_of(mut parts: Vec<Vec<u64>>) -> Vec<u64> {
     parts.sort();
     parts.concat()
-}
-
-/// A line of the row program: tile, decision, listed, shown, octets, carried.
-fn line(tile: usize, worked: &Worked) -> String {
-    let op = match worked.decision {
-        Decision::None => "none",
-        Decision::Solid { .. } => "solid",
-        Decision::Paint => "paint",
-    };
-    let shown = worked.list.iter().skip(worked.skipped).filter(|entry| entry.shown).count();
-    let octets: u32 = worked.painted.iter().map(|painted| painted.mark.count_ones()).sum();
-    format!("{tile} {op} {} {shown} {octets} {}", worked.list.len(), worked.queue.len())
 }
 
 #[test]

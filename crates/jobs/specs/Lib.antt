@@ -1,0 +1,1 @@
+-- The program jobs has no definitions of its own.

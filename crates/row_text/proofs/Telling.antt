@@ -1,0 +1,98 @@
+-- The text of the lines that a driver told is that of the driven row, and 4,095 lines are never too few.
+-- Assumes nothing.
+use mathlib.Core.Path.{_≡_, refl, ap, ap₂, sym, subst, _∙_}
+use mathlib.Core.List.{List, [], _∷_, _++_, append-nil, append-assoc, flatten}
+use Prim.Native.Nat.{ℕ, zero, suc, _+_, _*_, _/_, _≤_, min}
+use native.Mathlib.Nat.{add-zero, min-le-right}
+use native.Mathlib.Omega.{arith}
+use borrow.Author.Tests.{le-ltb}
+use lib.Ieee.{Float}
+use lib.ListN.{length, drop, getD, length-append}
+use Rattle.laws.specs.Integer.{plus}
+use Rattle.laws.specs.Lists.{over}
+use Rattle.row_driver.specs.Lines.{lineWords, wordsOf}
+use Rattle.row_driver.specs.Driven.{Driving, Told, dueTiles, rowDriving, toldBy, Drives}
+use Rattle.row_driver.specs.declared.Driven.{Driven}
+use Rattle.row_driver.specs.declared.Line.{Line}
+use Rattle.job_text.specs.declared.Head.{Head}
+use Rattle.report.specs.Text.{names}
+use Rattle.report.specs.Put.{LineWritten}
+use Rattle.row_text.specs.Answer.{lineText, linesText, lastText, drivingText, headDriving, answerRoom}
+use Rattle.row_text.specs.Told.{lineIn, toldLines, toldText, Tells}
+
+-- ---- the lines that the words say
+
+module _ (l : Line) (rest : List ℕ) where
+  later : (i : ℕ) → lineIn (lineWords l ++ rest) (suc i) ≡ lineIn rest i
+  later i =
+      let first : suc i * 5 ≡ suc (suc (suc (suc (suc (i * 5))))) = omega arith in
+      let at : (k : ℕ) → getD (lineWords l ++ rest) (suc i * 5 + k) 0 ≡ getD rest (i * 5 + k) 0
+      = λ k. ap (λ (n : ℕ). getD (lineWords l ++ rest) n 0) (after i k) in
+      λ j.
+      record {
+        decision = getD (lineWords l ++ rest) (first j) 0;
+        listed = at 1 j;
+        shown = at 2 j;
+        octets = at 3 j;
+        carried = at 4 j;
+      }
+    where
+      after : (i k : ℕ) → suc i * 5 + k ≡ suc (suc (suc (suc (suc (i * 5 + k)))))
+      after i k = omega arith
+
+  -- the first one, and those after it
+  told-more : (first n : ℕ) → toldLines (lineWords l ++ rest) first (suc n) ≡ lineText first l ++ toldLines rest (suc first) n
+  unfolding toldLines
+  told-more first zero = ap (λ (n : ℕ). lineText n l) (add-zero first) ∙ sym (append-nil (lineText first l))
+  told-more first (suc n) =
+      let tile : first + suc n ≡ suc first + n = omega arith in
+      ap₂ _++_ (told-more first n) (ap₂ lineText tile (later n))
+      ∙ append-assoc (lineText first l) (toldLines rest (suc first) n) (lineText (suc first + n) (lineIn rest n))
+
+told-lines : (ls : List Line) (rest : List ℕ) (first : ℕ) → toldLines (wordsOf ls ++ rest) first (length ls) ≡ linesText first ls
+unfolding toldLines linesText wordsOf flatten
+told-lines [] rest first = refl
+told-lines (l ∷ ls) rest first =
+    told-more l (wordsOf ls ++ rest) first (length ls) ∙ ap (λ (t : List ℕ). lineText first l ++ t) (told-lines ls rest (suc first))
+
+length-words : (ls : List Line) → length (wordsOf ls) ≡ length ls * 5
+unfolding wordsOf flatten
+length-words [] = refl
+length-words (l ∷ ls) = let more = length-words ls in omega (arith, more)
+
+-- ---- what a driver told
+
+module _ {d : Driving} {old : List ℕ} {r : Driven} {told : List ℕ} (g : Drives d old r told) where
+  told-text : (first : ℕ) → toldText told first (toldBy r) ≡ drivingText first d
+  unfolding toldText drivingText over
+  told-text first =
+      ap (toldText told first) (g .answer)
+      ∙ ap (λ (t : List ℕ). names ++ toldLines t first (length (d .lines)) ++ lastText (d .refusal)) (g .lines-are)
+      ∙ ap (λ (t : List ℕ). names ++ t ++ lastText (d .refusal)) (told-lines (d .lines) (drop (length (wordsOf (d .lines))) old) first)
+
+  tells : {first : ℕ} {out : List ℕ} → length told ≡ 20475 → first ≤ 2147483647 → answerRoom ≤ length out → Tells told first (toldBy r) out
+  unfolding over
+  tells {first} {out} long low room =
+      let ws = wordsOf (d .lines) in
+      let many : toldBy r .written ≡ length (d .lines) = ap (λ (t : Told). t .written) (g .answer) in
+      let all : length told ≡ length ws + length (drop (length ws) old) = ap length (g .lines-are) ∙ length-append ws (drop (length ws) old) in
+      let words = length-words (d .lines) in
+      record { written = omega arith; few = omega arith; low = low; room = room }
+
+-- ---- a row that is driven with room for 4,095 lines
+
+module _ (h : Head) (row words : List ℕ) (floats : List Float) (count : ℕ) (lines : List ℕ) (long : length lines ≡ 20475) where
+  never-short : rowDriving (h .row) (h .from) (h .to) (h .tiles) row words floats count lines ≡ headDriving h row words floats count
+  unfolding rowDriving
+  never-short =
+      let due = dueTiles (h .from) (h .to) (h .tiles) in
+      let few : due ≤ length lines / 5 = omega (arith, min-le-right (min (plus (h .to)) (plus (h .tiles))) 4095) in
+      rw (le-ltb (length lines / 5) due few)
+
+  module _ {r : Driven} {told : List ℕ} (g : Drives (rowDriving (h .row) (h .from) (h .to) (h .tiles) row words floats count lines) lines r told) {first : ℕ} (e : first ≡ plus (h .from)) where
+    pub all-told : {out : List ℕ} → length told ≡ 20475 → plus (h .from) ≤ 2147483647 → answerRoom ≤ length out → Tells told first (toldBy r) out
+    all-told l low room = tells g l (omega arith) room
+
+    pub text-is : {out out′ : List ℕ} {n : ℕ} → LineWritten (toldText told first (toldBy r)) out n out′
+        → LineWritten (drivingText (plus (h .from)) (headDriving h row words floats count)) out n out′
+    text-is {out} {out′} {n} w = subst (λ (t : List ℕ). LineWritten t out n out′) (told-text g first ∙ ap₂ drivingText e never-short) w

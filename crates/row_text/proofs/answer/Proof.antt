@@ -1,0 +1,132 @@
+-- `answer` meets its contract: what is lent to be driven is the job that was read, and arrays of these lengths hold every job. Assumes nothing.
+use mathlib.Core.Path.{refl, sym}
+use Prim.Native.Nat.{_*_}
+use native.Mathlib.Omega.{arith}
+use borrow.Author.Needs.{needs}
+use lib.Seq.{length-take-le}
+use Rattle.report.proofs.Lines.{at-front}
+use Rattle.row_text.proofs.Reading.{Accepts, accepts, has-room, refuses, same-text}
+use Rattle.row_text.proofs.answer.Statement.{statement}
+use Rattle.row_text.proofs.answer.Tie as tie
+
+slice-aggregate-read-job : tie.Need-slice-aggregate-read-job
+slice-aggregate-read-job c = search needs
+
+slice-aggregate-read-job-2 : tie.Need-slice-aggregate-read-job-2
+slice-aggregate-read-job-2 c = search needs
+
+slice-aggregate-read-job-3 : tie.Need-slice-aggregate-read-job-3
+slice-aggregate-read-job-3 c = search needs
+
+read-job-requires : tie.Need-read-job-requires
+read-job-requires c κs = search needs
+
+enum-known-head : tie.Need-enum-known-head
+enum-known-head c = search needs
+
+mul-words : tie.Need-mul-words
+mul-words c =
+    let j = c .before .before .before .before .before .before .read-job in
+    let x = accepts (j .ensures) refl refl refl (c .before .head .given .1) in
+    omega (arith, x .words-fit)
+
+mul-floats : tie.Need-mul-floats
+mul-floats c =
+    let j = c .before .before .before .before .before .before .read-job in
+    let x = accepts (j .ensures) refl refl refl (c .before .head .given .1) in
+    omega (arith, x .colors-fit)
+
+array-share-prefix-row : tie.Need-array-share-prefix-row
+array-share-prefix-row c =
+    let j = c .before .before .before .before .before .before .read-job in
+    let x = accepts (j .ensures) refl refl refl (c .before .head .given .1) in
+    omega (arith, x .row-fits)
+
+slice-aggregate-drive : tie.Need-slice-aggregate-drive
+slice-aggregate-drive c =
+    let j = c .before .before .before .before .before .before .before .read-job in
+    let x = accepts (j .ensures) refl refl refl (c .before .before .head .given .1) in
+    sym (length-take-le (c .before .before .head .given .0 .1 .1 .0) (j .last .1 .1 .1 .0) (omega (arith, x .row-fits, j .kept .1 .1 .1 .0)))
+
+array-share-prefix-layers : tie.Need-array-share-prefix-layers
+array-share-prefix-layers c =
+    let j = c .before .before .before .before .before .before .before .read-job in
+    let x = accepts (j .ensures) refl refl refl (c .before .before .head .given .1) in
+    omega (arith, x .words-fit)
+
+slice-aggregate-drive-2 : tie.Need-slice-aggregate-drive-2
+slice-aggregate-drive-2 c =
+    let j = c .before .before .before .before .before .before .before .before .read-job in
+    let x = accepts (j .ensures) refl refl refl (c .before .before .before .head .given .1) in
+    sym (length-take-le (c .before .before .before .head .given .0 .1 .0 * 8) (j .last .1 .0) (omega (arith, x .words-fit, j .kept .1 .0)))
+
+array-share-prefix-colors : tie.Need-array-share-prefix-colors
+array-share-prefix-colors c =
+    let j = c .before .before .before .before .before .before .before .before .read-job in
+    let x = accepts (j .ensures) refl refl refl (c .before .before .before .head .given .1) in
+    omega (arith, x .colors-fit)
+
+slice-aggregate-drive-3 : tie.Need-slice-aggregate-drive-3
+slice-aggregate-drive-3 c =
+    let j = c .before .before .before .before .before .before .before .before .before .read-job in
+    let x = accepts (j .ensures) refl refl refl (c .before .before .before .before .head .given .1) in
+    sym (length-take-le (c .before .before .before .before .head .given .0 .1 .0 * 4) (j .last .1 .1 .0) (omega (arith, x .colors-fit, j .kept .1 .1 .0)))
+
+drive-requires : tie.Need-drive-requires
+drive-requires c κs = search needs
+
+enum-told : tie.Need-enum-told
+enum-told c = search needs
+
+enum-told-2 : tie.Need-enum-told-2
+enum-told-2 c = search needs
+
+print-refusal-requires : tie.Need-print-refusal-requires
+print-refusal-requires c κs = search needs
+
+same-length : tie.Need-same-length
+same-length c = search needs
+
+returns : tie.Need-returns
+returns c =
+    let j = c .before .before .before .before .before .before .before .before .before .before .before .before .before .read-job in
+    let x = accepts (j .ensures) refl refl refl (c .before .before .before .before .before .before .before .before .head .given .1) in
+    same-text (x .answer) (c .before .before .drive .ensures)
+
+returns-2 : tie.Need-returns-2
+returns-2 c = absurd (has-room (c .before .before .before .before .before .read-job .ensures) refl refl refl (c .enum-told .given .1))
+
+same-length-2 : tie.Need-same-length-2
+same-length-2 c = search needs
+
+returns-3 : tie.Need-returns-3
+returns-3 c =
+    let p = c .before .before .print-refusal .ensures in
+    same-text (refuses (c .before .before .before .before .before .before .before .before .before .read-job .ensures) refl refl refl (c .before .before .before .before .enum-told2 .given .1)) (at-front (p .0) (omega (arith, p .1, c .before .before .before .before .before .before .before .before .before .before .before .before .before .before .before .pre)))
+
+pub answer-spec : {M : Type 1} → statement M
+answer-spec =
+    tie.close
+    (tie.spec
+    slice-aggregate-read-job
+    slice-aggregate-read-job-2
+    slice-aggregate-read-job-3
+    read-job-requires
+    enum-known-head
+    mul-words
+    mul-floats
+    array-share-prefix-row
+    slice-aggregate-drive
+    array-share-prefix-layers
+    slice-aggregate-drive-2
+    array-share-prefix-colors
+    slice-aggregate-drive-3
+    drive-requires
+    enum-told
+    enum-told-2
+    print-refusal-requires
+    same-length
+    returns
+    returns-2
+    same-length-2
+    returns-3)

@@ -1,0 +1,3 @@
+-- What the row program prints for a job text.
+pub mod Answer
+pub mod Told
