@@ -12,7 +12,7 @@ use lib.Dec.{leb}
 use lib.Ieee.{Float}
 use lib.ListN.{length, take, drop}
 use lib.Seq.{take-at}
-use Rattle.laws.specs.Answer.{Answer, given}
+use Rattle.laws.specs.Answer.{Answer, refused, given}
 use Rattle.laws.specs.Integer.{plus}
 use Rattle.laws.specs.Lists.{over}
 use Rattle.laws.proofs.Bools.{left, right}
@@ -59,6 +59,12 @@ same-driving : {h h′ : Head} {row row′ words words′ : List ℕ} {floats fl
     → drivingText (plus (h .from)) (headDriving h row words floats n) ≡ drivingText (plus (h′ .from)) (headDriving h′ row′ words′ floats′ n′)
 same-driving eh er ew ef en = λ i. drivingText (plus (eh i .from)) (headDriving (eh i) (er i) (ew i) (ef i) (en i))
 
+-- the cases of an answer by numbers
+abbrev caseOf : Answer (Option Numbers) → ℕ
+caseOf (given (some x)) = 0
+caseOf (given none) = 1
+caseOf (refused n) = 2
+
 pub record Accepts (text : List ℕ) (h : Head) (n m : ℕ) (layers : List ℕ) (colors : List Float) (row : List ℕ) : Type 0 where
   pub words-fit : n * 8 ≤ 512
   pub colors-fit : n * 4 ≤ 256
@@ -66,6 +72,9 @@ pub record Accepts (text : List ℕ) (h : Head) (n m : ℕ) (layers : List ℕ) 
   pub answer : answerText text ≡ frontsText h n m layers colors row
 
 module _ {text layers : List ℕ} {colors : List Float} {row : List ℕ} {r : Reading} {layers′ : List ℕ} {colors′ : List Float} {row′ : List ℕ} (g : JobRead text layers colors row r layers′ colors′ row′) (l : length layers ≡ 512) (c : length colors ≡ 256) (w : length row ≡ 2048) where
+  same-case : {x : Reading} {o : Outcome} → r ≡ x → Left o layers colors row r layers′ colors′ row′ → caseOf (answerOf x) ≡ caseOf (answerTo o)
+  same-case e f = ap caseOf (sym (ap answerOf e) ∙ f .answer)
+
   pub accepts : {h : Head} {n m : ℕ} → r ≡ Accepted h n m → Accepts text h n m layers′ colors′ row′
   unfolding hasRoom answerText jobDriving
   accepts {h} {n} {m} e = by (outcomeOf text layers colors row) (g .says) (g .left)
@@ -96,20 +105,20 @@ module _ {text layers : List ℕ} {colors : List Float} {row : List ℕ} {r : Re
                 (front (tableColors (j .layers)) colors (f .colors-written) (length-colors (j .layers) ∙ ap (λ (k : ℕ). k * 4) (sym many)))
                 many);
           }
-      by (noRoom j) s f = absurd (let q = sym (ap answerOf e) ∙ f .answer in let z : _≡_ {A = ℕ} 0 1 = cc in omega arith)
-      by malformed s f = absurd (let q = sym (ap answerOf e) ∙ f .answer in let z : _≡_ {A = ℕ} 0 1 = cc in omega arith)
+      by (noRoom j) s f = absurd (omega (arith, same-case e f))
+      by malformed s f = absurd (omega (arith, same-case e f))
 
   pub has-room : r ≡ NoRoom → ⊥
   has-room e = by (outcomeOf text layers colors row) (g .says) (g .left)
     where
       by : (o : Outcome) → Says text layers colors row o → Left o layers colors row r layers′ colors′ row′ → ⊥
-      by (accepted j) s f = let q = sym (ap answerOf e) ∙ f .answer in let z : _≡_ {A = ℕ} 0 1 = cc in omega arith
+      by (accepted j) s f = omega (arith, same-case e f)
       by (noRoom j) s f =
           let room = always-room j layers colors row (s .0 .form) (omega arith) (omega arith) (omega arith) in
           let none = s .1 in
           let z : _≡_ {A = ℕ} 0 1 = cc in
           omega arith
-      by malformed s f = let q = sym (ap answerOf e) ∙ f .answer in let z : _≡_ {A = ℕ} 0 1 = cc in omega arith
+      by malformed s f = omega (arith, same-case e f)
 
   pub refuses : r ≡ Malformed → answerText text ≡ refusalText 10
   unfolding answerText
@@ -120,8 +129,8 @@ module _ {text layers : List ℕ} {colors : List Float} {row : List ℕ} {r : Re
       not-parsed s (some j) p = absurd (s j (sound text j p .form) (sound text j p .printed))
 
       by : (o : Outcome) → Says text layers colors row o → Left o layers colors row r layers′ colors′ row′ → answerText text ≡ refusalText 10
-      by (accepted j) s f = absurd (let q = sym (ap answerOf e) ∙ f .answer in let z : _≡_ {A = ℕ} 0 1 = cc in omega arith)
-      by (noRoom j) s f = absurd (let q = sym (ap answerOf e) ∙ f .answer in let z : _≡_ {A = ℕ} 0 1 = cc in omega arith)
+      by (accepted j) s f = absurd (omega (arith, same-case e f))
+      by (noRoom j) s f = absurd (omega (arith, same-case e f))
       by malformed s f = not-parsed s (parse text) refl
 
 -- a text by another name

@@ -17,7 +17,7 @@ ghost use Rattle.report.specs.Put.{LineWritten};
 ghost use Rattle.row_text.specs.Answer.{opOf, drivingText, headDriving, answerRoom};
 ghost use Rattle.row_text.specs.Told.{placeOr, tileIn, toldLines, toldText, Lines, Tells};
 
-pub fn number_of(refusal: Refusal) -> u32
+fn number_of(refusal: Refusal) -> u32
     ensures { λ r. ⌜ r ≡ numberOf refusal ⌝ }
 {
     match refusal {
