@@ -3,7 +3,7 @@
 -- Assumes nothing.
 use mathlib.Core.Path.{_≡_, refl, ap, sym, subst, _∙_}
 use mathlib.Core.Bool.{_&&_}
-use mathlib.Core.List.{List, [], _∷_, flatten}
+use mathlib.Core.List.{List}
 use mathlib.Core.Option.{Option, some, none}
 use Prim.Native.Nat.{ℕ, _*_, _/_, _≤_}
 use native.Mathlib.Omega.{arith}
@@ -22,11 +22,12 @@ use Rattle.job_text.specs.Rules.{segmentCount}
 use Rattle.job_text.specs.declared.Head.{Head}
 use Rattle.job_text.specs.declared.layer.LayerLine.{LayerLine}
 use Rattle.job_text.proofs.Laws.{complete, sound}
-use Rattle.job.specs.Table.{tableWords, tableColors}
+use Rattle.job.specs.Table.{layerWords, layerColors, tableWords, tableColors}
 use Rattle.job.specs.Row.{rowWords}
 use Rattle.job.specs.Read.{Outcome, accepted, noRoom, malformed, Numbers, hasRoom, outcomeOf, answerOf, answerTo, Says, Left, JobRead}
 use Rattle.job.specs.declared.Reading.{Reading}
 use Rattle.job.specs.declared.Reading.the-variants.{Accepted, NoRoom, Malformed}
+use Rattle.job.proofs.Records.{length-parts}
 use Rattle.job.proofs.Room.{always-room}
 use Rattle.job.proofs.Rows.{length-row}
 use Rattle.report.specs.Text.{refusalText}
@@ -36,14 +37,12 @@ use Rattle.row_text.specs.Answer.{drivingText, headDriving, jobDriving, 
 -- ---- the fronts of the arrays
 
 length-words : (ls : List LayerLine) → length (tableWords ls) ≡ length ls * 8
-unfolding tableWords flatten
-length-words [] = refl
-length-words (l ∷ ls) = let more = length-words ls in omega (arith, more)
+unfolding tableWords
+length-words ls = omega (arith, length-parts 8 layerWords (λ l. refl) ls)
 
 length-colors : (ls : List LayerLine) → length (tableColors ls) ≡ length ls * 4
-unfolding tableColors flatten
-length-colors [] = refl
-length-colors (l ∷ ls) = let more = length-colors ls in omega (arith, more)
+unfolding tableColors
+length-colors ls = omega (arith, length-parts 4 layerColors (λ l. refl) ls)
 
 front : {A : Type 0} (ws old : List A) {new : List A} {n : ℕ} → new ≡ over ws old → length ws ≡ n → take n new ≡ ws
 unfolding over

@@ -15,6 +15,7 @@ use Rattle.row_driver.specs.Driven.{Driving, Told, dueTiles, rowDriving, toldBy
 use Rattle.row_driver.specs.declared.Driven.{Driven}
 use Rattle.row_driver.specs.declared.Line.{Line}
 use Rattle.job_text.specs.declared.Head.{Head}
+use Rattle.job.proofs.Records.{length-parts}
 use Rattle.report.specs.Text.{names}
 use Rattle.report.specs.Put.{LineWritten}
 use Rattle.row_text.specs.Answer.{lineText, linesText, lastText, drivingText, headDriving, answerRoom}
@@ -56,9 +57,8 @@ told-lines (l ∷ ls) rest first =
     told-more l (wordsOf ls ++ rest) first (length ls) ∙ ap (λ (t : List ℕ). lineText first l ++ t) (told-lines ls rest (suc first))
 
 length-words : (ls : List Line) → length (wordsOf ls) ≡ length ls * 5
-unfolding wordsOf flatten
-length-words [] = refl
-length-words (l ∷ ls) = let more = length-words ls in omega (arith, more)
+unfolding wordsOf
+length-words ls = omega (arith, length-parts 5 lineWords (λ l. refl) ls)
 
 -- ---- what a driver told
 
