@@ -26,6 +26,7 @@ use Rattle.tile_row.specs.declared.painting.Painted.{Painted}
 use Rattle.tile_row.specs.declared.working.TileDone.{TileDone}
 use Rattle.tile_row.specs.declared.working.TileWorked.{TileWorked}
 use Rattle.forms.specs.declared.working.Lists.{Lists}
+use Rattle.forms.specs.declared.working.TileWork.{TileWork}
 
 abbrev pub sameFlag : Bool → Bool → Bool
 sameFlag true b = b
@@ -121,3 +122,6 @@ sameDone a b = sameDecision (a .decision) (b .decision) && eqb (a .listed) (b .l
 
 abbrev pub sameWorked : TileWorked → TileWorked → Bool
 sameWorked a b = sameAnswer sameDone (workAnswer (a .answer)) (workAnswer (b .answer)) && sameState (a .state) (b .state) && sameKept (a .kept) (b .kept)
+
+abbrev pub sameWork : TileWork → TileWork → Bool
+sameWork a b = sameWorked (a .worked) (b .worked) && sameLists (a .lists) (b .lists)

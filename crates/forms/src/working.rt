@@ -11,6 +11,7 @@ ghost use mathlib.Core.Path.{_≡_};
 ghost use mathlib.Core.Bool.{true};
 ghost use Rattle.tile_row.specs.TileWork.{workOf, GivesWork};
 ghost use Rattle.forms.specs.Lent.{lentIn};
+ghost use Rattle.forms.specs.Same.{sameWork};
 
 // The six lists after a work: the queue handed on, and the tile's list.
 pub struct Lists {
@@ -25,6 +26,16 @@ pub struct Lists {
 pub struct TileWork {
     pub worked: TileWorked,
     pub lists: Lists,
+}
+
+fn same_work(a: TileWork, b: TileWork) -> bool
+    ensures { λ r. ⌜ r ≡ sameWork a b ⌝ }
+{
+    let worked = a.worked;
+    let other_worked = b.worked;
+    let lists = a.lists;
+    let other_lists = b.lists;
+    same_answers::same_worked(worked, other_worked) & same_lists::same_lists(lists, other_lists)
 }
 
 // By columns, in lists that start as those given.
@@ -209,9 +220,5 @@ pub fn works_alike(
         list_segments,
         list_shown,
     );
-    let a = by_columns.worked;
-    let b = by_records.worked;
-    let lists = by_columns.lists;
-    let other_lists = by_records.lists;
-    same_answers::same_worked(a, b) & same_lists::same_lists(lists, other_lists)
+    same_work(by_columns, by_records)
 }

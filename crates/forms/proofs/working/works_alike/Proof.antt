@@ -1,4 +1,5 @@
 -- `working::works_alike` meets its contract. Assumes nothing.
+use mathlib.Core.Path.{_∙_}
 use borrow.Author.Needs.{needs}
 use Rattle.forms.proofs.Both.{same-work}
 use Rattle.forms.proofs.working.works_alike.Statement.{statement}
@@ -10,15 +11,11 @@ work-columns-requires c κs = search needs
 work-records-requires : tie.Need-work-records-requires
 work-records-requires c κs = search needs
 
-same-worked-requires : tie.Need-same-worked-requires
-same-worked-requires c κs = search needs
-
-same-lists-requires : tie.Need-same-lists-requires
-same-lists-requires c κs = search needs
+same-work-requires : tie.Need-same-work-requires
+same-work-requires c κs = search needs
 
 returns : tie.Need-returns
-returns c = let called = c .before .before .before .before .before .before in
-    rw (c .same-lists .ensures, c .before .same-worked .ensures) (same-work (called .before .work-columns .ensures) (called .work-records .ensures))
+returns c = c .same-work .ensures ∙ same-work (c .before .before .work-columns .ensures) (c .before .work-records .ensures)
 
 pub works-alike-spec : {M : Type 1} → statement M
 works-alike-spec =
@@ -26,6 +23,5 @@ works-alike-spec =
     (tie.spec
     work-columns-requires
     work-records-requires
-    same-worked-requires
-    same-lists-requires
+    same-work-requires
     returns)
