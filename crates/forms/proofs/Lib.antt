@@ -3,3 +3,4 @@ pub mod Alike
 pub mod Both
 pub mod Comparing
 pub mod Making
+pub mod Numbers
