@@ -5,7 +5,6 @@ use mathlib.Core.List.{List}
 use Prim.Native.Nat.{ℕ}
 use lib.Dec.{eqb}
 use lib.Ieee.{Float}
-use Rattle.laws.specs.Answer.{Answer}
 use Rattle.laws.proofs.Bools.{both}
 use Rattle.styling.specs.declared.Layer.{Layer}
 use Rattle.queue.specs.Queue.{Carry}
@@ -15,8 +14,8 @@ use Rattle.cached_tile.specs.declared.LayerCount.{LayerCount}
 use Rattle.cached_tile.specs.declared.SolidColor.{SolidColor}
 use Rattle.cached_tile.specs.declared.UpdatedLayerCount.{UpdatedLayerCount}
 use Rattle.cached_tile.specs.declared.UpdatedSolidColor.{UpdatedSolidColor}
-use Rattle.tile_row.specs.Painting.{paintAnswer, PaintsBy}
-use Rattle.tile_row.specs.TileWork.{WorkOut, WorkLent, workAnswer, GivesWork}
+use Rattle.tile_row.specs.Painting.{PaintsBy}
+use Rattle.tile_row.specs.TileWork.{WorkOut, WorkLent, GivesWork}
 use Rattle.tile_row.specs.declared.RowState.{RowState}
 use Rattle.tile_row.specs.declared.Verdict.{Verdict}
 use Rattle.tile_row.specs.declared.painting.Painted.{Painted}

@@ -32,7 +32,7 @@ abbrev pub sameFlag : Bool → Bool → Bool
 sameFlag true b = b
 sameFlag false b = not b
 
--- by ==, but what is no number agrees with itself
+-- by ==, so that both zeros agree, but what is no number agrees with itself
 abbrev pub sameFloat : Float → Float → Bool
 sameFloat x y = eq x y || (not (eq x x) && not (eq y y))
 

@@ -81,7 +81,7 @@ pub fn paint_records(
     }
 }
 
-// For every call with a queue of 256 entries and a plane of 256 numbers.
+// Alike for every call with a queue of 256 entries and a plane of 256 numbers. Refusal 1 is had here only by a table shorter than its count.
 pub fn paints_alike(
     state: RowState,
     tile: i32,

@@ -9,7 +9,7 @@ pub fn same_flag(a: bool, b: bool) -> bool
     if a { b } else { !b }
 }
 
-// By ==, but what is no number agrees with itself.
+// By ==, so that both zeros agree, but what is no number agrees with itself.
 pub fn same_float(a: f32, b: f32) -> bool
     ensures { λ r. ⌜ r ≡ sameFloat a b ⌝ }
 {

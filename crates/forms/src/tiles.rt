@@ -6,7 +6,7 @@ use cached_tile::SolidColor;
 ghost use mathlib.Core.Path.{_≡_};
 ghost use mathlib.Core.Bool.{true};
 
-// For every tile, with a new count or none.
+// Alike for every tile, with a new count or none.
 pub fn counts_alike(tile: CachedTile, layer_count: LayerCount) -> bool
     ensures { λ r. ⌜ r ≡ true ⌝ }
 {
@@ -19,7 +19,7 @@ pub fn counts_alike(tile: CachedTile, layer_count: LayerCount) -> bool
     same_tiles::same_count(before, other_before) & same_tiles::same_tile(after, other_after)
 }
 
-// For every tile, with a new colour or none.
+// Alike for every tile, with a new colour or none.
 pub fn colors_alike(tile: CachedTile, solid_color: SolidColor) -> bool
     ensures { λ r. ⌜ r ≡ true ⌝ }
 {

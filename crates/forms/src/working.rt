@@ -160,7 +160,7 @@ pub fn work_records(
     }
 }
 
-// For every call with a queue of 256 entries and lists of 256. A queue or list below 256 entries, refusal 1, can't be had in this form.
+// Alike for every call with a queue and lists of 256 entries. Refusal 1 is had here only by a table shorter than its count.
 pub fn works_alike(
     state: RowState,
     tile: i32,

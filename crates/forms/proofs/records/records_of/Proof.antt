@@ -31,10 +31,15 @@ loop-less : tie.Need-loop-less Inv-loop μ-loop
 loop-less c = omega arith
 
 loop-again : tie.Need-loop-again Inv-loop μ-loop
-loop-again c = let l = c .before .before .before .before in let good = l .before .good in make-next (c .record-from .result) (good .0 .1 .0 .1) (good .1 .0 .1 .0 .1) (l .loop .inv) (omega arith) (c .record-from .ensures)
+loop-again c =
+    let l = c .before .before .before .before in
+    let good = l .before .good in
+    make-next (c .record-from .result) (good .0 .1 .0 .1) (good .1 .0 .1 .0 .1) (l .loop .inv) (omega arith) (c .record-from .ensures)
 
 returns : tie.Need-returns Inv-loop μ-loop
-returns c = let good = c .before .before .good in make-end (good .0 .1 .0 .1) (good .1 .0 .1 .0 .1) (c .before .loop .inv) (omega arith)
+returns c =
+    let good = c .before .before .good in
+    make-end (good .0 .1 .0 .1) (good .1 .0 .1 .0 .1) (c .before .loop .inv) (omega arith)
 
 pub records-of-spec : {M : Type 1} → statement M
 records-of-spec =

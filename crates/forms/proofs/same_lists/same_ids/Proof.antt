@@ -37,7 +37,10 @@ loop-less : tie.Need-loop-less Inv-loop μ-loop
 loop-less c = omega arith
 
 loop-again : tie.Need-loop-again Inv-loop μ-loop
-loop-again c = let i = c .before .loop .i in let a = c .before .before .args in compare-next {t = eqb (getD (a .t1) i 0) (getD (a .t2) i 0)} (c .before .loop .inv) (omega arith) refl
+loop-again c =
+    let i = c .before .loop .i in
+    let a = c .before .before .args in
+    compare-next {t = eqb (getD (a .t1) i 0) (getD (a .t2) i 0)} (c .before .loop .inv) (omega arith) refl
 
 returns : tie.Need-returns Inv-loop μ-loop
 unfolding sameIds

@@ -17,7 +17,9 @@ same-tile-requires : tie.Need-same-tile-requires
 same-tile-requires c κs = search needs
 
 returns : tie.Need-returns
-returns c = let s = c .before .before .before .before .before .before in rw (c .same-tile .ensures, c .before .same-solid-color .ensures) (same-color (s .before .update-solid-color .ensures) (s .color-in-place .ensures))
+returns c =
+    let s = c .before .before .before .before .before .before in
+    rw (c .same-tile .ensures, c .before .same-solid-color .ensures) (same-color (s .before .update-solid-color .ensures) (s .color-in-place .ensures))
 
 pub colors-alike-spec : {M : Type 1} → statement M
 colors-alike-spec =

@@ -17,7 +17,9 @@ same-tile-requires : tie.Need-same-tile-requires
 same-tile-requires c κs = search needs
 
 returns : tie.Need-returns
-returns c = let s = c .before .before .before .before in rw (c .same-tile .ensures, c .before .same-count .ensures) (same-count (s .before .update-layer-count .ensures) (s .count-in-place .ensures))
+returns c =
+    let s = c .before .before .before .before in
+    rw (c .same-tile .ensures, c .before .same-count .ensures) (same-count (s .before .update-layer-count .ensures) (s .count-in-place .ensures))
 
 pub counts-alike-spec : {M : Type 1} → statement M
 counts-alike-spec =
