@@ -1,8 +1,8 @@
 -- `paint_layers` meets its contract: each number is what its callee ensures, computed. Assumes nothing.
 use mathlib.Core.Path.{_∙_}
 use borrow.Author.Tests.{eq-eqb}
-use Rattle.forms.proofs.Numbers.{paint-non-zero, paint-even-odd, paint-wrong-tile, paint-equal-ids, paint-missing, paint-heavy}
 use borrow.Author.Needs.{needs}
+use Rattle.forms.proofs.Numbers.{paint-non-zero, paint-even-odd, paint-wrong-tile, paint-equal-ids, paint-missing, paint-heavy}
 use Rattle.forms.proofs.paint_layers.Statement.{statement}
 use Rattle.forms.proofs.paint_layers.Tie as tie
 

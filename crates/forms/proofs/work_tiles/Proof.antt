@@ -1,8 +1,8 @@
 -- `work_tiles` meets its contract: each number is what its callee ensures, computed. Assumes nothing.
 use mathlib.Core.Path.{_∙_}
 use borrow.Author.Tests.{eq-eqb}
-use Rattle.forms.proofs.Numbers.{work-half, work-whole, work-wrong-tile, work-equal-ids, work-missing, work-heavy}
 use borrow.Author.Needs.{needs}
+use Rattle.forms.proofs.Numbers.{work-half, work-whole, work-wrong-tile, work-equal-ids, work-missing, work-heavy}
 use Rattle.forms.proofs.work_tiles.Statement.{statement}
 use Rattle.forms.proofs.work_tiles.Tie as tie
 

@@ -1,8 +1,8 @@
 -- `examples::paint_number` meets its contract. Assumes nothing.
 use mathlib.Core.Path.{_∙_}
+use borrow.Author.Needs.{needs}
 use mir.Facts.{toZ-ofZ}
 use Rattle.forms.proofs.Numbers.{paint-number}
-use borrow.Author.Needs.{needs}
 use Rattle.forms.proofs.examples.paint_number.Statement.{statement}
 use Rattle.forms.proofs.examples.paint_number.Tie as tie
 

@@ -1,9 +1,9 @@
 -- `examples::work_number` meets its contract. Assumes nothing.
 use mathlib.Core.Path.{_∙_}
+use borrow.Author.Needs.{needs}
 use mir.Facts.{toZ-ofZ}
 use Rattle.forms.specs.Examples.{exampleWork, exampleLists}
 use Rattle.forms.proofs.Numbers.{work-number}
-use borrow.Author.Needs.{needs}
 use Rattle.forms.proofs.examples.work_number.Statement.{statement}
 use Rattle.forms.proofs.examples.work_number.Tie as tie
 

@@ -1,7 +1,7 @@
 -- `same_lists::same_flags` meets its contract. Assumes nothing.
+use mathlib.Core.Bool.{false}
 use Prim.Native.Nat.{_-_}
 use native.Mathlib.Omega.{arith}
-use mathlib.Core.Bool.{false}
 use lib.ListN.{getD}
 use Rattle.forms.specs.Same.{sameFlag, sameFlags}
 use Rattle.forms.proofs.Comparing.{Comparing, compare-start, compare-next, compare-end}

@@ -1,7 +1,7 @@
 -- `same_lists::same_ids` meets its contract. Assumes nothing.
+use mathlib.Core.Path.{refl}
 use Prim.Native.Nat.{_-_}
 use native.Mathlib.Omega.{arith}
-use mathlib.Core.Path.{refl}
 use lib.Dec.{eqb}
 use lib.ListN.{getD}
 use Rattle.forms.specs.Same.{sameIds}

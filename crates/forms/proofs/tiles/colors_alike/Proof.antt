@@ -1,6 +1,6 @@
 -- `tiles::colors_alike` meets its contract. Assumes nothing.
-use Rattle.forms.proofs.Both.{same-color}
 use borrow.Author.Needs.{needs}
+use Rattle.forms.proofs.Both.{same-color}
 use Rattle.forms.proofs.tiles.colors_alike.Statement.{statement}
 use Rattle.forms.proofs.tiles.colors_alike.Tie as tie
 

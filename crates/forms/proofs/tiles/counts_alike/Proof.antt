@@ -1,6 +1,6 @@
 -- `tiles::counts_alike` meets its contract. Assumes nothing.
-use Rattle.forms.proofs.Both.{same-count}
 use borrow.Author.Needs.{needs}
+use Rattle.forms.proofs.Both.{same-count}
 use Rattle.forms.proofs.tiles.counts_alike.Statement.{statement}
 use Rattle.forms.proofs.tiles.counts_alike.Tie as tie
 
