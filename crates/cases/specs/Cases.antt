@@ -4,12 +4,12 @@ use mathlib.Core.Bool.{true, false}
 use mathlib.Core.List.{List, [], _∷_}
 use mathlib.Core.Option.{some, none}
 use Prim.Native.Nat.{ℕ}
-use lib.Ieee.{binary32, odd, ofBits, nan}
+use lib.Ieee.{binary32, odd, ofBits}
 use lib.IntN.{ℤ, pos, negsuc}
-use lib.ListN.{getD, replicate}
+use lib.ListN.{replicate}
 use Rattle.laws.specs.Answer.{refused, given}
 use Rattle.cached_tile.specs.Kept.{write, keep, settleOf, settledKept}
-use Rattle.cached_tile.specs.Tile.{layerCountOf, updateCount}
+use Rattle.cached_tile.specs.Tile.{layerCountOf, updateCount, updateColor}
 use Rattle.cached_tile.specs.declared.CachedTile.{CachedTile}
 use Rattle.cached_tile.specs.declared.kept.Kept.{Kept}
 use Rattle.cached_tile.proofs.Cases.{P12-keep}
@@ -46,9 +46,13 @@ sixteen z = replicate 16 z
 abbrev pub inRow0 : ℤ → ℕ
 inRow0 c = wordOf cpu 5 (pos 2) (pos 0) 3 0 32 c
 
--- a tile with tag 0, any count and any colour, and that tile given
+-- a tile with tag 0, any count and any colour, and that tile given (`keptOf0`)
 abbrev pub tileOf0 : List ℕ → List ℕ → CachedTile
 tileOf0 count color = record { tags = 0; «layer_count» = count; «solid_color» = color }
+
+-- a tile that keeps both
+abbrev pub bothKept : List ℕ → List ℕ → CachedTile
+bothKept count color = record { tags = 3; «layer_count» = count; «solid_color» = color }
 
 abbrev pub keptOf0 : List ℕ → List ℕ → Kept
 keptOf0 count color = record { given = true; tile = tileOf0 count color }
@@ -95,11 +99,12 @@ pub record Cases : Type 0 where
   pub p7-clip : aliveAt secondClip 3 ≡ Absent
   pub p7-needs : needsIn threeLayers threeCarries [] (clippedDraw .props .func) 3 ≡ true
   pub p7-mark : markIn threeLayers threeCarries [] 3 clippedDraw secondClip ≡ 0
-  pub p7-plane : (getD (planeIn threeCarries [] 3 clippedDraw) 0 nan ≡ ofBits binary32 0x3F000000) × (getD (planeIn threeCarries [] 3 clippedDraw) 255 nan ≡ ofBits binary32 0x3F000000)
+  pub p7-plane : planeIn threeCarries [] 3 clippedDraw ≡ replicate 256 (ofBits binary32 0x3F000000)
   pub p8-previous : (count color : List ℕ) → layerCountOf (tileOf0 count color) ≡ none
   pub p8-kept : (count color : List ℕ) → layerCountOf (updateCount (tileOf0 count color) (some 16777217)) ≡ some 1
   pub p8-tag : (count color : List ℕ) → updateCount (tileOf0 count color) (some 16777217) .tags ≡ 2
-  pub p8-dropped : (t : CachedTile) → updateCount t none .«layer_count» ≡ t .«layer_count»
+  pub p8-count-left : (count color : List ℕ) → updateCount (bothKept count color) none ≡ record { tags = 1; «layer_count» = count; «solid_color» = color }
+  pub p8-color-left : (count color bytes : List ℕ) → updateColor (bothKept count color) (record { given = false; bytes = bytes }) ≡ record { tags = 2; «layer_count» = count; «solid_color» = color }
   pub p9-half : areaCoverage NonZero (pos 256) ≡ ofBits binary32 0x3F000000
   pub p9-whole : areaCoverage NonZero (negsuc 511) ≡ ofBits binary32 0x3F800000
   pub p10-past : areaCoverage EvenOdd (pos 700) ≡ ofBits binary32 0x3F220000
@@ -144,7 +149,8 @@ cases =
       p8-previous = λ count color. refl;
       p8-kept = λ count color. refl;
       p8-tag = λ count color. refl;
-      p8-dropped = λ t. refl;
+      p8-count-left = λ count color. refl;
+      p8-color-left = λ count color bytes. refl;
       p9-half = refl;
       p9-whole = refl;
       p10-past = refl;

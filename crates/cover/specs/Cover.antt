@@ -25,7 +25,7 @@ abbrev pub emptyAt : FillRule → ℤ → Bool
 emptyAt NonZero cover = eqb (natAbs cover) 0
 emptyAt EvenOdd cover = eqb (modℤ 32 cover) 0
 
--- a row's cover that leaves all to its right inside: the one place that says what full means
+-- a row's cover that is full, 16 or -16 for NonZero and an odd multiple of 16 for EvenOdd: the one place that says what full means
 abbrev pub fullAt : FillRule → ℤ → Bool
 fullAt NonZero cover = eqb (natAbs cover) 16
 fullAt EvenOdd cover = eqb (modℤ 32 cover) 16

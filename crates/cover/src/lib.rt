@@ -25,7 +25,7 @@ fn is_row_empty(cover: i8, rule: FillRule) -> bool
     }
 }
 
-// Whether it leaves all to its right inside.
+// Whether it is full by the rule: 16 or -16 for NonZero, an odd multiple of 16 for EvenOdd.
 fn is_row_full(cover: i8, rule: FillRule) -> bool
     ensures { λ r. ⌜ r ≡ fullAt rule cover ⌝ }
 {

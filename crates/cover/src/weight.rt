@@ -39,18 +39,16 @@ pub fn non_zero(d: i16) -> u16
     if a < 512 { a } else { 512 }
 }
 
-// 8,192 is a multiple of 1,024, and with it no d is negative.
+// 32,768 is a multiple of 1,024, and with it no d is negative.
 pub fn even_odd(d: i16) -> u16
-    requires { ⌜ natAbs d ≤ 8001 ⌝ }
     ensures { λ r. ⌜ r ≡ evenOddOf d ⌝ }
 {
-    let rest = ((d + 8192) as u16) % 1024;
+    let rest = ((d as i32 + 32768) as u32 % 1024) as u16;
     if rest < 512 { rest } else { 1024 - rest }
 }
 
 // The weight of a doubled area, 0 to 512.
 pub fn weight(d: i16, rule: FillRule) -> u16
-    requires { ⌜ natAbs d ≤ 8001 ⌝ }
     ensures { λ r. ⌜ r ≡ weightOf rule d ⌝ }
 {
     match rule {
@@ -68,7 +66,6 @@ pub fn coverage(weight: u16) -> f32
 }
 
 pub fn doubled_area_to_coverage(d: i16, rule: FillRule) -> f32
-    requires { ⌜ natAbs d ≤ 8001 ⌝ }
     ensures { λ r. ⌜ r ≡ areaCoverage rule d ⌝ }
 {
     coverage(weight(d, rule))

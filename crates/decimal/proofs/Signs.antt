@@ -1,4 +1,4 @@
--- Each answer of `read_number`, from the tests that lead to it.
+-- Each answer of `read_signed`, from the tests that lead to it.
 -- Assumes nothing.
 use mathlib.Core.Path.{_≡_, refl, sym, ap, _∙_}
 use mathlib.Core.List.{List}

@@ -13,10 +13,11 @@ ghost use Rattle.pixel_segment.specs.Field.{cpu};
 ghost use Rattle.styling.specs.Codes.{ruleOf};
 ghost use Rattle.cover.specs.Cover.{isEmpty, isFull};
 ghost use Rattle.cover.specs.Carry.{addOf, carriedAnswer};
+ghost use Rattle.cover.specs.Coverage.{areaCoverage};
 ghost use Rattle.cover.specs.Mark.{marked, markedAnswer, Counted};
 ghost use Rattle.cover.specs.Paint.{paintOf, paintedAnswer};
 ghost use Rattle.ffi.specs.Numbers.{numberOf, valueOr};
-ghost use Rattle.ffi.specs.Covers.{coverageWithin, planeAfter};
+ghost use Rattle.ffi.specs.Covers.{planeAfter};
 
 #[no_mangle]
 pub extern "C" fn ffi_is_empty(covers: &[i8; 16], rule: u32) -> bool
@@ -58,17 +59,12 @@ fn put_carried(carried: Carried, covers: &mut [i8; 16]) -> u32
     }
 }
 
-// 0 and the coverage of a pixel that sees d, or 9 where no accepted row gives such a d.
+// The coverage of a pixel that sees d.
 #[no_mangle]
-pub extern "C" fn ffi_doubled_area_to_coverage(d: i16, rule: u32, coverage: &mut f32) -> u32
-    ensures { λ r. ⌜ r ≡ numberOf (coverageWithin (ruleOf rule) d) ⌝ }
-    ensures { λ _. ⌜ now (coverage .exit) ≡ valueOr (coverageWithin (ruleOf rule) d) (now (coverage .entry)) ⌝ }
+pub extern "C" fn ffi_doubled_area_to_coverage(d: i16, rule: u32) -> f32
+    ensures { λ r. ⌜ r ≡ areaCoverage (ruleOf rule) d ⌝ }
 {
-    if 8001 < weight::magnitude(d) {
-        return 9;
-    }
-    *coverage = weight::doubled_area_to_coverage(d, codes::fill_rule(rule));
-    0
+    weight::doubled_area_to_coverage(d, codes::fill_rule(rule))
 }
 
 // 0, the coverages in `plane` and their mark in `mark`, or the number of the refusal.

@@ -3,9 +3,9 @@ use mathlib.Core.Path.{_≡_, refl}
 use mathlib.Core.Bool.{true, false}
 use mathlib.Core.List.{List, [], _∷_}
 use Prim.Native.Nat.{ℕ}
-use lib.Ieee.{binary32, odd, ofBits, nan}
+use lib.Ieee.{binary32, odd, ofBits}
 use lib.IntN.{pos}
-use lib.ListN.{getD, replicate}
+use lib.ListN.{replicate}
 use Rattle.pixel_segment.specs.Search.{searchOf, layerPart}
 use Rattle.styling.specs.Lookup.{lookup}
 use Rattle.styling.specs.declared.BlendMode.the-variants.{Over}
@@ -62,7 +62,7 @@ pub P7-mark : markIn table queue [] 3 draw after ≡ 0
 unfolding latestClip listOf groupsOf lookup isFull
 P7-mark = refl
 
--- while its plane gets its coverages, 0.5 each: the first and the last
-pub P7-plane : (getD (planeIn queue [] 3 draw) 0 nan ≡ ofBits binary32 0x3F000000) × (getD (planeIn queue [] 3 draw) 255 nan ≡ ofBits binary32 0x3F000000)
+-- while its plane gets its coverages, 0.5 each
+pub P7-plane : planeIn queue [] 3 draw ≡ replicate 256 (ofBits binary32 0x3F000000)
 unfolding inPlaces doubledArea coverageOf ofBits odd heldIn layerPart searchOf
-P7-plane = (refl, refl)
+P7-plane = refl

@@ -61,7 +61,7 @@ pub record DrawAt (items : List Item) (i : ℕ) : Type 0 where
   pub listed : i < length items
   pub draws : isClip (itemAt items i .func) ≡ false
 
--- a clip in place i, and the next one in place j: no listed layer between them lies past the end of the first
+-- a clip in place i, and a later one in place j: no listed layer between them lies past the end of the first
 pub record Followed (items : List Item) (i j : ℕ) : Type 0 where
   pub after : i < j
   pub listed : j < length items

@@ -19,7 +19,7 @@ abbrev pub isKept : Bool → PreviousCount → List Item → Bool
 isKept clearUnchanged Absent items = false
 isKept clearUnchanged (Kept n) items = clearUnchanged && (eqb n (length items) && allUnchanged items)
 
--- a visible layer may have been removed since the tile was drawn: the list is shorter, or nothing is known
+-- a visible layer may have been removed since the last accepted work on the tile: the list is shorter, or nothing is known
 abbrev pub wereRemoved : PreviousCount → ℕ → Bool
 wereRemoved Absent layers = true
 wereRemoved (Kept n) layers = ltb layers n

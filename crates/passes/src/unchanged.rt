@@ -8,7 +8,7 @@ ghost use Rattle.passes.specs.Entry.{entriesOf};
 ghost use Rattle.passes.specs.Item.{itemsOf, Columns};
 ghost use Rattle.passes.specs.Unchanged.{allUnchanged, isKept, wereRemoved};
 
-// How many layers were listed when the tile was drawn last, where that was kept.
+// How many layers were listed at the last accepted work on the tile, where that was kept.
 pub enum PreviousCount {
     Kept(u32),
     Absent,
@@ -65,7 +65,7 @@ pub fn is_kept(
     }
 }
 
-// Whether a layer may have been removed since the tile was drawn last.
+// Whether a layer may have been removed since the last accepted work on the tile.
 pub fn were_removed(previous: PreviousCount, n: usize) -> bool
     ensures { λ r. ⌜ r ≡ wereRemoved previous n ⌝ }
 {

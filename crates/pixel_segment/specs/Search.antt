@@ -78,7 +78,7 @@ orderAt (TileYNotNegative k) w = compareBool (leZ (pos 0) (tileOf (tileYOf cpu w
 
 -- ---- the parts of a row that searches find
 
--- how many elements are at most the key: the place after the last one that has it, or where it would stand
+-- the place after the one that is found, or where one would stand; on a sorted slice, how many elements are at most the key
 abbrev pub afterOf : Found → ℕ
 afterOf (At i) = suc i
 afterOf (Absent i) = i

@@ -1,5 +1,5 @@
 // `search_last_by_key` (cpu/pixel_segment.rs): the last segment with a key, by halving. A key of the painter, with the value that is
-// looked for, is a value of `Key`, since there are no closures; each key has a function of its own besides.
+// looked for, is a value of `Key`, since there are no closures; each key that the Rust looks for has a function of its own besides.
 use crate::PixelSegment;
 use crate::order;
 use crate::order::Ordering;

@@ -22,15 +22,24 @@ unfolding addTo addAll coverOf
 ascending = refl
 
 -- 31 four times and 3 pass; with 4 for 3 the load is 128
-within : openAnswer (0x50401f ∷ 0x50401f ∷ 0x50401f ∷ 0x50401f ∷ 0x504003 ∷ []) ≡ given 1
+pub within : openAnswer (0x50401f ∷ 0x50401f ∷ 0x50401f ∷ 0x50401f ∷ 0x504003 ∷ []) ≡ given 1
 unfolding addTo addAll coverOf isLightOpening isLight
 within = refl
 
-above : openAnswer (0x50401f ∷ 0x50401f ∷ 0x50401f ∷ 0x50401f ∷ 0x504004 ∷ []) ≡ refused 9
+pub above : openAnswer (0x50401f ∷ 0x50401f ∷ 0x50401f ∷ 0x50401f ∷ 0x504004 ∷ []) ≡ refused 9
 unfolding addTo addAll coverOf isLightOpening isLight
 above = refl
 
+-- 256 layers pass, 257 don't
+pub seven-passes : openAnswer (tabulate 256 (λ i. i * 2 ^ 20)) ≡ given 256
+unfolding addTo addAll coverOf isLightOpening isLight
+seven-passes = refl
+
+pub seven-past : openAnswer (tabulate 257 (λ i. i * 2 ^ 20)) ≡ refused 7
+unfolding addTo addAll coverOf
+seven-past = refl
+
 -- layer 0 with a load of 160, and 256 other layers: 7 comes before 9
-seven-first : openAnswer (0x20 ∷ 0x20 ∷ 0x20 ∷ 0x20 ∷ 0x20 ∷ tabulate 256 (λ i. (i + 1) * 2 ^ 20)) ≡ refused 7
+pub seven-first : openAnswer (0x20 ∷ 0x20 ∷ 0x20 ∷ 0x20 ∷ 0x20 ∷ tabulate 256 (λ i. (i + 1) * 2 ^ 20)) ≡ refused 7
 unfolding addTo addAll coverOf isLightOpening isLight
 seven-first = refl

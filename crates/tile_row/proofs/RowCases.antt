@@ -1,8 +1,10 @@
--- Both sides of the edges of an opening's and a tile work's refusals, computed over the definitions that the contracts cite. Assumes nothing.
+-- Both sides of edges of an opening's refusals 1 to 4 and a tile work's, computed over the definitions that the contracts cite; those of 7 and 9 at an
+-- opening are in `queue` (proofs/Examples). Assumes nothing.
 use mathlib.Core.Path.{_≡_, refl}
-use mathlib.Core.Bool.{true, false}
+use mathlib.Core.Bool.{Bool, true, false}
 use mathlib.Core.List.{List, [], _∷_}
 use Prim.Native.Nat.{ℕ}
+use lib.Ieee.{nan}
 use lib.IntN.{ℤ, pos, negsuc}
 use lib.ListN.{replicate}
 use Rattle.laws.specs.Lists.{tabulate}
@@ -11,6 +13,7 @@ use Rattle.pixel_segment.specs.Order.{ascendsFrom}
 use Rattle.pixel_segment.specs.Pack.{wordOf}
 use Rattle.styling.specs.Ascending.{strictlyAscendsFrom}
 use Rattle.styling.specs.Lookup.{lookup}
+use Rattle.styling.specs.Record.{layerOf}
 use Rattle.styling.specs.Table.{isShort, isValid, isTable, layerAt, tableOf}
 use Rattle.styling.specs.declared.Layer.{Layer}
 use Rattle.cover.specs.Carry.{isLight}
@@ -19,8 +22,8 @@ use Rattle.cached_tile.specs.declared.kept.Kept as kept
 use Rattle.tile_layers.specs.Listing.{Listed}
 use Rattle.painter.specs.declared.Clip.the-variants.{Absent}
 use Rattle.tile_row.specs.Opening.{openVerdict}
-use Rattle.tile_row.specs.Working.{workVerdict, listVerdict}
-use Rattle.tile_row.specs.declared.Refusal.the-variants.{Room, Tile, Row, Queue, Tag, Layers, Missing, Covers}
+use Rattle.tile_row.specs.Working.{isListShort, workVerdict, listVerdict}
+use Rattle.tile_row.specs.declared.Refusal.the-variants.{Room, Tile, Row, Table, Queue, Tag, Layers, Missing, Covers}
 use Rattle.tile_row.specs.declared.Verdict.{Verdict}
 use Rattle.tile_row.specs.declared.Verdict.the-variants.{Pass, Refuse}
 
@@ -37,6 +40,15 @@ queue-passes = refl
 pub queue-lacks : opened (pos 0) (pos 3) (pos 3) [] 255 ≡ Refuse Room
 unfolding openVerdict isShort
 queue-lacks = refl
+
+-- 1: a table of one layer has eight words and four numbers
+pub words-lack : openVerdict (pos 0) (pos 0) (pos 4) [] (replicate 7 0) (replicate 4 nan) 1 (replicate 256 0) (replicate 4096 (pos 0)) ≡ Refuse Room
+unfolding openVerdict isShort
+words-lack = refl
+
+pub numbers-lack : openVerdict (pos 0) (pos 0) (pos 4) [] (replicate 8 0) (replicate 3 nan) 1 (replicate 256 0) (replicate 4096 (pos 0)) ≡ Refuse Room
+unfolding openVerdict isShort
+numbers-lack = refl
 
 -- 2: row 2,046 and tiles up to 4,095 pass; row 2,047, from -1, to 4,096 and from above to don't
 pub ends-pass : opened (pos 2046) (pos 0) (pos 4095) [] 256 ≡ Pass
@@ -75,6 +87,29 @@ pub other-row : opened (pos 0) (pos 0) (pos 4) (segment 6 (pos 1) ∷ []) 256 �
 unfolding openVerdict isShort ascendsFrom
 other-row = refl
 
+-- 4: blend mode 15 passes, 16 doesn't; ids 4, 5 pass, 4, 4 don't
+abbrev draw : ℕ → ℕ → List ℕ → List ℕ
+draw id mode rest = id ∷ 0 ∷ 0 ∷ 0 ∷ 0 ∷ 0 ∷ mode ∷ 0 ∷ rest
+
+abbrev tabled : List ℕ → ℕ → Verdict
+tabled words count = openVerdict (pos 0) (pos 0) (pos 4) [] words (replicate 8 nan) count (replicate 256 0) (replicate 4096 (pos 0))
+
+pub mode-passes : tabled (draw 4 15 []) 1 ≡ Pass
+unfolding openVerdict isShort isValid isTable ascendsFrom strictlyAscendsFrom
+mode-passes = refl
+
+pub mode-past : tabled (draw 4 16 []) 1 ≡ Refuse Table
+unfolding openVerdict isShort isValid isTable ascendsFrom strictlyAscendsFrom
+mode-past = refl
+
+pub ids-pass : tabled (draw 4 0 (draw 5 0 [])) 2 ≡ Pass
+unfolding openVerdict isShort isValid isTable ascendsFrom strictlyAscendsFrom
+ids-pass = refl
+
+pub ids-equal : tabled (draw 4 0 (draw 4 0 [])) 2 ≡ Refuse Table
+unfolding openVerdict isShort isValid isTable ascendsFrom strictlyAscendsFrom
+ids-equal = refl
+
 -- ---- tile works: tiles 0 to 4, of which 2 is the next; two carries with the ids a and b are left
 
 abbrev worked : ℤ → ℕ → ℕ → ℕ → Verdict
@@ -92,6 +127,43 @@ pub skips-one : worked (pos 3) 3 4 3 ≡ Refuse Tile
 unfolding workVerdict
 skips-one = refl
 
+-- 2: tile 3 is the last of 0 to 4, and none follows
+abbrev ending : ℕ → ℤ → Verdict
+ending next tile =
+    workVerdict false (record { «tile_y» = 0; from = 0; to = 4; next = next; left = 0; taken = 0; clip = Absent }) tile [] [] [] 0
+    (record { given = false; tile = record { tags = 0; «layer_count» = replicate 3 0; «solid_color» = replicate 4 0 } })
+    (replicate 256 0)
+
+pub last-passes : ending 3 (pos 3) ≡ Pass
+unfolding workVerdict isShort isValid isTable ascendsFrom isQueue strictlyAscendsFrom
+last-passes = refl
+
+pub none-follows : ending 4 (pos 4) ≡ Refuse Tile
+unfolding workVerdict
+none-follows = refl
+
+-- 1: lists of 256 entries pass; 255 ids, or 4,095 covers, don't
+abbrev lists : ℕ → ℕ → Bool
+lists ids covers = isListShort (replicate ids 0) (replicate covers (pos 0)) (replicate 256 false) (replicate 256 false)
+
+pub list-passes : lists 256 4096 ≡ false
+list-passes = refl
+
+pub list-lacks : lists 255 4096 ≡ true
+list-lacks = refl
+
+pub covers-lack : lists 256 4095 ≡ true
+covers-lack = refl
+
+-- 5: a queue of 256 carries passes, a count of 257 doesn't
+pub queue-full : isQueue 256 (tabulate 256 (λ i. i)) ≡ true
+unfolding isQueue strictlyAscendsFrom
+queue-full = refl
+
+pub queue-past : isQueue 257 (tabulate 257 (λ i. i)) ≡ false
+unfolding isQueue strictlyAscendsFrom
+queue-past = refl
+
 -- 5: ids 4, 4
 pub equal-ids : worked (pos 2) 4 4 3 ≡ Refuse Queue
 unfolding workVerdict isShort isValid isTable ascendsFrom isQueue strictlyAscendsFrom
@@ -107,13 +179,17 @@ tag-past = refl
 abbrev listed : ℤ → ℕ → Listed
 listed cover id = record { id = id; cover = replicate 16 cover; own = wordOf cpu id (pos 0) (pos 0) 3 0 32 (negsuc 7) ∷ [] }
 
--- 7: 257 layers; 256 are not turned down by it
-pub layers-past : listVerdict [] (tabulate 257 (listed (pos 0))) ≡ Refuse Layers
+-- draws with the ids 0, 1, 2, ..
+abbrev layers : ℕ → List Layer
+layers n = tabulate n (λ id. layerOf (record { id = id; rule = 0; func = 0; span = 0; clipped = 0; fill = 0; mode = 0; unchanged = 0 }) (record { r = nan; g = nan; b = nan; a = nan }))
+
+-- 7: 256 layers pass, 257 don't
+pub layers-past : listVerdict (layers 257) (tabulate 257 (listed (pos 0))) ≡ Refuse Layers
 unfolding listVerdict
 layers-past = refl
 
-pub layers-pass : listVerdict [] (tabulate 256 (listed (pos 0))) ≡ Refuse Missing
-unfolding listVerdict lookup
+pub layers-pass : listVerdict (layers 256) (tabulate 256 (listed (pos 0))) ≡ Pass
+unfolding listVerdict lookup isLight coverOf
 layers-pass = refl
 
 -- a table of one draw, layer 5

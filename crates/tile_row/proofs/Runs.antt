@@ -1,4 +1,4 @@
--- The claim is not empty: after every accepted opening, every list of choices is the list of some run's calls; and one run is shown in which works
+-- The claim is not empty: after every accepted opening, every list of choices is the list of some run's calls. Example has one run in which works
 -- and paintings are accepted and refused. Assumes nothing.
 use mathlib.Core.Path.{_≡_, refl, sym, subst}
 use mathlib.Core.List.{List, [], _∷_}

@@ -29,7 +29,7 @@ use Rattle.tile_row.specs.declared.judging.ListJudged.{ListJudged}
 abbrev pub isListShort : List ℕ → List ℤ → List Bool → List Bool → Bool
 isListShort ids covers segments shown = ltb (length ids) 256 || ltb (length covers / 16) 256 || ltb (length segments) 256 || ltb (length shown) 256
 
--- 2: the tile is not the next one, or the state is none that an opening leads to
+-- 2: the tile is not the next one, or the state's row or tile numbers are none that an opening leads to
 abbrev pub isNotNext : RowState → ℤ → Bool
 isNotNext s tile =
     ltb 2046 (s .«tile_y») || ltb 4095 (s .to) || ltb (s .next) (s .from) || leb (s .to) (s .next) || ltZ tile (pos 0) || not (eqb (plus tile) (s .next))

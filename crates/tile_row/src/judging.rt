@@ -22,7 +22,7 @@ pub fn is_list_short(ids: &[u32], covers: &[i8], segments: &[bool], shown: &[boo
     (ids.len() < 256) | (covers.len() / 16 < 256) | (segments.len() < 256) | (shown.len() < 256)
 }
 
-// Refusal 2: whether the tile is not the next one of the row, or the state is none that an opening leads to.
+// Refusal 2: whether the tile is not the next one of the row, or the state's row or tile numbers are none that an opening leads to.
 pub fn is_not_next(state: RowState, tile: i32) -> bool
     ensures { λ r. ⌜ r ≡ isNotNext state tile ⌝ }
 {

@@ -1,6 +1,7 @@
 -- `cover::plane::write_coverages` meets its contract. Assumes nothing.
 use Prim.Native.Nat.{_-_}
 use native.Mathlib.Omega.{arith}
+use borrow.Author.Needs.{needs}
 use mir.Syntax.{w16}
 use Rattle.laws.proofs.Machine.{kept}
 use Rattle.cover.specs.Cover.{coverAt}
@@ -25,11 +26,7 @@ element-copy-out-doubled-area-to-coverage :
 element-copy-out-doubled-area-to-coverage c = omega arith
 
 doubled-area-to-coverage-requires : tie.Need-doubled-area-to-coverage-requires Inv-loop μ-loop
-doubled-area-to-coverage-requires c κs =
-    let l = c .before .before in
-    let s = l .before .before in
-    rw (kept w16 (coverAt (s .args .areas .now) (l .loop .k)) (c .doubled-area-to-coverage-arg .given))
-    (s .pre .0 .small (l .loop .k) (c .before .loop-test .taken))
+doubled-area-to-coverage-requires c κs = search needs
 
 mul-plane : tie.Need-mul-plane Inv-loop μ-loop
 mul-plane c = omega arith

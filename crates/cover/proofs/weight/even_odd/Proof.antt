@@ -1,4 +1,4 @@
--- `cover::weight::even_odd` meets its contract. With 8,192, a multiple of 1,024, no d is negative, and its remainder is the machine's.
+-- `cover::weight::even_odd` meets its contract. With 32,768, a multiple of 1,024, no d is negative, and its remainder is the machine's.
 -- Assumes nothing.
 use mathlib.Core.Path.{_≡_, ap, sym, _∙_}
 use Prim.Native.Nat.{ℕ, _%_, _-_, _≤_}
@@ -6,10 +6,10 @@ use native.Mathlib.Omega.{arith}
 use borrow.Author.Needs.{needs}
 use lib.Dec.{lit<}
 use lib.IntN.{pos, natAbs, _+ℤ_}
-use mir.Facts.{toZ-ofZ}
-use mir.Syntax.{w16}
+use mir.Facts.{toZ-ofZ, sfits-widen}
+use mir.Syntax.{w16, w32}
 use mir.Val.{SFits, toZ, ofZ}
-use Rattle.laws.proofs.Machine.{sfits, unsigned}
+use Rattle.laws.proofs.Machine.{sfits, within, unsigned}
 use Rattle.laws.proofs.Mod.{lifted}
 use Rattle.laws.proofs.Parts.{added}
 use Rattle.laws.specs.Integer.{modℤ}
@@ -17,23 +17,38 @@ use Rattle.cover.proofs.Weights.{low, high}
 use Rattle.cover.proofs.weight.even_odd.Statement.{statement}
 use Rattle.cover.proofs.weight.even_odd.Tie as tie
 
-fits : (c : tie.Start) → SFits w16 (c .args .d +ℤ pos 8192)
-fits c = sfits w16 (c .args .d +ℤ pos 8192) (omega (arith, added (c .args .d) (pos 8192)))
+wide : (s : tie.Start) → SFits w32 (s .args .d)
+wide s = sfits-widen tt (s .fits .d)
+
+fits : (s : tie.Start) → SFits w32 (s .args .d +ℤ pos 32768)
+fits s =
+    let d = s .args .d in
+    sfits w32 (d +ℤ pos 32768) (omega (arith, added d (pos 32768), within w16 d (s .fits .d)))
 
 -- the code's remainder is the definition's
-rest-is : (c : tie.Start) → natAbs (toZ w16 (ofZ w16 (toZ w16 (ofZ w16 (c .args .d)) +ℤ pos 8192))) % 1024 ≡ modℤ 1024 (c .args .d)
-rest-is c =
-    let s = added (c .args .d) (pos 8192) in
-    rw (toZ-ofZ (c .fits .d), toZ-ofZ (fits c), lifted 1024 (c .args .d) 8 (lit< tt) (omega arith))
-    (ap (λ (n : ℕ). n % 1024) (omega arith))
-
-add-rest : tie.Need-add-rest
-add-rest c = rw (toZ-ofZ (c .fits .d)) (fits c)
+rest-is : (s : tie.Start) → natAbs (toZ w32 (ofZ w32 (toZ w32 (ofZ w32 (toZ w16 (ofZ w16 (s .args .d)))) +ℤ pos 32768))) % 1024 ≡ modℤ 1024 (s .args .d)
+rest-is s =
+    let d = s .args .d in
+    let low = within w16 d (s .fits .d) .below in
+    let sum = added d (pos 32768) in
+    rw (toZ-ofZ (s .fits .d), toZ-ofZ (wide s), toZ-ofZ (fits s), lifted 1024 d 32 (lit< tt) (omega (arith, low)))
+    (ap (λ (n : ℕ). n % 1024) (omega (arith, sum, low)))
 
 cast-rest : tie.Need-cast-rest
-cast-rest c =
-    let s = added (c .args .d) (pos 8192) in
-    rw (toZ-ofZ (c .fits .d), toZ-ofZ (fits c)) (unsigned w16 (c .args .d +ℤ pos 8192) (omega arith) (omega arith))
+cast-rest c = rw (toZ-ofZ (c .fits .d)) (wide c)
+
+add-rest : tie.Need-add-rest
+add-rest c = rw (toZ-ofZ (c .fits .d), toZ-ofZ (wide c)) (fits c)
+
+cast-rest-2 : tie.Need-cast-rest-2
+cast-rest-2 c =
+    let d = c .args .d in
+    let range = within w16 d (c .fits .d) in
+    let sum = added d (pos 32768) in
+    rw (toZ-ofZ (c .fits .d), toZ-ofZ (wide c), toZ-ofZ (fits c)) (unsigned w32 (d +ℤ pos 32768) (omega (arith, sum, range)) (omega (arith, sum, range)))
+
+cast-rest-3 : tie.Need-cast-rest-3
+cast-rest-3 c = search needs
 
 sub-result : tie.Need-sub-result
 sub-result c = search needs
@@ -52,4 +67,4 @@ returns-2 c =
     ap (λ (n : ℕ). 1024 - n) e ∙ sym (high (modℤ 1024 (c .before .args .d)) h k)
 
 pub even-odd-spec : {M : Type 1} → statement M
-even-odd-spec = tie.close (tie.spec add-rest cast-rest sub-result returns returns-2)
+even-odd-spec = tie.close (tie.spec cast-rest add-rest cast-rest-2 cast-rest-3 sub-result returns returns-2)
