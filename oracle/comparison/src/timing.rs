@@ -21,20 +21,20 @@ pub fn print() {
         println!("Overflow checks are on: these times say nothing. The profile `timing` has none.");
     }
     println!("Nanoseconds, medians of {ROUNDS} rounds with both sides in turn. Ratio: the time here by the Rust's.");
-    title("One layer in one tile");
+    title("One layer in one tile", "     aim");
     timed_parts::print();
     println!("The Rust paints it as a clip, so nothing is blended. Comparable; here conditions are judged and the mark is made besides.");
-    title("Whole rows");
+    title("Whole rows", "");
     timed_rows::print();
     println!("Not the same work. The Rust's layers are painted as clips; it mixes the colours of solid tiles and gives their display bytes.");
     println!("Here each call judges the whole row and the table again: once for a tile, and once for each layer painted.");
-    title("Single operations");
+    title("Single operations", "");
     timed_words::print();
-    println!("By calls that are not inlined. Packing refuses here what the Rust masks.");
+    println!("By calls that are not inlined. Packing looks here for a tile of 32,767, which the Rust does not.");
 }
 
-fn title(name: &str) {
-    println!("\n{name:<44}{:>12}{:>12}{:>8}{:>8}", "the Rust", "here", "ratio", "aim");
+fn title(name: &str, aim: &str) {
+    println!("\n{name:<44}{:>12}{:>12}{:>8}{aim}", "the Rust", "here", "ratio");
 }
 
 /// A line of the table: a pair of closures that each make `calls` calls. With an aim where there is one.

@@ -1,4 +1,4 @@
-//! Covers, coverages and cached tiles as plain numbers; below it the painter that records (recorder.rs), the row (row.rs) and what is timed (timed.rs).
+//! Covers, coverages and cached tiles as plain numbers; below it the painter that records (recorder.rs), the row (row.rs) and times (timed.rs).
 
 use super::*;
 use crate::{
