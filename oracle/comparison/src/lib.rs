@@ -22,4 +22,8 @@ pub mod stored;
 pub mod stored_jobs;
 pub mod stored_rows;
 pub mod tally;
+pub mod timed_parts;
+pub mod timed_rows;
+pub mod timed_words;
+pub mod timing;
 pub mod words;

@@ -1,14 +1,19 @@
 //! `comparison answers` prints the Rust's answers for the crate `compare`, and writes those of the crate `jobs`. `comparison N SEED`: N random cases of
 //! each kind on both sides, or with a word behind, of each kind whose name has it. The last line says how many were compared and how many differ.
+//! `comparison bench` prints times of both.
 
 use std::{env, process::ExitCode};
 
-use comparison::{cached, calls, covers, jobs, layers, openings, paintings, plates, rows, stored, stored_jobs, tally::Tally, words};
+use comparison::{cached, calls, covers, jobs, layers, openings, paintings, plates, rows, stored, stored_jobs, tally::Tally, timing, words};
 
 fn main() -> ExitCode {
     if env::args().nth(1).as_deref() == Some("answers") {
         print!("{}", stored::answers());
         stored_jobs::write();
+        return ExitCode::SUCCESS;
+    }
+    if env::args().nth(1).as_deref() == Some("bench") {
+        timing::print();
         return ExitCode::SUCCESS;
     }
     let numbers: Vec<u64> = env::args().skip(1).take(2).filter_map(|word| word.parse().ok()).collect();

@@ -1,4 +1,4 @@
-//! Covers, coverages and cached tiles as plain numbers; below it the painter that records (recorder.rs) and the row (row.rs).
+//! Covers, coverages and cached tiles as plain numbers; below it the painter that records (recorder.rs), the row (row.rs) and times (timed.rs).
 
 use super::*;
 use crate::{
@@ -11,6 +11,7 @@ use crate::{
 pub mod plate;
 pub mod recorder;
 pub mod row;
+pub mod timed;
 
 pub fn is_empty(cover: [i8; 16], rule: FillRule) -> bool {
     cover_of(cover).is_empty(rule)

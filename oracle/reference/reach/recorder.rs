@@ -100,7 +100,7 @@ fn copy_of(painter: &Painter) -> Painter {
     }
 }
 
-fn flat(octets: &[f32x8; 32]) -> [f32; 256] {
+pub(super) fn flat(octets: &[f32x8; 32]) -> [f32; 256] {
     let mut plane = [0.0; 256];
     for (octet, eight) in plane.chunks_exact_mut(8).zip(octets) {
         octet.copy_from_slice(&lanes(*eight));

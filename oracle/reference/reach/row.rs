@@ -10,7 +10,7 @@ use crate::{
 
 use layer_workbench::reach::{clips, passes, queue, Listed, Passed};
 
-type Segment = PixelSegment<{ consts::cpu::TILE_WIDTH }, { consts::cpu::TILE_HEIGHT }>;
+pub(super) type Segment = PixelSegment<{ consts::cpu::TILE_WIDTH }, { consts::cpu::TILE_HEIGHT }>;
 
 /// What a tile's work is given besides the row and the table.
 #[derive(Clone, Copy, Debug)]
@@ -209,7 +209,7 @@ pub(super) fn segments_of(words: &[u64]) -> Vec<Segment> {
     words.iter().map(|&word| crate::pixel_segment::of_word(word)).collect()
 }
 
-fn context<'c>(
+pub(super) fn context<'c>(
     table: &'c Table,
     tile_x: usize,
     tile_y: usize,
