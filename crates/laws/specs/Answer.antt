@@ -1,5 +1,5 @@
 -- What an operation answers, in the numbers of the table of refusals ('Turned down'): refused by a number, or a value. Each enum of the code
--- that is an answer has a definition that gives its cases in these terms, and the contracts use that definition.
+-- that can be a refusal has a definition that gives its cases in these terms, and the contracts use that definition.
 use Prim.Native.Nat.{ℕ}
 
 pub data Answer (A : Type 0) : Type 0 where

@@ -27,10 +27,18 @@ pub fn any_job(random: &mut Random) -> Job {
         0 => grow_layers(&mut job, LAYERS),
         1 => grow_lines(&mut job, LINES),
         2 => grow_segments(&mut job, SEGMENTS),
+        21 => crowd(random, &mut job),
         3..=20 => spoil(random, &mut job),
         _ => (),
     }
     job
+}
+
+/// Around 256 layers with segments in one tile, or left of the first; the table has few of them.
+fn crowd(random: &mut Random, job: &mut Job) {
+    let tile = random.pick(&[-1, job.head[2]]);
+    let layers = random.within(250..=262);
+    job.lines = (0..layers).map(|id| [tile, id, 0, 0, 1, 0, 0]).collect();
 }
 
 /// The first tile and how many there are: few, at times the last ones, rarely all.

@@ -35,7 +35,7 @@ mod ffi {
         pub fn ffi_is_empty(covers: *const [i8; 16], rule: u32) -> bool;
         pub fn ffi_is_full(covers: *const [i8; 16], rule: u32) -> bool;
         pub fn ffi_carry(part: *const u64, len: usize, covers: *mut [i8; 16]) -> u32;
-        pub fn ffi_doubled_area_to_coverage(d: i16, rule: u32, coverage: *mut f32) -> u32;
+        pub fn ffi_doubled_area_to_coverage(d: i16, rule: u32) -> f32;
         pub fn ffi_paint_part(part: *const u64, len: usize, covers: *const [i8; 16], rule: u32, plane: *mut f32, plane_len: usize, mark: *mut u32) -> u32;
         pub fn ffi_mark_plane(plane: *const f32, len: usize, mark: *mut u32) -> u32;
         pub fn ffi_octets(mark: u32) -> u32;
@@ -187,11 +187,9 @@ pub fn carry(part: &[u64], mut cover: [i8; 16]) -> (u32, [i8; 16]) {
     (number, cover)
 }
 
-/// The refusal's number and the bits that the lent coverage then has.
-pub fn doubled_area_to_coverage(d: i16, rule: u32) -> (u32, u32) {
-    let mut coverage = f32::from_bits(UNTOUCHED as u32);
-    let number = unsafe { ffi::ffi_doubled_area_to_coverage(d, rule, &mut coverage) };
-    (number, coverage.to_bits())
+/// The bits of a coverage.
+pub fn doubled_area_to_coverage(d: i16, rule: u32) -> u32 {
+    unsafe { ffi::ffi_doubled_area_to_coverage(d, rule) }.to_bits()
 }
 
 /// The refusal's number and what the lent mark then holds; the coverages in `plane`.
