@@ -36,7 +36,7 @@ pub fn any_job(random: &mut Random) -> Job {
 
 /// Around 256 layers with segments in one tile, or left of the first; the table has few of them.
 fn crowd(random: &mut Random, job: &mut Job) {
-    let tile = random.pick(&[-1, job.head[2]]);
+    let tile = random.pick(&[-1, job.head[2].min(LAST_TILE)]);
     let layers = random.within(250..=262);
     job.lines = (0..layers).map(|id| [tile, id, 0, 0, 1, 0, 0]).collect();
 }
