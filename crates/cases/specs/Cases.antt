@@ -103,6 +103,8 @@ pub record Cases : Type 0 where
   pub p8-previous : (count color : List ℕ) → layerCountOf (tileOf0 count color) ≡ none
   pub p8-kept : (count color : List ℕ) → layerCountOf (updateCount (tileOf0 count color) (some 16777217)) ≡ some 1
   pub p8-tag : (count color : List ℕ) → updateCount (tileOf0 count color) (some 16777217) .tags ≡ 2
+  pub p8-dropped : (t : CachedTile) → updateCount t none .«layer_count» ≡ t .«layer_count»
+  pub p8-color-dropped : (t : CachedTile) (bytes : List ℕ) → updateColor t (record { given = false; bytes = bytes }) .«solid_color» ≡ t .«solid_color»
   pub p8-count-left : (count color : List ℕ) → updateCount (bothKept count color) none ≡ record { tags = 1; «layer_count» = count; «solid_color» = color }
   pub p8-color-left : (count color bytes : List ℕ) → updateColor (bothKept count color) (record { given = false; bytes = bytes }) ≡ record { tags = 2; «layer_count» = count; «solid_color» = color }
   pub p9-half : areaCoverage NonZero (pos 256) ≡ ofBits binary32 0x3F000000
@@ -149,6 +151,8 @@ cases =
       p8-previous = λ count color. refl;
       p8-kept = λ count color. refl;
       p8-tag = λ count color. refl;
+      p8-dropped = λ t. refl;
+      p8-color-dropped = λ t bytes. refl;
       p8-count-left = λ count color. refl;
       p8-color-left = λ count color bytes. refl;
       p9-half = refl;
