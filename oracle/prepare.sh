@@ -1,12 +1,18 @@
-# Sourced: readies what the comparison is built from, and goes to oracle/. That is Debian's packages of the crates that the Rust needs, the
-# static library of the crate `ffi` and the program `row`, proved, and FORMA_SRC.
-cd "$(dirname "${BASH_SOURCE[0]}")/.."
-FORMA_SRC=$(realpath "${FORMA_SRC:-../shared/docs/src}")
-export FORMA_SRC
-if [ ! -f "$FORMA_SRC/forma/src/cpu/painter/mod.rs" ]; then
-  echo "FORMA_SRC: there is no forma/src in $FORMA_SRC" >&2
+# Sourced: finds the Rust, readies Debian's packages of the crates that it needs, and goes to oracle/.
+lacking() {
+  echo "oracle: $1" >&2
   exit 2
-fi
+}
+
+given=${FORMA_SRC:-$(dirname "${BASH_SOURCE[0]}")/../../shared/docs/src}
+[ -f "$given/forma/src/cpu/painter/mod.rs" ] ||
+  lacking "the Rust is missing: no forma/src in $given; get google/forma at commit 681e8bfd34 and let FORMA_SRC name its folder"
+FORMA_SRC=$(realpath "$given")
+export FORMA_SRC
+for program in cargo rt apt-get dpkg; do
+  command -v "$program" >/dev/null || lacking "the program $program is missing"
+done
+cd "$(dirname "${BASH_SOURCE[0]}")"
 
 unpack() {
   local names=(autocfg cfg-if crossbeam-channel crossbeam-deque crossbeam-epoch crossbeam-utils either libc memoffset num-cpus rayon rayon-core
@@ -21,8 +27,15 @@ unpack() {
   touch unpacked
 }
 
-mkdir -p target/oracle
-[ -f target/oracle/unpacked ] || (cd target/oracle && unpack)
-rt staticlib ffi >target/oracle/staticlib.log 2>&1 || { tail -n 20 target/oracle/staticlib.log >&2; exit 2; }
-rt check row >target/oracle/row.log 2>&1 || { tail -n 20 target/oracle/row.log >&2; exit 2; }
-cd oracle
+mkdir -p ../target/oracle
+[ -f ../target/oracle/unpacked ] || (cd ../target/oracle && unpack)
+
+# proved FILE WORDS: the file that `rt WORDS` writes below target/, proved anew where a source is newer than it. What is said is shown only on failure.
+proved() {
+  local file=target/$1 log=target/oracle/$2.log
+  (
+    cd ..
+    [ -f "$file" ] && [ -z "$(find crates.txt crates/*/src crates/*/specs crates/*/proofs -newer "$file" -print -quit)" ] && exit
+    rt "${@:2}" >"$log" 2>&1 || { tail -n 20 "$log" >&2; exit 2; }
+  )
+}

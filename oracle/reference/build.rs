@@ -1,5 +1,5 @@
-//! Copies the Rust's files, unchanged, and appends to some of them one line that declares a child module: it reaches what is private
-//! there. Asserts that each copy begins with the whole text of its original.
+//! Copies the Rust's files, unchanged, and appends to some of them one line that declares a child module: it reaches
+//! what is private there. Asserts that each copy begins with the whole text of its original.
 
 use std::{
     env, fs,
@@ -77,13 +77,18 @@ fn main() {
 
 fn copy(from: &Path, to: &Path, reach: Option<&Path>) {
     println!("cargo:rerun-if-changed={}", from.display());
-    let original = fs::read(from).unwrap_or_else(|why| panic!("{}: {why} (FORMA_SRC names the folder that holds forma/src)", from.display()));
+    let original = fs::read(from)
+        .unwrap_or_else(|why| panic!("{}: {why} (FORMA_SRC names the folder that holds forma/src)", from.display()));
     let mut text = original.clone();
     if let Some(reach) = reach {
         println!("cargo:rerun-if-changed={}", reach.display());
-        text.extend(format!("\n#[path = {reach:?}]\npub mod reach;\n").into_bytes());
+        text.extend(format!("\n#[path = {reach:?}]\n#[warn(unused, clippy::all)]\npub mod reach;\n").into_bytes());
     }
     fs::create_dir_all(to.parent().unwrap()).unwrap();
     fs::write(to, text).unwrap();
-    assert!(fs::read(to).unwrap().starts_with(&original), "{} is not the original and then the appended line", to.display());
+    assert!(
+        fs::read(to).unwrap().starts_with(&original),
+        "{} is not the original and then the appended line",
+        to.display()
+    );
 }

@@ -5,7 +5,8 @@ use mathlib.Core.List.{List}
 use Prim.Native.Nat.{ℕ}
 use lib.IntN.{ℤ}
 use Rattle.laws.specs.Answer.{refused, given}
-use Rattle.cover.specs.Carry.{Adding, addOf}
+use Rattle.cover_statements.specs.Carry.{addOf}
+use Rattle.cover.specs.Adding.{Adding}
 use Rattle.cover.specs.declared.carry.Carried.{Carried}
 use Rattle.cases.specs.Answers.{isGiven}
 

@@ -1,2 +1,4 @@
 -- Laws that the proofs of the cases cite.
 pub mod Accepted
+pub mod Table
+pub mod Tile

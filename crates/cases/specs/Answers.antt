@@ -4,27 +4,25 @@ use mathlib.Core.List.{[], _∷_}
 use mathlib.Core.Option.{Option, some, none}
 use Prim.Native.Nat.{ℕ}
 use lib.Dec.{eqb}
+use lib.Ieee.{Float, eq}
 use Rattle.laws.specs.Answer.{Answer, refused, given}
 use Rattle.cached_tile.specs.Kept.{Writing, write, keep}
 use Rattle.cached_tile.specs.declared.CachedTile.{CachedTile}
-use Rattle.pixel_segment.specs.declared.search.Found.{Found}
-use Rattle.pixel_segment.specs.declared.search.Found.the-variants.{At, Absent}
+use Rattle.pixel_segment.specs.Search.{Place, found, absent}
+use Rattle.cases.specs.Numbers.{half}
+use Rattle.cases.specs.Inputs.{taggedTile}
 
 abbrev pub isWord : Answer ℕ → ℕ → Bool
 isWord (refused n) w = false
 isWord (given v) w = eqb v w
 
-abbrev pub wordIn : Answer ℕ → ℕ
-wordIn (refused n) = 0
-wordIn (given v) = v
+abbrev pub isAt : Place → ℕ → Bool
+isAt (found i) place = eqb i place
+isAt (absent i) place = false
 
-abbrev pub isAt : Found → ℕ → Bool
-isAt (At i) place = eqb i place
-isAt (Absent i) place = false
-
-abbrev pub isAbsent : Found → ℕ → Bool
-isAbsent (At i) place = false
-isAbsent (Absent i) place = eqb i place
+abbrev pub isAbsent : Place → ℕ → Bool
+isAbsent (found i) place = false
+isAbsent (absent i) place = eqb i place
 
 abbrev pub isCount : Option ℕ → ℕ → Bool
 isCount (some n) number = eqb n number
@@ -52,7 +50,11 @@ isKeep (given w) = isKeeping w
 
 -- a tile of tag 0, whose bytes are not 0
 abbrev pub nothingKept : CachedTile
-nothingKept = record { tags = 0; «layer_count» = 9 ∷ 9 ∷ 9 ∷ []; «solid_color» = 8 ∷ 8 ∷ 8 ∷ 8 ∷ [] }
+nothingKept = taggedTile 0 (9 ∷ 9 ∷ 9 ∷ []) (8 ∷ 8 ∷ 8 ∷ 8 ∷ [])
+
+-- a coverage is 0.5
+abbrev pub isHalf : Float → Bool
+isHalf coverage = eq coverage half
 
 abbrev pub isGiven : {A : Type 0} → Answer A → Bool
 isGiven (refused n) = false

@@ -1,3 +1,7 @@
--- The worked cases as theorems, and how the program reads an answer.
-pub mod Answers
+-- The worked cases as one table, what they are about, and how the program reads an answer.
+pub mod Numbers
+pub mod Inputs
 pub mod Cases
+pub mod Edges
+pub mod Answers
+pub mod Seen

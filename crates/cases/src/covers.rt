@@ -1,10 +1,14 @@
 // P6, P9, P10 and P11: covers, coverages and carries.
 use cover::Cover;
 use cover::carry;
+use cover::carry::Carried;
 use cover::weight;
 use styling::FillRule;
 ghost use mathlib.Core.Path.{_≡_};
 ghost use mathlib.Core.Bool.{true};
+ghost use mathlib.Core.List.{_∷_};
+ghost use lib.IntN.{pos};
+ghost use lib.ListN.{replicate};
 
 // Sixteen of 32 are empty under EvenOdd, not under NonZero.
 pub fn p6_empty() -> bool
@@ -52,14 +56,20 @@ pub fn p10() -> bool
     (past == 0.6328125) & (half == 0.5) & (none == 0.0)
 }
 
-// The word is layer 5, tile x 2, tile y 0, local x 3, local y 0, multiplier 32, cover -16: to 16 in each row it hands on 0, then
-// fifteen times 16.
-pub fn p11() -> bool
-    ensures { λ r. ⌜ r ≡ true ⌝ }
+// The word is layer 5, tile x 2, tile y 0, local x 3, local y 0, multiplier 32, cover -16, added to 16 in each row.
+fn p11_carried() -> Carried
+    ensures { λ r. ⌜ (r .accepted ≡ true) × (r .cover .covers ≡ pos 0 ∷ replicate 15 (pos 16)) ⌝ }
 {
     let part: [u64; 1] = [0x0020060000530830];
     let covers = [16i8; 16];
-    let carried = carry::carry(&part, Cover { covers });
+    carry::carry(&part, Cover { covers })
+}
+
+// It hands on 0 in row 0, and 16 up to row 7.
+pub fn p11_low() -> bool
+    ensures { λ r. ⌜ r ≡ true ⌝ }
+{
+    let carried = p11_carried();
     let sum = carried.cover;
     let rows = sum.covers;
     let low = (rows[0] == 0)
@@ -70,15 +80,24 @@ pub fn p11() -> bool
         & (rows[5] == 16)
         & (rows[6] == 16)
         & (rows[7] == 16);
-    let high = (rows[8] == 16)
+    carried.accepted & low
+}
+
+// And 16 in the rows 8 to 15.
+pub fn p11_high() -> bool
+    ensures { λ r. ⌜ r ≡ true ⌝ }
+{
+    let carried = p11_carried();
+    let sum = carried.cover;
+    let rows = sum.covers;
+    (rows[8] == 16)
         & (rows[9] == 16)
         & (rows[10] == 16)
         & (rows[11] == 16)
         & (rows[12] == 16)
         & (rows[13] == 16)
         & (rows[14] == 16)
-        & (rows[15] == 16);
-    carried.accepted & low & high
+        & (rows[15] == 16)
 }
 
 // Number 9: the same word with cover -8 is refused at 120, though the sum is 112.

@@ -1,5 +1,5 @@
-// The worked cases P1 to P12, run. What each check requires is proved from the contracts of the functions that it calls alone; the same cases
-// stand as theorems about the definitions in specs/Cases.antt.
+// The worked cases P1 to P12, run, with both sides of what adding refuses. What each check requires is proved from
+// the contracts of the functions that it calls; specs/Cases states the same cases about the definitions.
 mod clips;
 mod covers;
 mod tiles;
@@ -22,7 +22,8 @@ fn main() {
     check::expect(tiles::p8_dropped());
     check::expect(covers::p9());
     check::expect(covers::p10());
-    check::expect(covers::p11());
+    check::expect(covers::p11_low());
+    check::expect(covers::p11_high());
     check::expect(covers::p11_refused());
     check::expect(covers::p11_passed());
     check::expect(tiles::p12());

@@ -6,7 +6,8 @@ use pixel_segment::search::Found;
 ghost use mathlib.Core.Path.{_≡_};
 ghost use mathlib.Core.Bool.{true};
 ghost use Rattle.pixel_segment.specs.Pack.{answerOf};
-ghost use Rattle.cases.specs.Answers.{isWord, wordIn, isAt, isAbsent};
+ghost use Rattle.pixel_segment.specs.Search.{placeIn};
+ghost use Rattle.cases.specs.Answers.{isWord, isAt, isAbsent};
 
 // Whether packing gave the word.
 fn is_word(packed: Packed, word: u64) -> bool
@@ -18,18 +19,8 @@ fn is_word(packed: Packed, word: u64) -> bool
     }
 }
 
-// The segment that packing gave; the word 0 where it refused.
-fn segment_in(packed: Packed) -> PixelSegment
-    ensures { λ r. ⌜ r .0 ≡ wordIn (answerOf packed) ⌝ }
-{
-    match packed {
-        Packed::Segment(s) => s,
-        Packed::TileOutOfRange => PixelSegment(0),
-    }
-}
-
 fn is_at(found: Found, place: usize) -> bool
-    ensures { λ r. ⌜ r ≡ isAt found place ⌝ }
+    ensures { λ r. ⌜ r ≡ isAt (placeIn found) place ⌝ }
 {
     match found {
         Found::At(i) => i == place,
@@ -38,7 +29,7 @@ fn is_at(found: Found, place: usize) -> bool
 }
 
 fn is_absent(found: Found, place: usize) -> bool
-    ensures { λ r. ⌜ r ≡ isAbsent found place ⌝ }
+    ensures { λ r. ⌜ r ≡ isAbsent (placeIn found) place ⌝ }
 {
     match found {
         Found::At(_) => false,
@@ -61,30 +52,53 @@ pub fn p2() -> bool
     packs & (PixelSegment(0x002006000053483F).double_area() == -32)
 }
 
-// Tile x -7 and -1 pack alike.
+// Tile x -7 and -1 pack to the same word.
 pub fn p3() -> bool
     ensures { λ r. ⌜ r ≡ true ⌝ }
 {
-    let far = segment_in(PixelSegment::new(5, -7, 0, 3, 4, 32, 16));
-    is_word(PixelSegment::new(5, -1, 0, 3, 4, 32, 16), far.0)
+    let far = is_word(
+        PixelSegment::new(5, -7, 0, 3, 4, 32, 16),
+        0x0020000000534810,
+    );
+    let near = is_word(
+        PixelSegment::new(5, -1, 0, 3, 4, 32, 16),
+        0x0020000000534810,
+    );
+    far & near
 }
 
-// Tile y 2,046 reads back, and 2,047 reads back as -1.
+// Tile y 2,046 packs and reads back; 2,047 packs and reads back as -1.
 pub fn p4_tile_y() -> bool
     ensures { λ r. ⌜ r ≡ true ⌝ }
 {
-    let last = segment_in(PixelSegment::new(5, 2, 2046, 3, 4, 32, 16));
-    let past = segment_in(PixelSegment::new(5, 2, 2047, 3, 4, 32, 16));
-    (last.tile_y() == 2046) & (past.tile_y() == -1)
+    let last = is_word(
+        PixelSegment::new(5, 2, 2046, 3, 4, 32, 16),
+        0xFFE0060000534810,
+    );
+    let past = is_word(
+        PixelSegment::new(5, 2, 2047, 3, 4, 32, 16),
+        0x0000060000534810,
+    );
+    let last_y = PixelSegment(0xFFE0060000534810).tile_y();
+    let past_y = PixelSegment(0x0000060000534810).tile_y();
+    last & past & (last_y == 2046) & (past_y == -1)
 }
 
-// Tile x 4,094 reads back, and 4,095 reads back as -1.
+// Tile x 4,094 packs and reads back; 4,095 packs and reads back as -1.
 pub fn p4_tile_x() -> bool
     ensures { λ r. ⌜ r ≡ true ⌝ }
 {
-    let last = segment_in(PixelSegment::new(5, 4094, 0, 3, 4, 32, 16));
-    let past = segment_in(PixelSegment::new(5, 4095, 0, 3, 4, 32, 16));
-    (last.tile_x() == 4094) & (past.tile_x() == -1)
+    let last = is_word(
+        PixelSegment::new(5, 4094, 0, 3, 4, 32, 16),
+        0x003FFE0000534810,
+    );
+    let past = is_word(
+        PixelSegment::new(5, 4095, 0, 3, 4, 32, 16),
+        0x0020000000534810,
+    );
+    let last_x = PixelSegment(0x003FFE0000534810).tile_x();
+    let past_x = PixelSegment(0x0020000000534810).tile_x();
+    last & past & (last_x == 4094) & (past_x == -1)
 }
 
 // Words of the layers 1, 3, 3, 3 and 7: layer 3 is found at 3.

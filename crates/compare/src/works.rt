@@ -71,7 +71,7 @@ pub fn tile(
     let mut list_ids = rooms::ids();
     let mut list_covers = rooms::covers();
     let mut segments = rooms::flags();
-    let mut shown = rooms::flags();
+    let mut unmasked = rooms::flags();
     tile_in(
         text,
         stand,
@@ -86,7 +86,7 @@ pub fn tile(
         &mut list_ids,
         &mut list_covers,
         &mut segments,
-        &mut shown,
+        &mut unmasked,
     )
 }
 
@@ -104,7 +104,7 @@ fn tile_in(
     list_ids: &mut [u32],
     list_covers: &mut [i8],
     segments: &mut [bool],
-    shown: &mut [bool],
+    unmasked: &mut [bool],
 ) -> Stand {
     let given = read_given(text, stand.at);
     let mut words = stand.words;
@@ -134,7 +134,7 @@ fn tile_in(
         list_ids,
         list_covers,
         segments,
-        shown,
+        unmasked,
         &mut told,
         &mut bottom,
     );
@@ -150,7 +150,7 @@ fn tile_in(
     let c3 = lists::expect_tile(text, c2, kept);
     let c4 = expect_told(text, c3, told, bottom);
     let listed = stand::carried(number, told[2]);
-    let c5 = expect_list(text, c4, listed, list_ids, list_covers, segments, shown);
+    let c5 = expect_list(text, c4, listed, list_ids, list_covers, segments, unmasked);
     let left = stand::carried(number, counts[0]);
     let c6 = lists::expect_words(text, c5, next_ids, left, 7);
     let c7 = lists::expect_covers(text, c6, next_covers, 16 * left, 7);
@@ -183,12 +183,12 @@ fn expect_list(
     ids: &[u32],
     covers: &[i8],
     segments: &[bool],
-    shown: &[bool],
+    unmasked: &[bool],
 ) -> Cursor
     requires { ⌜ listed ≤ 4096 ⌝ }
 {
     let c1 = lists::expect_words(text, cursor, ids, listed, 7);
     let c2 = lists::expect_covers(text, c1, covers, 16 * listed, 7);
     let c3 = lists::expect_flags(text, c2, segments, listed);
-    lists::expect_flags(text, c3, shown, listed)
+    lists::expect_flags(text, c3, unmasked, listed)
 }

@@ -1,13 +1,2 @@
--- Covers, areas, coverage: what the contracts say.
-pub mod Cover
-pub mod Carry
-pub mod Load
-pub mod Area
-pub mod Cell
-pub mod Weight
-pub mod Coverage
-pub mod Plane
-pub mod Mark
-pub mod Paint
-pub mod Entry
-pub mod WholeRow
+-- What the contracts say is of cover_statements, but for what cites the struct of a cover.
+pub mod Adding

@@ -4,10 +4,10 @@ use pixel_segment::PixelSegment;
 ghost use mathlib.Core.Path.{_≡_};
 ghost use mathlib.Core.Bool.{true};
 ghost use Rattle.pixel_segment.specs.Field.{cpu};
-ghost use Rattle.cover.specs.Area.{areasOf};
-ghost use Rattle.cover.specs.Carry.{isLight};
-ghost use Rattle.cover.specs.Cell.{cellOf, noCells, Bounded, Accumulated, Shadable, Shaded};
-ghost use Rattle.cover.specs.Cover.{coverAt};
+ghost use Rattle.cover_statements.specs.Area.{areasOf};
+ghost use Rattle.cover_statements.specs.Carry.{isLight};
+ghost use Rattle.cover_statements.specs.Cell.{cellOf, noCells, Bounded, Accumulated, Shadable, Shaded};
+ghost use Rattle.cover_statements.specs.Cover.{coverAt};
 
 // The cell of a segment: its pixel, at column × 16 + row.
 fn cell(segment: PixelSegment) -> usize

@@ -3,7 +3,7 @@ use crate::Cover;
 ghost use mathlib.Core.Path.{_≡_};
 ghost use Prim.Native.Nat.{_+_, _*_, _≤_};
 ghost use lib.ListN.{length};
-ghost use Rattle.cover.specs.Entry.{entryOf, putEntry};
+ghost use Rattle.cover_statements.specs.Entry.{entryOf, putEntry};
 
 // The cover at a place.
 pub fn read_cover(covers: &[i8], place: usize) -> Cover

@@ -8,7 +8,7 @@ pub mod weight;
 
 use styling::FillRule;
 ghost use mathlib.Core.Path.{_≡_};
-ghost use Rattle.cover.specs.Cover.{noCover, emptyAt, fullAt, isEmpty, isFull};
+ghost use Rattle.cover_statements.specs.Cover.{noCover, emptyAt, fullAt, isEmpty, isFull};
 
 // One signed byte for each pixel row of a tile: 16 is a whole pixel, once around.
 pub struct Cover {

@@ -1,14 +1,9 @@
 // The octets of a plane that hold a coverage above 0, as the bits of a mark, and their count.
+use cover_statements::mark::Marked;
 ghost use mathlib.Core.Path.{_≡_};
 ghost use Prim.Native.Nat.{_<_, _≤_, _/_, _%_};
 ghost use lib.ListN.{length};
-ghost use Rattle.cover.specs.Mark.{isUsed, markOf, marked, markedAnswer, Counted};
-
-// What marking a plane answers: its mark, or refusal 1.
-pub enum Marked {
-    Mark(u32),
-    PlaneTooShort,
-}
+ghost use Rattle.cover_statements.specs.Mark.{isUsed, markOf, marked, markedAnswer, Counted};
 
 // Octet h of a column is rows 8h to 8h + 7, so octet 2 × column + h is the eight numbers from 8 times it on.
 fn is_used(plane: &[f32], octet: usize) -> bool

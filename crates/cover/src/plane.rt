@@ -4,6 +4,7 @@ use crate::area;
 use crate::carry;
 use crate::mark;
 use crate::weight;
+use cover_statements::plane::Painted;
 use styling::FillRule;
 ghost use mathlib.Core.Path.{_≡_};
 ghost use mathlib.Core.Bool.{true};
@@ -11,20 +12,13 @@ ghost use Prim.Native.Nat.{_≤_};
 ghost use lib.ListN.{length};
 ghost use Rattle.laws.specs.Lists.{over};
 ghost use Rattle.pixel_segment.specs.Field.{cpu};
-ghost use Rattle.cover.specs.Carry.{isLight};
-ghost use Rattle.cover.specs.Plane.{coveragesOf};
-ghost use Rattle.cover.specs.Paint.{partPlane, Painting, InRange};
-
-// What painting answers: the mark, refusal 1 or refusal 9.
-pub enum Painted {
-    Mark(u32),
-    PlaneTooShort,
-    CoverTooLarge,
-}
+ghost use Rattle.cover_statements.specs.Carry.{isLight};
+ghost use Rattle.cover_statements.specs.Plane.{coveragesOf};
+ghost use Rattle.cover_statements.specs.Paint.{partPlane, Painting};
 
 // The coverages of doubled areas, in the same places. What lies past them in the plane stays.
 fn write_coverages(areas: &[i16; 256], rule: FillRule, plane: &mut [f32])
-    requires { ⌜ InRange (now areas) × (256 ≤ length (now plane)) ⌝ }
+    requires { ⌜ (length (now areas) ≡ 256) × (256 ≤ length (now plane)) ⌝ }
     ensures { λ _. ⌜ now (plane .exit) ≡ over (coveragesOf rule (now (areas .entry))) (now (plane .entry)) ⌝ }
 {
     let mut k = 0;

@@ -4,8 +4,8 @@ ghost use mathlib.Core.Path.{_≡_};
 ghost use Prim.Native.Nat.{_≤_};
 ghost use lib.IntN.{natAbs};
 ghost use Rattle.laws.specs.Integer.{modℤ};
-ghost use Rattle.cover.specs.Weight.{nonZeroOf, evenOddOf, weightOf};
-ghost use Rattle.cover.specs.Coverage.{coverageOf, areaCoverage};
+ghost use Rattle.cover_statements.specs.Weight.{nonZeroOf, evenOddOf, weightOf};
+ghost use Rattle.cover_statements.specs.Coverage.{coverageOf, areaCoverage};
 
 // The absolute value, of -32,768 too.
 pub fn magnitude(x: i16) -> u16

@@ -5,3 +5,4 @@ pub mod Laws
 pub mod Reading
 pub mod Signs
 pub mod Print
+pub mod SignedPrint

@@ -8,6 +8,8 @@ use native.Mathlib.Decide.{decLt}
 use native.Mathlib.Omega.{arith}
 use lib.ListN.{length, set, length-append}
 use lib.Seq.{sets}
+use mir.Syntax.{w32}
+use mir.Val.{Fits}
 use Rattle.decimal.specs.Decimal.{decimal}
 use Rattle.decimal.specs.Print.{Printing}
 use Rattle.decimal.proofs.Digits.{decimal-one, decimal-more}
@@ -52,3 +54,7 @@ length-at-most (suc k) n h =
       | yes l ↦ omega (arith, length-one n l)
       | no l ↦ omega (arith, length-more n (omega arith), length-at-most k (n / 10) (omega arith))
     ]
+
+-- a number of 32 bits has at most ten digits
+pub ten : (n : ℕ) → Fits w32 n → length (decimal n) ≤ 10
+ten n h = length-at-most 9 n (omega arith)

@@ -2,7 +2,7 @@
 ghost use mathlib.Core.Path.{_≡_};
 ghost use Prim.Native.Nat.{_+_, _≤_, _^_};
 ghost use lib.ListN.{length};
-ghost use Rattle.decimal.specs.Decimal.{decimal, isDigit};
+ghost use Rattle.decimal.specs.Decimal.{decimal, decimalℤ, isDigit};
 ghost use Rattle.decimal.specs.Read.{UnsignedRead, SignedRead};
 ghost use Rattle.decimal.specs.Print.{Printing};
 
@@ -94,4 +94,16 @@ pub fn print_decimal(out: &mut [u8], at: usize, n: u32) -> usize
     let last = print_decimal(out, at, n / 10);
     out[last] = b'0' + ((n % 10) as u8);
     last + 1
+}
+
+// Prints a number with its sign from place `at` on, in at most 11 bytes, and answers the place after it.
+pub fn print_signed(out: &mut [u8], at: usize, v: i32) -> usize
+    requires { ⌜ at + 11 ≤ length (now out) ⌝ }
+    ensures { λ r. ⌜ (Printing (decimalℤ v) (now (out .entry)) at r (now (out .exit))) × (r ≤ at + 11) ⌝ }
+{
+    if v < 0 {
+        out[at] = b'-';
+        return print_decimal(out, at + 1, (0 - v as i64) as u32);
+    }
+    print_decimal(out, at, v as u32)
 }

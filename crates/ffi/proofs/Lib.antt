@@ -1,2 +1,3 @@
--- What the proofs of several functions use.
+-- What the proofs of several functions use, and the claim about calls of a row.
 mod Told
+pub mod Calls

@@ -1,5 +1,5 @@
 -- What is told of an answer by numbers is told of an equal one. Assumes nothing.
-use mathlib.Core.Path.{_≡_, subst}
+use mathlib.Core.Path.{_≡_, ap, subst, _∙_}
 use mathlib.Core.Bool.{Bool}
 use mathlib.Core.List.{List}
 use mathlib.Core.Option.{Option}
@@ -7,18 +7,25 @@ use Prim.Native.Nat.{ℕ}
 use lib.Ieee.{Float}
 use Rattle.laws.specs.Answer.{Answer}
 use Rattle.cached_tile.specs.declared.SolidColor.{SolidColor}
+use Rattle.cached_tile.specs.declared.kept.Kept.{Kept}
 use Rattle.cached_tile.specs.Kept.{Writing}
-use Rattle.pixel_segment.specs.declared.search.Found.{Found}
-use Rattle.tile_row.specs.declared.RowState.{RowState}
-use Rattle.tile_row.specs.declared.working.TileDone.{TileDone}
+use Rattle.pixel_segment.specs.Search.{Place}
+use Rattle.row_statements.specs.Lent.{Columns}
+use Rattle.row_statements.specs.State.{State, stateIn}
+use Rattle.row_statements.specs.Opening.{OpenGiven}
+use Rattle.row_statements.specs.TileWork.{WorkCall, WorkLent, workOf, workAnswer, GivesWork}
+use Rattle.row_statements.specs.Painting.{PaintCall, paintOf, paintAnswer, PaintsLayer}
+use Rattle.row_statements.specs.declared.TileWorked.{TileWorked}
+use Rattle.row_statements.specs.declared.Painted.{Painted}
 use Rattle.ffi.specs.Numbers.{numberOf, valueOr, isFound, placeOf}
-use Rattle.ffi.specs.Cached.{isGiven, givenOr, colorOr, writtenOr}
-use Rattle.ffi.specs.Rows.{wordsOr, countsOr, wordsIf, countsIf}
-use Rattle.ffi.specs.Work.{toldOr, bottomOr}
+use Rattle.ffi.specs.Cached.{isGiven, givenOr, colorOr, writtenOr, settledBytes}
+use Rattle.ffi.specs.Rows.{StateNumbers, openNumbers, OpenTold}
+use Rattle.ffi.specs.Work.{WorkNumbers, workedNumbers, WorkTold}
+use Rattle.ffi.specs.Painting.{PaintNumbers, paintedNumbers, PaintTold}
 
 -- a search: whether the key was found, and the place
-pub searched : {f g : Found} {r : Bool} {p : ℕ} → f ≡ g → (r ≡ isFound f) × (p ≡ placeOf f) → (r ≡ isFound g) × (p ≡ placeOf g)
-searched {r = r} {p = p} e told = subst (λ (h : Found). (r ≡ isFound h) × (p ≡ placeOf h)) e told
+pub searched : {f g : Place} {r : Bool} {p : ℕ} → f ≡ g → (r ≡ isFound f) × (p ≡ placeOf f) → (r ≡ isFound g) × (p ≡ placeOf g)
+searched {r = r} {p = p} e told = subst (λ (h : Place). (r ≡ isFound h) × (p ≡ placeOf h)) e told
 
 -- an operation that gives a value: the refusal, and what the lent value is, which was `old`
 pub answered : {A : Type 0} {a b : Answer A} {r : ℕ} {p : A} (old : A) → a ≡ b → (r ≡ numberOf a) × (p ≡ valueOr a old) → (r ≡ numberOf b) × (p ≡ valueOr b old)
@@ -32,20 +39,31 @@ optional {A = A} {r = r} {p = p} old e told = subst (λ (h : Option A). (r ≡ i
 pub colored : {a b : SolidColor} {r : Bool} {p : List ℕ} (old : List ℕ) → a ≡ b → (r ≡ a .given) × (p ≡ colorOr a old) → (r ≡ b .given) × (p ≡ colorOr b old)
 colored {r = r} {p = p} old e told = subst (λ (h : SolidColor). (r ≡ h .given) × (p ≡ colorOr h old)) e told
 
--- settling
-pub settled : {a b : Answer Writing} {r : ℕ} {p : Bool} (old : Bool) → a ≡ b → (r ≡ numberOf a) × (p ≡ writtenOr a old) → (r ≡ numberOf b) × (p ≡ writtenOr b old)
-settled {r = r} {p = p} old e told = subst (λ (h : Answer Writing). (r ≡ numberOf h) × (p ≡ writtenOr h old)) e told
+-- settling: the refusal, whether to write, and the tile's bytes
+pub settled : {a b : Answer Writing} {j k : Kept} {r : ℕ} {p : Bool} {bytes : List ℕ} (old : Bool) (oldBytes : List ℕ) → a ≡ b → j ≡ k → (r ≡ numberOf a) × ((p ≡ writtenOr a old) × (bytes ≡ settledBytes a j oldBytes)) → (r ≡ numberOf b) × ((p ≡ writtenOr b old) × (bytes ≡ settledBytes b k oldBytes))
+settled old oldBytes e f told =
+    (told .0 ∙ ap numberOf e, (told .1 .0 ∙ ap (λ (h : Answer Writing). writtenOr h old) e, told .1 .1 ∙ λ i. settledBytes (e i) (f i) oldBytes))
 
--- an operation that gives a state
-pub staged : {a b : Answer RowState} {r : ℕ} {w k : List ℕ} (words counts : List ℕ) → a ≡ b → (r ≡ numberOf a) × ((w ≡ wordsOr a words) × (k ≡ countsOr a counts)) → (r ≡ numberOf b) × ((w ≡ wordsOr b words) × (k ≡ countsOr b counts))
-staged {r = r} {w = w} {k = k} words counts e told = subst (λ (h : Answer RowState). (r ≡ numberOf h) × ((w ≡ wordsOr h words) × (k ≡ countsOr h counts))) e told
+-- an opening
+pub opened : {g : OpenGiven} {a : Answer State} {old new : StateNumbers} {r : ℕ} {back : Columns} → a ≡ g .answer → back ≡ g .lent → (r ≡ numberOf a) × (new ≡ openNumbers a old) → OpenTold g old r new back
+opened {old = old} e l told = record { number = told .0 ∙ ap numberOf e; numbers = told .1 ∙ ap (λ (h : Answer State). openNumbers h old) e; lent-is = l }
 
--- painting: the state stands beside the answer
-pub painted : {a b : Answer ℕ} {s t : RowState} {r m : ℕ} {w k : List ℕ} (words counts : List ℕ) (mark : ℕ) → a ≡ b → s ≡ t → (r ≡ numberOf a) × ((w ≡ wordsIf a s words) × ((k ≡ countsIf a s counts) × (m ≡ valueOr a mark))) → (r ≡ numberOf b) × ((w ≡ wordsIf b t words) × ((k ≡ countsIf b t counts) × (m ≡ valueOr b mark)))
-painted {a} {b} {s} {t} {r} {m} {w} {k} words counts mark e g known =
-    subst (λ (h : Answer ℕ). (r ≡ numberOf h) × ((w ≡ wordsIf h t words) × ((k ≡ countsIf h t counts) × (m ≡ valueOr h mark)))) e (subst (λ (u : RowState). (r ≡ numberOf a) × ((w ≡ wordsIf a u words) × ((k ≡ countsIf a u counts) × (m ≡ valueOr a mark)))) g known)
+-- tile work from a state that is read of numbers: the state and the cached tile stand beside the answer
+pub worked : (call : State → WorkCall) (lent : WorkLent) {s t : State} {w : TileWorked} {old new : WorkNumbers} {r : ℕ} {back : WorkLent} → s ≡ t → GivesWork (workOf (call s) lent) w back → (r ≡ numberOf (workAnswer (w .answer))) × (new ≡ workedNumbers (workAnswer (w .answer)) (stateIn (w .state)) (w .kept) old) → WorkTold (workOf (call t) lent) old r new back
+worked call lent {w = w} {old = old} {back = back} e given told =
+    let works = subst (λ (x : State). GivesWork (workOf (call x) lent) w back) e given in
+    record {
+      number = told .0 ∙ ap numberOf (works .answer);
+      numbers = told .1 ∙ λ i. workedNumbers (works .answer i) (works .state i) (works .kept i) old;
+      lent-is = works .lent-is;
+    }
 
--- tile work, the same
-pub worked : {a b : Answer TileDone} {s t : RowState} {r : ℕ} {w k m : List ℕ} {f : List Float} (words counts told : List ℕ) (bottom : List Float) → a ≡ b → s ≡ t → (r ≡ numberOf a) × ((w ≡ wordsIf a s words) × ((k ≡ countsIf a s counts) × ((m ≡ toldOr a told) × (f ≡ bottomOr a bottom)))) → (r ≡ numberOf b) × ((w ≡ wordsIf b t words) × ((k ≡ countsIf b t counts) × ((m ≡ toldOr b told) × (f ≡ bottomOr b bottom))))
-worked {a} {b} {s} {t} {r} {w} {k} {m} {f} words counts told bottom e g known =
-    subst (λ (h : Answer TileDone). (r ≡ numberOf h) × ((w ≡ wordsIf h t words) × ((k ≡ countsIf h t counts) × ((m ≡ toldOr h told) × (f ≡ bottomOr h bottom))))) e (subst (λ (u : RowState). (r ≡ numberOf a) × ((w ≡ wordsIf a u words) × ((k ≡ countsIf a u counts) × ((m ≡ toldOr a told) × (f ≡ bottomOr a bottom))))) g known)
+-- painting, the same
+pub painted : (call : State → PaintCall) (plane : List Float) {s t : State} {p : Painted} {old new : PaintNumbers} {r : ℕ} {back : List Float} → s ≡ t → PaintsLayer (paintOf (call s) plane) p back → (r ≡ numberOf (paintAnswer (p .answer))) × (new ≡ paintedNumbers (paintAnswer (p .answer)) (stateIn (p .state)) old) → PaintTold (paintOf (call t) plane) old r new back
+painted call plane {p = p} {old = old} {back = back} e given told =
+    let paints = subst (λ (x : State). PaintsLayer (paintOf (call x) plane) p back) e given in
+    record {
+      number = told .0 ∙ ap numberOf (paints .answer);
+      numbers = told .1 ∙ λ i. paintedNumbers (paints .answer i) (paints .state i) old;
+      plane-is = paints .plane;
+    }

@@ -28,6 +28,10 @@ bytesOf t =
 abbrev pub keptOf : Bool → List ℕ → Kept
 keptOf is b = record { given = is; tile = tileOf b }
 
+-- the bytes of a tile that is given; where none is, the lent ones stay as they were
+abbrev pub bytesBy : Kept → List ℕ → List ℕ
+bytesBy k old = cond (k .given) (bytesOf (k .tile)) old
+
 -- whether there is a value, and the value that a lent one then is
 abbrev pub isGiven : {A : Type 0} → Option A → Bool
 isGiven (some v) = true
@@ -52,3 +56,8 @@ abbrev pub writtenOr : Answer Writing → Bool → Bool
 writtenOr (refused n) old = old
 writtenOr (given write) old = true
 writtenOr (given keep) old = false
+
+-- the tile's bytes after settling; a refusal leaves every one as it was
+abbrev pub settledBytes : Answer Writing → Kept → List ℕ → List ℕ
+settledBytes (refused n) k old = old
+settledBytes (given w) k old = bytesBy k old

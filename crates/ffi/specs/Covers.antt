@@ -8,9 +8,9 @@ use lib.Ieee.{Float}
 use lib.ListN.{length}
 use Rattle.laws.specs.Lists.{over}
 use Rattle.styling.specs.declared.FillRule.{FillRule}
-use Rattle.cover.specs.Carry.{isLight}
-use Rattle.cover.specs.Paint.{partPlane}
-use Rattle.cover.specs.Plane.{sizeOf}
+use Rattle.cover_statements.specs.Carry.{isLight}
+use Rattle.cover_statements.specs.Paint.{partPlane}
+use Rattle.cover_statements.specs.Plane.{sizeOf}
 
 -- a refusal leaves the plane as it was; else what lies past the 256 numbers stays
 abbrev pub planeAfter : List ℕ → FillRule → List ℤ → List ℕ → List Float → List Float

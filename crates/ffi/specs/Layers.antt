@@ -1,5 +1,5 @@
 -- Colours as four numbers, and a draw as the numbers of a layer record.
-use mathlib.Core.Bool.{false}
+use mathlib.Core.Bool.{Bool, false, cond}
 use mathlib.Core.List.{List}
 use Prim.Native.Nat.{ℕ}
 use lib.Ieee.{Float, nan}
@@ -8,10 +8,16 @@ use Rattle.styling.specs.declared.Color.{Color}
 use Rattle.styling.specs.declared.Func.{Func}
 use Rattle.styling.specs.declared.Func.the-variants.{Draw}
 use Rattle.styling.specs.Codes.{fillOf, modeOf}
+use Rattle.layer_workbench.specs.declared.PreviousClear.{PreviousClear}
+use Rattle.layer_workbench.specs.declared.PreviousClear.the-variants.{Absent, Given}
 
 -- red, green, blue and alpha
 abbrev pub colorOf : List Float → Color
 colorOf l = record { r = getD l 0 nan; g = getD l 1 nan; b = getD l 2 nan; a = getD l 3 nan }
+
+-- the clear colour of the frame before, where one is given
+abbrev pub previousOf : Bool → List Float → PreviousClear
+previousOf is l = cond is (Given (colorOf l)) Absent
 
 abbrev pub drawOf : ℕ → ℕ → List Float → Func
 drawOf fill mode color =

@@ -1,4 +1,4 @@
--- Answers as numbers: what the exported functions' contracts say.
+-- Answers as numbers: what the exported functions' contracts say, and the claim about any list of calls of a row.
 pub mod Numbers
 pub mod Covers
 pub mod Cached
@@ -7,3 +7,4 @@ pub mod Plates
 pub mod Rows
 pub mod Work
 pub mod Painting
+pub mod Calls

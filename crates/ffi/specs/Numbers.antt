@@ -2,8 +2,7 @@
 use mathlib.Core.Bool.{Bool, true, false}
 use Prim.Native.Nat.{ℕ}
 use Rattle.laws.specs.Answer.{Answer, refused, given}
-use Rattle.pixel_segment.specs.declared.search.Found.{Found}
-use Rattle.pixel_segment.specs.declared.search.Found.the-variants.{At, Absent}
+use Rattle.pixel_segment.specs.Search.{Place, found, absent}
 
 -- the number of a refusal in the table of refusals ('Turned down'), 0 where it is none
 abbrev pub numberOf : {A : Type 0} → Answer A → ℕ
@@ -16,10 +15,10 @@ valueOr (refused n) old = old
 valueOr (given v) old = v
 
 -- whether a search found its key, and the place, or the one where such an element would stand
-abbrev pub isFound : Found → Bool
-isFound (At i) = true
-isFound (Absent i) = false
+abbrev pub isFound : Place → Bool
+isFound (found i) = true
+isFound (absent i) = false
 
-abbrev pub placeOf : Found → ℕ
-placeOf (At i) = i
-placeOf (Absent i) = i
+abbrev pub placeOf : Place → ℕ
+placeOf (found i) = i
+placeOf (absent i) = i

@@ -3,32 +3,28 @@ use mathlib.Core.Path.{_≡_}
 use mathlib.Core.List.{List}
 use Prim.Native.Nat.{ℕ}
 use lib.Ieee.{Float}
-use lib.IntN.{ℤ}
-use Rattle.laws.specs.Answer.{Answer}
-use Rattle.pixel_segment.specs.Search.{tilePart}
-use Rattle.styling.specs.Table.{tableOf}
-use Rattle.queue.specs.Queue.{queueOf}
-use Rattle.painter.specs.Clip.{clipAfter}
-use Rattle.painter.specs.Painting.{markIn, planeIn}
-use Rattle.tile_row.specs.Painting.{paintVerdict, answerBy, stateBy, planeBy, layerIn, paintedState}
-use Rattle.tile_row.specs.declared.RowState.{RowState}
-use Rattle.ffi.specs.Numbers.{numberOf, valueOr}
-use Rattle.ffi.specs.Rows.{wordsIf, countsIf}
+use Rattle.laws.specs.Answer.{Answer, refused, given}
+use Rattle.row_statements.specs.State.{State}
+use Rattle.row_statements.specs.Painting.{PaintGiven}
+use Rattle.ffi.specs.Numbers.{numberOf}
+use Rattle.ffi.specs.Rows.{wordsOf, countsOf}
 
--- what painting answers, and the state after it
-abbrev pub paintOf : RowState → ℤ → ℕ → List ℕ → List ℕ → List Float → ℕ → List ℕ → List ℤ → List Float → Answer ℕ
-paintOf s tile id row words floats count ids covers old =
-    let layers = tableOf words floats count in
-    answerBy (paintVerdict s tile id row words floats count ids covers old) (markIn layers (queueOf (s .taken) ids covers) (tilePart tile row) id (layerIn layers id) (s .clip))
+-- the numbers that are lent: the state's, and the mark
+pub record PaintNumbers : Type 0 where
+  pub words : List ℕ
+  pub counts : List ℕ
+  pub mark : ℕ
 
-abbrev pub paintState : RowState → ℤ → ℕ → List ℕ → List ℕ → List Float → ℕ → List ℕ → List ℤ → List Float → RowState
-paintState s tile id row words floats count ids covers old =
-    let layer = layerIn (tableOf words floats count) id in
-    stateBy (paintVerdict s tile id row words floats count ids covers old) s (paintedState s (clipAfter (layer .props .func) id (s .clip)))
+abbrev pub paintNumbers : List ℕ → List ℕ → ℕ → PaintNumbers
+paintNumbers words counts mark = record { words = words; counts = counts; mark = mark }
 
-pub record PaintTold (s : RowState) (tile : ℤ) (id : ℕ) (row : List ℕ) (layers : List ℕ) (colors : List Float) (count : ℕ) (ids : List ℕ) (covers : List ℤ) (old : List Float) (oldWords oldCounts : List ℕ) (oldMark : ℕ) (r : ℕ) (words counts : List ℕ) (mark : ℕ) (plane : List Float) : Type 0 where
-  pub number : r ≡ numberOf (paintOf s tile id row layers colors count ids covers old)
-  pub words-are : words ≡ wordsIf (paintOf s tile id row layers colors count ids covers old) (paintState s tile id row layers colors count ids covers old) oldWords
-  pub counts-are : counts ≡ countsIf (paintOf s tile id row layers colors count ids covers old) (paintState s tile id row layers colors count ids covers old) oldCounts
-  pub mark-is : mark ≡ valueOr (paintOf s tile id row layers colors count ids covers old) oldMark
-  pub plane-is : plane ≡ planeBy (paintVerdict s tile id row layers colors count ids covers old) (planeIn (queueOf (s .taken) ids covers) (tilePart tile row) id (layerIn (tableOf layers colors count) id)) old
+-- what they are after a painting; a refusal leaves every one as it was
+abbrev pub paintedNumbers : Answer ℕ → State → PaintNumbers → PaintNumbers
+paintedNumbers (refused number) s old = old
+paintedNumbers (given mark) s old = record { words = wordsOf s; counts = countsOf s; mark = mark }
+
+-- all that a painting gives and leaves
+pub record PaintTold (g : PaintGiven) (old : PaintNumbers) (r : ℕ) (new : PaintNumbers) (back : List Float) : Type 0 where
+  pub number : r ≡ numberOf (g .answer)
+  pub numbers : new ≡ paintedNumbers (g .answer) (g .state) old
+  pub plane-is : back ≡ g .plane

@@ -1,68 +1,69 @@
--- A row's state as numbers: six words and two counts.
+-- A row's state as numbers, six words and two counts, and its opening by them. Stands for 'a state passed by value' for callers that know no struct.
+use mathlib.Core.Path.{_≡_}
 use mathlib.Core.Bool.{cond}
 use mathlib.Core.List.{List, [], _∷_}
+use mathlib.Core.Option.{Option, some, none}
 use Prim.Native.Nat.{ℕ}
 use lib.Dec.{eqb}
-use lib.Ieee.{Float}
-use lib.IntN.{ℤ}
 use lib.ListN.{getD}
 use Rattle.laws.specs.Answer.{Answer, refused, given}
-use Rattle.tile_row.specs.Opening.{openCount, stateOf}
-use Rattle.tile_row.specs.declared.RowState.{RowState}
-use Rattle.painter.specs.declared.Clip.{Clip}
-use Rattle.painter.specs.declared.Clip.the-variants.{Absent, Until}
+use Rattle.row_statements.specs.Lent.{Columns}
+use Rattle.row_statements.specs.State.{State}
+use Rattle.row_statements.specs.Opening.{OpenGiven}
+use Rattle.ffi.specs.Numbers.{numberOf}
+
+-- ---- a state
 
 -- whether the painter has a clip, and the clip's last layer
-abbrev pub clipFlag : Clip → ℕ
-clipFlag Absent = 0
-clipFlag (Until last) = 1
+abbrev pub clipFlag : Option ℕ → ℕ
+clipFlag none = 0
+clipFlag (some last) = 1
 
-abbrev pub clipLast : Clip → ℕ
-clipLast Absent = 0
-clipLast (Until last) = last
+abbrev pub clipLast : Option ℕ → ℕ
+clipLast none = 0
+clipLast (some last) = last
 
 -- tile y, from, to, the next tile, and the clip
-abbrev pub wordsOf : RowState → List ℕ
-wordsOf s = s .«tile_y» ∷ s .from ∷ s .to ∷ s .next ∷ clipFlag (s .clip) ∷ clipLast (s .clip) ∷ []
+abbrev pub wordsOf : State → List ℕ
+wordsOf s = s .tileY ∷ s .from ∷ s .to ∷ s .next ∷ clipFlag (s .clip) ∷ clipLast (s .clip) ∷ []
 
 -- how many carries are left, and how many were taken in
-abbrev pub countsOf : RowState → List ℕ
+abbrev pub countsOf : State → List ℕ
 countsOf s = s .left ∷ s .taken ∷ []
 
 -- the state of such numbers; a flag other than 0 says that there is a clip
-abbrev pub clipOf : ℕ → ℕ → Clip
-clipOf flag last = cond (eqb flag 0) Absent (Until last)
+abbrev pub clipOf : ℕ → ℕ → Option ℕ
+clipOf flag last = cond (eqb flag 0) none (some last)
 
-abbrev pub stateFrom : List ℕ → List ℕ → RowState
-stateFrom w k =
+abbrev pub stateFrom : List ℕ → List ℕ → State
+stateFrom words counts =
     record {
-      «tile_y» = getD w 0 0;
-      from = getD w 1 0;
-      to = getD w 2 0;
-      next = getD w 3 0;
-      left = getD k 0 0;
-      taken = getD k 1 0;
-      clip = clipOf (getD w 4 0) (getD w 5 0);
+      tileY = getD words 0 0;
+      from = getD words 1 0;
+      to = getD words 2 0;
+      next = getD words 3 0;
+      left = getD counts 0 0;
+      taken = getD counts 1 0;
+      clip = clipOf (getD words 4 0) (getD words 5 0);
     }
 
--- what they are after an answer: those of the state, and after a refusal what they were
-abbrev pub wordsOr : Answer RowState → List ℕ → List ℕ
-wordsOr (refused n) old = old
-wordsOr (given s) old = wordsOf s
+-- ---- an opening
 
-abbrev pub countsOr : Answer RowState → List ℕ → List ℕ
-countsOr (refused n) old = old
-countsOr (given s) old = countsOf s
+-- the numbers that are lent for the state
+pub record StateNumbers : Type 0 where
+  pub words : List ℕ
+  pub counts : List ℕ
 
--- what opening answers
-abbrev pub openOf : ℤ → ℤ → ℤ → List ℕ → List ℕ → List Float → ℕ → List ℕ → List ℤ → Answer RowState
-openOf tileY from to row words floats count ids covers = stateOf tileY from to (openCount tileY from to row words floats count ids covers)
+abbrev pub stateNumbers : List ℕ → List ℕ → StateNumbers
+stateNumbers words counts = record { words = words; counts = counts }
 
--- what they are after an answer that stands beside the state
-abbrev pub wordsIf : {A : Type 0} → Answer A → RowState → List ℕ → List ℕ
-wordsIf (refused n) s old = old
-wordsIf (given v) s old = wordsOf s
+-- what they are after an opening: those of its state, and after a refusal what they were
+abbrev pub openNumbers : Answer State → StateNumbers → StateNumbers
+openNumbers (refused number) old = old
+openNumbers (given s) old = record { words = wordsOf s; counts = countsOf s }
 
-abbrev pub countsIf : {A : Type 0} → Answer A → RowState → List ℕ → List ℕ
-countsIf (refused n) s old = old
-countsIf (given v) s old = countsOf s
+-- all that an opening gives and leaves
+pub record OpenTold (g : OpenGiven) (old : StateNumbers) (r : ℕ) (new : StateNumbers) (back : Columns) : Type 0 where
+  pub number : r ≡ numberOf (g .answer)
+  pub numbers : new ≡ openNumbers (g .answer) old
+  pub lent-is : back ≡ g .lent

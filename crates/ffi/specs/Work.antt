@@ -5,43 +5,47 @@ use mathlib.Core.List.{List, [], _∷_}
 use Prim.Native.Nat.{ℕ}
 use lib.Ieee.{Float}
 use Rattle.laws.specs.Answer.{Answer, refused, given}
-use Rattle.passes.specs.Decide.{codeOf}
-use Rattle.passes.specs.declared.decide.Decision.{Decision}
-use Rattle.passes.specs.declared.decide.Decision.the-variants.{None, Solid, Paint}
-use Rattle.tile_row.specs.TileWork.{WorkOut, WorkLent}
-use Rattle.tile_row.specs.declared.working.TileDone.{TileDone}
+use Rattle.cached_tile.specs.declared.kept.Kept.{Kept}
+use Rattle.passes.specs.Decision.{TileDecision, none, solid, paint, codeOf}
+use Rattle.row_statements.specs.State.{State}
+use Rattle.row_statements.specs.TileWork.{TileTold, WorkLent, WorkGiven}
 use Rattle.ffi.specs.Numbers.{numberOf}
-use Rattle.ffi.specs.Cached.{bytesOf}
-use Rattle.ffi.specs.Rows.{wordsIf, countsIf}
+use Rattle.ffi.specs.Cached.{bytesBy}
+use Rattle.ffi.specs.Rows.{wordsOf, countsOf}
 
-abbrev pub beforeOf : Decision → ℕ
-beforeOf None = 0
-beforeOf (Solid color before) = before
-beforeOf Paint = 0
+abbrev pub beforeOf : TileDecision → ℕ
+beforeOf none = 0
+beforeOf (solid bottom before) = before
+beforeOf paint = 0
 
-abbrev pub bottomBy : Decision → List Float → List Float
-bottomBy None old = old
-bottomBy (Solid color before) old = color .r ∷ color .g ∷ color .b ∷ color .a ∷ []
-bottomBy Paint old = old
+-- the lent colour, which a tile that is not solid leaves as it was
+abbrev pub bottomBy : TileDecision → List Float → List Float
+bottomBy none old = old
+bottomBy (solid bottom before) old = bottom .r ∷ bottom .g ∷ bottom .b ∷ bottom .a ∷ []
+bottomBy paint old = old
 
-abbrev pub toldOf : TileDone → List ℕ
-toldOf d = codeOf (d .decision) ∷ beforeOf (d .decision) ∷ d .listed ∷ d .skipped .0 ∷ []
+abbrev pub toldOf : TileTold → List ℕ
+toldOf t = codeOf (t .decision) ∷ beforeOf (t .decision) ∷ t .listed ∷ t .skipped ∷ []
 
--- what the lent numbers are afterwards; after a refusal what they were
-abbrev pub toldOr : Answer TileDone → List ℕ → List ℕ
-toldOr (refused n) old = old
-toldOr (given d) old = toldOf d
+-- the numbers that are lent: the state's, the cached tile's bytes, the answer's, and the bottom colour
+pub record WorkNumbers : Type 0 where
+  pub words : List ℕ
+  pub counts : List ℕ
+  pub kept : List ℕ
+  pub told : List ℕ
+  pub bottom : List Float
 
-abbrev pub bottomOr : Answer TileDone → List Float → List Float
-bottomOr (refused n) old = old
-bottomOr (given d) old = bottomBy (d .decision) old
+abbrev pub workNumbers : List ℕ → List ℕ → List ℕ → List ℕ → List Float → WorkNumbers
+workNumbers words counts k told bottom = record { words = words; counts = counts; kept = k; told = told; bottom = bottom }
+
+-- what they are after a work; a refusal leaves every one as it was
+abbrev pub workedNumbers : Answer TileTold → State → Kept → WorkNumbers → WorkNumbers
+workedNumbers (refused number) s k old = old
+workedNumbers (given t) s k old =
+    record { words = wordsOf s; counts = countsOf s; kept = bytesBy k (old .kept); told = toldOf t; bottom = bottomBy (t .decision) (old .bottom) }
 
 -- all that a work gives and leaves
-pub record WorkTold (o : WorkOut) (oldWords oldCounts oldTold : List ℕ) (oldBottom : List Float) (r : ℕ) (words counts kept told : List ℕ) (bottom : List Float) (lent : WorkLent) : Type 0 where
-  pub number : r ≡ numberOf (o .answer)
-  pub words-are : words ≡ wordsIf (o .answer) (o .state) oldWords
-  pub counts-are : counts ≡ countsIf (o .answer) (o .state) oldCounts
-  pub kept-is : kept ≡ bytesOf (o .kept .tile)
-  pub told-is : told ≡ toldOr (o .answer) oldTold
-  pub bottom-is : bottom ≡ bottomOr (o .answer) oldBottom
-  pub lent-is : lent ≡ o .lent
+pub record WorkTold (g : WorkGiven) (old : WorkNumbers) (r : ℕ) (new : WorkNumbers) (back : WorkLent) : Type 0 where
+  pub number : r ≡ numberOf (g .answer)
+  pub numbers : new ≡ workedNumbers (g .answer) (g .state) (g .kept) old
+  pub lent-is : back ≡ g .lent

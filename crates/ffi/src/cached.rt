@@ -9,7 +9,8 @@ ghost use mathlib.Core.Path.{_≡_};
 ghost use Rattle.cached_tile.specs.Tile.{layerCountOf, solidColorOf, updateCount, updateColor, countOf};
 ghost use Rattle.cached_tile.specs.Kept.{settleOf, settledKept, settlementOf};
 ghost use Rattle.ffi.specs.Numbers.{numberOf};
-ghost use Rattle.ffi.specs.Cached.{tileOf, bytesOf, keptOf, isGiven, givenOr, countIf, colorIf, colorOr, writtenOr};
+ghost use Rattle.ffi.specs.Cached.{tileOf, bytesOf, keptOf, bytesBy, isGiven, givenOr, countIf, colorIf, colorOr};
+ghost use Rattle.ffi.specs.Cached.{writtenOr, settledBytes};
 
 pub fn to_tile(bytes: [u8; 8]) -> CachedTile
     ensures { λ r. ⌜ r ≡ tileOf bytes ⌝ }
@@ -36,6 +37,16 @@ pub fn to_bytes(tile: CachedTile) -> [u8; 8]
         color[2],
         color[3],
     ]
+}
+
+// The bytes of a tile that is given.
+pub fn put_kept(kept: Kept, bytes: &mut [u8; 8])
+    ensures { λ _. ⌜ now (bytes .exit) ≡ bytesBy kept (now (bytes .entry)) ⌝ }
+{
+    if kept.given {
+        let tile = kept.tile;
+        *bytes = to_bytes(tile);
+    }
 }
 
 // Whether there is a count; where there is one, it is written.
@@ -86,7 +97,8 @@ pub extern "C" fn ffi_solid_color(tile: &[u8; 8], color: &mut [u8; 4]) -> bool
     put_color(to_tile(bytes).solid_color(), color)
 }
 
-// The tile keeps the count, where one is given, or none. Whether it kept one before; where it did, that one in `previous`.
+// The tile keeps the count, where one is given, or none. Whether it kept one before; where it did, that one in
+// `previous`.
 #[no_mangle]
 pub extern "C" fn ffi_update_layer_count(
     tile: &mut [u8; 8],
@@ -95,7 +107,8 @@ pub extern "C" fn ffi_update_layer_count(
     previous: &mut u32,
 ) -> bool
     ensures { λ r. ⌜ r ≡ isGiven (layerCountOf (tileOf (now (tile .entry)))) ⌝ }
-    ensures { λ _. ⌜ now (previous .exit) ≡ givenOr (layerCountOf (tileOf (now (tile .entry)))) (now (previous .entry)) ⌝ }
+    ensures { λ _. ⌜ now (previous .exit)
+        ≡ givenOr (layerCountOf (tileOf (now (tile .entry)))) (now (previous .entry)) ⌝ }
     ensures { λ _. ⌜ now (tile .exit) ≡ bytesOf (updateCount (tileOf (now (tile .entry))) (countIf given count)) ⌝ }
 {
     let bytes = *tile;
@@ -116,7 +129,8 @@ fn count_if(given: bool, count: u32) -> LayerCount
     }
 }
 
-// The tile keeps the colour, where one is given, or none. Whether it kept one before; where it did, its bytes in `previous`.
+// The tile keeps the colour, where one is given, or none. Whether it kept one before; where it did, its bytes in
+// `previous`.
 #[no_mangle]
 pub extern "C" fn ffi_update_solid_color(
     tile: &mut [u8; 8],
@@ -125,8 +139,10 @@ pub extern "C" fn ffi_update_solid_color(
     previous: &mut [u8; 4],
 ) -> bool
     ensures { λ r. ⌜ r ≡ solidColorOf (tileOf (now (tile .entry))) .given ⌝ }
-    ensures { λ _. ⌜ now (previous .exit) ≡ colorOr (solidColorOf (tileOf (now (tile .entry)))) (now (previous .entry)) ⌝ }
-    ensures { λ _. ⌜ now (tile .exit) ≡ bytesOf (updateColor (tileOf (now (tile .entry))) (colorIf given (now (color .entry)))) ⌝ }
+    ensures { λ _. ⌜ now (previous .exit)
+        ≡ colorOr (solidColorOf (tileOf (now (tile .entry)))) (now (previous .entry)) ⌝ }
+    ensures { λ _. ⌜ now (tile .exit)
+        ≡ bytesOf (updateColor (tileOf (now (tile .entry))) (colorIf given (now (color .entry)))) ⌝ }
 {
     let bytes = *tile;
     let color = *color;
@@ -141,7 +157,8 @@ pub extern "C" fn ffi_update_solid_color(
     put_color(before, previous)
 }
 
-// Where a tile is given it keeps the bytes. 0 and whether they are to be written in `is_written`, or the number of the refusal.
+// Where a tile is given it keeps the bytes. 0 and whether they are to be written in `is_written`, or the number of the
+// refusal. The tile's bytes are stored where the call is accepted and a tile is given.
 #[no_mangle]
 pub extern "C" fn ffi_settle(
     given: bool,
@@ -150,8 +167,11 @@ pub extern "C" fn ffi_settle(
     is_written: &mut bool,
 ) -> u32
     ensures { λ r. ⌜ r ≡ numberOf (settleOf (keptOf given (now (tile .entry))) (now (color .entry))) ⌝ }
-    ensures { λ _. ⌜ now («is_written» .exit) ≡ writtenOr (settleOf (keptOf given (now (tile .entry))) (now (color .entry))) (now («is_written» .entry)) ⌝ }
-    ensures { λ _. ⌜ now (tile .exit) ≡ bytesOf (settledKept (keptOf given (now (tile .entry))) (now (color .entry)) .tile) ⌝ }
+    ensures { λ _. ⌜ now («is_written» .exit)
+        ≡ writtenOr (settleOf (keptOf given (now (tile .entry))) (now (color .entry))) (now («is_written» .entry)) ⌝ }
+    ensures { λ _. ⌜ now (tile .exit)
+        ≡ settledBytes (settleOf (keptOf given (now (tile .entry))) (now (color .entry)))
+        (settledKept (keptOf given (now (tile .entry))) (now (color .entry))) (now (tile .entry)) ⌝ }
 {
     let bytes = *tile;
     let color = *color;
@@ -162,20 +182,27 @@ pub extern "C" fn ffi_settle(
     let settled = kept::settle(before, color);
     let after = settled.kept;
     let settlement = settled.settlement;
-    *tile = to_bytes(after.tile);
-    put_settlement(settlement, is_written)
+    put_settlement(settlement, after, tile, is_written)
 }
 
-fn put_settlement(settlement: Settlement, is_written: &mut bool) -> u32
+fn put_settlement(
+    settlement: Settlement,
+    after: Kept,
+    tile: &mut [u8; 8],
+    is_written: &mut bool,
+) -> u32
     ensures { λ r. ⌜ r ≡ numberOf (settlementOf settlement) ⌝ }
     ensures { λ _. ⌜ now («is_written» .exit) ≡ writtenOr (settlementOf settlement) (now («is_written» .entry)) ⌝ }
+    ensures { λ _. ⌜ now (tile .exit) ≡ settledBytes (settlementOf settlement) after (now (tile .entry)) ⌝ }
 {
     match settlement {
         Settlement::Write => {
+            put_kept(after, tile);
             *is_written = true;
             0
         },
         Settlement::Keep => {
+            put_kept(after, tile);
             *is_written = false;
             0
         },

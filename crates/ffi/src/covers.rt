@@ -3,19 +3,20 @@ use cover::Cover;
 use cover::carry;
 use cover::carry::Carried;
 use cover::mark;
-use cover::mark::Marked;
 use cover::plane;
-use cover::plane::Painted;
 use cover::weight;
+use cover_statements::mark::Marked;
+use cover_statements::plane::Painted;
 use styling::codes;
 ghost use mathlib.Core.Path.{_≡_};
 ghost use Rattle.pixel_segment.specs.Field.{cpu};
 ghost use Rattle.styling.specs.Codes.{ruleOf};
-ghost use Rattle.cover.specs.Cover.{isEmpty, isFull};
-ghost use Rattle.cover.specs.Carry.{addOf, carriedAnswer};
-ghost use Rattle.cover.specs.Coverage.{areaCoverage};
-ghost use Rattle.cover.specs.Mark.{marked, markedAnswer, Counted};
-ghost use Rattle.cover.specs.Paint.{paintOf, paintedAnswer};
+ghost use Rattle.cover_statements.specs.Cover.{isEmpty, isFull};
+ghost use Rattle.cover_statements.specs.Carry.{addOf};
+ghost use Rattle.cover.specs.Adding.{carriedAnswer};
+ghost use Rattle.cover_statements.specs.Coverage.{areaCoverage};
+ghost use Rattle.cover_statements.specs.Mark.{marked, markedAnswer, Counted};
+ghost use Rattle.cover_statements.specs.Paint.{paintOf, paintedAnswer};
 ghost use Rattle.ffi.specs.Numbers.{numberOf, valueOr};
 ghost use Rattle.ffi.specs.Covers.{planeAfter};
 
@@ -39,7 +40,8 @@ pub extern "C" fn ffi_is_full(covers: &[i8; 16], rule: u32) -> bool
 #[no_mangle]
 pub extern "C" fn ffi_carry(part: &[u64], covers: &mut [i8; 16]) -> u32
     ensures { λ r. ⌜ r ≡ numberOf (addOf cpu 16 (now (covers .entry)) (now (part .entry))) ⌝ }
-    ensures { λ _. ⌜ now (covers .exit) ≡ valueOr (addOf cpu 16 (now (covers .entry)) (now (part .entry))) (now (covers .entry)) ⌝ }
+    ensures { λ _. ⌜ now (covers .exit)
+        ≡ valueOr (addOf cpu 16 (now (covers .entry)) (now (part .entry))) (now (covers .entry)) ⌝ }
 {
     let bytes = *covers;
     put_carried(carry::carry(part, Cover { covers: bytes }), covers)
@@ -76,9 +78,13 @@ pub extern "C" fn ffi_paint_part(
     plane: &mut [f32],
     mark: &mut u32,
 ) -> u32
-    ensures { λ r. ⌜ r ≡ numberOf (paintOf cpu (ruleOf rule) (now (covers .entry)) (now (part .entry)) (now (plane .entry))) ⌝ }
-    ensures { λ _. ⌜ now (mark .exit) ≡ valueOr (paintOf cpu (ruleOf rule) (now (covers .entry)) (now (part .entry)) (now (plane .entry))) (now (mark .entry)) ⌝ }
-    ensures { λ _. ⌜ now (plane .exit) ≡ planeAfter cpu (ruleOf rule) (now (covers .entry)) (now (part .entry)) (now (plane .entry)) ⌝ }
+    ensures { λ r. ⌜ r
+        ≡ numberOf (paintOf cpu (ruleOf rule) (now (covers .entry)) (now (part .entry)) (now (plane .entry))) ⌝ }
+    ensures { λ _. ⌜ now (mark .exit)
+        ≡ valueOr (paintOf cpu (ruleOf rule) (now (covers .entry)) (now (part .entry)) (now (plane .entry)))
+        (now (mark .entry)) ⌝ }
+    ensures { λ _. ⌜ now (plane .exit)
+        ≡ planeAfter cpu (ruleOf rule) (now (covers .entry)) (now (part .entry)) (now (plane .entry)) ⌝ }
 {
     let bytes = *covers;
     let painted = plane::paint_part(part, Cover { covers: bytes }, codes::fill_rule(rule), plane);

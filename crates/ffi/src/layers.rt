@@ -1,4 +1,5 @@
 // Colours and the layer table, as it is lent.
+use layer_workbench::PreviousClear;
 use styling::Color;
 use styling::Func;
 use styling::Style;
@@ -9,7 +10,7 @@ ghost use Rattle.styling.specs.Codes.{modeCode, modeOf};
 ghost use Rattle.styling.specs.Color.{sameColor};
 ghost use Rattle.styling.specs.Style.{isOpaque};
 ghost use Rattle.styling.specs.Table.{isShort, isTable};
-ghost use Rattle.ffi.specs.Layers.{colorOf, drawOf};
+ghost use Rattle.ffi.specs.Layers.{colorOf, previousOf, drawOf};
 
 pub fn to_color(numbers: [f32; 4]) -> Color
     ensures { λ r. ⌜ r ≡ colorOf numbers ⌝ }
@@ -19,6 +20,17 @@ pub fn to_color(numbers: [f32; 4]) -> Color
         g: numbers[1],
         b: numbers[2],
         a: numbers[3],
+    }
+}
+
+// The clear colour of the frame before, where one is given.
+pub fn to_previous(given: bool, numbers: [f32; 4]) -> PreviousClear
+    ensures { λ r. ⌜ r ≡ previousOf given numbers ⌝ }
+{
+    if given {
+        PreviousClear::Given(to_color(numbers))
+    } else {
+        PreviousClear::Absent
     }
 }
 

@@ -1,13 +1,14 @@
 // Painting a layer of the tile just worked.
 use crate::rows;
-use tile_row::RowState;
-use tile_row::painting;
-use tile_row::painting::PaintAnswer;
+use row_statements::PaintAnswer;
+use row_statements::RowState;
 ghost use mathlib.Core.Path.{_≡_};
-ghost use Rattle.tile_row.specs.Painting.{paintAnswer};
-ghost use Rattle.ffi.specs.Numbers.{numberOf, valueOr};
-ghost use Rattle.ffi.specs.Rows.{stateFrom, wordsIf, countsIf};
-ghost use Rattle.ffi.specs.Painting.{PaintTold};
+ghost use Rattle.row_statements.specs.Lent.{columns, lentTable};
+ghost use Rattle.row_statements.specs.State.{stateIn};
+ghost use Rattle.row_statements.specs.Painting.{paintCall, paintOf, paintAnswer};
+ghost use Rattle.ffi.specs.Numbers.{numberOf};
+ghost use Rattle.ffi.specs.Rows.{stateFrom};
+ghost use Rattle.ffi.specs.Painting.{paintNumbers, paintedNumbers, PaintTold};
 
 fn put_painted(
     answer: PaintAnswer,
@@ -17,12 +18,12 @@ fn put_painted(
     mark: &mut u32,
 ) -> u32
     ensures { λ r. ⌜ r ≡ numberOf (paintAnswer answer) ⌝ }
-    ensures { λ _. ⌜ now (words .exit) ≡ wordsIf (paintAnswer answer) state (now (words .entry)) ⌝ }
-    ensures { λ _. ⌜ now (counts .exit) ≡ countsIf (paintAnswer answer) state (now (counts .entry)) ⌝ }
-    ensures { λ _. ⌜ now (mark .exit) ≡ valueOr (paintAnswer answer) (now (mark .entry)) ⌝ }
+    ensures { λ _. ⌜ paintNumbers (now (words .exit)) (now (counts .exit)) (now (mark .exit))
+        ≡ paintedNumbers (paintAnswer answer) (stateIn state)
+        (paintNumbers (now (words .entry)) (now (counts .entry)) (now (mark .entry))) ⌝ }
 {
     match answer {
-        PaintAnswer::Refused(refusal) => rows::number_of(refusal),
+        PaintAnswer::Refused(refusal) => refusals::number_of(refusal),
         PaintAnswer::Mark(octets) => {
             rows::put_state(state, words, counts);
             *mark = octets;
@@ -31,7 +32,8 @@ fn put_painted(
     }
 }
 
-// 0, the coverages in `plane`, their mark in `mark` and the state with the painter's clip, or the number of the refusal.
+// 0, the coverages in `plane`, their mark in `mark` and the state with the painter's clip, or the number of the
+// refusal.
 #[no_mangle]
 pub extern "C" fn ffi_paint_layer(
     words: &mut [u32; 6],
@@ -47,11 +49,20 @@ pub extern "C" fn ffi_paint_layer(
     plane: &mut [f32],
     mark: &mut u32,
 ) -> u32
-    ensures { λ r. ⌜ PaintTold (stateFrom (now (words .entry)) (now (counts .entry))) tile layer (now (row .entry)) (now (layers .entry)) (now (colors .entry)) count (now (ids .entry)) (now (covers .entry)) (now (plane .entry)) (now (words .entry)) (now (counts .entry)) (now (mark .entry)) r (now (words .exit)) (now (counts .exit)) (now (mark .exit)) (now (plane .exit)) ⌝ }
+    ensures { λ r. ⌜ PaintTold
+        (paintOf
+        (paintCall (stateFrom (now (words .entry)) (now (counts .entry))) tile layer (now (row .entry))
+        (lentTable (now (layers .entry)) (now (colors .entry)) count)
+        (columns (now (ids .entry)) (now (covers .entry))))
+        (now (plane .entry)))
+        (paintNumbers (now (words .entry)) (now (counts .entry)) (now (mark .entry)))
+        r
+        (paintNumbers (now (words .exit)) (now (counts .exit)) (now (mark .exit)))
+        (now (plane .exit)) ⌝ }
 {
     let state_words = *words;
     let state_counts = *counts;
-    let painted = painting::paint_layer(
+    let painted = row_painting::paint_layer(
         rows::to_state(state_words, state_counts),
         tile,
         layer,

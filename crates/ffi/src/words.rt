@@ -6,10 +6,11 @@ use pixel_segment::order::Ordering;
 use pixel_segment::search;
 use pixel_segment::search::Found;
 ghost use mathlib.Core.Path.{_≡_};
-ghost use Rattle.pixel_segment.specs.Field.{cpu, layerIdOf, tileXOf, tileYOf, tileOf, localXOf, localYOf, multiplierOf, doubleAreaOf, coverOf};
+ghost use Rattle.pixel_segment.specs.Field.{cpu, layerIdOf, tileXOf, tileYOf, tileOf};
+ghost use Rattle.pixel_segment.specs.Field.{localXOf, localYOf, multiplierOf, doubleAreaOf, coverOf};
 ghost use Rattle.pixel_segment.specs.Pack.{packOf, answerOf};
-ghost use Rattle.pixel_segment.specs.Order.{orderKey, compareOf, ascends, isRow};
-ghost use Rattle.pixel_segment.specs.Search.{searchOf, orderAt, rank};
+ghost use Rattle.pixel_segment.specs.Order.{rank, orderKey, compareOf, ascends, isRow};
+ghost use Rattle.pixel_segment.specs.Search.{placeIn, searchOf, orderAt};
 ghost use Rattle.pixel_segment.specs.declared.search.Key.{Key};
 ghost use Rattle.ffi.specs.Numbers.{numberOf, valueOr, isFound, placeOf};
 
@@ -38,8 +39,11 @@ pub extern "C" fn ffi_pack(
     cover: i8,
     word: &mut u64,
 ) -> u32
-    ensures { λ r. ⌜ r ≡ numberOf (packOf «layer_id» «tile_x» «tile_y» «local_x» «local_y» «double_area_multiplier» cover) ⌝ }
-    ensures { λ _. ⌜ now (word .exit) ≡ valueOr (packOf «layer_id» «tile_x» «tile_y» «local_x» «local_y» «double_area_multiplier» cover) (now (word .entry)) ⌝ }
+    ensures { λ r. ⌜ r
+        ≡ numberOf (packOf «layer_id» «tile_x» «tile_y» «local_x» «local_y» «double_area_multiplier» cover) ⌝ }
+    ensures { λ _. ⌜ now (word .exit)
+        ≡ valueOr (packOf «layer_id» «tile_x» «tile_y» «local_x» «local_y» «double_area_multiplier» cover)
+        (now (word .entry)) ⌝ }
 {
     let packed = PixelSegment::new(
         layer_id,
@@ -123,7 +127,7 @@ fn rank_of(order: Ordering) -> u8
 // How a segment compares with another: 0 less, 1 equal, 2 greater.
 #[no_mangle]
 pub extern "C" fn ffi_cmp(word: u64, other: u64) -> u8
-    ensures { λ r. ⌜ r ≡ rank (compareOf (orderKey cpu word) (orderKey cpu other)) ⌝ }
+    ensures { λ r. ⌜ r ≡ compareOf (orderKey cpu word) (orderKey cpu other) ⌝ }
 {
     rank_of(PixelSegment(word).cmp(PixelSegment(other)))
 }
@@ -144,8 +148,8 @@ pub extern "C" fn ffi_is_row(row: &[u64], stored_tile_y: u64) -> bool
 
 // Whether a search found the key; its place, or where it would stand, in `place`.
 fn put_found(found: Found, place: &mut usize) -> bool
-    ensures { λ r. ⌜ r ≡ isFound found ⌝ }
-    ensures { λ _. ⌜ now (place .exit) ≡ placeOf found ⌝ }
+    ensures { λ r. ⌜ r ≡ isFound (placeIn found) ⌝ }
+    ensures { λ _. ⌜ now (place .exit) ≡ placeOf (placeIn found) ⌝ }
 {
     match found {
         Found::At(i) => {
@@ -190,7 +194,8 @@ pub extern "C" fn ffi_search_last_by_layer_id(
     place: &mut usize,
 ) -> bool
     ensures { λ r. ⌜ r ≡ isFound (searchOf (orderAt (Key.LayerId «layer_id»)) (now (segments .entry))) ⌝ }
-    ensures { λ _. ⌜ now (place .exit) ≡ placeOf (searchOf (orderAt (Key.LayerId «layer_id»)) (now (segments .entry))) ⌝ }
+    ensures { λ _. ⌜ now (place .exit)
+        ≡ placeOf (searchOf (orderAt (Key.LayerId «layer_id»)) (now (segments .entry))) ⌝ }
 {
     put_found(search::search_last_by_layer_id(segments, layer_id), place)
 }
@@ -203,7 +208,8 @@ pub extern "C" fn ffi_search_last_by_tile_x_at_least(
     place: &mut usize,
 ) -> bool
     ensures { λ r. ⌜ r ≡ isFound (searchOf (orderAt (Key.TileXAtLeast start wanted)) (now (segments .entry))) ⌝ }
-    ensures { λ _. ⌜ now (place .exit) ≡ placeOf (searchOf (orderAt (Key.TileXAtLeast start wanted)) (now (segments .entry))) ⌝ }
+    ensures { λ _. ⌜ now (place .exit)
+        ≡ placeOf (searchOf (orderAt (Key.TileXAtLeast start wanted)) (now (segments .entry))) ⌝ }
 {
     put_found(
         search::search_last_by_tile_x_at_least(segments, start, wanted),
@@ -218,7 +224,8 @@ pub extern "C" fn ffi_search_last_by_tile_y_not_negative(
     place: &mut usize,
 ) -> bool
     ensures { λ r. ⌜ r ≡ isFound (searchOf (orderAt (Key.TileYNotNegative wanted)) (now (segments .entry))) ⌝ }
-    ensures { λ _. ⌜ now (place .exit) ≡ placeOf (searchOf (orderAt (Key.TileYNotNegative wanted)) (now (segments .entry))) ⌝ }
+    ensures { λ _. ⌜ now (place .exit)
+        ≡ placeOf (searchOf (orderAt (Key.TileYNotNegative wanted)) (now (segments .entry))) ⌝ }
 {
     put_found(
         search::search_last_by_tile_y_not_negative(segments, wanted),

@@ -1,33 +1,34 @@
-// The work on a tile. Its answer is lent as numbers: the decision (0 none, 1 solid, 2 paint), of a solid tile how many shown layers lie before those
-// to mix, how many layers are listed, how many are skipped; and of a solid tile the bottom colour.
+// The work on a tile. Its answer is lent as numbers: the decision (0 none, 1 solid, 2 paint), of a solid tile how many
+// shown layers lie before those to mix, how many layers are listed, how many are skipped; and of a solid tile the
+// bottom colour.
 use crate::cached;
 use crate::layers;
 use crate::rows;
 use cached_tile::kept::Kept;
-use layer_workbench::PreviousClear;
 use passes::decide;
 use passes::decide::Decision;
-use tile_row::RowState;
-use tile_row::working;
-use tile_row::working::TileDone;
-use tile_row::working::WorkAnswer;
+use row_statements::RowState;
+use row_statements::TileDone;
+use row_statements::WorkAnswer;
 ghost use mathlib.Core.Path.{_≡_};
-ghost use Rattle.passes.specs.Decide.{codeOf};
-ghost use Rattle.tile_row.specs.TileWork.{workOf, workAnswer};
+ghost use Rattle.passes.specs.Decision.{codeOf, decisionIn};
+ghost use Rattle.row_statements.specs.Lent.{columns, listColumns, lentTable};
+ghost use Rattle.row_statements.specs.State.{stateIn};
+ghost use Rattle.row_statements.specs.TileWork.{workCall, workLent, workOf, toldIn, workAnswer};
 ghost use Rattle.ffi.specs.Numbers.{numberOf};
 ghost use Rattle.ffi.specs.Cached.{keptOf};
-ghost use Rattle.ffi.specs.Layers.{colorOf};
-ghost use Rattle.ffi.specs.Rows.{stateFrom, wordsIf, countsIf};
-ghost use Rattle.ffi.specs.Work.{beforeOf, bottomBy, toldOf, toldOr, bottomOr, WorkTold};
+ghost use Rattle.ffi.specs.Layers.{colorOf, previousOf};
+ghost use Rattle.ffi.specs.Rows.{stateFrom};
+ghost use Rattle.ffi.specs.Work.{beforeOf, bottomBy, toldOf, workNumbers, workedNumbers, WorkTold};
 
 fn code_of(decision: Decision) -> usize
-    ensures { λ r. ⌜ r ≡ codeOf decision ⌝ }
+    ensures { λ r. ⌜ r ≡ codeOf (decisionIn decision) ⌝ }
 {
     decide::code_of(decision) as usize
 }
 
 fn before_of(decision: Decision) -> usize
-    ensures { λ r. ⌜ r ≡ beforeOf decision ⌝ }
+    ensures { λ r. ⌜ r ≡ beforeOf (decisionIn decision) ⌝ }
 {
     match decision {
         Decision::None => 0,
@@ -37,7 +38,7 @@ fn before_of(decision: Decision) -> usize
 }
 
 fn put_bottom(decision: Decision, bottom: &mut [f32; 4])
-    ensures { λ _. ⌜ now (bottom .exit) ≡ bottomBy decision (now (bottom .entry)) ⌝ }
+    ensures { λ _. ⌜ now (bottom .exit) ≡ bottomBy (decisionIn decision) (now (bottom .entry)) ⌝ }
 {
     match decision {
         Decision::None => {},
@@ -49,8 +50,8 @@ fn put_bottom(decision: Decision, bottom: &mut [f32; 4])
 }
 
 fn put_done(done: TileDone, told: &mut [usize; 4], bottom: &mut [f32; 4])
-    ensures { λ _. ⌜ now (told .exit) ≡ toldOf done ⌝ }
-    ensures { λ _. ⌜ now (bottom .exit) ≡ bottomBy (done .decision) (now (bottom .entry)) ⌝ }
+    ensures { λ _. ⌜ now (told .exit) ≡ toldOf (toldIn done) ⌝ }
+    ensures { λ _. ⌜ now (bottom .exit) ≡ bottomBy (decisionIn (done .decision)) (now (bottom .entry)) ⌝ }
 {
     let decision = done.decision;
     let skipped = done.skipped;
@@ -66,28 +67,33 @@ fn put_done(done: TileDone, told: &mut [usize; 4], bottom: &mut [f32; 4])
 fn put_worked(
     answer: WorkAnswer,
     state: RowState,
+    after: Kept,
     words: &mut [u32; 6],
     counts: &mut [usize; 2],
+    kept: &mut [u8; 8],
     told: &mut [usize; 4],
     bottom: &mut [f32; 4],
 ) -> u32
     ensures { λ r. ⌜ r ≡ numberOf (workAnswer answer) ⌝ }
-    ensures { λ _. ⌜ now (words .exit) ≡ wordsIf (workAnswer answer) state (now (words .entry)) ⌝ }
-    ensures { λ _. ⌜ now (counts .exit) ≡ countsIf (workAnswer answer) state (now (counts .entry)) ⌝ }
-    ensures { λ _. ⌜ now (told .exit) ≡ toldOr (workAnswer answer) (now (told .entry)) ⌝ }
-    ensures { λ _. ⌜ now (bottom .exit) ≡ bottomOr (workAnswer answer) (now (bottom .entry)) ⌝ }
+    ensures { λ _. ⌜ workNumbers (now (words .exit)) (now (counts .exit)) (now (kept .exit))
+        (now (told .exit)) (now (bottom .exit))
+        ≡ workedNumbers (workAnswer answer) (stateIn state) after
+        (workNumbers (now (words .entry)) (now (counts .entry)) (now (kept .entry))
+        (now (told .entry)) (now (bottom .entry))) ⌝ }
 {
     match answer {
-        WorkAnswer::Refused(refusal) => rows::number_of(refusal),
+        WorkAnswer::Refused(refusal) => refusals::number_of(refusal),
         WorkAnswer::Done(done) => {
             rows::put_state(state, words, counts);
+            cached::put_kept(after, kept);
             put_done(done, told, bottom);
             0
         },
     }
 }
 
-// 0, the list, the carries handed on, the cached tile, the answer and the state past the tile, or the number of the refusal.
+// 0, the list, the carries handed on, the cached tile, the answer and the state past the tile, or the number of the
+// refusal. The bytes of the cached tile are stored where the call is accepted and a tile is given.
 #[no_mangle]
 pub extern "C" fn ffi_work_tile(
     words: &mut [u32; 6],
@@ -109,11 +115,27 @@ pub extern "C" fn ffi_work_tile(
     list_ids: &mut [u32],
     list_covers: &mut [i8],
     list_segments: &mut [bool],
-    list_shown: &mut [bool],
+    list_unmasked: &mut [bool],
     told: &mut [usize; 4],
     bottom: &mut [f32; 4],
 ) -> u32
-    ensures { λ r. ⌜ WorkTold (workOf (record { state = stateFrom (now (words .entry)) (now (counts .entry)); tile = tile; row = now (row .entry); words = now (layers .entry); floats = now (colors .entry); count = count; kept = keptOf «is_kept» (now (kept .entry)); clear = colorOf (now (clear .entry)); previous = record { given = «is_previous»; color = colorOf (now (previous .entry)) }; ids = now (ids .entry); covers = now (covers .entry) }) (record { queueIds = now («next_ids» .entry); queueCovers = now («next_covers» .entry); listIds = now («list_ids» .entry); listCovers = now («list_covers» .entry); listSegments = now («list_segments» .entry); listShown = now («list_shown» .entry) })) (now (words .entry)) (now (counts .entry)) (now (told .entry)) (now (bottom .entry)) r (now (words .exit)) (now (counts .exit)) (now (kept .exit)) (now (told .exit)) (now (bottom .exit)) (record { queueIds = now («next_ids» .exit); queueCovers = now («next_covers» .exit); listIds = now («list_ids» .exit); listCovers = now («list_covers» .exit); listSegments = now («list_segments» .exit); listShown = now («list_shown» .exit) }) ⌝ }
+    ensures { λ r. ⌜ WorkTold
+        (workOf
+        (workCall (stateFrom (now (words .entry)) (now (counts .entry))) tile (now (row .entry))
+        (lentTable (now (layers .entry)) (now (colors .entry)) count)
+        (keptOf «is_kept» (now (kept .entry))) (colorOf (now (clear .entry)))
+        (previousOf «is_previous» (now (previous .entry))) (columns (now (ids .entry)) (now (covers .entry))))
+        (workLent (columns (now («next_ids» .entry)) (now («next_covers» .entry)))
+        (listColumns (now («list_ids» .entry)) (now («list_covers» .entry))
+        (now («list_segments» .entry)) (now («list_unmasked» .entry)))))
+        (workNumbers (now (words .entry)) (now (counts .entry)) (now (kept .entry))
+        (now (told .entry)) (now (bottom .entry)))
+        r
+        (workNumbers (now (words .exit)) (now (counts .exit)) (now (kept .exit))
+        (now (told .exit)) (now (bottom .exit)))
+        (workLent (columns (now («next_ids» .exit)) (now («next_covers» .exit)))
+        (listColumns (now («list_ids» .exit)) (now («list_covers» .exit))
+        (now («list_segments» .exit)) (now («list_unmasked» .exit)))) ⌝ }
 {
     let state_words = *words;
     let state_counts = *counts;
@@ -124,11 +146,7 @@ pub extern "C" fn ffi_work_tile(
         given: is_kept,
         tile: cached::to_tile(bytes),
     };
-    let before = PreviousClear {
-        given: is_previous,
-        color: layers::to_color(previous_numbers),
-    };
-    let worked = working::work_tile(
+    let worked = row_working::work_tile(
         rows::to_state(state_words, state_counts),
         tile,
         row,
@@ -137,7 +155,7 @@ pub extern "C" fn ffi_work_tile(
         count,
         held,
         layers::to_color(clear_numbers),
-        before,
+        layers::to_previous(is_previous, previous_numbers),
         ids,
         covers,
         next_ids,
@@ -145,11 +163,10 @@ pub extern "C" fn ffi_work_tile(
         list_ids,
         list_covers,
         list_segments,
-        list_shown,
+        list_unmasked,
     );
     let after = worked.kept;
     let state = worked.state;
     let answer = worked.answer;
-    *kept = cached::to_bytes(after.tile);
-    put_worked(answer, state, words, counts, told, bottom)
+    put_worked(answer, state, after, words, counts, kept, told, bottom)
 }

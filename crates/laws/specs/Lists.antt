@@ -1,5 +1,5 @@
 -- Lists by their elements, a list written over the front of another, and tests of every element.
-use mathlib.Core.Bool.{Bool, true, cond, _&&_}
+use mathlib.Core.Bool.{Bool, true, false, cond, _&&_, _||_}
 use mathlib.Core.List.{List, [], _∷_, _++_}
 use Prim.Native.Nat.{ℕ, zero, suc}
 use lib.ListN.{length, drop}
@@ -22,6 +22,11 @@ every (suc n) f = f n && every n f
 abbrev pub all {ℓ} : {A : Type ℓ} → (A → Bool) → List A → Bool
 all p [] = true
 all p (x ∷ xs) = p x && all p xs
+
+-- the test p passes at some element
+abbrev pub any {ℓ} : {A : Type ℓ} → (A → Bool) → List A → Bool
+any p [] = false
+any p (x ∷ xs) = p x || any p xs
 
 -- the elements that pass p, in their order
 abbrev pub filter {ℓ} : {A : Type ℓ} → (A → Bool) → List A → List A

@@ -16,6 +16,7 @@ use Rattle.passes.specs.Entry.{Entry, entriesOf}
 use Rattle.passes.specs.Item.{itemsOf}
 use Rattle.passes.specs.Decide.{outcomeOf, Deciding}
 use Rattle.passes.specs.declared.decide.Decided.{Decided}
+use Rattle.passes.specs.Decision.{decisionIn}
 use Rattle.passes.specs.declared.unchanged.PreviousCount.{PreviousCount}
 use Rattle.cached_tile.specs.Kept.{KeptCounted}
 use Rattle.cached_tile.specs.Tile.{countOf}
@@ -26,8 +27,8 @@ use Rattle.layer_workbench.specs.declared.PreviousClear.{PreviousClear}
 use Rattle.layer_workbench.specs.declared.DecidedTile.{DecidedTile}
 use Rattle.layer_workbench.proofs.Entries.{entries-are}
 
-module _ (table : List Layer) (entries : List Entry) (k : kept.Kept) (clear : Color) (previous : PreviousClear) (n : ℕ) (oldShown shown : List Bool) where
-  pub decided : {r : Counted} {same : Bool} {count : PreviousCount} {d : Decided} {after : kept.Kept} → KeptCounted k n r → same ≡ clearUnchanged previous clear → count ≡ countFrom (countOf (r .previous)) → Deciding (outcomeOf clear same count (itemsOf table entries)) oldShown d shown → after ≡ keptBy (d .decision) (r .kept) → Decides (outcomeOn table k clear previous entries) k n oldShown (record { decision = d .decision; skipped = d .skipped; kept = after }) shown
+module _ (table : List Layer) (entries : List Entry) (k : kept.Kept) (clear : Color) (previous : PreviousClear) (n : ℕ) (oldUnmasked unmasked : List Bool) where
+  pub decided : {r : Counted} {same : Bool} {count : PreviousCount} {d : Decided} {after : kept.Kept} → KeptCounted k n r → same ≡ clearUnchanged previous clear → count ≡ countFrom (countOf (r .previous)) → Deciding (outcomeOf clear same count (itemsOf table entries)) oldUnmasked d unmasked → after ≡ keptBy (decisionIn (d .decision)) (r .kept) → Decides (outcomeOn table k clear previous entries) k n oldUnmasked (record { decision = d .decision; skipped = d .skipped; kept = after }) unmasked
   unfolding outcomeOn
   decided {r} {same} {count} {d} {after} c es ec h ek =
       let outcome : outcomeOf clear same count (itemsOf table entries) ≡ outcomeOn table k clear previous entries =
@@ -37,19 +38,19 @@ module _ (table : List Layer) (entries : List Entry) (k : kept.Kept) (clear : Co
         decision = told .decision;
         skipped = told .skipped;
         kept-is = ek ∙ ap₂ keptBy (told .decision) (c .kept);
-        shown-are = told .column;
+        unmasked-are = told .column;
       }
 
 -- the whole work: a list that is written, decided from its columns, and carries that are handed on
-module _ (table : List Layer) (ls : List Listed) (k : kept.Kept) (clear : Color) (previous : PreviousClear) (oldIds : List ℕ) (oldCovers : List ℤ) (oldSegments oldShown : List Bool) (oldQueueIds : List ℕ) (oldQueueCovers : List ℤ) where
-  pub worked : {n left : ℕ} {d : DecidedTile} {ids : List ℕ} {covers : List ℤ} {segments shown : List Bool} {queueIds : List ℕ} {queueCovers : List ℤ} → areWide (incomingOf ls) ≡ true → n ≡ length ls → Lists ls oldIds oldCovers oldSegments ids covers segments → Decides (outcomeOn table k clear previous (entriesOf n ids covers segments)) k n oldShown d shown → Hands (handedOn table ls) oldQueueIds oldQueueCovers left queueIds queueCovers → Works table k clear previous ls (record { decision = d .decision; listed = n; skipped = d .skipped; kept = d .kept; left = left }) × (ListWritten ls (outcomeIn table k clear previous ls) oldIds oldCovers oldSegments oldShown ids covers segments shown × QueueWritten (handedOn table ls) oldQueueIds oldQueueCovers queueIds queueCovers)
-  worked {n} {left} {d} {ids} {covers} {segments} {shown} wide en written dec hands =
+module _ (table : List Layer) (ls : List Listed) (k : kept.Kept) (clear : Color) (previous : PreviousClear) (oldIds : List ℕ) (oldCovers : List ℤ) (oldSegments oldUnmasked : List Bool) (oldQueueIds : List ℕ) (oldQueueCovers : List ℤ) where
+  pub worked : {n left : ℕ} {d : DecidedTile} {ids : List ℕ} {covers : List ℤ} {segments unmasked : List Bool} {queueIds : List ℕ} {queueCovers : List ℤ} → areWide (incomingOf ls) ≡ true → n ≡ length ls → Lists ls oldIds oldCovers oldSegments ids covers segments → Decides (outcomeOn table k clear previous (entriesOf n ids covers segments)) k n oldUnmasked d unmasked → Hands (handedOn table ls) oldQueueIds oldQueueCovers left queueIds queueCovers → Works table k clear previous ls (record { decision = d .decision; listed = n; skipped = d .skipped; kept = d .kept; left = left }) × (ListWritten ls (outcomeIn table k clear previous ls) oldIds oldCovers oldSegments oldUnmasked ids covers segments unmasked × QueueWritten (handedOn table ls) oldQueueIds oldQueueCovers queueIds queueCovers)
+  worked {n} {left} {d} {ids} {covers} {segments} {unmasked} wide en written dec hands =
       let entries : entriesOf n ids covers segments ≡ map entryOf ls =
       ap (λ (m : ℕ). entriesOf m ids covers segments) en
       ∙ ap (λ (l : List ℕ). entriesOf (length ls) l covers segments) (written .ids-are)
       ∙ ap₂ (λ (l : List ℤ) (s : List Bool). entriesOf (length ls) (over (idsIn (incomingOf ls)) oldIds) l s) (written .covers-are) (written .segments-are)
       ∙ entries-are ls oldIds oldCovers oldSegments wide in
-      let told : Decides (outcomeIn table k clear previous ls) k n oldShown d shown = rw entries at dec in (
+      let told : Decides (outcomeIn table k clear previous ls) k n oldUnmasked d unmasked = rw entries at dec in (
         record {
           decision = told .decision;
           skipped = told .skipped;
@@ -62,7 +63,7 @@ module _ (table : List Layer) (ls : List Listed) (k : kept.Kept) (clear : Color)
             ids-are = written .ids-are;
             covers-are = written .covers-are;
             segments-are = written .segments-are;
-            shown-are = told .shown-are;
+            unmasked-are = told .unmasked-are;
           },
           record { ids-are = hands .ids-are; covers-are = hands .covers-are },
         ),

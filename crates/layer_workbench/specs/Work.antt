@@ -1,7 +1,7 @@
 -- The work on one tile (`drive_tile_painting` without painting): its layers are listed, the passes decide, the cached tile is updated, and the
 -- carries are handed on. Stands for 'One tile' up to painting.
 use mathlib.Core.Path.{_≡_}
-use mathlib.Core.Bool.{Bool, _&&_}
+use mathlib.Core.Bool.{Bool, false}
 use mathlib.Core.List.{List, map}
 use mathlib.Core.Option.{Option, some, none}
 use Prim.Native.Nat.{ℕ, _≤_}
@@ -17,13 +17,14 @@ use Rattle.tile_layers.specs.Carrying.{handedOn}
 use Rattle.passes.specs.Entry.{Entry}
 use Rattle.passes.specs.Item.{itemsOf}
 use Rattle.passes.specs.Decide.{Outcome, outcomeOf}
-use Rattle.passes.specs.declared.decide.Decision.{Decision}
-use Rattle.passes.specs.declared.decide.Decision.the-variants.{None, Solid, Paint}
+use Rattle.passes.specs.Decision as decision
+use Rattle.passes.specs.Decision.{TileDecision, solid, paint, decisionIn}
 use Rattle.passes.specs.declared.unchanged.PreviousCount.{PreviousCount}
-use Rattle.passes.specs.declared.unchanged.PreviousCount.the-variants.{Kept, Absent}
+use Rattle.passes.specs.declared.unchanged.PreviousCount.the-variants as counts
 use Rattle.cached_tile.specs.Kept.{previousCount, counted, cleared}
 use Rattle.cached_tile.specs.declared.kept.Kept as kept
 use Rattle.layer_workbench.specs.declared.PreviousClear.{PreviousClear}
+use Rattle.layer_workbench.specs.declared.PreviousClear.the-variants.{Absent, Given}
 use Rattle.layer_workbench.specs.declared.DecidedTile.{DecidedTile}
 use Rattle.layer_workbench.specs.declared.Worked.{Worked}
 
@@ -34,12 +35,13 @@ entryOf l = record { id = l .id; cover = l .cover; segments = hasAny (l .own) }
 
 -- the clear colour is unchanged where the one before is given and is the same
 abbrev pub clearUnchanged : PreviousClear → Color → Bool
-clearUnchanged previous clear = previous .given && sameColor (previous .color) clear
+clearUnchanged Absent clear = false
+clearUnchanged (Given color) clear = sameColor color clear
 
 -- the count that a cached tile kept
 abbrev pub countFrom : Option ℕ → PreviousCount
-countFrom (some n) = Kept n
-countFrom none = Absent
+countFrom (some n) = counts.Kept n
+countFrom none = counts.Absent
 
 -- ---- what the work gives
 
@@ -52,44 +54,48 @@ abbrev pub outcomeIn : List Layer → kept.Kept → Color → PreviousClear → 
 outcomeIn table k clear previous ls = outcomeOn table k clear previous (map entryOf ls)
 
 -- the cached tile afterwards: any work updates the count, paint clears tag 1, and nothing else changes
-abbrev pub keptBy : Decision → kept.Kept → kept.Kept
-keptBy None k = k
-keptBy (Solid color below) k = k
-keptBy Paint k = cleared k
+abbrev pub keptBy : TileDecision → kept.Kept → kept.Kept
+keptBy decision.none k = k
+keptBy (solid bottom before) k = k
+keptBy paint k = cleared k
 
 abbrev pub keptAfter : Outcome → kept.Kept → ℕ → kept.Kept
 keptAfter o k n = keptBy (o .decision) (counted k n)
 
--- deciding from a lent list of n entries: the answer, and the column of shown layers
-pub record Decides (o : Outcome) (k : kept.Kept) (n : ℕ) (oldShown : List Bool) (r : DecidedTile) (shown : List Bool) : Type 0 where
-  pub decision : r .decision ≡ o .decision
+-- the carries that are handed on: those of every listed layer, shown, masked off or skipped alike, so that the outcome plays no part
+abbrev pub carriesAfter : List Layer → Outcome → List Listed → List Carry
+carriesAfter table o ls = handedOn table ls
+
+-- deciding from a lent list of n entries: the answer, and the column of layers that are not masked off
+pub record Decides (o : Outcome) (k : kept.Kept) (n : ℕ) (oldUnmasked : List Bool) (r : DecidedTile) (unmasked : List Bool) : Type 0 where
+  pub decision : decisionIn (r .decision) ≡ o .decision
   pub skipped : r .skipped .0 ≡ o .skipped
   pub kept-is : r .kept ≡ keptAfter o k n
-  pub shown-are : shown ≡ over (o .shown) oldShown
+  pub unmasked-are : unmasked ≡ over (o .unmasked) oldUnmasked
 
 -- the answer, and the six lent columns: the list's four and the queue's two
 pub record Works (table : List Layer) (k : kept.Kept) (clear : Color) (previous : PreviousClear) (ls : List Listed) (r : Worked) : Type 0 where
-  pub decision : r .decision ≡ (outcomeIn table k clear previous ls) .decision
+  pub decision : decisionIn (r .decision) ≡ (outcomeIn table k clear previous ls) .decision
   pub skipped : r .skipped .0 ≡ (outcomeIn table k clear previous ls) .skipped
   pub listed : r .listed ≡ length ls
   pub kept-is : r .kept ≡ keptAfter (outcomeIn table k clear previous ls) k (length ls)
-  pub handed : r .left ≡ length (handedOn table ls)
+  pub handed : r .left ≡ length (carriesAfter table (outcomeIn table k clear previous ls) ls)
 
-pub record ListWritten (ls : List Listed) (o : Outcome) (oldIds : List ℕ) (oldCovers : List ℤ) (oldSegments oldShown : List Bool) (ids : List ℕ) (covers : List ℤ) (segments shown : List Bool) : Type 0 where
+pub record ListWritten (ls : List Listed) (o : Outcome) (oldIds : List ℕ) (oldCovers : List ℤ) (oldSegments oldUnmasked : List Bool) (ids : List ℕ) (covers : List ℤ) (segments unmasked : List Bool) : Type 0 where
   pub ids-are : ids ≡ over (idsIn (incomingOf ls)) oldIds
   pub covers-are : covers ≡ over (coversIn (incomingOf ls)) oldCovers
   pub segments-are : segments ≡ over (segmentsOf ls) oldSegments
-  pub shown-are : shown ≡ over (o .shown) oldShown
+  pub unmasked-are : unmasked ≡ over (o .unmasked) oldUnmasked
 
 pub record QueueWritten (q : List Carry) (oldIds : List ℕ) (oldCovers : List ℤ) (ids : List ℕ) (covers : List ℤ) : Type 0 where
   pub ids-are : ids ≡ over (idsIn q) oldIds
   pub covers-are : covers ≡ over (coversIn q) oldCovers
 
 -- room for 256 entries in a list and in a queue
-pub record Rooms (listIds : List ℕ) (listCovers : List ℤ) (segments shown : List Bool) (queueIds : List ℕ) (queueCovers : List ℤ) : Type 0 where
+pub record Rooms (listIds : List ℕ) (listCovers : List ℤ) (segments unmasked : List Bool) (queueIds : List ℕ) (queueCovers : List ℤ) : Type 0 where
   pub list-ids : 256 ≤ length listIds
   pub list-covers : 4096 ≤ length listCovers
   pub list-segments : 256 ≤ length segments
-  pub list-shown : 256 ≤ length shown
+  pub list-unmasked : 256 ≤ length unmasked
   pub queue-ids : 256 ≤ length queueIds
   pub queue-covers : 4096 ≤ length queueCovers

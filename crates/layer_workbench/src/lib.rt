@@ -15,17 +15,17 @@ ghost use lib.ListN.{length};
 ghost use Rattle.styling.specs.Table.{Table, tableOf};
 ghost use Rattle.queue.specs.Queue.{queueOf};
 ghost use Rattle.tile_layers.specs.Listing.{layersIn, areLight};
-ghost use Rattle.tile_layers.specs.Carrying.{handedOn};
 ghost use Rattle.tile_layers.specs.Walk.{Walks};
 ghost use Rattle.cached_tile.specs.Tile.{countOf};
 ghost use Rattle.passes.specs.Entry.{entriesOf};
+ghost use Rattle.passes.specs.Decision.{decisionIn};
 ghost use Rattle.passes.specs.Item.{Columns};
-ghost use Rattle.layer_workbench.specs.Work.{clearUnchanged, countFrom, keptBy, outcomeOn, outcomeIn, Decides, Works, ListWritten, QueueWritten, Rooms};
+ghost use Rattle.layer_workbench.specs.Work.{clearUnchanged, countFrom, keptBy, outcomeOn, outcomeIn, carriesAfter, Decides, Works, ListWritten, QueueWritten, Rooms};
 
 // The clear colour of the frame before, where one is given.
-pub struct PreviousClear {
-    pub given: bool,
-    pub color: Color,
+pub enum PreviousClear {
+    Absent,
+    Given(Color),
 }
 
 // What a tile's work gives: the decision, how many layers are listed and how many of them skipped, the cached tile, and how many carries are
@@ -48,8 +48,10 @@ pub struct DecidedTile {
 pub fn is_clear_unchanged(previous: PreviousClear, clear: Color) -> bool
     ensures { λ r. ⌜ r ≡ clearUnchanged previous clear ⌝ }
 {
-    let color = previous.color;
-    previous.given & color.eq(clear)
+    match previous {
+        PreviousClear::Absent => false,
+        PreviousClear::Given(color) => color.eq(clear),
+    }
 }
 
 fn previous_count(count: LayerCount) -> PreviousCount
@@ -63,7 +65,7 @@ fn previous_count(count: LayerCount) -> PreviousCount
 
 // A painted tile keeps no solid colour.
 fn kept_by(decision: Decision, kept: Kept) -> Kept
-    ensures { λ r. ⌜ r ≡ keptBy decision kept ⌝ }
+    ensures { λ r. ⌜ r ≡ keptBy (decisionIn decision) kept ⌝ }
 {
     match decision {
         Decision::None => kept,
@@ -84,10 +86,10 @@ pub fn decide_tile(
     kept: Kept,
     clear: Color,
     previous: PreviousClear,
-    shown: &mut [bool],
+    unmasked: &mut [bool],
 ) -> DecidedTile
-    requires { ⌜ Columns n (now ids) (now covers) (now segments) × Table (now layers) (now colors) count × (n ≤ length (now shown)) ⌝ }
-    ensures { λ r. ⌜ Decides (outcomeOn (tableOf (now (layers .entry)) (now (colors .entry)) count) kept clear previous (entriesOf n (now (ids .entry)) (now (covers .entry)) (now (segments .entry)))) kept n (now (shown .entry)) r (now (shown .exit)) ⌝ }
+    requires { ⌜ Columns n (now ids) (now covers) (now segments) × Table (now layers) (now colors) count × (n ≤ length (now unmasked)) ⌝ }
+    ensures { λ r. ⌜ Decides (outcomeOn (tableOf (now (layers .entry)) (now (colors .entry)) count) kept clear previous (entriesOf n (now (ids .entry)) (now (covers .entry)) (now (segments .entry)))) kept n (now (unmasked .entry)) r (now (unmasked .exit)) ⌝ }
 {
     let counted = kept.update_layer_count(n as u32);
     let before = counted.previous;
@@ -103,7 +105,7 @@ pub fn decide_tile(
         layers,
         colors,
         count,
-        shown,
+        unmasked,
     );
     let decision = decided.decision;
     let skipped = decided.skipped;
@@ -133,12 +135,12 @@ pub fn work(
     list_ids: &mut [u32],
     list_covers: &mut [i8],
     list_segments: &mut [bool],
-    list_shown: &mut [bool],
+    list_unmasked: &mut [bool],
 ) -> Worked
-    requires { ⌜ Walks n (now ids) (now part) × (16 * n ≤ length (now covers)) × Table (now layers) (now colors) count × Rooms (now «list_ids») (now «list_covers») (now «list_segments») (now «list_shown») (now «next_ids») (now «next_covers») × (areLight (layersIn (queueOf n (now ids) (now covers)) (now part)) ≡ true) × (listed ≡ length (layersIn (queueOf n (now ids) (now covers)) (now part))) × (listed ≤ 256) ⌝ }
+    requires { ⌜ Walks n (now ids) (now part) × (16 * n ≤ length (now covers)) × Table (now layers) (now colors) count × Rooms (now «list_ids») (now «list_covers») (now «list_segments») (now «list_unmasked») (now «next_ids») (now «next_covers») × (areLight (layersIn (queueOf n (now ids) (now covers)) (now part)) ≡ true) × (listed ≡ length (layersIn (queueOf n (now ids) (now covers)) (now part))) × (listed ≤ 256) ⌝ }
     ensures answer { λ r. ⌜ Works (tableOf (now (layers .entry)) (now (colors .entry)) count) kept clear previous (layersIn (queueOf n (now (ids .entry)) (now (covers .entry))) (now (part .entry))) r ⌝ }
-    ensures list { λ r. ⌜ ListWritten (layersIn (queueOf n (now (ids .entry)) (now (covers .entry))) (now (part .entry))) (outcomeIn (tableOf (now (layers .entry)) (now (colors .entry)) count) kept clear previous (layersIn (queueOf n (now (ids .entry)) (now (covers .entry))) (now (part .entry)))) (now («list_ids» .entry)) (now («list_covers» .entry)) (now («list_segments» .entry)) (now («list_shown» .entry)) (now («list_ids» .exit)) (now («list_covers» .exit)) (now («list_segments» .exit)) (now («list_shown» .exit)) ⌝ }
-    ensures queue { λ r. ⌜ QueueWritten (handedOn (tableOf (now (layers .entry)) (now (colors .entry)) count) (layersIn (queueOf n (now (ids .entry)) (now (covers .entry))) (now (part .entry)))) (now («next_ids» .entry)) (now («next_covers» .entry)) (now («next_ids» .exit)) (now («next_covers» .exit)) ⌝ }
+    ensures list { λ r. ⌜ ListWritten (layersIn (queueOf n (now (ids .entry)) (now (covers .entry))) (now (part .entry))) (outcomeIn (tableOf (now (layers .entry)) (now (colors .entry)) count) kept clear previous (layersIn (queueOf n (now (ids .entry)) (now (covers .entry))) (now (part .entry)))) (now («list_ids» .entry)) (now («list_covers» .entry)) (now («list_segments» .entry)) (now («list_unmasked» .entry)) (now («list_ids» .exit)) (now («list_covers» .exit)) (now («list_segments» .exit)) (now («list_unmasked» .exit)) ⌝ }
+    ensures queue { λ r. ⌜ QueueWritten (carriesAfter (tableOf (now (layers .entry)) (now (colors .entry)) count) (outcomeIn (tableOf (now (layers .entry)) (now (colors .entry)) count) kept clear previous (layersIn (queueOf n (now (ids .entry)) (now (covers .entry))) (now (part .entry)))) (layersIn (queueOf n (now (ids .entry)) (now (covers .entry))) (now (part .entry)))) (now («next_ids» .entry)) (now («next_covers» .entry)) (now («next_ids» .exit)) (now («next_covers» .exit)) ⌝ }
 {
     listing::list_layers(ids, covers, n, part, list_ids, list_covers, list_segments);
     let decided = decide_tile(
@@ -152,7 +154,7 @@ pub fn work(
         kept,
         clear,
         previous,
-        list_shown,
+        list_unmasked,
     );
     let left = carrying::hand_on(
         ids,

@@ -1,8 +1,10 @@
-// Reading a text of names and lines of whole numbers into a lent list.
+// Reading a text of names and lines of whole numbers into a lent list, and printing such a line.
 use decimal::Signed;
 ghost use mathlib.Core.Path.{_≡_};
 ghost use Prim.Native.Nat.{_+_, _*_, _≤_};
 ghost use lib.ListN.{length, drop};
+ghost use Rattle.decimal.specs.Print.{Printing};
+ghost use Rattle.lines.specs.Text.{lineText};
 ghost use Rattle.lines.specs.Parse.{endAt, startsNumber, parseLines, parseBlock};
 ghost use Rattle.lines.specs.Read.{PrefixRead, LineRead, LinesRead};
 
@@ -113,4 +115,21 @@ pub fn read_block(s: &[u8], at: usize, names: &[u8], m: usize, k: usize, out: &m
         return Block::Cut;
     };
     read_lines(s, first, m, k, out)
+}
+
+// Prints a line from place `at` on, each number and its end in at most 12 bytes, and answers the place after it.
+pub fn print_line(out: &mut [u8], at: usize, numbers: &[i32]) -> usize
+    requires { ⌜ at + 12 * length (now numbers) ≤ length (now out) ⌝ }
+    ensures { λ r. ⌜ (Printing (lineText (now (numbers .entry))) (now (out .entry)) at r (now (out .exit)))
+        × (r ≤ at + 12 * length (now (numbers .entry))) ⌝ }
+{
+    let mut p = at;
+    let mut j: usize = 0;
+    while j < numbers.len() {
+        let end = decimal::print_signed(out, p, numbers[j]);
+        j += 1;
+        out[end] = end_at(numbers.len() - j);
+        p = end + 1;
+    }
+    p
 }

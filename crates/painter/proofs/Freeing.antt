@@ -12,7 +12,7 @@ use Rattle.laws.proofs.Drops.{cons-rest}
 use Rattle.laws.specs.Lists.{filter}
 use Rattle.styling.specs.Lookup.{lookup}
 use Rattle.styling.specs.declared.Layer.{Layer}
-use Rattle.cover.specs.Entry as entries
+use Rattle.cover_statements.specs.Entry as entries
 use Rattle.queue.specs.Queue.{queueOf, zeros}
 use Rattle.tile_layers.specs.Listing.{Listed, layersIn, isGiven}
 use Rattle.tile_layers.specs.Walk.{listedAt, leftOf, Stepped, Moved}

@@ -3,4 +3,3 @@ pub mod Lasting
 pub mod Freeing
 pub mod Items
 pub mod Painted
-pub mod Cases

@@ -4,6 +4,7 @@
 use mathlib.Core.Path.{_≡_}
 use mathlib.Core.Bool.{Bool, cond}
 use mathlib.Core.List.{List, map}
+use mathlib.Core.Option.{Option}
 use Prim.Native.Nat.{ℕ, _≤_}
 use lib.Ieee.{Float}
 use lib.IntN.{ℤ}
@@ -16,9 +17,9 @@ use Rattle.styling.specs.Table.{Table}
 use Rattle.styling.specs.declared.Func.{Func}
 use Rattle.styling.specs.declared.Func.the-variants.{Draw, Clip}
 use Rattle.styling.specs.declared.Layer.{Layer}
-use Rattle.cover.specs.Carry.{isLight}
-use Rattle.cover.specs.Mark.{markOf}
-use Rattle.cover.specs.Paint.{partPlane}
+use Rattle.cover_statements.specs.Carry.{isLight}
+use Rattle.cover_statements.specs.Mark.{markOf}
+use Rattle.cover_statements.specs.Paint.{partPlane}
 use Rattle.queue.specs.Queue.{Carry, heldIn, Queued}
 use Rattle.tile_layers.specs.Listing.{Listed, layersIn, isGiven}
 use Rattle.tile_layers.specs.Walk.{Walks}
@@ -26,8 +27,7 @@ use Rattle.passes.specs.Item.{itemsOf}
 use Rattle.passes.specs.Rules.{needsClip}
 use Rattle.passes.specs.declared.item.Item.{Item}
 use Rattle.layer_workbench.specs.Work.{entryOf}
-use Rattle.painter.specs.Clip.{aliveAt, clipAfter, lacksClip}
-use Rattle.painter.specs.declared.Clip as painter
+use Rattle.painter.specs.Clip.{clipIn, aliveAt, clipAfter, lacksClip}
 use Rattle.painter.specs.declared.painting.Painting as painting
 
 -- the listed layers that the table has: a layer that it lacks is no clip. After an accepted tile work it has them all
@@ -39,7 +39,7 @@ abbrev pub needsIn : List Layer → List Carry → List ℕ → Func → ℕ →
 needsIn table queue part func id = needsClip (itemsIn table (layersIn queue part)) func id
 
 -- a clip layer uses no octet, nor does a draw that lacks its clip
-abbrev pub markFor : Func → Bool → painter.Clip → List Float → ℕ
+abbrev pub markFor : Func → Bool → Option ℕ → List Float → ℕ
 markFor (Clip span) needs alive plane = 0
 markFor (Draw style) needs alive plane = cond (lacksClip needs alive) 0 (markOf plane)
 
@@ -48,7 +48,7 @@ abbrev pub planeIn : List Carry → List ℕ → ℕ → Layer → List Float
 planeIn queue part id layer = partPlane cpu (layer .props .«fill_rule») (heldIn queue id) (layerPart id part)
 
 -- its mark
-abbrev pub markIn : List Layer → List Carry → List ℕ → ℕ → Layer → painter.Clip → ℕ
+abbrev pub markIn : List Layer → List Carry → List ℕ → ℕ → Layer → Option ℕ → ℕ
 markIn table queue part id layer clip =
     markFor (layer .props .func) (needsIn table queue part (layer .props .func) id) (aliveAt clip id) (planeIn queue part id layer)
 
@@ -57,8 +57,8 @@ abbrev pub isLightIn : List Carry → List ℕ → ℕ → Bool
 isLightIn queue part id = isLight cpu 16 (heldIn queue id) (layerPart id part)
 
 -- the clip after it, the mark, and the plane: the coverages over what it held
-pub record Paints (table : List Layer) (queue : List Carry) (part : List ℕ) (id : ℕ) (layer : Layer) (clip : painter.Clip) (old : List Float) (r : painting.Painting) (plane : List Float) : Type 0 where
-  pub clip-is : r .clip ≡ clipAfter (layer .props .func) id clip
+pub record Paints (table : List Layer) (queue : List Carry) (part : List ℕ) (id : ℕ) (layer : Layer) (clip : Option ℕ) (old : List Float) (r : painting.Painting) (plane : List Float) : Type 0 where
+  pub clip-is : clipIn (r .clip) ≡ clipAfter (layer .props .func) id clip
   pub mark-is : r .mark ≡ markIn table queue part id layer clip
   pub plane-is : plane ≡ over (planeIn queue part id layer) old
 

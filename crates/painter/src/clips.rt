@@ -4,11 +4,11 @@ use styling::Func;
 ghost use mathlib.Core.Path.{_≡_};
 ghost use Prim.Native.Nat.{_≤_};
 ghost use Rattle.passes.specs.Rules.{lastOf};
-ghost use Rattle.painter.specs.Clip.{aliveAt, keptOr, clipAfter, lacksClip};
+ghost use Rattle.painter.specs.Clip.{clipIn, aliveAt, keptOr, clipAfter, lacksClip};
 
 // A clip that ended below the painted layer is dropped.
 pub fn alive_at(clip: Clip, id: u32) -> Clip
-    ensures { λ r. ⌜ r ≡ aliveAt clip id ⌝ }
+    ensures { λ r. ⌜ clipIn r ≡ aliveAt (clipIn clip) id ⌝ }
 {
     match clip {
         Clip::Absent => Clip::Absent,
@@ -24,7 +24,7 @@ pub fn alive_at(clip: Clip, id: u32) -> Clip
 
 // A living clip keeps its end; else one begins that lives up to `last`.
 fn kept_or(alive: Clip, last: u32) -> Clip
-    ensures { λ r. ⌜ r ≡ keptOr alive last ⌝ }
+    ensures { λ r. ⌜ clipIn r ≡ keptOr (clipIn alive) last ⌝ }
 {
     match alive {
         Clip::Absent => Clip::Until(last),
@@ -35,7 +35,7 @@ fn kept_or(alive: Clip, last: u32) -> Clip
 // The clip after a layer is painted.
 pub fn clip_after(func: Func, id: u32, clip: Clip) -> Clip
     requires { ⌜ lastOf id func ≤ 4294967295 ⌝ }
-    ensures { λ r. ⌜ r ≡ clipAfter func id clip ⌝ }
+    ensures { λ r. ⌜ clipIn r ≡ clipAfter func id (clipIn clip) ⌝ }
 {
     let alive = alive_at(clip, id);
     match func {
@@ -46,7 +46,7 @@ pub fn clip_after(func: Func, id: u32, clip: Clip) -> Clip
 
 // Whether a clip is needed and none is alive.
 pub fn lacks_clip(needs: bool, alive: Clip) -> bool
-    ensures { λ r. ⌜ r ≡ lacksClip needs alive ⌝ }
+    ensures { λ r. ⌜ r ≡ lacksClip needs (clipIn alive) ⌝ }
 {
     match alive {
         Clip::Absent => needs,

@@ -15,6 +15,7 @@ ghost use Rattle.laws.specs.Answer.{given};
 ghost use Rattle.styling.specs.Lookup.{lookup};
 ghost use Rattle.styling.specs.Table.{tableOf};
 ghost use Rattle.queue.specs.Queue.{queueOf};
+ghost use Rattle.painter.specs.Clip.{clipIn};
 ghost use Rattle.painter.specs.Painting.{markFor, isLightIn, Ready, Paints};
 
 // What painting gives: the painter's clip after it, and the mark.
@@ -26,7 +27,7 @@ pub struct Painting {
 // The mark of a layer whose coverages the plane holds.
 fn mark_for(func: Func, needs: bool, alive: Clip, plane: &[f32]) -> u32
     requires { ⌜ 256 ≤ length (now plane) ⌝ }
-    ensures { λ r. ⌜ r ≡ markFor func needs alive (now (plane .entry)) ⌝ }
+    ensures { λ r. ⌜ r ≡ markFor func needs (clipIn alive) (now (plane .entry)) ⌝ }
 {
     match func {
         Func::Clip(_) => 0,
@@ -55,7 +56,7 @@ pub fn paint(
     plane: &mut [f32],
 ) -> Painting
     requires { ⌜ Ready n (now ids) (now covers) (now part) (now layers) (now colors) count (now plane) × (lookup (tableOf (now layers) (now colors) count) id ≡ given layer) × (isLightIn (queueOf n (now ids) (now covers)) (now part) id ≡ true) ⌝ }
-    ensures { λ r. ⌜ Paints (tableOf (now (layers .entry)) (now (colors .entry)) count) (queueOf n (now (ids .entry)) (now (covers .entry))) (now (part .entry)) id layer clip (now (plane .entry)) r (now (plane .exit)) ⌝ }
+    ensures { λ r. ⌜ Paints (tableOf (now (layers .entry)) (now (colors .entry)) count) (queueOf n (now (ids .entry)) (now (covers .entry))) (now (part .entry)) id layer (clipIn clip) (now (plane .entry)) r (now (plane .exit)) ⌝ }
 {
     let props = layer.props;
     let rule = props.fill_rule;

@@ -15,53 +15,53 @@ use Rattle.passes.specs.declared.clips.ActiveClip.{ActiveClip}
 use Rattle.passes.specs.declared.clips.Current.{Current}
 use Rattle.passes.specs.declared.clips.Current.the-variants.{Nothing, Active}
 use Rattle.passes.specs.declared.clips.Step.{Step}
-use Rattle.passes.specs.Clips.{stepOf, maskOff, shownAfter, lastClip, Marks, clipsFrom, marksOf, Marking}
+use Rattle.passes.specs.Clips.{stepOf, maskOff, unmaskedAfter, lastClip, Marks, clipsFrom, marksOf, Marking}
 use Rattle.passes.proofs.Turns.{kept, Turn, opens, bare, past, within, turn}
 
-pub length-off : (shown : List Bool) (i : ℕ) (off : Bool) → length (maskOff shown i off) ≡ length shown
-length-off shown i true = length-set shown i false
-length-off shown i false = refl
+pub length-off : (unmasked : List Bool) (i : ℕ) (off : Bool) → length (maskOff unmasked i off) ≡ length unmasked
+length-off unmasked i true = length-set unmasked i false
+length-off unmasked i false = refl
 
-pub length-after : (shown : List Bool) (i : ℕ) (s : Step) → length (shownAfter shown i s) ≡ length shown
-length-after shown i s =
-    length-off (maskOff shown i (s .masked)) (s .at .0) (s .unused) ∙ length-off shown i (s .masked)
+pub length-after : (unmasked : List Bool) (i : ℕ) (s : Step) → length (unmaskedAfter unmasked i s) ≡ length unmasked
+length-after unmasked i s =
+    length-off (maskOff unmasked i (s .masked)) (s .at .0) (s .unused) ∙ length-off unmasked i (s .masked)
 
-pub length-last : (cur : Current) (shown : List Bool) → length (lastClip cur shown) ≡ length shown
-length-last Nothing shown = refl
-length-last (Active k) shown = length-off shown (k .at .0) (not (k .used))
+pub length-last : (cur : Current) (unmasked : List Bool) → length (lastClip cur unmasked) ≡ length unmasked
+length-last Nothing unmasked = refl
+length-last (Active k) unmasked = length-off unmasked (k .at .0) (not (k .used))
 
 -- ---- the loop
 
-pub record Passing (items : List Item) (n : ℕ) (shown₀ unclipped₀ shown unclipped : List Bool) (cur : Current) (i : ℕ) : Type 0 where
+pub record Passing (items : List Item) (n : ℕ) (unmasked₀ unclipped₀ unmasked unclipped : List Bool) (cur : Current) (i : ℕ) : Type 0 where
   pub reached : i ≤ n
-  pub shown-same : length shown ≡ length shown₀
+  pub unmasked-same : length unmasked ≡ length unmasked₀
   pub unclipped-same : length unclipped ≡ length unclipped₀
-  pub rest : clipsFrom (drop i items) i cur shown unclipped ≡ clipsFrom items 0 Nothing shown₀ unclipped₀
+  pub rest : clipsFrom (drop i items) i cur unmasked unclipped ≡ clipsFrom items 0 Nothing unmasked₀ unclipped₀
 
-module _ {items : List Item} {n : ℕ} {shown₀ unclipped₀ : List Bool} where
-  pub pass-start : Passing items n shown₀ unclipped₀ shown₀ unclipped₀ Nothing 0
-  pass-start = record { reached = omega arith; shown-same = refl; unclipped-same = refl; rest = refl }
+module _ {items : List Item} {n : ℕ} {unmasked₀ unclipped₀ : List Bool} where
+  pub pass-start : Passing items n unmasked₀ unclipped₀ unmasked₀ unclipped₀ Nothing 0
+  pass-start = record { reached = omega arith; unmasked-same = refl; unclipped-same = refl; rest = refl }
 
-  pub pass-next : {shown unclipped shown₁ unclipped₁ : List Bool} {cur : Current} {i : ℕ} {x y : Item} {s : Step}
-      → Passing items n shown₀ unclipped₀ shown unclipped cur i → i < n → drop i items ≡ y ∷ drop (suc i) items → x ≡ y
-      → s ≡ stepOf x cur i → (shown₁ ≡ shownAfter shown i s) × (unclipped₁ ≡ set unclipped i (s .unclipped))
-      → Passing items n shown₀ unclipped₀ shown₁ unclipped₁ (s .cur) (i + 1)
+  pub pass-next : {unmasked unclipped unmasked₁ unclipped₁ : List Bool} {cur : Current} {i : ℕ} {x y : Item} {s : Step}
+      → Passing items n unmasked₀ unclipped₀ unmasked unclipped cur i → i < n → drop i items ≡ y ∷ drop (suc i) items → x ≡ y
+      → s ≡ stepOf x cur i → (unmasked₁ ≡ unmaskedAfter unmasked i s) × (unclipped₁ ≡ set unclipped i (s .unclipped))
+      → Passing items n unmasked₀ unclipped₀ unmasked₁ unclipped₁ (s .cur) (i + 1)
   unfolding clipsFrom
-  pass-next {shown} {unclipped} {cur = cur} {i = i} {y = y} {s = s} v h d e p m =
+  pass-next {unmasked} {unclipped} {cur = cur} {i = i} {y = y} {s = s} v h d e p m =
       let step : s ≡ stepOf y cur i = p ∙ ap (λ (z : Item). stepOf z cur i) e in record {
         reached = omega arith;
-        shown-same = ap length (m .0) ∙ length-after shown i s ∙ v .shown-same;
+        unmasked-same = ap length (m .0) ∙ length-after unmasked i s ∙ v .unmasked-same;
         unclipped-same = ap length (m .1) ∙ length-set unclipped i (s .unclipped) ∙ v .unclipped-same;
         rest =
-            rw (m .0, m .1, add-one, step) (ap (λ (xs : List Item). clipsFrom xs i cur shown unclipped) (sym d) ∙ v .rest);
+            rw (m .0, m .1, add-one, step) (ap (λ (xs : List Item). clipsFrom xs i cur unmasked unclipped) (sym d) ∙ v .rest);
       }
 
-  pub pass-end : {shown unclipped shown′ : List Bool} {cur : Current} {i : ℕ} → Passing items n shown₀ unclipped₀ shown unclipped cur i → length items ≡ n → n ≤ i
-      → shown′ ≡ lastClip cur shown → record { shown = shown′; unclipped = unclipped } ≡ clipsFrom items 0 Nothing shown₀ unclipped₀
+  pub pass-end : {unmasked unclipped unmasked′ : List Bool} {cur : Current} {i : ℕ} → Passing items n unmasked₀ unclipped₀ unmasked unclipped cur i → length items ≡ n → n ≤ i
+      → unmasked′ ≡ lastClip cur unmasked → record { unmasked = unmasked′; unclipped = unclipped } ≡ clipsFrom items 0 Nothing unmasked₀ unclipped₀
   unfolding clipsFrom
-  pass-end {shown} {unclipped} {shown′} {cur} {i} v e h p =
-      ap (λ (m : List Bool). record { shown = m; unclipped = unclipped }) p
-      ∙ ap (λ (xs : List Item). clipsFrom xs i cur shown unclipped) (sym (drop-of-length-le items {i = i} (omega arith)))
+  pass-end {unmasked} {unclipped} {unmasked′} {cur} {i} v e h p =
+      ap (λ (m : List Bool). record { unmasked = m; unclipped = unclipped }) p
+      ∙ ap (λ (xs : List Item). clipsFrom xs i cur unmasked unclipped) (sym (drop-of-length-le items {i = i} (omega arith)))
       ∙ v .rest
 
 -- ---- what lies past the list's entries in the columns stays as it was
@@ -105,7 +105,7 @@ off-over : (ws old : List Bool) (i : ℕ) (off : Bool) → i < length ws → mas
 off-over ws old i true h = set-over ws old i false h
 off-over ws old i false h = refl
 
-after-over : (ws old : List Bool) (i : ℕ) (s : Step) → i < length ws → s .at .0 < length ws → shownAfter (over ws old) i s ≡ over (shownAfter ws i s) old
+after-over : (ws old : List Bool) (i : ℕ) (s : Step) → i < length ws → s .at .0 < length ws → unmaskedAfter (over ws old) i s ≡ over (unmaskedAfter ws i s) old
 after-over ws old i s h k =
     ap (λ (m : List Bool). maskOff m (s .at .0) (s .unused)) (off-over ws old i (s .masked) h)
     ∙ off-over (maskOff ws i (s .masked)) old (s .at .0) (s .unused) (rw (length-off ws i (s .masked)) k)
@@ -115,32 +115,32 @@ last-over ws old Nothing h = refl
 last-over ws old (Active k) h = off-over ws old (k .at .0) (not (k .used)) h
 
 abbrev overs : Marks → List Bool → List Bool → Marks
-overs m oldShown oldUnclipped = record { shown = over (m .shown) oldShown; unclipped = over (m .unclipped) oldUnclipped }
+overs m oldUnmasked oldUnclipped = record { unmasked = over (m .unmasked) oldUnmasked; unclipped = over (m .unclipped) oldUnclipped }
 
 module _ (os ou : List Bool) where
   clips-over : (xs : List Item) (i : ℕ) (cur : Current) (s u : List Bool) → i + length xs ≤ length s → i + length xs ≤ length u → Below cur (length s) → clipsFrom xs i cur (over s os) (over u ou) ≡ overs (clipsFrom xs i cur s u) os ou
   unfolding clipsFrom
   clips-over [] i cur s u h k b =
-      ap (λ (m : List Bool). record { shown = m; unclipped = over u ou }) (last-over s os cur b)
+      ap (λ (m : List Bool). record { unmasked = m; unclipped = over u ou }) (last-over s os cur b)
   clips-over (x ∷ xs) i cur s u h k b =
       let step = stepOf x cur i in
       let at : i < length s = omega (arith, add-suc i (length xs)) in
       let after = behind x cur i (length s) b at in
       ap₂ (λ (m f : List Bool). clipsFrom xs (suc i) (step .cur) m f) (after-over s os i step at (after .masks))
       (set-over u ou i (step .unclipped) (omega (arith, add-suc i (length xs))))
-      ∙ clips-over xs (suc i) (step .cur) (shownAfter s i step) (set u i (step .unclipped))
+      ∙ clips-over xs (suc i) (step .cur) (unmaskedAfter s i step) (set u i (step .unclipped))
       (rw (length-after s i step) (omega (arith, add-suc i (length xs), suc-add i (length xs))))
       (rw (length-set u i (step .unclipped)) (omega (arith, add-suc i (length xs), suc-add i (length xs))))
       (rw (length-after s i step) (after .current))
 
 -- the pass over columns whose front was filled
-pub passed : {items : List Item} {n : ℕ} {oldShown oldUnclipped shown₀ unclipped₀ shown unclipped : List Bool} → length items ≡ n
-    → shown₀ ≡ over (replicate n true) oldShown → unclipped₀ ≡ over (replicate n false) oldUnclipped
-    → record { shown = shown; unclipped = unclipped } ≡ clipsFrom items 0 Nothing shown₀ unclipped₀ → Marking items oldShown oldUnclipped shown unclipped
-passed {items} {n} {oldShown} {oldUnclipped} {shown = shown} {unclipped = unclipped} e ps pu r =
+pub passed : {items : List Item} {n : ℕ} {oldUnmasked oldUnclipped unmasked₀ unclipped₀ unmasked unclipped : List Bool} → length items ≡ n
+    → unmasked₀ ≡ over (replicate n true) oldUnmasked → unclipped₀ ≡ over (replicate n false) oldUnclipped
+    → record { unmasked = unmasked; unclipped = unclipped } ≡ clipsFrom items 0 Nothing unmasked₀ unclipped₀ → Marking items oldUnmasked oldUnclipped unmasked unclipped
+passed {items} {n} {oldUnmasked} {oldUnclipped} {unmasked = unmasked} {unclipped = unclipped} e ps pu r =
     let m = length items in
     let h : 0 + length items ≤ length (replicate m true) = omega (arith, length-replicate m true) in
     let k : 0 + length items ≤ length (replicate m false) = omega (arith, length-replicate m false) in
-    let whole : record { shown = shown; unclipped = unclipped } ≡ overs (marksOf items) oldShown oldUnclipped =
-    rw (ps, pu, ← e) at r ∙ clips-over oldShown oldUnclipped items 0 Nothing (replicate m true) (replicate m false) h k (omega arith) in
-    record { shown-is = ap (λ (m : Marks). m .shown) whole; unclipped-is = ap (λ (m : Marks). m .unclipped) whole }
+    let whole : record { unmasked = unmasked; unclipped = unclipped } ≡ overs (marksOf items) oldUnmasked oldUnclipped =
+    rw (ps, pu, ← e) at r ∙ clips-over oldUnmasked oldUnclipped items 0 Nothing (replicate m true) (replicate m false) h k (omega arith) in
+    record { unmasked-is = ap (λ (m : Marks). m .unmasked) whole; unclipped-is = ap (λ (m : Marks). m .unclipped) whole }

@@ -15,15 +15,17 @@ use Rattle.passes.specs.declared.covered.Covered.{Covered}
 use Rattle.passes.specs.declared.covered.InterestingCover.{InterestingCover}
 use Rattle.passes.specs.declared.covered.InterestingCover.the-variants.{Absent, Opaque, Incomplete}
 use Rattle.passes.specs.declared.decide.Decision.{Decision}
-use Rattle.passes.specs.declared.decide.Decision.the-variants.{None, Solid, Paint}
+use Rattle.passes.specs.declared.decide.Decision.the-variants.{None, Paint}
 use Rattle.passes.specs.declared.decide.Decided.{Decided}
 use Rattle.passes.specs.declared.decide.Bottom.{Bottom}
 use Rattle.passes.specs.declared.decide.Bottom.the-variants.{Settled, Under}
 use Rattle.passes.specs.declared.unchanged.PreviousCount.{PreviousCount}
 use Rattle.passes.specs.Unchanged.{isKept, wereRemoved}
-use Rattle.passes.specs.Clips.{stepOf, shownAfter, clipsFrom, marksOf, Marking}
+use Rattle.passes.specs.Clips.{stepOf, unmaskedAfter, clipsFrom, marksOf, Marking}
 use Rattle.passes.specs.Covered.{hides, lookAt, itemAt, coveredFrom, coveredOf}
-use Rattle.passes.specs.Decide.{shownFrom, shownOf, areSolid, decisionBy, bottomOf, mixedOf, decidedBy, passedOf, outcomeOf, Deciding}
+use Rattle.passes.specs.Decide.{shownFrom, shownOf, areSolid, decisionBy, bottomOf, mixedOf, DecidedBy, passedOf, outcomeOf, Deciding}
+use Rattle.passes.specs.Decision.{solid, paint, decisionIn}
+use Rattle.passes.specs.declared.Index.{Index}
 use Rattle.passes.proofs.Clipping.{length-after, length-last}
 
 -- ---- by the first cover that tells
@@ -41,14 +43,14 @@ bottom-clear u clear e = rw e
 pub bottom-paint : {first : InterestingCover} (u : Bool) (clear : Color) → first ≡ Incomplete → Settled Paint ≡ bottomOf first u clear
 bottom-paint u clear e = rw e
 
-pub mixed-settled : {bottom : Bottom} {decision : Decision} (shown : List Item) → bottom ≡ Settled decision → decision ≡ mixedOf bottom shown
+pub mixed-settled : {bottom : Bottom} {decision : Decision} (shown : List Item) → bottom ≡ Settled decision → decisionIn decision ≡ mixedOf bottom shown
 mixed-settled shown e = rw e
 
 module _ {bottom : Bottom} {color : Color} {below : ℕ} (shown : List Item) {t : Bool} (e : bottom ≡ Under color below) (q : t ≡ areSolid below shown) where
-  pub mixed-solid : t ≡ true → Solid color below ≡ mixedOf bottom shown
+  pub mixed-solid : t ≡ true → solid color below ≡ mixedOf bottom shown
   mixed-solid h = rw (e, ← q, h)
 
-  pub mixed-paint : t ≡ false → Paint ≡ mixedOf bottom shown
+  pub mixed-paint : t ≡ false → paint ≡ mixedOf bottom shown
   mixed-paint h = rw (e, ← q, h)
 
 -- as the decision is defined
@@ -58,36 +60,38 @@ mixed (Opaque color) true clear shown = refl
 mixed (Opaque color) false clear shown = refl
 mixed Incomplete u clear shown = refl
 
-pub decided : {found whole : Covered} {bottom : Bottom} {decision : Decision} (clear : Color) (items : List Item) (shown : List Bool)
-    → found ≡ whole → bottom ≡ bottomOf (found .first) (found .unchanged) clear → decision ≡ mixedOf bottom (shownOf (found .skipped .0) items shown)
-    → record { decision = decision; skipped = found .skipped } ≡ decidedBy whole clear items shown
-decided {found} {whole} {bottom} {decision} clear items shown e b d =
-    let is : decision ≡ decisionBy (found .first) (found .unchanged) clear (shownOf (found .skipped .0) items shown) =
-    d
-    ∙ ap (λ (m : Bottom). mixedOf m (shownOf (found .skipped .0) items shown)) b
-    ∙ mixed (found .first) (found .unchanged) clear (shownOf (found .skipped .0) items shown) in
-    ap (λ (m : Decision). record { decision = m; skipped = found .skipped }) is
-    ∙ ap (λ (f : Covered). decidedBy f clear items shown) e
+pub decided : {found whole : Covered} {bottom : Bottom} {decision : Decision} (clear : Color) (items : List Item) (unmasked : List Bool)
+    → found ≡ whole → bottom ≡ bottomOf (found .first) (found .unchanged) clear → decisionIn decision ≡ mixedOf bottom (shownOf (found .skipped .0) items unmasked)
+    → DecidedBy whole clear items unmasked (record { decision = decision; skipped = found .skipped })
+decided {found} {whole} {bottom} {decision} clear items unmasked e b d =
+    record {
+      decision =
+          d
+          ∙ ap (λ (m : Bottom). mixedOf m (shownOf (found .skipped .0) items unmasked)) b
+          ∙ mixed (found .first) (found .unchanged) clear (shownOf (found .skipped .0) items unmasked)
+          ∙ ap (λ (f : Covered). decisionBy (f .first) (f .unchanged) clear (shownOf (f .skipped .0) items unmasked)) e;
+      skipped = ap (λ (f : Covered). f .skipped) e;
+    }
 
 -- ---- the marks have the list's length
 
-pub length-shown : (xs : List Item) (i : ℕ) (cur : Current) (s u : List Bool) → length (clipsFrom xs i cur s u .shown) ≡ length s
+pub length-unmasked : (xs : List Item) (i : ℕ) (cur : Current) (s u : List Bool) → length (clipsFrom xs i cur s u .unmasked) ≡ length s
 unfolding clipsFrom
-length-shown [] i cur s u = length-last cur s
-length-shown (x ∷ xs) i cur s u =
+length-unmasked [] i cur s u = length-last cur s
+length-unmasked (x ∷ xs) i cur s u =
     let step = stepOf x cur i in
-    length-shown xs (suc i) (step .cur) (shownAfter s i step) (set u i (step .unclipped)) ∙ length-after s i step
+    length-unmasked xs (suc i) (step .cur) (unmaskedAfter s i step) (set u i (step .unclipped)) ∙ length-after s i step
 
 pub length-unclipped : (xs : List Item) (i : ℕ) (cur : Current) (s u : List Bool) → length (clipsFrom xs i cur s u .unclipped) ≡ length u
 unfolding clipsFrom
 length-unclipped [] i cur s u = refl
 length-unclipped (x ∷ xs) i cur s u =
     let step = stepOf x cur i in
-    length-unclipped xs (suc i) (step .cur) (shownAfter s i step) (set u i (step .unclipped))
+    length-unclipped xs (suc i) (step .cur) (unmaskedAfter s i step) (set u i (step .unclipped))
     ∙ length-set u i (step .unclipped)
 
-pub shown-long : (items : List Item) → length (marksOf items .shown) ≡ length items
-shown-long items = length-shown items 0 _ _ _ ∙ length-replicate (length items) true
+pub unmasked-long : (items : List Item) → length (marksOf items .unmasked) ≡ length items
+unmasked-long items = length-unmasked items 0 _ _ _ ∙ length-replicate (length items) true
 
 pub unclipped-long : (items : List Item) → length (marksOf items .unclipped) ≡ length items
 unclipped-long items = length-unclipped items 0 _ _ _ ∙ length-replicate (length items) false
@@ -107,38 +111,38 @@ covered-over items s os u ou (suc i) found h k =
     (covered-over items s os u ou i (lookAt (itemAt items i) (getD u i false) i found) (omega arith) (omega arith))
     (covered-over items s os u ou i found (omega arith) (omega arith)))
 
-shown-front : (skipped i : ℕ) (xs : List Item) (ss ts : List Bool) → length xs ≤ length ss → shownFrom i skipped xs (ss ++ ts) ≡ shownFrom i skipped xs ss
+unmasked-front : (skipped i : ℕ) (xs : List Item) (ss ts : List Bool) → length xs ≤ length ss → shownFrom i skipped xs (ss ++ ts) ≡ shownFrom i skipped xs ss
 unfolding shownFrom
-shown-front skipped i [] ss ts h = refl
-shown-front skipped i (x ∷ xs) [] ts h = absurd (not-suc-le-zero h)
-shown-front skipped i (x ∷ xs) (s ∷ ss) ts h =
-    ap (λ (r : List Item). cond (s && leb skipped i) (x ∷ r) r) (shown-front skipped (suc i) xs ss ts (le-of-suc-le-suc h))
+unmasked-front skipped i [] ss ts h = refl
+unmasked-front skipped i (x ∷ xs) [] ts h = absurd (not-suc-le-zero h)
+unmasked-front skipped i (x ∷ xs) (s ∷ ss) ts h =
+    ap (λ (r : List Item). cond (s && leb skipped i) (x ∷ r) r) (unmasked-front skipped (suc i) xs ss ts (le-of-suc-le-suc h))
 
-shown-over : (skipped : ℕ) (items : List Item) (s old : List Bool) → length items ≤ length s → shownOf skipped items (over s old) ≡ shownOf skipped items s
+unmasked-over : (skipped : ℕ) (items : List Item) (s old : List Bool) → length items ≤ length s → shownOf skipped items (over s old) ≡ shownOf skipped items s
 unfolding over
-shown-over skipped items s old h = shown-front skipped 0 items s (drop (length s) old) h
+unmasked-over skipped items s old h = unmasked-front skipped 0 items s (drop (length s) old) h
 
 -- ---- the second and the third pass, and all three
 
 pub decided-passed : {items : List Item} {old : List Bool} (free : List Bool) {column unclipped : List Bool} {r : Decided} (clear : Color) (removed : Bool)
-    → Marking items old free column unclipped → r ≡ decidedBy (coveredOf items column unclipped removed) clear items column → Deciding (passedOf clear removed items) old r column
+    → Marking items old free column unclipped → DecidedBy (coveredOf items column unclipped removed) clear items column r → Deciding (passedOf clear removed items) old r column
 decided-passed {items} {old} free {column} {unclipped} {r} clear removed m e =
-    let s = marksOf items .shown in
+    let s = marksOf items .unmasked in
     let u = marksOf items .unclipped in
     let start : Covered = record { first = Absent; unchanged = not removed; skipped = record { 0 = 0 } } in
     let same : coveredOf items column unclipped removed ≡ coveredOf items s u removed =
-    ap₂ (λ (a b : List Bool). coveredOf items a b removed) (m .shown-is) (m .unclipped-is)
-    ∙ covered-over items s old u free (length items) start (omega (arith, shown-long items)) (omega (arith, unclipped-long items)) in
+    ap₂ (λ (a b : List Bool). coveredOf items a b removed) (m .unmasked-is) (m .unclipped-is)
+    ∙ covered-over items s old u free (length items) start (omega (arith, unmasked-long items)) (omega (arith, unclipped-long items)) in
     let found = coveredOf items s u removed in
     let left : shownOf (found .skipped .0) items column ≡ shownOf (found .skipped .0) items s =
-    ap (shownOf (found .skipped .0) items) (m .shown-is)
-    ∙ shown-over (found .skipped .0) items s old (omega (arith, shown-long items)) in record {
+    ap (shownOf (found .skipped .0) items) (m .unmasked-is)
+    ∙ unmasked-over (found .skipped .0) items s old (omega (arith, unmasked-long items)) in record {
       decision =
-          ap (λ (d : Decided). d .decision) e
+          e .decision
           ∙ ap (λ (f : Covered). decisionBy (f .first) (f .unchanged) clear (shownOf (f .skipped .0) items column)) same
           ∙ ap (decisionBy (found .first) (found .unchanged) clear) left;
-      skipped = ap (λ (d : Decided). d .skipped .0) e ∙ ap (λ (f : Covered). f .skipped .0) same;
-      column = m .shown-is;
+      skipped = ap (λ (i : Index). i .0) (e .skipped) ∙ ap (λ (f : Covered). f .skipped .0) same;
+      column = m .unmasked-is;
     }
 
 module _ {n : ℕ} (items : List Item) (previous : PreviousCount) (clear : Color) (u : Bool) {old column : List Bool} {kept : Bool} (e : length items ≡ n) (k : kept ≡ isKept u previous items) where

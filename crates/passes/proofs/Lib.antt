@@ -8,9 +8,11 @@ pub mod Clipping
 pub mod Marks
 pub mod Under
 pub mod Judged
+pub mod Users
 pub mod Looks
 pub mod Covering
 pub mod Mixing
 pub mod Deciding
 pub mod Outcomes
+pub mod Seen
 pub mod Words

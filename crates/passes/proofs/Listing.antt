@@ -8,8 +8,8 @@ use lib.IntN.{ℤ, pos}
 use lib.ListN.{length, getD, drop}
 use Rattle.laws.specs.Lists.{tabulate}
 use Rattle.laws.proofs.Rows.{is-tabulate, length-tabulate, getD-tabulate}
-use Rattle.cover.specs.Entry.{entryOf}
-use Rattle.cover.proofs.Entries.{entry-length, entry-at}
+use Rattle.cover_statements.specs.Entry.{entryOf}
+use Rattle.cover_statements.proofs.Entries.{entry-length, entry-at}
 use Rattle.laws.specs.Answer.{given, refused}
 use Rattle.styling.specs.declared.Layer.{Layer}
 use Rattle.styling.specs.declared.Func.the-variants.{Clip}

@@ -1,6 +1,6 @@
 -- A look of the third pass at one layer: each answer, from the test that leads to it. Assumes nothing.
 use mathlib.Core.Path.{_≡_}
-use mathlib.Core.Bool.{Bool, true, false, cond, _&&_}
+use mathlib.Core.Bool.{Bool, true, false, _&&_}
 use Prim.Native.Nat.{ℕ}
 use Rattle.styling.specs.declared.Paint.{Paint}
 use Rattle.styling.specs.Style.{paintOf, isOpaque, solidColor}
@@ -9,7 +9,7 @@ use Rattle.passes.specs.declared.item.Item.{Item}
 use Rattle.passes.specs.declared.covered.InterestingCover.{InterestingCover}
 use Rattle.passes.specs.declared.covered.InterestingCover.the-variants.{Absent, Incomplete}
 use Rattle.passes.specs.declared.covered.Covered.{Covered}
-use Rattle.passes.specs.Covered.{firstOf, opaqueOf, isPartial, hides, tells, lookAt}
+use Rattle.passes.specs.Covered.{firstOf, opaqueOf, isPartial, hides, tells, skipTo, lookAt}
 
 module _ (x : Item) (unclipped : Bool) where
   pub tells-partial : {p : Bool} → p ≡ isPartial x unclipped → p ≡ true → Incomplete ≡ tells x unclipped
@@ -22,6 +22,6 @@ module _ (x : Item) (unclipped : Bool) where
   tells-nothing e h f k = rw (← e, h, ← f, k)
 
   pub looked : (i : ℕ) (found : Covered) {t f : InterestingCover} {h : Bool} {s : Index}
-      → t ≡ tells x unclipped → f ≡ firstOf (found .first) t → h ≡ hides x unclipped → s ≡ cond h (record { 0 = i }) (found .skipped)
+      → t ≡ tells x unclipped → f ≡ firstOf (found .first) t → h ≡ hides x unclipped → s ≡ skipTo (found .skipped) (record { 0 = i }) h
       → record { first = f; unchanged = found .unchanged && x .unchanged; skipped = s } ≡ lookAt x unclipped i found
   looked i found pt pf ph ps = rw (pf, pt, ps, ph)

@@ -11,7 +11,7 @@ use Rattle.passes.specs.declared.item.Item.{Item}
 use Rattle.passes.specs.declared.clips.Current.{Current}
 use Rattle.passes.specs.declared.clips.Current.the-variants.{Nothing, Active}
 use Rattle.passes.specs.declared.clips.Step.{Step}
-use Rattle.passes.specs.Clips.{isClip, stepOf, maskOff, shownAfter, clipsFrom}
+use Rattle.passes.specs.Clips.{isClip, stepOf, maskOff, unmaskedAfter, clipsFrom}
 use Rattle.passes.proofs.Turns.{Turn, opens, bare, past, within, turn}
 use Rattle.passes.proofs.Clipping.{Below, at-kept}
 
@@ -24,47 +24,47 @@ pub below-apart : (cur : Current) (i j : ℕ) → Below cur i → i ≤ j → Ap
 below-apart Nothing i j b h = omega arith
 below-apart (Active k) i j b h = λ e. omega arith
 
-pub off-other : (shown : List Bool) (i j : ℕ) (off : Bool) → (i ≡ j → ⊥) → getD (maskOff shown i off) j false ≡ getD shown j false
-off-other shown i j true h = getD-set-other shown i j false false (λ e. h (sym e))
-off-other shown i j false h = refl
+pub off-other : (unmasked : List Bool) (i j : ℕ) (off : Bool) → (i ≡ j → ⊥) → getD (maskOff unmasked i off) j false ≡ getD unmasked j false
+off-other unmasked i j true h = getD-set-other unmasked i j false false (λ e. h (sym e))
+off-other unmasked i j false h = refl
 
 -- a turn leaves place j to itself
 pub record Spared (s : Step) (j : ℕ) : Type 0 where
   pub apart : Apart (s .cur) j
-  pub clip : (shown : List Bool) → getD (maskOff shown (s .at .0) (s .unused)) j false ≡ getD shown j false
+  pub clip : (unmasked : List Bool) → getD (maskOff unmasked (s .at .0) (s .unused)) j false ≡ getD unmasked j false
 
 pub spared : (x : Item) (cur : Current) (i j : ℕ) → Apart cur j → (isClip (x .func) ≡ true → i ≡ j → ⊥) → Spared (stepOf x cur i) j
 spared x cur i j a h = by (turn x cur i)
   where
     by : Turn x cur i → Spared (stepOf x cur i) j
-    by (opens span e s) = rw s (record { apart = h (rw e); clip = λ shown. refl })
-    by (bare e q s) = rw s (record { apart = omega arith; clip = λ shown. refl })
+    by (opens span e s) = rw s (record { apart = h (rw e); clip = λ unmasked. refl })
+    by (bare e q s) = rw s (record { apart = omega arith; clip = λ unmasked. refl })
     by (past k e q l s) =
         let stands : k .at .0 ≡ j → ⊥ = rw q at a in
-        rw s (record { apart = omega arith; clip = λ shown. off-other shown (k .at .0) j (not (k .used)) stands })
+        rw s (record { apart = omega arith; clip = λ unmasked. off-other unmasked (k .at .0) j (not (k .used)) stands })
     by (within k e q l s) =
         let stands : k .at .0 ≡ j → ⊥ = rw q at a in
-        rw s (record { apart = rw (at-kept (isClipped (x .func)) k) stands; clip = λ shown. refl })
+        rw s (record { apart = rw (at-kept (isClipped (x .func)) k) stands; clip = λ unmasked. refl })
 
 -- what a turn at place i leaves in another place, and in its own
-pub after-other : (x : Item) (cur : Current) (i j : ℕ) (shown : List Bool) → Apart cur j → (i ≡ j → ⊥) → getD (shownAfter shown i (stepOf x cur i)) j false ≡ getD shown j false
-after-other x cur i j shown a h =
-    spared x cur i j a (λ e. h) .clip (maskOff shown i (stepOf x cur i .masked))
-    ∙ off-other shown i j (stepOf x cur i .masked) h
+pub after-other : (x : Item) (cur : Current) (i j : ℕ) (unmasked : List Bool) → Apart cur j → (i ≡ j → ⊥) → getD (unmaskedAfter unmasked i (stepOf x cur i)) j false ≡ getD unmasked j false
+after-other x cur i j unmasked a h =
+    spared x cur i j a (λ e. h) .clip (maskOff unmasked i (stepOf x cur i .masked))
+    ∙ off-other unmasked i j (stepOf x cur i .masked) h
 
-pub off-own : (shown : List Bool) (i : ℕ) (off : Bool) → i < length shown → getD shown i false ≡ true → getD (maskOff shown i off) i false ≡ not off
-off-own shown i true h e = getD-set-same shown i false false h
-off-own shown i false h e = e
+pub off-own : (unmasked : List Bool) (i : ℕ) (off : Bool) → i < length unmasked → getD unmasked i false ≡ true → getD (maskOff unmasked i off) i false ≡ not off
+off-own unmasked i true h e = getD-set-same unmasked i false false h
+off-own unmasked i false h e = e
 
 -- ---- the rest of the pass leaves the places before it as they are, but for the current clip's
 
-pub shown-before : (xs : List Item) (i : ℕ) (cur : Current) (s u : List Bool) (j : ℕ) → j < i → Apart cur j → getD (clipsFrom xs i cur s u .shown) j false ≡ getD s j false
+pub unmasked-before : (xs : List Item) (i : ℕ) (cur : Current) (s u : List Bool) (j : ℕ) → j < i → Apart cur j → getD (clipsFrom xs i cur s u .unmasked) j false ≡ getD s j false
 unfolding clipsFrom
-shown-before [] i Nothing s u j h a = refl
-shown-before [] i (Active k) s u j h a = off-other s (k .at .0) j (not (k .used)) a
-shown-before (x ∷ xs) i cur s u j h a =
+unmasked-before [] i Nothing s u j h a = refl
+unmasked-before [] i (Active k) s u j h a = off-other s (k .at .0) j (not (k .used)) a
+unmasked-before (x ∷ xs) i cur s u j h a =
     let step = stepOf x cur i in
-    shown-before xs (suc i) (step .cur) (shownAfter s i step) (set u i (step .unclipped)) j (omega arith) (spared x cur i j a (λ e. λ q. omega arith) .apart)
+    unmasked-before xs (suc i) (step .cur) (unmaskedAfter s i step) (set u i (step .unclipped)) j (omega arith) (spared x cur i j a (λ e. λ q. omega arith) .apart)
     ∙ after-other x cur i j s a (λ q. omega arith)
 
 pub unclipped-before : (xs : List Item) (i : ℕ) (cur : Current) (s u : List Bool) (j : ℕ) → j < i → getD (clipsFrom xs i cur s u .unclipped) j false ≡ getD u j false
@@ -72,18 +72,18 @@ unfolding clipsFrom
 unclipped-before [] i cur s u j h = refl
 unclipped-before (x ∷ xs) i cur s u j h =
     let step = stepOf x cur i in
-    unclipped-before xs (suc i) (step .cur) (shownAfter s i step) (set u i (step .unclipped)) j (omega arith)
+    unclipped-before xs (suc i) (step .cur) (unmaskedAfter s i step) (set u i (step .unclipped)) j (omega arith)
     ∙ getD-set-other u i j (step .unclipped) false (λ e. omega arith)
 
 -- ---- at its own place
 
--- a draw is shown unless its turn masks it off
-pub shown-draw : (x : Item) (xs : List Item) (i : ℕ) (cur : Current) (s u : List Bool) → isClip (x .func) ≡ false → Below cur i → i < length s → getD s i false ≡ true → getD (clipsFrom (x ∷ xs) i cur s u .shown) i false ≡ not (stepOf x cur i .masked)
+-- a draw is not masked off unless its turn does it
+pub unmasked-draw : (x : Item) (xs : List Item) (i : ℕ) (cur : Current) (s u : List Bool) → isClip (x .func) ≡ false → Below cur i → i < length s → getD s i false ≡ true → getD (clipsFrom (x ∷ xs) i cur s u .unmasked) i false ≡ not (stepOf x cur i .masked)
 unfolding clipsFrom
-shown-draw x xs i cur s u e b h f =
+unmasked-draw x xs i cur s u e b h f =
     let step = stepOf x cur i in
     let free = spared x cur i i (below-apart cur i i b (omega arith)) (λ t. absurd (false≢true (sym e ∙ t))) in
-    shown-before xs (suc i) (step .cur) (shownAfter s i step) (set u i (step .unclipped)) i (omega arith) (free .apart)
+    unmasked-before xs (suc i) (step .cur) (unmaskedAfter s i step) (set u i (step .unclipped)) i (omega arith) (free .apart)
     ∙ free .clip (maskOff s i (step .masked))
     ∙ off-own s i (step .masked) h f
 
@@ -91,5 +91,5 @@ pub unclipped-own : (x : Item) (xs : List Item) (i : ℕ) (cur : Current) (s u :
 unfolding clipsFrom
 unclipped-own x xs i cur s u h =
     let step = stepOf x cur i in
-    unclipped-before xs (suc i) (step .cur) (shownAfter s i step) (set u i (step .unclipped)) i (omega arith)
+    unclipped-before xs (suc i) (step .cur) (unmaskedAfter s i step) (set u i (step .unclipped)) i (omega arith)
     ∙ getD-set-same u i (step .unclipped) false h

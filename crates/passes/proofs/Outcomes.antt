@@ -1,12 +1,12 @@
 -- An outcome by its one test, and what the passes leave of a whole list, for proofs/Words. Assumes nothing.
-use mathlib.Core.Path.{_≡_, refl, sym, _∙_}
+use mathlib.Core.Path.{_≡_, refl, sym, ap, _∙_}
 use mathlib.Core.Bool.{Bool, true, false, not, _&&_, _||_, false≢true}
 use mathlib.Core.List.{List, map}
 use mathlib.Core.Option.{none}
-use Prim.Native.Nat.{ℕ, _<_}
+use Prim.Native.Nat.{ℕ, suc, _<_}
 use native.Mathlib.Nat.{zero-add}
 use native.Mathlib.Omega.{arith}
-use lib.ListN.{length, getD, replicate, length-replicate, getD-replicate, length-map, List·getD-map}
+use lib.ListN.{length, getD, drop, replicate, length-replicate, getD-replicate, length-map, List·getD-map}
 use Rattle.laws.proofs.Bools.{left, right}
 use Rattle.styling.specs.declared.Color.{Color}
 use Rattle.styling.specs.declared.Func.{Func}
@@ -15,21 +15,22 @@ use Rattle.styling.specs.Style.{isClipped, isOpaque}
 use Rattle.styling.proofs.Ascents.{ascends-lt}
 use Rattle.passes.specs.declared.item.Item.{Item}
 use Rattle.passes.specs.declared.clips.Current.the-variants.{Nothing}
-use Rattle.passes.specs.declared.decide.Decision.the-variants.{None}
+use Rattle.passes.specs.Decision as decision
 use Rattle.passes.specs.declared.unchanged.PreviousCount.{PreviousCount}
 use Rattle.passes.specs.Unchanged.{isKept, wereRemoved}
 use Rattle.passes.specs.Clips.{isClip, marksOf}
 use Rattle.passes.specs.Covered.{isPartial, itemAt}
 use Rattle.passes.specs.Decide.{passedOf, outcomeOf}
-use Rattle.passes.specs.Rules.{needsClip, isAscending, isShown, isFree, latestBelow, isFreed, DrawAt, Followed, Over}
+use Rattle.passes.specs.Rules.{needsClip, isAscending, isUnmasked, isFree, latestBelow, isFreed, DrawAt, ClipAt, isFollowed, isUsed, Hides, Over}
 use Rattle.passes.proofs.Covering.{Hiding}
-use Rattle.passes.proofs.Judged.{judged}
+use Rattle.passes.proofs.Judged.{judgedBy, judged}
+use Rattle.passes.proofs.Users.{used-at}
 use Rattle.passes.proofs.Under.{Ruled, ruled}
 
 -- ---- an outcome
 
 module _ (clear : Color) (unchanged : Bool) (previous : PreviousCount) (items : List Item) where
-  pub outcome-kept : isKept unchanged previous items ≡ true → outcomeOf clear unchanged previous items ≡ record { decision = None; shown = replicate (length items) true; skipped = 0 }
+  pub outcome-kept : isKept unchanged previous items ≡ true → outcomeOf clear unchanged previous items ≡ record { decision = decision.none; unmasked = replicate (length items) true; skipped = 0 }
   unfolding outcomeOf
   outcome-kept e = rw e
 
@@ -68,15 +69,13 @@ module _ (items : List Item) where
   fresh : (i : ℕ) → i < length items → getD (replicate (length items) true) i false ≡ true
   fresh i h = getD-replicate (length items) i true false h
 
-  pub followed : {i j : ℕ} → Followed items i j → isShown items i ≡ not (itemAt items i .full)
-  followed {i} {j} f =
+  pub judged-at : {i : ℕ} → ClipAt items i → isUnmasked items i ≡ judgedBy (itemAt items i) (drop (suc i) items)
+  judged-at {i} c =
       let n = length items in
-      judged items 0 Nothing (replicate n true) (replicate n false) i j i (omega arith) (f .after) (f .listed) (f .clips) (f .clips-next) (f .reached) (omega (arith, length-replicate n true))
-      (sym (zero-add i))
-      (fresh i (omega (arith, f .after, f .listed)))
+      judged items 0 Nothing (replicate n true) (replicate n false) i i (omega arith) (c .listed) (c .clips) (omega (arith, length-replicate n true)) (sym (zero-add i)) (fresh i (c .listed))
 
   module _ (ascending : isAscending items ≡ true) where
-    pub ruled-at : {i : ℕ} → DrawAt items i → Ruled items none (itemAt items i) (isShown items i) (isFree items i)
+    pub ruled-at : {i : ℕ} → DrawAt items i → Ruled items none (itemAt items i) (isUnmasked items i) (isFree items i)
     ruled-at {i} d =
         let n = length items in
         ruled items 0 Nothing (replicate n true) (replicate n false) none 0
@@ -84,7 +83,7 @@ module _ (items : List Item) where
           agree = omega arith;
           ascending = ascending;
           below = omega arith;
-          shown-long = omega (arith, length-replicate n true);
+          unmasked-long = omega (arith, length-replicate n true);
           unclipped-long = omega (arith, length-replicate n false);
         })
         i i (d .listed) (sym (zero-add i)) (fresh i (d .listed)) (d .draws)
@@ -92,6 +91,11 @@ module _ (items : List Item) where
     -- a later layer has a higher id
     higher : (i p : ℕ) → i < p → p < length items → itemAt items i .id < itemAt items p .id
     higher i p h l = omega (arith, ascends-lt 0 (map idOf items) ascending i p h (rw length-map l), id-at items i, id-at items p)
+
+    pub clip-rule : {i : ℕ} → ClipAt items i → isUnmasked items i ≡ (not (itemAt items i .full) && (isFollowed items i || isUsed items i))
+    clip-rule {i} c =
+        judged-at c
+        ∙ ap (λ (t : Bool). not (itemAt items i .full) && (isFollowed items i || t)) (sym (used-at items i 0 none ascending (omega arith) (c .listed) (c .clips)))
 
     pub free-rule : {i : ℕ} → DrawAt items i → isClipped (itemAt items i .func) ≡ true → isFree items i ≡ not (needsClip items (itemAt items i .func) (itemAt items i .id))
     free-rule {i} d c = ruled-at d .unclipped-is ∙ by (isClipped (itemAt items i .func)) c (isFreed (latestBelow items i) (itemAt items i .id))
@@ -110,16 +114,33 @@ module _ (items : List Item) where
         by true f true g = opposite (needsClip items (itemAt items p .func) (itemAt items p .id)) (sym (free-rule d f) ∙ g)
         by true f false g = absurd (false≢true (sym e ∙ rw (f, g)))
 
-    pub over : (i p : ℕ) → Hiding items (marksOf items .shown) (marksOf items .unclipped) (length items) p → i < p → Over items (marksOf items .shown) i p
-    over i p h l =
+    -- a layer that hides all below it, as the third pass finds it and in words
+    pub hides-words : {p : ℕ} → Hiding items (marksOf items .unmasked) (marksOf items .unclipped) (length items) p → Hides items (marksOf items .unmasked) p
+    hides-words {p} h =
         let x = itemAt items p in
         let free = isFree items p in
         let whole : isPartial x free ≡ false = opposite (isPartial x free) (left (not (isPartial x free)) (isOpaque (x .func)) (h .hides-all)) in
         let opaque : isOpaque (x .func) ≡ true = right (not (isPartial x free)) (isOpaque (x .func)) (h .hides-all) in record {
           listed = h .listed;
-          above = higher i p l (h .listed);
-          is-shown = h .is-shown;
+          is-unmasked = h .is-unmasked;
           full = full-of (isClipped (x .func) && not free) (x .full) whole;
           opaque = opaque;
           unclipped = no-clip (record { listed = h .listed; draws = opaque-draws (x .func) opaque }) (neither (isClipped (x .func) && not free) (not (x .full)) whole);
         }
+
+    pub words-hide : {p : ℕ} → Hides items (marksOf items .unmasked) p → Hiding items (marksOf items .unmasked) (marksOf items .unclipped) (length items) p
+    words-hide {p} h =
+        let x = itemAt items p in
+        let d : DrawAt items p = record { listed = h .listed; draws = opaque-draws (x .func) (h .opaque) } in
+        record {
+          listed = h .listed;
+          is-unmasked = h .is-unmasked;
+          hides-all = rw (h .full, h .opaque) (by (isClipped (x .func)) refl d);
+        }
+      where
+        by : (a : Bool) → isClipped (itemAt items p .func) ≡ a → DrawAt items p → (not (a && not (isFree items p) || false) && true) ≡ true
+        by false f d = refl
+        by true f d = rw (free-rule d f, h .unclipped) refl
+
+    pub over : (i p : ℕ) → Hiding items (marksOf items .unmasked) (marksOf items .unclipped) (length items) p → i < p → Over items (marksOf items .unmasked) i p
+    over i p h l = record { above = higher i p l (h .listed); covers = hides-words h }

@@ -16,7 +16,7 @@ use Rattle.passes.specs.declared.clips.Current.the-variants.{Nothing, Ac
 use Rattle.passes.specs.declared.clips.Drawn.{Drawn}
 use Rattle.passes.specs.declared.clips.Closed.{Closed}
 use Rattle.passes.specs.declared.clips.Step.{Step}
-use Rattle.passes.specs.Clips.{place, openedOf, usedOf, clippedOf, drawnOf, closedOf, isClip, stepOf, maskOff, shownAfter, lastClip}
+use Rattle.passes.specs.Clips.{place, openedOf, usedOf, clippedOf, drawnOf, closedOf, isClip, stepOf, maskOff, unmaskedAfter, lastClip}
 
 pub opens : {f : Func} {span : ℕ} (cur : Current) (id : ℕ) (full : Bool) (i : ℕ) → f ≡ Clip span → Active (record { full = full; last = id + span; at = place i; used = false }) ≡ openedOf f cur id full i
 opens cur id full i e = rw e
@@ -60,15 +60,15 @@ composed x cur i {o} {p} {t} {d} {e} po pp pd pe pt = rw (chosen t (x .full) (d 
 
 -- ---- masking off: within the list, past its end, and the clip that is current at the end
 
-pub off-within : {off : Bool} (shown : List Bool) (i : ℕ) → off ≡ true → set shown i false ≡ maskOff shown i off
-off-within shown i e = rw e
+pub off-within : {off : Bool} (unmasked : List Bool) (i : ℕ) → off ≡ true → set unmasked i false ≡ maskOff unmasked i off
+off-within unmasked i e = rw e
 
-pub off-past : {off : Bool} (shown : List Bool) (i : ℕ) → off ≡ true → length shown ≤ i → shown ≡ maskOff shown i off
-off-past shown i e h = rw e (sym (set-out shown i false h))
+pub off-past : {off : Bool} (unmasked : List Bool) (i : ℕ) → off ≡ true → length unmasked ≤ i → unmasked ≡ maskOff unmasked i off
+off-past unmasked i e h = rw e (sym (set-out unmasked i false h))
 
 -- what a turn masks off: the layer, then a clip
-pub off-after : {shown₁ shown₂ : List Bool} (shown : List Bool) (i : ℕ) (s : Step) → shown₁ ≡ maskOff shown i (s .masked) → shown₂ ≡ maskOff shown₁ (s .at .0) (s .unused) → shown₂ ≡ shownAfter shown i s
-off-after shown i s p q = q ∙ ap (λ (m : List Bool). maskOff m (s .at .0) (s .unused)) p
+pub off-after : {unmasked₁ unmasked₂ : List Bool} (unmasked : List Bool) (i : ℕ) (s : Step) → unmasked₁ ≡ maskOff unmasked i (s .masked) → unmasked₂ ≡ maskOff unmasked₁ (s .at .0) (s .unused) → unmasked₂ ≡ unmaskedAfter unmasked i s
+off-after unmasked i s p q = q ∙ ap (λ (m : List Bool). maskOff m (s .at .0) (s .unused)) p
 
 pub last-active : {cur : Current} {k : ActiveClip} {new : List Bool} (old : List Bool) → cur ≡ Active k → new ≡ maskOff old (k .at .0) (not (k .used)) → new ≡ lastClip cur old
 last-active old e p = rw e p

@@ -17,17 +17,17 @@ use Rattle.passes.specs.declared.item.Item.{Item}
 use Rattle.passes.specs.declared.clips.ActiveClip.{ActiveClip}
 use Rattle.passes.specs.declared.clips.Current.{Current}
 use Rattle.passes.specs.declared.clips.Current.the-variants.{Nothing, Active}
-use Rattle.passes.specs.Clips.{isClip, stepOf, shownAfter, clipsFrom}
+use Rattle.passes.specs.Clips.{isClip, stepOf, unmaskedAfter, clipsFrom}
 use Rattle.passes.specs.Covered.{itemAt}
 use Rattle.passes.specs.Rules.{latestClip, lastOf, isUnder, isFreed}
 use Rattle.passes.proofs.Turns.{kept, Turn, opens, bare, past, within, turn}
 use Rattle.passes.proofs.Clipping.{Below, below-up, behind, length-after}
-use Rattle.passes.proofs.Marks.{below-apart, after-other, shown-draw, unclipped-own}
+use Rattle.passes.proofs.Marks.{below-apart, after-other, unmasked-draw, unclipped-own}
 
 -- ---- the latest clip
 
 -- a layer that is not below the id is passed by, and one that is below it counts if it is a clip
-latest-skip : (x : Item) (xs : List Item) (id : ℕ) (found : Option Item) → id ≤ x .id → latestClip (x ∷ xs) id found ≡ latestClip xs id found
+pub latest-skip : (x : Item) (xs : List Item) (id : ℕ) (found : Option Item) → id ≤ x .id → latestClip (x ∷ xs) id found ≡ latestClip xs id found
 unfolding latestClip
 latest-skip x xs id found h = rw (le-ltb (x .id) id h) (by (isClip (x .func)))
   where
@@ -35,7 +35,7 @@ latest-skip x xs id found h = rw (le-ltb (x .id) id h) (by (isClip (x .func)))
     by true = refl
     by false = refl
 
-latest-past : (x : Item) (xs : List Item) (id : ℕ) (found : Option Item) → x .id < id → latestClip (x ∷ xs) id found ≡ latestClip xs id (cond (isClip (x .func)) (some x) found)
+pub latest-past : (x : Item) (xs : List Item) (id : ℕ) (found : Option Item) → x .id < id → latestClip (x ∷ xs) id found ≡ latestClip xs id (cond (isClip (x .func)) (some x) found)
 unfolding latestClip
 latest-past x xs id found h = rw (lt-ltb (x .id) id h) (by (isClip (x .func)))
   where
@@ -43,7 +43,7 @@ latest-past x xs id found h = rw (lt-ltb (x .id) id h) (by (isClip (x .func)))
     by true = refl
     by false = refl
 
-abbrev idOf : Item → ℕ
+abbrev pub idOf : Item → ℕ
 idOf x = x .id
 
 latest-stop : (low : ℕ) (xs : List Item) (id : ℕ) (found : Option Item) → strictlyAscendsFrom low (map idOf xs) ≡ true → id ≤ low → latestClip xs id found ≡ found
@@ -53,6 +53,18 @@ latest-stop low (x ∷ xs) id found a h =
     let head : low ≤ x .id = ascends-head low (x .id) (map idOf xs) a in
     latest-skip x xs id found (omega arith)
     ∙ latest-stop (suc (x .id)) xs id found (ascends-tail low (x .id) (map idOf xs) a) (omega arith)
+
+-- nothing is listed below the least id
+pub low-at : (low : ℕ) (xs : List Item) (p : ℕ) → strictlyAscendsFrom low (map idOf xs) ≡ true → p < length xs → low ≤ itemAt xs p .id
+low-at low xs p a h =
+    let id : getD (map idOf xs) p 0 ≡ itemAt xs p .id = List·getD-map idOf xs p _ in
+    omega (arith, id, ascends-low low (map idOf xs) a p (rw length-map h))
+
+-- what was found before a layer is its latest clip
+pub latest-own : (low : ℕ) (x : Item) (xs : List Item) (found : Option Item) → strictlyAscendsFrom low (map idOf (x ∷ xs)) ≡ true → latestClip (x ∷ xs) (x .id) found ≡ found
+latest-own low x xs found a =
+    latest-skip x xs (x .id) found (omega arith)
+    ∙ latest-stop (suc (x .id)) xs (x .id) found (ascends-tail low (x .id) (map idOf xs) a) (omega arith)
 
 -- ---- the current clip and the latest one, for ids from low on
 
@@ -91,20 +103,20 @@ agree-step x cur i found low a h = by (turn x cur i)
 -- ---- what a turn marks, by the latest clip
 
 record Marked (clipped : Bool) (found : Option Item) (id : ℕ) (masked unclipped : Bool) : Type 0 where
-  shown : not masked ≡ (not clipped || isUnder found id)
+  unmasked : not masked ≡ (not clipped || isUnder found id)
   free : unclipped ≡ (clipped && isFreed found id)
 
 marked-past : (b : Bool) (c : Item) (id : ℕ) → lastOf (c .id) (c .func) < id → Marked b (some c) id b false
-marked-past false c id h = record { shown = refl; free = refl }
+marked-past false c id h = record { unmasked = refl; free = refl }
 marked-past true c id h =
     let past : leb id (lastOf (c .id) (c .func)) ≡ false = lt-leb id (lastOf (c .id) (c .func)) h in record {
-      shown = rw past;
+      unmasked = rw past;
       free = rw past;
     }
 
 marked-bare : (b : Bool) (found : Option Item) (low id : ℕ) → Agree Nothing found low → low ≤ id → Marked b found id b false
-marked-bare true none low id a h = record { shown = refl; free = refl }
-marked-bare false none low id a h = record { shown = refl; free = refl }
+marked-bare true none low id a h = record { unmasked = refl; free = refl }
+marked-bare false none low id a h = record { unmasked = refl; free = refl }
 marked-bare b (some c) low id a h = marked-past b c id (omega arith)
 
 marked-ended : (b : Bool) (k : ActiveClip) (found : Option Item) (low id : ℕ) → Agree (Active k) found low → k .last < id → Marked b found id b false
@@ -113,10 +125,10 @@ marked-ended b k (some c) low id a h = marked-past b c id (omega (arith, a .0))
 
 marked-within : (b : Bool) (k : ActiveClip) (found : Option Item) (low id : ℕ) → Agree (Active k) found low → id ≤ k .last → Marked b found id false (b && k .full)
 marked-within b k none low id a h = absurd a
-marked-within false k (some c) low id a h = record { shown = refl; free = refl }
+marked-within false k (some c) low id a h = record { unmasked = refl; free = refl }
 marked-within true k (some c) low id a h =
     let reach : leb id (lastOf (c .id) (c .func)) ≡ true = le-leb id (lastOf (c .id) (c .func)) (omega (arith, a .0)) in record {
-      shown = rw reach;
+      unmasked = rw reach;
       free = rw reach (a .1);
     }
 
@@ -131,8 +143,8 @@ marked x cur i found low a h d = by (turn x cur i)
 
 -- ---- the pass, at each draw
 
-pub record Ruled (xs : List Item) (found : Option Item) (x : Item) (shown unclipped : Bool) : Type 0 where
-  pub shown-is : shown ≡ (not (isClipped (x .func)) || isUnder (latestClip xs (x .id) found) (x .id))
+pub record Ruled (xs : List Item) (found : Option Item) (x : Item) (unmasked unclipped : Bool) : Type 0 where
+  pub unmasked-is : unmasked ≡ (not (isClipped (x .func)) || isUnder (latestClip xs (x .id) found) (x .id))
   pub unclipped-is : unclipped ≡ (isClipped (x .func) && isFreed (latestClip xs (x .id) found) (x .id))
 
 -- what is asked of the rest xs of the list, from place i on
@@ -140,37 +152,35 @@ pub record Reaching (xs : List Item) (i : ℕ) (cur : Current) (s u : List Bool)
   pub agree : Agree cur found low
   pub ascending : strictlyAscendsFrom low (map idOf xs) ≡ true
   pub below : Below cur i
-  pub shown-long : i + length xs ≤ length s
+  pub unmasked-long : i + length xs ≤ length s
   pub unclipped-long : i + length xs ≤ length u
 
 reach-next : (x : Item) (xs : List Item) (i : ℕ) (cur : Current) (s u : List Bool) (found : Option Item) (low : ℕ) → Reaching (x ∷ xs) i cur s u found low
-    → Reaching xs (suc i) (stepOf x cur i .cur) (shownAfter s i (stepOf x cur i)) (set u i (stepOf x cur i .unclipped)) (cond (isClip (x .func)) (some x) found) (suc (x .id))
+    → Reaching xs (suc i) (stepOf x cur i .cur) (unmaskedAfter s i (stepOf x cur i)) (set u i (stepOf x cur i .unclipped)) (cond (isClip (x .func)) (some x) found) (suc (x .id))
 reach-next x xs i cur s u found low r =
     let step = stepOf x cur i in record {
       agree = agree-step x cur i found low (r .agree) (ascends-head low (x .id) (map idOf xs) (r .ascending));
       ascending = ascends-tail low (x .id) (map idOf xs) (r .ascending);
       below = behind x cur i (suc i) (below-up cur i (r .below)) (omega arith) .current;
-      shown-long = rw (length-after s i step) (omega (arith, r .shown-long, add-suc i (length xs), suc-add i (length xs)));
+      unmasked-long = rw (length-after s i step) (omega (arith, r .unmasked-long, add-suc i (length xs), suc-add i (length xs)));
       unclipped-long =
           rw (length-set u i (step .unclipped)) (omega (arith, r .unclipped-long, add-suc i (length xs), suc-add i (length xs)));
     }
 
 pub ruled : (xs : List Item) (i : ℕ) (cur : Current) (s u : List Bool) (found : Option Item) (low : ℕ) → Reaching xs i cur s u found low
     → (k j : ℕ) → k < length xs → j ≡ i + k → getD s j false ≡ true → isClip (itemAt xs k .func) ≡ false
-    → Ruled xs found (itemAt xs k) (getD (clipsFrom xs i cur s u .shown) j false) (getD (clipsFrom xs i cur s u .unclipped) j false)
+    → Ruled xs found (itemAt xs k) (getD (clipsFrom xs i cur s u .unmasked) j false) (getD (clipsFrom xs i cur s u .unclipped) j false)
 unfolding clipsFrom
 ruled [] i cur s u found low r k j h e f d = absurd (not-suc-le-zero h)
 ruled (x ∷ xs) i cur s u found low r zero j h e f d =
     let here : j ≡ i = omega arith in
-    let tail = ascends-tail low (x .id) (map idOf xs) (r .ascending) in
-    let latest : latestClip (x ∷ xs) (x .id) found ≡ found =
-    latest-skip x xs (x .id) found (omega arith) ∙ latest-stop (suc (x .id)) xs (x .id) found tail (omega arith) in
+    let latest : latestClip (x ∷ xs) (x .id) found ≡ found = latest-own low x xs found (r .ascending) in
     let m = marked x cur i found low (r .agree) (ascends-head low (x .id) (map idOf xs) (r .ascending)) d in
     rw here
     (record {
-      shown-is =
-          shown-draw x xs i cur s u d (r .below) (omega (arith, r .shown-long)) (rw here at f)
-          ∙ m .shown
+      unmasked-is =
+          unmasked-draw x xs i cur s u d (r .below) (omega (arith, r .unmasked-long)) (rw here at f)
+          ∙ m .unmasked
           ∙ ap (λ (o : Option Item). not (isClipped (x .func)) || isUnder o (x .id)) (sym latest);
       unclipped-is =
           unclipped-own x xs i cur s u (omega (arith, r .unclipped-long))
@@ -182,13 +192,12 @@ ruled (x ∷ xs) i cur s u found low r (suc k) j h e f d =
     let y = itemAt xs k in
     let tail = ascends-tail low (x .id) (map idOf xs) (r .ascending) in
     let more : k < length xs = le-of-suc-le-suc h in
-    let id : getD (map idOf xs) k 0 ≡ y .id = List·getD-map idOf xs k _ in
-    let higher : x .id < y .id = omega (arith, id, ascends-low (suc (x .id)) (map idOf xs) tail k (rw length-map more)) in
+    let higher : x .id < y .id = low-at (suc (x .id)) xs k tail more in
     let past = latest-past x xs (y .id) found higher in
-    let fresh : getD (shownAfter s i step) j false ≡ true =
+    let fresh : getD (unmaskedAfter s i step) j false ≡ true =
     after-other x cur i j s (below-apart cur i j (r .below) (omega (arith, add-suc i k))) (λ q. omega (arith, add-suc i k)) ∙ f in
-    let rest = ruled xs (suc i) (step .cur) (shownAfter s i step) (set u i (step .unclipped)) (cond (isClip (x .func)) (some x) found) (suc (x .id)) (reach-next x xs i cur s u found low r) k j more (omega (arith, add-suc i k, suc-add i k)) fresh d in
+    let rest = ruled xs (suc i) (step .cur) (unmaskedAfter s i step) (set u i (step .unclipped)) (cond (isClip (x .func)) (some x) found) (suc (x .id)) (reach-next x xs i cur s u found low r) k j more (omega (arith, add-suc i k, suc-add i k)) fresh d in
     record {
-      shown-is = rest .shown-is ∙ ap (λ (o : Option Item). not (isClipped (y .func)) || isUnder o (y .id)) (sym past);
+      unmasked-is = rest .unmasked-is ∙ ap (λ (o : Option Item). not (isClipped (y .func)) || isUnder o (y .id)) (sym past);
       unclipped-is = rest .unclipped-is ∙ ap (λ (o : Option Item). isClipped (y .func) && isFreed o (y .id)) (sym past);
     }

@@ -71,32 +71,32 @@ stepOf x cur i =
 
 -- what it leaves: which layers are not masked off, and which clipped draws are drawn unclipped
 pub record Marks : Type 0 where
-  pub shown : List Bool
+  pub unmasked : List Bool
   pub unclipped : List Bool
 
 abbrev pub maskOff : List Bool → ℕ → Bool → List Bool
-maskOff shown i off = cond off (set shown i false) shown
+maskOff unmasked i off = cond off (set unmasked i false) unmasked
 
 -- a turn masks off the layer itself, and then a clip that ended unused
-abbrev pub shownAfter : List Bool → ℕ → Step → List Bool
-shownAfter shown i s = maskOff (maskOff shown i (s .masked)) (s .at .0) (s .unused)
+abbrev pub unmaskedAfter : List Bool → ℕ → Step → List Bool
+unmaskedAfter unmasked i s = maskOff (maskOff unmasked i (s .masked)) (s .at .0) (s .unused)
 
 -- the last clip, where no draw used it
 abbrev pub lastClip : Current → List Bool → List Bool
-lastClip Nothing shown = shown
-lastClip (Active k) shown = maskOff shown (k .at .0) (not (k .used))
+lastClip Nothing unmasked = unmasked
+lastClip (Active k) unmasked = maskOff unmasked (k .at .0) (not (k .used))
 
 unfoldable pub clipsFrom : List Item → ℕ → Current → List Bool → List Bool → Marks
-clipsFrom [] i cur shown unclipped = record { shown = lastClip cur shown; unclipped = unclipped }
-clipsFrom (x ∷ xs) i cur shown unclipped =
+clipsFrom [] i cur unmasked unclipped = record { unmasked = lastClip cur unmasked; unclipped = unclipped }
+clipsFrom (x ∷ xs) i cur unmasked unclipped =
     let s = stepOf x cur i in
-    clipsFrom xs (suc i) (s .cur) (shownAfter shown i s) (set unclipped i (s .unclipped))
+    clipsFrom xs (suc i) (s .cur) (unmaskedAfter unmasked i s) (set unclipped i (s .unclipped))
 
--- all are shown at first, and none is drawn unclipped
+-- nothing is masked off at first, and nothing is drawn unclipped
 abbrev pub marksOf : List Item → Marks
 marksOf items = clipsFrom items 0 Nothing (replicate (length items) true) (replicate (length items) false)
 
 -- what the pass promises of the two lent columns
-pub record Marking (items : List Item) (oldShown oldUnclipped shown unclipped : List Bool) : Type 0 where
-  pub shown-is : shown ≡ over (marksOf items .shown) oldShown
+pub record Marking (items : List Item) (oldUnmasked oldUnclipped unmasked unclipped : List Bool) : Type 0 where
+  pub unmasked-is : unmasked ≡ over (marksOf items .unmasked) oldUnmasked
   pub unclipped-is : unclipped ≡ over (marksOf items .unclipped) oldUnclipped

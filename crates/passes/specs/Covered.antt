@@ -1,5 +1,6 @@
--- The third pass (`skip_fully_covered_layers_pass`), as the Rust goes: from the highest shown layer down to the first one that hides all below
--- it. It finds the first cover that tells whether the tile can be solid, whether the layers looked at are unchanged, and how many are skipped.
+-- The third pass (`skip_fully_covered_layers_pass`), as the Rust goes: from the highest layer that is not masked off down to the first that
+-- hides all below it. It finds the first cover that tells whether the tile can be solid, whether the layers looked at are unchanged, and how
+-- many are skipped.
 use mathlib.Core.Bool.{Bool, false, cond, not, _&&_, _||_}
 use mathlib.Core.List.{List}
 use mathlib.Core.Option.{Option, some, none}
@@ -8,6 +9,7 @@ use lib.ListN.{length, getD}
 use Rattle.styling.specs.declared.Color.{Color}
 use Rattle.styling.specs.declared.Func.the-variants.{Clip}
 use Rattle.styling.specs.Style.{isClipped, isOpaque, solidColor}
+use Rattle.passes.specs.declared.Index.{Index}
 use Rattle.passes.specs.declared.item.Item.{Item}
 use Rattle.passes.specs.declared.covered.InterestingCover.{InterestingCover}
 use Rattle.passes.specs.declared.covered.InterestingCover.the-variants.{Absent, Opaque, Incomplete}
@@ -36,12 +38,16 @@ hides x unclipped = not (isPartial x unclipped) && isOpaque (x .func)
 abbrev pub tells : Item → Bool → InterestingCover
 tells x unclipped = cond (isPartial x unclipped) Incomplete (cond (isOpaque (x .func)) (opaqueOf (solidColor (x .func))) Absent)
 
+-- the first layer that is not skipped, once the one in place i is looked at
+abbrev pub skipTo : Index → Index → Bool → Index
+skipTo skipped i hidden = cond hidden i skipped
+
 abbrev pub lookAt : Item → Bool → ℕ → Covered → Covered
 lookAt x unclipped i found =
     record {
       first = firstOf (found .first) (tells x unclipped);
       unchanged = found .unchanged && x .unchanged;
-      skipped = cond (hides x unclipped) (record { 0 = i }) (found .skipped);
+      skipped = skipTo (found .skipped) (record { 0 = i }) (hides x unclipped);
     }
 
 -- the layer in place i
@@ -50,15 +56,15 @@ itemAt items i = getD items i (record { id = 0; full = false; func = Clip 0; unc
 
 -- the n lowest layers are left to look at; a masked one is passed by
 unfoldable pub coveredFrom : List Item → List Bool → List Bool → ℕ → Covered → Covered
-coveredFrom items shown unclipped zero found = found
-coveredFrom items shown unclipped (suc i) found =
+coveredFrom items unmasked unclipped zero found = found
+coveredFrom items unmasked unclipped (suc i) found =
     let x = itemAt items i in
     let free = getD unclipped i false in
-    let past = coveredFrom items shown unclipped i found in
+    let past = coveredFrom items unmasked unclipped i found in
     let seen = lookAt x free i found in
-    let on = coveredFrom items shown unclipped i seen in
-    cond (getD shown i false) (cond (hides x free) seen on) past
+    let on = coveredFrom items unmasked unclipped i seen in
+    cond (getD unmasked i false) (cond (hides x free) seen on) past
 
 abbrev pub coveredOf : List Item → List Bool → List Bool → Bool → Covered
-coveredOf items shown unclipped removed =
-    coveredFrom items shown unclipped (length items) (record { first = Absent; unchanged = not removed; skipped = record { 0 = 0 } })
+coveredOf items unmasked unclipped removed =
+    coveredFrom items unmasked unclipped (length items) (record { first = Absent; unchanged = not removed; skipped = record { 0 = 0 } })

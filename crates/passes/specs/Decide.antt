@@ -4,7 +4,8 @@
 use mathlib.Core.Path.{_≡_}
 use mathlib.Core.Bool.{Bool, true, false, cond, _&&_}
 use mathlib.Core.List.{List, [], _∷_}
-use mathlib.Core.Option.{Option, some, none}
+use mathlib.Core.Option as option
+use mathlib.Core.Option.{Option, some}
 use Prim.Native.Nat.{ℕ, suc}
 use lib.Dec.{leb}
 use lib.ListN.{length, drop, replicate}
@@ -15,28 +16,28 @@ use Rattle.passes.specs.declared.item.Item.{Item}
 use Rattle.passes.specs.declared.covered.InterestingCover.{InterestingCover}
 use Rattle.passes.specs.declared.covered.InterestingCover.the-variants.{Absent, Opaque, Incomplete}
 use Rattle.passes.specs.declared.covered.Covered.{Covered}
-use Rattle.passes.specs.declared.decide.Decision.{Decision}
-use Rattle.passes.specs.declared.decide.Decision.the-variants.{None, Solid, Paint}
+use Rattle.passes.specs.declared.decide.Decision.the-variants.{None, Paint}
 use Rattle.passes.specs.declared.decide.Decided.{Decided}
 use Rattle.passes.specs.declared.decide.Bottom.{Bottom}
 use Rattle.passes.specs.declared.decide.Bottom.the-variants.{Settled, Under}
 use Rattle.passes.specs.declared.unchanged.PreviousCount.{PreviousCount}
+use Rattle.passes.specs.Decision.{TileDecision, none, solid, paint, decisionIn}
 use Rattle.passes.specs.Unchanged.{isKept, wereRemoved}
 use Rattle.passes.specs.Clips.{marksOf}
 use Rattle.passes.specs.Covered.{coveredOf}
 
 -- the layers that are shown: neither skipped nor masked off, ascending. i is the place of the first
 unfoldable pub shownFrom : ℕ → ℕ → List Item → List Bool → List Item
-shownFrom i skipped [] shown = []
+shownFrom i skipped [] unmasked = []
 shownFrom i skipped (x ∷ xs) [] = []
 shownFrom i skipped (x ∷ xs) (s ∷ ss) = cond (s && leb skipped i) (x ∷ shownFrom (suc i) skipped xs ss) (shownFrom (suc i) skipped xs ss)
 
 abbrev pub shownOf : ℕ → List Item → List Bool → List Item
-shownOf skipped items shown = shownFrom 0 skipped items shown
+shownOf skipped items unmasked = shownFrom 0 skipped items unmasked
 
 abbrev pub hasColor : Option Color → Bool
 hasColor (some c) = true
-hasColor none = false
+hasColor option.none = false
 
 -- the layers after the first `below` shown ones all have a colour of their own to mix
 abbrev pub areSolid : ℕ → List Item → Bool
@@ -44,31 +45,25 @@ areSolid below shown = all (λ x. hasColor (solidColor (x .func))) (drop below s
 
 -- by the first cover that tells: opaque and unchanged, nothing is drawn; opaque, its colour is the bottom and the layer itself is not mixed;
 -- none, the clear colour is; incomplete, the tile is painted
-abbrev pub decisionBy : InterestingCover → Bool → Color → List Item → Decision
-decisionBy Incomplete unchanged clear shown = Paint
-decisionBy (Opaque color) unchanged clear shown = cond unchanged None (cond (areSolid 1 shown) (Solid color 1) Paint)
-decisionBy Absent unchanged clear shown = cond (areSolid 0 shown) (Solid clear 0) Paint
-
--- the number of a decision: 0 none, 1 solid, 2 paint
-abbrev pub codeOf : Decision → ℕ
-codeOf None = 0
-codeOf (Solid color below) = 1
-codeOf Paint = 2
+abbrev pub decisionBy : InterestingCover → Bool → Color → List Item → TileDecision
+decisionBy Incomplete unchanged clear shown = paint
+decisionBy (Opaque color) unchanged clear shown = cond unchanged none (cond (areSolid 1 shown) (solid color 1) paint)
+decisionBy Absent unchanged clear shown = cond (areSolid 0 shown) (solid clear 0) paint
 
 -- the three columns of the answer: the decision, which layers are not masked off, how many are skipped
 pub record Outcome : Type 0 where
-  pub decision : Decision
-  pub shown : List Bool
+  pub decision : TileDecision
+  pub unmasked : List Bool
   pub skipped : ℕ
 
 -- the second and the third pass
 abbrev pub passedOf : Color → Bool → List Item → Outcome
 passedOf clear removed items =
     let marks = marksOf items in
-    let found = coveredOf items (marks .shown) (marks .unclipped) removed in
+    let found = coveredOf items (marks .unmasked) (marks .unclipped) removed in
     record {
-      decision = decisionBy (found .first) (found .unchanged) clear (shownOf (found .skipped .0) items (marks .shown));
-      shown = marks .shown;
+      decision = decisionBy (found .first) (found .unchanged) clear (shownOf (found .skipped .0) items (marks .unmasked));
+      unmasked = marks .unmasked;
       skipped = found .skipped .0;
     }
 
@@ -76,14 +71,14 @@ passedOf clear removed items =
 unfoldable pub outcomeOf : Color → Bool → PreviousCount → List Item → Outcome
 outcomeOf clear clearUnchanged count items =
     cond (isKept clearUnchanged count items)
-    (record { decision = None; shown = replicate (length items) true; skipped = 0 })
+    (record { decision = none; unmasked = replicate (length items) true; skipped = 0 })
     (passedOf clear (wereRemoved count (length items)) items)
 
--- what deciding promises: the answer, and the lent column of shown layers
-pub record Deciding (o : Outcome) (old : List Bool) (r : Decided) (shown : List Bool) : Type 0 where
-  pub decision : r .decision ≡ o .decision
+-- what deciding promises: the answer, and the lent column of layers that are not masked off
+pub record Deciding (o : Outcome) (old : List Bool) (r : Decided) (unmasked : List Bool) : Type 0 where
+  pub decision : decisionIn (r .decision) ≡ o .decision
   pub skipped : r .skipped .0 ≡ o .skipped
-  pub column : shown ≡ over (o .shown) old
+  pub column : unmasked ≡ over (o .unmasked) old
 
 -- ---- what the inner functions give
 
@@ -92,14 +87,11 @@ bottomOf Incomplete unchanged clear = Settled Paint
 bottomOf (Opaque color) unchanged clear = cond unchanged (Settled None) (Under color 1)
 bottomOf Absent unchanged clear = Under clear 0
 
-abbrev pub mixedOf : Bottom → List Item → Decision
-mixedOf (Settled decision) shown = decision
-mixedOf (Under color below) shown = cond (areSolid below shown) (Solid color below) Paint
+abbrev pub mixedOf : Bottom → List Item → TileDecision
+mixedOf (Settled decision) shown = decisionIn decision
+mixedOf (Under color below) shown = cond (areSolid below shown) (solid color below) paint
 
 -- from what the third pass found
-abbrev pub decidedBy : Covered → Color → List Item → List Bool → Decided
-decidedBy found clear items shown =
-    record {
-      decision = decisionBy (found .first) (found .unchanged) clear (shownOf (found .skipped .0) items shown);
-      skipped = found .skipped;
-    }
+pub record DecidedBy (found : Covered) (clear : Color) (items : List Item) (unmasked : List Bool) (r : Decided) : Type 0 where
+  pub decision : decisionIn (r .decision) ≡ decisionBy (found .first) (found .unchanged) clear (shownOf (found .skipped .0) items unmasked)
+  pub skipped : r .skipped ≡ found .skipped

@@ -6,7 +6,7 @@ use Prim.Native.Nat.{ℕ, _*_, _≤_}
 use lib.IntN.{ℤ}
 use lib.ListN.{length}
 use Rattle.laws.specs.Answer.{Answer, refused, given}
-use Rattle.cover.specs.Cover.{isFull}
+use Rattle.cover_statements.specs.Cover.{isFull}
 use Rattle.styling.specs.Lookup.{lookup}
 use Rattle.styling.specs.declared.Layer.{Layer}
 use Rattle.styling.specs.declared.Func.the-variants.{Clip}

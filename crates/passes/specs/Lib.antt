@@ -4,5 +4,7 @@ pub mod Item
 pub mod Unchanged
 pub mod Clips
 pub mod Covered
+pub mod Decision
 pub mod Decide
+pub mod Shown
 pub mod Rules

@@ -1,14 +1,16 @@
 -- The rules of the passes in the words of the scope, by the list alone. proofs/Words has that the passes go by them.
 -- 'A clipped draw needs a clip unless the latest listed clip below it, within whose span it lies, is full.'
 -- 'A clipped draw before any clip, or past the span of the latest one, is masked off.'
--- 'A listed layer that is neither masked off nor skipped is shown; a skipped one, masked off or not, is passed over as covered.'
+-- 'A clip followed by another clip before a listed draw past its end is never judged for use; it stays shown unless full': shown there is not
+-- masked off. A clip that is judged is masked off where no listed draw uses it.
 use mathlib.Core.Path.{_≡_}
-use mathlib.Core.Bool.{Bool, true, false, cond, not, _&&_}
+use mathlib.Core.Bool.{Bool, true, false, cond, not, _&&_, _||_}
 use mathlib.Core.List.{List, [], _∷_, map}
 use mathlib.Core.Option.{Option, some, none}
-use Prim.Native.Nat.{ℕ, _+_, _≤_, _<_}
-use lib.Dec.{ltb, leb}
-use lib.ListN.{length, getD}
+use Prim.Native.Nat.{ℕ, suc, _+_, _<_}
+use lib.Dec.{ltb, leb, eqb}
+use lib.ListN.{length, getD, drop}
+use Rattle.laws.specs.Lists.{any}
 use Rattle.styling.specs.Ascending.{strictlyAscends}
 use Rattle.styling.specs.declared.Func.{Func}
 use Rattle.styling.specs.declared.Func.the-variants.{Draw, Clip}
@@ -50,8 +52,8 @@ abbrev pub latestBelow : List Item → ℕ → Option Item
 latestBelow items i = latestClip items (itemAt items i .id) none
 
 -- what the second pass leaves in place i: the layer is not masked off; it is drawn unclipped
-abbrev pub isShown : List Item → ℕ → Bool
-isShown items i = getD (marksOf items .shown) i false
+abbrev pub isUnmasked : List Item → ℕ → Bool
+isUnmasked items i = getD (marksOf items .unmasked) i false
 
 abbrev pub isFree : List Item → ℕ → Bool
 isFree items i = getD (marksOf items .unclipped) i false
@@ -61,20 +63,51 @@ pub record DrawAt (items : List Item) (i : ℕ) : Type 0 where
   pub listed : i < length items
   pub draws : isClip (itemAt items i .func) ≡ false
 
--- a clip in place i, and a later one in place j: no listed layer between them lies past the end of the first
-pub record Followed (items : List Item) (i j : ℕ) : Type 0 where
-  pub after : i < j
-  pub listed : j < length items
+-- a clip is listed in place i
+pub record ClipAt (items : List Item) (i : ℕ) : Type 0 where
+  pub listed : i < length items
   pub clips : isClip (itemAt items i .func) ≡ true
-  pub clips-next : isClip (itemAt items j .func) ≡ true
-  pub reached : (k : ℕ) → i < k → k < j → itemAt items k .id ≤ lastOf (itemAt items i .id) (itemAt items i .func)
 
--- the layer in place p lies over the one in place i, which is passed over as covered: it is listed higher, shown, full and opaque, and needs
--- no clip
-pub record Over (items : List Item) (shown : List Bool) (i p : ℕ) : Type 0 where
+-- the last layer id that the layer in place i reaches
+abbrev pub reachOf : List Item → ℕ → ℕ
+reachOf items i = lastOf (itemAt items i .id) (itemAt items i .func)
+
+-- going up from the lowest of these layers, a clip comes before any layer past the id `last`
+unfoldable pub meetsClip : ℕ → List Item → Bool
+meetsClip last [] = false
+meetsClip last (x ∷ xs) = isClip (x .func) || leb (x .id) last && meetsClip last xs
+
+-- the clip in place i is followed by another clip before a listed layer past its end
+abbrev pub isFollowed : List Item → ℕ → Bool
+isFollowed items i = meetsClip (reachOf items i) (drop (suc i) items)
+
+-- the clip that was found is c
+abbrev pub isLatest : Item → Option Item → Bool
+isLatest c none = false
+isLatest c (some x) = eqb (x .id) (c .id)
+
+-- x is a clipped draw that has the clip c as its latest one and lies within its span
+abbrev pub uses : Item → Option Item → Item → Bool
+uses c latest x = isClipped (x .func) && isLatest c latest && leb (x .id) (lastOf (c .id) (c .func))
+
+-- some listed draw uses the clip in place i
+abbrev pub isUsed : List Item → ℕ → Bool
+isUsed items i = any (λ x. uses (itemAt items i) (latestClip items (x .id) none) x) items
+
+-- the layer in place p hides what is under it: it is listed and not masked off, full and opaque, and needs no clip
+pub record Hides (items : List Item) (unmasked : List Bool) (p : ℕ) : Type 0 where
   pub listed : p < length items
-  pub above : itemAt items i .id < itemAt items p .id
-  pub is-shown : getD shown p false ≡ true
+  pub is-unmasked : getD unmasked p false ≡ true
   pub full : itemAt items p .full ≡ true
   pub opaque : isOpaque (itemAt items p .func) ≡ true
   pub unclipped : needsClip items (itemAt items p .func) (itemAt items p .id) ≡ false
+
+-- the layer in place p lies over the one in place i, and hides it
+pub record Over (items : List Item) (unmasked : List Bool) (i p : ℕ) : Type 0 where
+  pub above : itemAt items i .id < itemAt items p .id
+  pub covers : Hides items unmasked p
+
+-- two lists of the same length with the same layers in the places that are not masked off
+pub record Alike (unmasked : List Bool) (items items′ : List Item) : Type 0 where
+  pub same-length : length items ≡ length items′
+  pub same-layer : (i : ℕ) → getD unmasked i false ≡ true → itemAt items i ≡ itemAt items′ i

@@ -10,7 +10,7 @@ ghost use Rattle.laws.specs.Lists.{over};
 ghost use Rattle.styling.specs.Table.{Table, tableOf};
 ghost use Rattle.passes.specs.Entry.{entriesOf};
 ghost use Rattle.passes.specs.Item.{itemsOf, Columns};
-ghost use Rattle.passes.specs.Clips.{openedOf, clippedOf, drawnOf, closedOf, isClip, stepOf, maskOff, shownAfter, lastClip, Marking};
+ghost use Rattle.passes.specs.Clips.{openedOf, clippedOf, drawnOf, closedOf, isClip, stepOf, maskOff, unmaskedAfter, lastClip, Marking};
 
 // The clip that was met last. `last` is wider than an id, so that id + span always fits.
 pub struct ActiveClip {
@@ -48,14 +48,14 @@ pub struct Step {
     pub at: Index,
 }
 
-fn open_clip(func: Func, cur: Current, id: u32, full: bool, i: usize) -> Current
-    ensures { λ r. ⌜ r ≡ openedOf func cur id full i ⌝ }
+fn open_clip(func: Func, cur: Current, id: u32, full: bool, i: Index) -> Current
+    ensures { λ r. ⌜ r ≡ openedOf func cur id full (i .0) ⌝ }
 {
     match func {
         Func::Clip(span) => Current::Active(ActiveClip {
             full: full,
             last: (id as u64) + (span as u64),
-            at: Index(i),
+            at: i,
             used: false,
         }),
         Func::Draw(_) => cur,
@@ -146,8 +146,8 @@ pub fn is_clip(func: Func) -> bool
 }
 
 // One turn, at the listed layer x in place i.
-fn clip_step(x: Item, cur: Current, i: usize) -> Step
-    ensures { λ r. ⌜ r ≡ stepOf x cur i ⌝ }
+fn clip_step(x: Item, cur: Current, i: Index) -> Step
+    ensures { λ r. ⌜ r ≡ stepOf x cur (i .0) ⌝ }
 {
     let func = x.func;
     let opened = open_clip(func, cur, x.id, x.full, i);
@@ -167,38 +167,40 @@ fn clip_step(x: Item, cur: Current, i: usize) -> Step
 }
 
 // Masks off the entry i, if there is one, where `off` says so.
-fn mask_off(shown: &mut [bool], i: usize, off: bool)
-    ensures { λ _. ⌜ now (shown .exit) ≡ maskOff (now (shown .entry)) i off ⌝ }
+fn mask_off(unmasked: &mut [bool], i: Index, off: bool)
+    ensures { λ _. ⌜ now (unmasked .exit) ≡ maskOff (now (unmasked .entry)) (i .0) off ⌝ }
 {
+    let at = i.0;
     if off {
-        if i < shown.len() {
-            shown[i] = false;
+        if at < unmasked.len() {
+            unmasked[at] = false;
         }
     }
 }
 
 // A clip that is still current when the list ends, and was not used, is masked off.
-fn mask_last(shown: &mut [bool], cur: Current)
-    ensures { λ _. ⌜ now (shown .exit) ≡ lastClip cur (now (shown .entry)) ⌝ }
+fn mask_last(unmasked: &mut [bool], cur: Current)
+    ensures { λ _. ⌜ now (unmasked .exit) ≡ lastClip cur (now (unmasked .entry)) ⌝ }
 {
     match cur {
         Current::Nothing => {}
         Current::Active(k) => {
             let at = k.at;
-            mask_off(shown, at.0, !k.used);
+            mask_off(unmasked, at, !k.used);
         }
     }
 }
 
 // The marks of one turn: the layer in place i, and then a clip that ended unused.
-fn mark(shown: &mut [bool], unclipped: &mut [bool], i: usize, s: Step)
-    requires { ⌜ i < length (now unclipped) ⌝ }
-    ensures { λ _. ⌜ (now (shown .exit) ≡ shownAfter (now (shown .entry)) i s) × (now (unclipped .exit) ≡ set (now (unclipped .entry)) i (s .unclipped)) ⌝ }
+fn mark(unmasked: &mut [bool], unclipped: &mut [bool], i: Index, s: Step)
+    requires { ⌜ i .0 < length (now unclipped) ⌝ }
+    ensures { λ _. ⌜ (now (unmasked .exit) ≡ unmaskedAfter (now (unmasked .entry)) (i .0) s) × (now (unclipped .exit) ≡ set (now (unclipped .entry)) (i .0) (s .unclipped)) ⌝ }
 {
-    mask_off(shown, i, s.masked);
-    let at = s.at;
-    mask_off(shown, at.0, s.unused);
-    unclipped[i] = s.unclipped;
+    mask_off(unmasked, i, s.masked);
+    let clip = s.at;
+    mask_off(unmasked, clip, s.unused);
+    let at = i.0;
+    unclipped[at] = s.unclipped;
 }
 
 // The first n entries of a lent column set to one mark.
@@ -222,22 +224,23 @@ pub fn skip_trivial_clips_pass(
     layers: &[u32],
     colors: &[f32],
     count: usize,
-    shown: &mut [bool],
+    unmasked: &mut [bool],
     unclipped: &mut [bool],
 )
-    requires { ⌜ Columns n (now ids) (now covers) (now segments) × Table (now layers) (now colors) count × (n ≤ length (now shown)) × (n ≤ length (now unclipped)) ⌝ }
-    ensures { λ _. ⌜ Marking (itemsOf (tableOf (now (layers .entry)) (now (colors .entry)) count) (entriesOf n (now (ids .entry)) (now (covers .entry)) (now (segments .entry)))) (now (shown .entry)) (now (unclipped .entry)) (now (shown .exit)) (now (unclipped .exit)) ⌝ }
+    requires { ⌜ Columns n (now ids) (now covers) (now segments) × Table (now layers) (now colors) count × (n ≤ length (now unmasked)) × (n ≤ length (now unclipped)) ⌝ }
+    ensures { λ _. ⌜ Marking (itemsOf (tableOf (now (layers .entry)) (now (colors .entry)) count) (entriesOf n (now (ids .entry)) (now (covers .entry)) (now (segments .entry)))) (now (unmasked .entry)) (now (unclipped .entry)) (now (unmasked .exit)) (now (unclipped .exit)) ⌝ }
 {
-    fill(shown, n, true);
+    fill(unmasked, n, true);
     fill(unclipped, n, false);
     let mut cur = Current::Nothing;
     let mut i: usize = 0;
     while i < n {
-        let x = item::item_at(ids, covers, segments, n, layers, colors, count, i);
-        let s = clip_step(x, cur, i);
-        mark(shown, unclipped, i, s);
+        let at = Index(i);
+        let x = item::item_at(ids, covers, segments, n, layers, colors, count, at);
+        let s = clip_step(x, cur, at);
+        mark(unmasked, unclipped, at, s);
         cur = s.cur;
         i += 1;
     }
-    mask_last(shown, cur);
+    mask_last(unmasked, cur);
 }

@@ -5,14 +5,13 @@ use crate::item::Item;
 use styling::Color;
 use styling::Paint;
 ghost use mathlib.Core.Path.{_≡_};
-ghost use mathlib.Core.Bool.{cond};
 ghost use Prim.Native.Nat.{_≤_};
 ghost use lib.ListN.{length};
 ghost use Rattle.styling.specs.Style.{paintOf};
 ghost use Rattle.styling.specs.Table.{Table, tableOf};
 ghost use Rattle.passes.specs.Entry.{entriesOf};
 ghost use Rattle.passes.specs.Item.{itemsOf, Columns};
-ghost use Rattle.passes.specs.Covered.{firstOf, opaqueOf, isPartial, hides as hidesOf, tells as tellsOf, lookAt, coveredOf};
+ghost use Rattle.passes.specs.Covered.{firstOf, opaqueOf, isPartial, hides as hidesOf, tells as tellsOf, skipTo, lookAt, coveredOf};
 
 // The first cover that tells whether the tile can be solid.
 pub enum InterestingCover {
@@ -77,15 +76,15 @@ fn tells(x: Item, unclipped: bool) -> InterestingCover
     }
 }
 
-fn skip_to(skipped: Index, i: usize, hidden: bool) -> Index
-    ensures { λ r. ⌜ r ≡ cond hidden (record { 0 = i }) skipped ⌝ }
+fn skip_to(skipped: Index, i: Index, hidden: bool) -> Index
+    ensures { λ r. ⌜ r ≡ skipTo skipped i hidden ⌝ }
 {
-    if hidden { Index(i) } else { skipped }
+    if hidden { i } else { skipped }
 }
 
-// A look at the shown layer x in place i.
-fn look_at(x: Item, unclipped: bool, i: usize, found: Covered) -> Covered
-    ensures { λ r. ⌜ r ≡ lookAt x unclipped i found ⌝ }
+// A look at the layer x in place i, which is not masked off.
+fn look_at(x: Item, unclipped: bool, i: Index, found: Covered) -> Covered
+    ensures { λ r. ⌜ r ≡ lookAt x unclipped (i .0) found ⌝ }
 {
     let before = found.first;
     let so_far = found.skipped;
@@ -98,7 +97,7 @@ fn look_at(x: Item, unclipped: bool, i: usize, found: Covered) -> Covered
     }
 }
 
-// The pass, over the layers that the second one left shown.
+// The pass, over the layers that the second one did not mask off.
 pub fn skip_fully_covered_layers_pass(
     ids: &[u32],
     covers: &[i8],
@@ -107,12 +106,12 @@ pub fn skip_fully_covered_layers_pass(
     layers: &[u32],
     colors: &[f32],
     count: usize,
-    shown: &[bool],
+    unmasked: &[bool],
     unclipped: &[bool],
     removed: bool,
 ) -> Covered
-    requires { ⌜ Columns n (now ids) (now covers) (now segments) × Table (now layers) (now colors) count × (n ≤ length (now shown)) × (n ≤ length (now unclipped)) ⌝ }
-    ensures { λ r. ⌜ r ≡ coveredOf (itemsOf (tableOf (now (layers .entry)) (now (colors .entry)) count) (entriesOf n (now (ids .entry)) (now (covers .entry)) (now (segments .entry)))) (now (shown .entry)) (now (unclipped .entry)) removed ⌝ }
+    requires { ⌜ Columns n (now ids) (now covers) (now segments) × Table (now layers) (now colors) count × (n ≤ length (now unmasked)) × (n ≤ length (now unclipped)) ⌝ }
+    ensures { λ r. ⌜ r ≡ coveredOf (itemsOf (tableOf (now (layers .entry)) (now (colors .entry)) count) (entriesOf n (now (ids .entry)) (now (covers .entry)) (now (segments .entry)))) (now (unmasked .entry)) (now (unclipped .entry)) removed ⌝ }
 {
     let mut found = Covered {
         first: InterestingCover::Absent,
@@ -122,9 +121,10 @@ pub fn skip_fully_covered_layers_pass(
     let mut i = n;
     while 0 < i {
         i -= 1;
-        if shown[i] {
-            let x = item::item_at(ids, covers, segments, n, layers, colors, count, i);
-            found = look_at(x, unclipped[i], i, found);
+        if unmasked[i] {
+            let at = Index(i);
+            let x = item::item_at(ids, covers, segments, n, layers, colors, count, at);
+            found = look_at(x, unclipped[i], at, found);
             if hides(x, unclipped[i]) {
                 return found;
             }

@@ -16,7 +16,8 @@ ghost use Rattle.styling.specs.Table.{Table, tableOf};
 ghost use Rattle.passes.specs.Entry.{entriesOf};
 ghost use Rattle.passes.specs.Item.{itemsOf, Columns};
 ghost use Rattle.passes.specs.Covered.{coveredOf};
-ghost use Rattle.passes.specs.Decide.{codeOf, hasColor, shownOf, areSolid, bottomOf, mixedOf, decidedBy, passedOf, outcomeOf, Deciding};
+ghost use Rattle.passes.specs.Decision.{codeOf, decisionIn};
+ghost use Rattle.passes.specs.Decide.{hasColor, shownOf, areSolid, bottomOf, mixedOf, DecidedBy, passedOf, outcomeOf, Deciding};
 
 // Nothing is drawn; the tile has one colour, mixed over the bottom colour from the shown layers after the first so many; or it is painted.
 pub enum Decision {
@@ -37,7 +38,7 @@ pub enum Bottom {
 }
 
 pub fn code_of(decision: Decision) -> u32
-    ensures { λ r. ⌜ r ≡ codeOf decision ⌝ }
+    ensures { λ r. ⌜ r ≡ codeOf (decisionIn decision) ⌝ }
 {
     match decision {
         Decision::None => 0,
@@ -64,22 +65,22 @@ fn are_solid(
     layers: &[u32],
     colors: &[f32],
     count: usize,
-    shown: &[bool],
-    skipped: usize,
+    unmasked: &[bool],
+    skipped: Index,
     below: usize,
 ) -> bool
-    requires { ⌜ Columns n (now ids) (now covers) (now segments) × Table (now layers) (now colors) count × (n ≤ length (now shown)) ⌝ }
-    ensures { λ r. ⌜ r ≡ areSolid below (shownOf skipped (itemsOf (tableOf (now (layers .entry)) (now (colors .entry)) count) (entriesOf n (now (ids .entry)) (now (covers .entry)) (now (segments .entry)))) (now (shown .entry))) ⌝ }
+    requires { ⌜ Columns n (now ids) (now covers) (now segments) × Table (now layers) (now colors) count × (n ≤ length (now unmasked)) ⌝ }
+    ensures { λ r. ⌜ r ≡ areSolid below (shownOf (skipped .0) (itemsOf (tableOf (now (layers .entry)) (now (colors .entry)) count) (entriesOf n (now (ids .entry)) (now (covers .entry)) (now (segments .entry)))) (now (unmasked .entry))) ⌝ }
 {
     let mut ok = true;
     let mut left = below;
-    let mut i = skipped;
+    let mut i = skipped.0;
     while i < n {
         let at = i;
         i += 1;
-        if shown[at] {
+        if unmasked[at] {
             if left == 0 {
-                let x = item::item_at(ids, covers, segments, n, layers, colors, count, at);
+                let x = item::item_at(ids, covers, segments, n, layers, colors, count, Index(at));
                 let func = x.func;
                 ok = ok & is_color(func.solid_color());
             } else {
@@ -117,11 +118,11 @@ fn mix(
     layers: &[u32],
     colors: &[f32],
     count: usize,
-    shown: &[bool],
-    skipped: usize,
+    unmasked: &[bool],
+    skipped: Index,
 ) -> Decision
-    requires { ⌜ Columns n (now ids) (now covers) (now segments) × Table (now layers) (now colors) count × (n ≤ length (now shown)) ⌝ }
-    ensures { λ r. ⌜ r ≡ mixedOf bottom (shownOf skipped (itemsOf (tableOf (now (layers .entry)) (now (colors .entry)) count) (entriesOf n (now (ids .entry)) (now (covers .entry)) (now (segments .entry)))) (now (shown .entry))) ⌝ }
+    requires { ⌜ Columns n (now ids) (now covers) (now segments) × Table (now layers) (now colors) count × (n ≤ length (now unmasked)) ⌝ }
+    ensures { λ r. ⌜ decisionIn r ≡ mixedOf bottom (shownOf (skipped .0) (itemsOf (tableOf (now (layers .entry)) (now (colors .entry)) count) (entriesOf n (now (ids .entry)) (now (covers .entry)) (now (segments .entry)))) (now (unmasked .entry))) ⌝ }
 {
     match bottom {
         Bottom::Settled(decision) => decision,
@@ -134,7 +135,7 @@ fn mix(
                 layers,
                 colors,
                 count,
-                shown,
+                unmasked,
                 skipped,
                 k,
             ) {
@@ -147,7 +148,7 @@ fn mix(
 }
 
 // The third pass and the decision.
-fn decide_shown(
+fn decide_unmasked(
     clear: Color,
     removed: bool,
     ids: &[u32],
@@ -157,11 +158,11 @@ fn decide_shown(
     layers: &[u32],
     colors: &[f32],
     count: usize,
-    shown: &[bool],
+    unmasked: &[bool],
     unclipped: &[bool],
 ) -> Decided
-    requires { ⌜ Columns n (now ids) (now covers) (now segments) × Table (now layers) (now colors) count × (n ≤ length (now shown)) × (n ≤ length (now unclipped)) ⌝ }
-    ensures { λ r. ⌜ r ≡ decidedBy (coveredOf (itemsOf (tableOf (now (layers .entry)) (now (colors .entry)) count) (entriesOf n (now (ids .entry)) (now (covers .entry)) (now (segments .entry)))) (now (shown .entry)) (now (unclipped .entry)) removed) clear (itemsOf (tableOf (now (layers .entry)) (now (colors .entry)) count) (entriesOf n (now (ids .entry)) (now (covers .entry)) (now (segments .entry)))) (now (shown .entry)) ⌝ }
+    requires { ⌜ Columns n (now ids) (now covers) (now segments) × Table (now layers) (now colors) count × (n ≤ length (now unmasked)) × (n ≤ length (now unclipped)) ⌝ }
+    ensures { λ r. ⌜ DecidedBy (coveredOf (itemsOf (tableOf (now (layers .entry)) (now (colors .entry)) count) (entriesOf n (now (ids .entry)) (now (covers .entry)) (now (segments .entry)))) (now (unmasked .entry)) (now (unclipped .entry)) removed) clear (itemsOf (tableOf (now (layers .entry)) (now (colors .entry)) count) (entriesOf n (now (ids .entry)) (now (covers .entry)) (now (segments .entry)))) (now (unmasked .entry)) r ⌝ }
 {
     let found = covered::skip_fully_covered_layers_pass(
         ids,
@@ -171,7 +172,7 @@ fn decide_shown(
         layers,
         colors,
         count,
-        shown,
+        unmasked,
         unclipped,
         removed,
     );
@@ -187,8 +188,8 @@ fn decide_shown(
         layers,
         colors,
         count,
-        shown,
-        skipped.0,
+        unmasked,
+        skipped,
     );
     Decided {
         decision: decision,
@@ -207,10 +208,10 @@ fn run_passes(
     layers: &[u32],
     colors: &[f32],
     count: usize,
-    shown: &mut [bool],
+    unmasked: &mut [bool],
 ) -> Decided
-    requires { ⌜ Columns n (now ids) (now covers) (now segments) × Table (now layers) (now colors) count × (n ≤ length (now shown)) ⌝ }
-    ensures { λ r. ⌜ Deciding (passedOf clear removed (itemsOf (tableOf (now (layers .entry)) (now (colors .entry)) count) (entriesOf n (now (ids .entry)) (now (covers .entry)) (now (segments .entry))))) (now (shown .entry)) r (now (shown .exit)) ⌝ }
+    requires { ⌜ Columns n (now ids) (now covers) (now segments) × Table (now layers) (now colors) count × (n ≤ length (now unmasked)) ⌝ }
+    ensures { λ r. ⌜ Deciding (passedOf clear removed (itemsOf (tableOf (now (layers .entry)) (now (colors .entry)) count) (entriesOf n (now (ids .entry)) (now (covers .entry)) (now (segments .entry))))) (now (unmasked .entry)) r (now (unmasked .exit)) ⌝ }
 {
     let mut unclipped = [false; 256];
     clips::skip_trivial_clips_pass(
@@ -221,10 +222,10 @@ fn run_passes(
         layers,
         colors,
         count,
-        shown,
+        unmasked,
         &mut unclipped,
     );
-    decide_shown(
+    decide_unmasked(
         clear,
         removed,
         ids,
@@ -234,7 +235,7 @@ fn run_passes(
         layers,
         colors,
         count,
-        shown,
+        unmasked,
         &unclipped,
     )
 }
@@ -251,10 +252,10 @@ pub fn decide(
     layers: &[u32],
     colors: &[f32],
     count: usize,
-    shown: &mut [bool],
+    unmasked: &mut [bool],
 ) -> Decided
-    requires { ⌜ Columns n (now ids) (now covers) (now segments) × Table (now layers) (now colors) count × (n ≤ length (now shown)) ⌝ }
-    ensures { λ r. ⌜ Deciding (outcomeOf clear «clear_unchanged» previous (itemsOf (tableOf (now (layers .entry)) (now (colors .entry)) count) (entriesOf n (now (ids .entry)) (now (covers .entry)) (now (segments .entry))))) (now (shown .entry)) r (now (shown .exit)) ⌝ }
+    requires { ⌜ Columns n (now ids) (now covers) (now segments) × Table (now layers) (now colors) count × (n ≤ length (now unmasked)) ⌝ }
+    ensures { λ r. ⌜ Deciding (outcomeOf clear «clear_unchanged» previous (itemsOf (tableOf (now (layers .entry)) (now (colors .entry)) count) (entriesOf n (now (ids .entry)) (now (covers .entry)) (now (segments .entry))))) (now (unmasked .entry)) r (now (unmasked .exit)) ⌝ }
 {
     if unchanged::is_kept(
         clear_unchanged,
@@ -267,7 +268,7 @@ pub fn decide(
         colors,
         count,
     ) {
-        clips::fill(shown, n, true);
+        clips::fill(unmasked, n, true);
         return Decided {
             decision: Decision::None,
             skipped: Index(0),
@@ -284,6 +285,6 @@ pub fn decide(
         layers,
         colors,
         count,
-        shown,
+        unmasked,
     )
 }

@@ -1,5 +1,6 @@
 // What the passes read of a listed layer: its entry and its record in one value. A list is lent as three columns, the first n entries of which
 // count: layer ids, incoming covers (16 bytes an entry), and whether the layer has segments in the tile.
+use crate::Index;
 use cover::Cover;
 use cover::entry;
 use styling::Func;
@@ -43,16 +44,17 @@ pub fn item_at(
     layers: &[u32],
     colors: &[f32],
     count: usize,
-    i: usize,
+    i: Index,
 ) -> Item
-    requires { ⌜ Columns n (now ids) (now covers) (now segments) × Table (now layers) (now colors) count × (i < n) ⌝ }
-    ensures { λ r. ⌜ r ≡ itemOf (tableOf (now (layers .entry)) (now (colors .entry)) count) (entryAt (now (ids .entry)) (now (covers .entry)) (now (segments .entry)) i) ⌝ }
+    requires { ⌜ Columns n (now ids) (now covers) (now segments) × Table (now layers) (now colors) count × (i .0 < n) ⌝ }
+    ensures { λ r. ⌜ r ≡ itemOf (tableOf (now (layers .entry)) (now (colors .entry)) count) (entryAt (now (ids .entry)) (now (covers .entry)) (now (segments .entry)) (i .0)) ⌝ }
 {
-    let id = ids[i];
+    let at = i.0;
+    let id = ids[at];
     match table::find(layers, count, id) {
         Found::At(p) => {
             let layer = table::layer_at(layers, colors, p);
-            item_for(layer, id, entry::read_cover(covers, i), segments[i])
+            item_for(layer, id, entry::read_cover(covers, at), segments[at])
         }
         Found::Absent => Item {
             id: id,

@@ -1,4 +1,5 @@
 // The first pass, `tile_unchanged_pass`.
+use crate::Index;
 use crate::item;
 ghost use mathlib.Core.Path.{_≡_};
 ghost use Prim.Native.Nat.{_≤_};
@@ -30,7 +31,7 @@ pub fn are_unchanged(
     let mut ok = true;
     let mut i = 0;
     while i < n {
-        let x = item::item_at(ids, covers, segments, n, layers, colors, count, i);
+        let x = item::item_at(ids, covers, segments, n, layers, colors, count, Index(i));
         ok = ok & x.unchanged;
         i += 1;
     }

@@ -16,10 +16,7 @@ use Rattle.laws.proofs.Every.{all-at}
 use Rattle.laws.proofs.Orders.{le-or-lt}
 use Rattle.laws.proofs.Parts.{equal, difference}
 use Rattle.pixel_segment.specs.Field.{cpu, tileOf, tileXOf, tileYOf}
-use Rattle.pixel_segment.specs.Order.{compareOf, compareℤ, compareBool, orderKey, ascends, isRow, Ordered, Words}
-use Rattle.pixel_segment.specs.Search.{rank, isLt, isEq, Sorted}
-use Rattle.pixel_segment.specs.declared.order.Ordering.{Ordering}
-use Rattle.pixel_segment.specs.declared.order.Ordering.the-variants.{Less, Equal, Greater}
+use Rattle.pixel_segment.specs.Order.{isLt, isEq, compareOf, compareℤ, compareBool, orderKey, ascends, isRow, Ordered, Words}
 use Rattle.pixel_segment.proofs.Ascending.{from-ordered}
 use Rattle.pixel_segment.proofs.Lexical.{compare-less, compare-equal, compare-greater}
 
@@ -46,7 +43,7 @@ le-tile (suc m) zero = ap₂ leZ (tile-suc m) tile-zero ∙ sym (lt-leb (suc m) 
 le-tile (suc m) (suc n) = ap₂ leZ (tile-suc m) (tile-suc n) ∙ sym (leb·suc-suc m n)
 
 pub compare-tile : (m n : ℕ) → compareℤ (tileOf m) (tileOf n) ≡ compareOf m n
-compare-tile m n = ap₂ (λ (a b : Bool). cond a Less (cond b Greater Equal)) (lt-tile m n) (lt-tile n m)
+compare-tile m n = ap₂ (λ (a b : Bool). cond a 0 (cond b 2 1)) (lt-tile m n) (lt-tile n m)
 
 -- ---- what a comparison tells
 
@@ -72,45 +69,44 @@ is-eq m n =
     (λ (p : n < m). ap isEq (compare-greater m n p) ∙ sym (ne-eqb m n (λ e. omega arith)))
     (le-or-lt m n)
 
--- a greater key compares no lower
-pub rank-up : (k m n : ℕ) → m ≤ n → rank (compareOf m k) ≤ rank (compareOf n k)
+-- a greater key has no lower rank
+pub rank-up : (k m n : ℕ) → m ≤ n → compareOf m k ≤ compareOf n k
 rank-up k m n h =
     ⊎-elim
     (λ (p : k ≤ n).
     ⊎-elim
-    (λ (q : n ≤ k).
-    rw (compare-equal n k (omega arith)) (at-most-one m (omega arith)))
-    (λ (q : k < n). rw (compare-greater n k q) (at-most-two (compareOf m k)))
+    (λ (q : n ≤ k). rw (compare-equal n k (omega arith)) (at-most-one (omega arith)))
+    (λ (q : k < n). rw (compare-greater n k q) (at-most-two (ltb m k) (ltb k m)))
     (le-or-lt n k))
     (λ (p : n < k). rw (compare-less n k p, compare-less m k (omega arith)) (omega arith))
     (le-or-lt k n)
   where
-    at-most-two : (o : Ordering) → rank o ≤ 2
-    at-most-two Less = omega arith
-    at-most-two Equal = omega arith
-    at-most-two Greater = omega arith
+    at-most-two : (s t : Bool) → cond s 0 (cond t 2 1) ≤ 2
+    at-most-two true t = omega arith
+    at-most-two false true = omega arith
+    at-most-two false false = omega arith
 
-    at-most-one : (m : ℕ) → m ≤ k → rank (compareOf m k) ≤ 1
-    at-most-one m q =
+    at-most-one : m ≤ k → compareOf m k ≤ 1
+    at-most-one p =
         ⊎-elim
         (λ (r : k ≤ m). rw (compare-equal m k (omega arith)) (omega arith))
         (λ (r : m < k). rw (compare-less m k r) (omega arith))
         (le-or-lt k m)
 
--- ---- a list sorted by a number is sorted for every key of it
+-- ---- a list that a number sorts is sorted by every key of it
 
-pub sorted-by : (f : ℕ → ℕ) (k : ℕ) (l : List ℕ) → Ordered f l → Sorted (λ w. compareOf (f w) k) l
+pub sorted-by : (f : ℕ → ℕ) (k : ℕ) (l : List ℕ) → Ordered f l → Ordered (λ w. compareOf (f w) k) l
 sorted-by f k l o = record { up = λ i j p q. rank-up k (f (getD l i 0)) (f (getD l j 0)) (o .up i j p q) }
 
 -- whether the number is at least k, looked for false
-pub sorted-at-least : (f : ℕ → ℕ) (k : ℕ) (l : List ℕ) → Ordered f l → Sorted (λ w. compareBool (leb k (f w)) false) l
+pub sorted-at-least : (f : ℕ → ℕ) (k : ℕ) (l : List ℕ) → Ordered f l → Ordered (λ w. compareBool (leb k (f w)) false) l
 sorted-at-least f k l o = record { up = λ i j p q. rising (f (getD l i 0)) (f (getD l j 0)) (o .up i j p q) }
   where
-    low : (b : Bool) → 1 ≤ rank (compareBool b false)
+    low : (b : Bool) → 1 ≤ compareBool b false
     low true = omega arith
     low false = omega arith
 
-    rising : (m n : ℕ) → m ≤ n → rank (compareBool (leb k m) false) ≤ rank (compareBool (leb k n) false)
+    rising : (m n : ℕ) → m ≤ n → compareBool (leb k m) false ≤ compareBool (leb k n) false
     rising m n h =
         ⊎-elim
         (λ (p : k ≤ m). rw (le-leb k m p, le-leb k n (omega arith)) (omega arith))

@@ -8,16 +8,14 @@ use borrow.Author.Tests.{lt-ltb, le-ltb}
 use Rattle.laws.proofs.Orders.{le-or-lt}
 use Rattle.pixel_segment.specs.Field.{cpu, tileXOf, tileYOf, layerIdOf}
 use Rattle.pixel_segment.specs.Order.{orderKey, compareOf, andThen}
-use Rattle.pixel_segment.specs.declared.order.Ordering.{Ordering}
-use Rattle.pixel_segment.specs.declared.order.Ordering.the-variants.{Less, Equal, Greater}
 
-pub compare-less : (a b : ℕ) → a < b → compareOf a b ≡ Less
+pub compare-less : (a b : ℕ) → a < b → compareOf a b ≡ 0
 compare-less a b h = rw (lt-ltb a b h)
 
-pub compare-equal : (a b : ℕ) → a ≡ b → compareOf a b ≡ Equal
+pub compare-equal : (a b : ℕ) → a ≡ b → compareOf a b ≡ 1
 compare-equal a b h = rw (le-ltb a b (omega arith), le-ltb b a (omega arith))
 
-pub compare-greater : (a b : ℕ) → b < a → compareOf a b ≡ Greater
+pub compare-greater : (a b : ℕ) → b < a → compareOf a b ≡ 2
 compare-greater a b h = rw (le-ltb a b (omega arith), lt-ltb b a h)
 
 above : (m a c b : ℕ) → a < c → b < m → a * m + b < c * m
@@ -32,14 +30,14 @@ digits m a b c d hb hd =
     (λ (q : c ≤ a).
     let e : a ≡ c = omega arith in
     let f : a * m ≡ c * m = ap (λ (n : ℕ). n * m) e in
-    same f ∙ sym (ap (λ (o : Ordering). andThen o (compareOf b d)) (compare-equal a c e)))
+    same f ∙ sym (ap (λ (r : ℕ). andThen r (compareOf b d)) (compare-equal a c e)))
     (λ (q : a < c).
     compare-less (a * m + b) (c * m + d) (omega (arith, above m a c b q hb))
-    ∙ sym (ap (λ (o : Ordering). andThen o (compareOf b d)) (compare-less a c q)))
+    ∙ sym (ap (λ (r : ℕ). andThen r (compareOf b d)) (compare-less a c q)))
     (le-or-lt c a))
     (λ (p : c < a).
     compare-greater (a * m + b) (c * m + d) (omega (arith, above m c a d p hd))
-    ∙ sym (ap (λ (o : Ordering). andThen o (compareOf b d)) (compare-greater a c p)))
+    ∙ sym (ap (λ (r : ℕ). andThen r (compareOf b d)) (compare-greater a c p)))
     (le-or-lt a c)
   where
     same : a * m ≡ c * m → compareOf (a * m + b) (c * m + d) ≡ compareOf b d

@@ -1,6 +1,6 @@
 -- The parts that searches find in a row in order are what they are called: the segments that pass the test, in their order. Assumes nothing.
 use mathlib.Core.Path.{_≡_, refl, ap, ap₂, sym, subst₂, _∙_, fun-ext}
-use mathlib.Core.Bool.{Bool, true, false, cond, not, false≢true}
+use mathlib.Core.Bool.{Bool, true, false, cond, not}
 use mathlib.Core.Logic.{⊎-elim}
 use mathlib.Core.List.{List, [], _∷_, _++_}
 use Prim.Native.Nat.{ℕ, zero, suc, _+_, _-_, _≤_, _<_}
@@ -16,10 +16,8 @@ use Rattle.laws.proofs.Every.{all-intro}
 use Rattle.laws.proofs.Orders.{le-or-lt}
 use Rattle.laws.proofs.Filtered.{filter-all, filter-none, filter-append, filter-middle, filter-ext}
 use Rattle.pixel_segment.specs.Field.{cpu, tileOf, tileXOf, layerIdOf}
-use Rattle.pixel_segment.specs.Order.{compareOf, compareBool, isRow, Ordered, Words}
-use Rattle.pixel_segment.specs.Search.{searchOf, orderAt, Sorted, isLt, isEq, lastOf, afterOf, between, leftPart, tilePart, layerPart}
-use Rattle.pixel_segment.specs.declared.order.Ordering.{Ordering}
-use Rattle.pixel_segment.specs.declared.order.Ordering.the-variants.{Equal, Greater}
+use Rattle.pixel_segment.specs.Order.{isLt, isEq, compareOf, compareBool, isRow, Ordered, Words}
+use Rattle.pixel_segment.specs.Search.{searchOf, orderAt, lastOf, afterOf, between, leftPart, tilePart, layerPart}
 use Rattle.pixel_segment.specs.declared.search.Key.the-variants.{TileXAtLeast}
 use Rattle.pixel_segment.proofs.Sorted.{Split, splits, sorted-search}
 use Rattle.pixel_segment.proofs.Keys.{compare-tile, le-tile, is-eq, is-lt, sorted-by, sorted-at-least, tile-x-ordered}
@@ -29,7 +27,7 @@ after-last : (a b : ℕ) → afterOf (lastOf a b) ≡ a + b
 after-last a zero = omega arith
 after-last a (suc b) = omega arith
 
-module _ (at : ℕ → Ordering) (l : List ℕ) (s : Sorted at l) where
+module _ (at : ℕ → ℕ) (l : List ℕ) (s : Ordered at l) where
   split : Split at l (countBy (λ w. isLt (at w)) l) (countBy (λ w. isEq (at w)) l)
   split = splits at l s
 
@@ -48,7 +46,7 @@ module _ (at : ℕ → Ordering) (l : List ℕ) (s : Sorted at l) where
       (all-intro (λ w. not (p w)) (take a l) 0
       (λ i h.
       let q : i < a = omega (arith, length-take a l) in
-      ap (λ (w : ℕ). not (p w)) (getD-take a l i 0 q) ∙ ap (λ (o : Ordering). not (isEq o)) (split .low i q)))
+      ap (λ (w : ℕ). not (p w)) (getD-take a l i 0 q) ∙ ap (λ (r : ℕ). not (isEq r)) (split .low i q)))
       (all-intro p (take b (drop a l)) 0
       (λ i h.
       let q : i < b = omega (arith, length-take b (drop a l)) in
@@ -57,7 +55,12 @@ module _ (at : ℕ → Ordering) (l : List ℕ) (s : Sorted at l) where
       (λ i h.
       let q : a + (b + i) < length l = omega (arith, length-drop b (drop a l), length-drop a l) in
       ap (λ (w : ℕ). not (p w)) (getD-drop b (drop a l) i 0 ∙ getD-drop a l (b + i) 0)
-      ∙ ap (λ (o : Ordering). not (isEq o)) (split .high (a + (b + i)) (omega arith) q)))
+      ∙ not-equal (at (getD l (a + (b + i)) 0)) (split .high (a + (b + i)) (omega arith) q)))
+    where
+      not-equal : (r : ℕ) → 1 < r → not (isEq r) ≡ true
+      not-equal zero g = absurd (omega arith)
+      not-equal (suc zero) g = absurd (omega arith)
+      not-equal (suc (suc r)) g = refl
 
 -- ---- by a number
 
@@ -113,7 +116,7 @@ module _ (f : ℕ → ℕ) (k : ℕ) (l : List ℕ) (o : Ordered f l) where
   -- those below it stand first
   pub below-part : between 0 (afterOf (searchOf (λ w. compareBool (leb k (f w)) false) l)) l ≡ filter (λ w. ltb (f w) k) l
   below-part =
-      let at : ℕ → Ordering = λ w. compareBool (leb k (f w)) false in
+      let at : ℕ → ℕ = λ w. compareBool (leb k (f w)) false in
       let s = sorted-at-least f k l o in
       let none : countBy (λ w. isLt (at w)) l ≡ 0 = none-counted (λ w. isLt (at w)) l (λ w. never-less (leb k (f w))) in
       let e : afterOf (searchOf at l) - 0 ≡ countBy (λ w. isEq (at w)) l = omega (arith, after-search at l s, none) in
@@ -126,7 +129,7 @@ module _ (f : ℕ → ℕ) (k : ℕ) (l : List ℕ) (o : Ordered f l) where
   pub from-part : drop (countBy (λ w. ltb (f w) k) l) l ≡ filter (λ w. leb k (f w)) l
   from-part =
       let n = countBy (λ w. ltb (f w) k) l in
-      let at : ℕ → Ordering = λ w. compareBool (leb k (f w)) false in
+      let at : ℕ → ℕ = λ w. compareBool (leb k (f w)) false in
       let p : ℕ → Bool = λ w. leb k (f w) in
       let cut : Split at l 0 n =
       subst₂ (Split at l)
@@ -148,13 +151,13 @@ module _ (f : ℕ → ℕ) (k : ℕ) (l : List ℕ) (o : Ordered f l) where
       let q : n + i < length l = omega (arith, length-drop n l) in
       ap p (getD-drop n l i 0) ∙ from (p (getD l (n + i) 0)) (cut .high (n + i) (omega arith) q)))))
     where
-      not-from : (b : Bool) → compareBool b false ≡ Equal → not b ≡ true
-      not-from true e = absurd (false≢true (ap isEq e))
+      not-from : (b : Bool) → compareBool b false ≡ 1 → not b ≡ true
+      not-from true e = absurd (omega arith)
       not-from false e = refl
 
-      from : (b : Bool) → compareBool b false ≡ Greater → b ≡ true
+      from : (b : Bool) → 1 < compareBool b false → b ≡ true
       from true e = refl
-      from false e = absurd (false≢true (sym (ap isEq e)))
+      from false e = absurd (omega arith)
 
 -- ---- the parts of a row in order, and of a tile's part
 
@@ -166,14 +169,14 @@ module _ (ty t : ℕ) (row : List ℕ) (s : Words row) (h : isRow cpu ty row ≡
   pub tile-part : tilePart (tileOf t) row ≡ filter (λ w. eqb (tileXOf cpu w) t) row
   unfolding tilePart
   tile-part =
-      ap₂ (λ (a b : ℕ → Ordering). between (afterOf (searchOf a row)) (afterOf (searchOf b row)) row) at-least (fun-ext (λ w. compare-tile (tileXOf cpu w) t))
+      ap₂ (λ (a b : ℕ → ℕ). between (afterOf (searchOf a row)) (afterOf (searchOf b row)) row) at-least (fun-ext (λ w. compare-tile (tileXOf cpu w) t))
       ∙ equal-part (tileXOf cpu) t row (tile-x-ordered ty row s h)
 
   -- the segments left of a tile are those whose tile x is less
   pub left-part : leftPart (tileOf t) row ≡ filter (λ w. ltb (tileXOf cpu w) t) row
   unfolding leftPart
   left-part =
-      ap (λ (a : ℕ → Ordering). between 0 (afterOf (searchOf a row)) row) at-least
+      ap (λ (a : ℕ → ℕ). between 0 (afterOf (searchOf a row)) row) at-least
       ∙ below-part (tileXOf cpu) t row (tile-x-ordered ty row s h)
 
 -- the segments of a layer in a part that ascends by layer

@@ -1,4 +1,5 @@
-// The packed pixel segment (cpu/pixel_segment.rs): seven fields in a word of 64 bits, their order, and the searches in a row of such words.
+// The packed pixel segment (cpu/pixel_segment.rs): seven fields in a word of 64 bits, their order, and the searches in
+// a row of such words.
 pub mod consts;
 pub mod order;
 pub mod parts;
@@ -7,10 +8,12 @@ pub mod search;
 use consts::BitField;
 use order::Ordering;
 ghost use mathlib.Core.Path.{_≡_};
+ghost use Prim.Native.Nat.{_^_};
 ghost use Rattle.laws.specs.Integer.{modℤ};
-ghost use Rattle.pixel_segment.specs.Field.{cpu, layerIdOf, tileXOf, tileYOf, tileOf, localXOf, localYOf, multiplierOf, doubleAreaOf, coverOf};
+ghost use Rattle.pixel_segment.specs.Field.{cpu, widthOf, layerIdOf, tileXOf, tileYOf, tileOf};
+ghost use Rattle.pixel_segment.specs.Field.{localXOf, localYOf, multiplierOf, doubleAreaOf, coverOf};
 ghost use Rattle.pixel_segment.specs.Pack.{storedOf, packOf, answerOf};
-ghost use Rattle.pixel_segment.specs.Order.{orderKey, compareOf};
+ghost use Rattle.pixel_segment.specs.Order.{rank, orderKey, compareOf};
 
 // A packed word. Any 64 bits are a segment.
 pub struct PixelSegment(pub u64);
@@ -28,11 +31,12 @@ fn stored(tile: i16) -> u64
     if tile < 0 { 0 } else { tile as u64 + 1 }
 }
 
-// The low six bits of a cover.
+// The low bits of a cover, as many as its field has. 256 is a multiple of the field's size, and with it no cover is
+// negative.
 fn cover_bits(cover: i8) -> u64
-    ensures { λ r. ⌜ r ≡ modℤ 64 cover ⌝ }
+    ensures { λ r. ⌜ r ≡ modℤ (2 ^ widthOf cpu 6) cover ⌝ }
 {
-    ((cover as i16 + 128) as u64) % 64
+    ((cover as i16 + 256) as u64) % consts::size(BitField::Cover)
 }
 
 impl PixelSegment {
@@ -45,7 +49,8 @@ impl PixelSegment {
         double_area_multiplier: u8,
         cover: i8,
     ) -> Packed
-        ensures { λ r. ⌜ answerOf r ≡ packOf «layer_id» «tile_x» «tile_y» «local_x» «local_y» «double_area_multiplier» cover ⌝ }
+        ensures { λ r. ⌜ answerOf r
+            ≡ packOf «layer_id» «tile_x» «tile_y» «local_x» «local_y» «double_area_multiplier» cover ⌝ }
     {
         if 32767 <= tile_x {
             return Packed::TileOutOfRange;
@@ -113,12 +118,14 @@ impl PixelSegment {
     pub fn cover(self) -> i8
         ensures { λ r. ⌜ r ≡ coverOf cpu (self .0) ⌝ }
     {
-        ((consts::extract(self.0, BitField::Cover) + 32) % 64) as i8 - 32
+        let n = consts::size(BitField::Cover);
+        let half = n / 2;
+        ((consts::extract(self.0, BitField::Cover) + half) % n) as i8 - half as i8
     }
 
     // Order compares only tile y, tile x and layer id: the upper 44 bits.
     pub fn cmp(self, other: PixelSegment) -> Ordering
-        ensures { λ r. ⌜ r ≡ compareOf (orderKey cpu (self .0)) (orderKey cpu (other .0)) ⌝ }
+        ensures { λ r. ⌜ rank r ≡ compareOf (orderKey cpu (self .0)) (orderKey cpu (other .0)) ⌝ }
     {
         let offset = consts::shift(BitField::LayerId);
         order::compare(self.0 >> offset, other.0 >> offset)

@@ -3,8 +3,9 @@ use crate::consts;
 use crate::consts::BitField;
 ghost use mathlib.Core.Path.{_≡_};
 ghost use Prim.Native.Nat.{_+_};
-ghost use Rattle.pixel_segment.specs.Order.{isGt, compareOf, compareℤ, compareBool, isRow, ascends, orderKey};
 ghost use Rattle.pixel_segment.specs.Field.{cpu};
+ghost use Rattle.pixel_segment.specs.Order.{rank, isGt, compareOf, compareℤ, compareBool};
+ghost use Rattle.pixel_segment.specs.Order.{orderKey, ascends, isRow};
 
 pub enum Ordering {
     Less,
@@ -14,7 +15,7 @@ pub enum Ordering {
 
 impl Ordering {
     pub fn is_gt(self) -> bool
-        ensures { λ r. ⌜ r ≡ isGt self ⌝ }
+        ensures { λ r. ⌜ r ≡ isGt (rank self) ⌝ }
     {
         match self {
             Ordering::Greater => true,
@@ -26,7 +27,7 @@ impl Ordering {
 
 // How an unsigned number compares with another.
 pub fn compare(a: u64, b: u64) -> Ordering
-    ensures { λ r. ⌜ r ≡ compareOf a b ⌝ }
+    ensures { λ r. ⌜ rank r ≡ compareOf a b ⌝ }
 {
     if a < b {
         return Ordering::Less;
@@ -40,7 +41,7 @@ pub fn compare(a: u64, b: u64) -> Ordering
 
 // How a signed number compares with another.
 pub fn compare_i16(a: i16, b: i16) -> Ordering
-    ensures { λ r. ⌜ r ≡ compareℤ a b ⌝ }
+    ensures { λ r. ⌜ rank r ≡ compareℤ a b ⌝ }
 {
     if a < b {
         return Ordering::Less;
@@ -54,7 +55,7 @@ pub fn compare_i16(a: i16, b: i16) -> Ordering
 
 // How a test compares with another: false before true.
 pub fn compare_bool(a: bool, b: bool) -> Ordering
-    ensures { λ r. ⌜ r ≡ compareBool a b ⌝ }
+    ensures { λ r. ⌜ rank r ≡ compareBool a b ⌝ }
 {
     if a {
         if b {
@@ -67,7 +68,8 @@ pub fn compare_bool(a: bool, b: bool) -> Ordering
     }
 }
 
-// Whether the words don't descend in the fields down to the layer id. No early exit: a row is in order more often than not.
+// Whether the words don't descend in the fields down to the layer id. No early exit: a row is in order more often than
+// not.
 pub fn does_ascend(row: &[u64]) -> bool
     ensures { λ r. ⌜ r ≡ ascends (orderKey cpu) (now (row .entry)) ⌝ }
 {
@@ -84,8 +86,8 @@ pub fn does_ascend(row: &[u64]) -> bool
     ok
 }
 
-// Whether a row is in order and in one tile row, given by its stored number. In an ascending row the first and the last word tell the
-// tile y of all.
+// Whether a row is in order and in one tile row, given by its stored number. In an ascending row the first and the last
+// word tell the tile y of all.
 pub fn is_row(row: &[u64], stored_tile_y: u64) -> bool
     ensures { λ r. ⌜ r ≡ isRow cpu «stored_tile_y» (now (row .entry)) ⌝ }
 {

@@ -1,23 +1,24 @@
 // The parts of a row that belong to a tile or a layer, found by search and handed on as slices of the row.
 use crate::search;
 use crate::search::Found;
-use crate::search::Key;
 ghost use mathlib.Core.Path.{_≡_};
-ghost use Prim.Native.Nat.{_≤_};
+ghost use Prim.Native.Nat.{_^_, _≤_, _<_};
 ghost use lib.ListN.{length};
-ghost use Rattle.pixel_segment.specs.Search.{Ending, between, leftPart, tilePart, layerPart};
+ghost use Rattle.pixel_segment.specs.Search.{placeIn, afterOf, between, leftPart, tilePart, layerPart};
 
-// The place after the last segment with the key, or where such a segment would stand.
-pub fn search_end(segments: &[u64], key: Key) -> usize
-    ensures { λ r. ⌜ Ending key (now (segments .entry)) r ⌝ }
+// The place after the one that a search found, or where one would stand.
+pub fn end_of(found: Found) -> usize
+    requires { ⌜ afterOf (placeIn found) < 2 ^ 64 ⌝ }
+    ensures { λ r. ⌜ r ≡ afterOf (placeIn found) ⌝ }
 {
-    match search::search_last_by_key(segments, key) {
+    match found {
         Found::At(i) => i + 1,
         Found::Absent(i) => i,
     }
 }
 
-// The segments from one place up to another; nothing where the second is before the first, as it may be in a row that is in no order.
+// The segments from one place up to another; nothing where the second is before the first, as it may be in a row that
+// is in no order.
 fn slice_between(segments: &[u64], start: usize, end: usize) -> &[u64]
     requires { ⌜ end ≤ length (now segments) ⌝ }
     ensures { λ r. ⌜ now r ≡ between start end (now (segments .entry)) ⌝ }
@@ -33,7 +34,7 @@ fn slice_between(segments: &[u64], start: usize, end: usize) -> &[u64]
 pub fn left_of_tile(row: &[u64], tile_x: i16) -> &[u64]
     ensures { λ r. ⌜ now r ≡ leftPart «tile_x» (now (row .entry)) ⌝ }
 {
-    let end = search_end(row, Key::TileXAtLeast(tile_x, false));
+    let end = end_of(search::search_last_by_tile_x_at_least(row, tile_x, false));
     slice_between(row, 0, end)
 }
 
@@ -41,8 +42,8 @@ pub fn left_of_tile(row: &[u64], tile_x: i16) -> &[u64]
 pub fn in_tile(row: &[u64], tile_x: i16) -> &[u64]
     ensures { λ r. ⌜ now r ≡ tilePart «tile_x» (now (row .entry)) ⌝ }
 {
-    let start = search_end(row, Key::TileXAtLeast(tile_x, false));
-    let end = search_end(row, Key::TileX(tile_x));
+    let start = end_of(search::search_last_by_tile_x_at_least(row, tile_x, false));
+    let end = end_of(search::search_last_by_tile_x(row, tile_x));
     slice_between(row, start, end)
 }
 
@@ -50,7 +51,7 @@ pub fn in_tile(row: &[u64], tile_x: i16) -> &[u64]
 pub fn of_layer(part: &[u64], layer_id: u32) -> &[u64]
     ensures { λ r. ⌜ now r ≡ layerPart «layer_id» (now (part .entry)) ⌝ }
 {
-    let start = search_end(part, Key::LayerIdAtLeast(layer_id, false));
-    let end = search_end(part, Key::LayerId(layer_id));
+    let start = end_of(search::search_last_by_layer_id_at_least(part, layer_id, false));
+    let end = end_of(search::search_last_by_layer_id(part, layer_id));
     slice_between(part, start, end)
 }

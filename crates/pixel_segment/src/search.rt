@@ -1,11 +1,13 @@
-// `search_last_by_key` (cpu/pixel_segment.rs): the last segment with a key, by halving. A key of the painter, with the value that is
-// looked for, is a value of `Key`, since there are no closures; each key that the Rust looks for has a function of its own besides.
+// `search_last_by_key` (cpu/pixel_segment.rs): the last segment with a key, by halving. A key of the painter, with the
+// value that is looked for, is a value of `Key`, since there are no closures; each key in use has a function of its own
+// besides.
 use crate::PixelSegment;
 use crate::order;
 use crate::order::Ordering;
 ghost use mathlib.Core.Path.{_≡_};
 ghost use Prim.Native.Nat.{_<_, _^_};
-ghost use Rattle.pixel_segment.specs.Search.{searchOf, ended, orderAt};
+ghost use Rattle.pixel_segment.specs.Order.{rank};
+ghost use Rattle.pixel_segment.specs.Search.{placeIn, searchOf, ended, orderAt};
 
 pub enum Key {
     TileY(i16),
@@ -27,7 +29,7 @@ pub enum Found {
 
 // How a word's key compares with the one that is looked for.
 pub fn compare_key(word: u64, key: Key) -> Ordering
-    ensures { λ r. ⌜ r ≡ orderAt key word ⌝ }
+    ensures { λ r. ⌜ rank r ≡ orderAt key word ⌝ }
 {
     let segment = PixelSegment(word);
     match key {
@@ -46,7 +48,7 @@ pub fn compare_key(word: u64, key: Key) -> Ordering
 // The answer at the element where the halving ends.
 fn answer(order: Ordering, start: usize) -> Found
     requires { ⌜ start < 2 ^ 63 ⌝ }
-    ensures { λ r. ⌜ r ≡ ended order start ⌝ }
+    ensures { λ r. ⌜ placeIn r ≡ ended (rank order) start ⌝ }
 {
     match order {
         Ordering::Less => Found::Absent(start + 1),
@@ -56,7 +58,7 @@ fn answer(order: Ordering, start: usize) -> Found
 }
 
 pub fn search_last_by_key(segments: &[u64], key: Key) -> Found
-    ensures { λ r. ⌜ r ≡ searchOf (orderAt key) (now (segments .entry)) ⌝ }
+    ensures { λ r. ⌜ placeIn r ≡ searchOf (orderAt key) (now (segments .entry)) ⌝ }
 {
     let mut len = segments.len();
     if len == 0 {
@@ -77,33 +79,40 @@ pub fn search_last_by_key(segments: &[u64], key: Key) -> Found
 }
 
 pub fn search_last_by_tile_y(segments: &[u64], tile_y: i16) -> Found
-    ensures { λ r. ⌜ r ≡ searchOf (orderAt (Key.TileY «tile_y»)) (now (segments .entry)) ⌝ }
+    ensures { λ r. ⌜ placeIn r ≡ searchOf (orderAt (Key.TileY «tile_y»)) (now (segments .entry)) ⌝ }
 {
     search_last_by_key(segments, Key::TileY(tile_y))
 }
 
 pub fn search_last_by_tile_x(segments: &[u64], tile_x: i16) -> Found
-    ensures { λ r. ⌜ r ≡ searchOf (orderAt (Key.TileX «tile_x»)) (now (segments .entry)) ⌝ }
+    ensures { λ r. ⌜ placeIn r ≡ searchOf (orderAt (Key.TileX «tile_x»)) (now (segments .entry)) ⌝ }
 {
     search_last_by_key(segments, Key::TileX(tile_x))
 }
 
 pub fn search_last_by_layer_id(segments: &[u64], layer_id: u32) -> Found
-    ensures { λ r. ⌜ r ≡ searchOf (orderAt (Key.LayerId «layer_id»)) (now (segments .entry)) ⌝ }
+    ensures { λ r. ⌜ placeIn r ≡ searchOf (orderAt (Key.LayerId «layer_id»)) (now (segments .entry)) ⌝ }
 {
     search_last_by_key(segments, Key::LayerId(layer_id))
 }
 
 // The last segment whose tile x is, or is not, at least a start.
 pub fn search_last_by_tile_x_at_least(segments: &[u64], start: i16, wanted: bool) -> Found
-    ensures { λ r. ⌜ r ≡ searchOf (orderAt (Key.TileXAtLeast start wanted)) (now (segments .entry)) ⌝ }
+    ensures { λ r. ⌜ placeIn r ≡ searchOf (orderAt (Key.TileXAtLeast start wanted)) (now (segments .entry)) ⌝ }
 {
     search_last_by_key(segments, Key::TileXAtLeast(start, wanted))
 }
 
+// The last segment whose layer id is, or is not, at least a start.
+pub fn search_last_by_layer_id_at_least(segments: &[u64], start: u32, wanted: bool) -> Found
+    ensures { λ r. ⌜ placeIn r ≡ searchOf (orderAt (Key.LayerIdAtLeast start wanted)) (now (segments .entry)) ⌝ }
+{
+    search_last_by_key(segments, Key::LayerIdAtLeast(start, wanted))
+}
+
 // The last segment whose tile y is, or is not, at least 0.
 pub fn search_last_by_tile_y_not_negative(segments: &[u64], wanted: bool) -> Found
-    ensures { λ r. ⌜ r ≡ searchOf (orderAt (Key.TileYNotNegative wanted)) (now (segments .entry)) ⌝ }
+    ensures { λ r. ⌜ placeIn r ≡ searchOf (orderAt (Key.TileYNotNegative wanted)) (now (segments .entry)) ⌝ }
 {
     search_last_by_key(segments, Key::TileYNotNegative(wanted))
 }

@@ -11,16 +11,14 @@ use Rattle.laws.specs.Integer.{plus, minus}
 use Rattle.laws.proofs.Bools.{same}
 use Rattle.laws.proofs.Parts.{equal, difference, taken, lt-true, lt-false}
 use Rattle.pixel_segment.specs.Field.{tileOf}
-use Rattle.pixel_segment.specs.Order.{compareℤ, isGt}
-use Rattle.pixel_segment.specs.Search.{rank, isLt, isEq}
-use Rattle.pixel_segment.specs.declared.order.Ordering.the-variants.{Less, Equal, Greater}
+use Rattle.pixel_segment.specs.Order.{compareℤ, isLt, isEq, isGt}
 use Rattle.plate.specs.Rows.{castOf}
 
 -- numbers that compare equal are equal, and the other way
 pub compared : (a b : ℤ) → isEq (compareℤ a b) ≡ true → a ≡ b
 compared a b e = by (ltZ a b) (ltZ b a) refl refl e
   where
-    by : (s t : Bool) → ltZ a b ≡ s → ltZ b a ≡ t → isEq (cond s Less (cond t Greater Equal)) ≡ true → a ≡ b
+    by : (s t : Bool) → ltZ a b ≡ s → ltZ b a ≡ t → isEq (cond s 0 (cond t 2 1)) ≡ true → a ≡ b
     by true t p q r = absurd (false≢true r)
     by false true p q r = absurd (false≢true r)
     by false false p q r = equal a b (omega (arith, lt-false a b p, lt-false b a q))
@@ -28,7 +26,7 @@ compared a b e = by (ltZ a b) (ltZ b a) refl refl e
 pub compares : (a b : ℤ) → a ≡ b → isEq (compareℤ a b) ≡ true
 compares a b e = by (ltZ a b) (ltZ b a) refl refl
   where
-    by : (s t : Bool) → ltZ a b ≡ s → ltZ b a ≡ t → isEq (cond s Less (cond t Greater Equal)) ≡ true
+    by : (s t : Bool) → ltZ a b ≡ s → ltZ b a ≡ t → isEq (cond s 0 (cond t 2 1)) ≡ true
     by true t p q = absurd (omega (arith, lt-true a b p, ap plus e, ap minus e))
     by false true p q = absurd (omega (arith, lt-true b a q, ap plus e, ap minus e))
     by false false p q = refl
@@ -37,7 +35,7 @@ compares a b e = by (ltZ a b) (ltZ b a) refl refl
 pub neighbours : (z t : ℤ) → isLt (compareℤ z t) ≡ not (isGt (compareℤ z (t -ℤ pos 1)))
 neighbours z t = by (ltZ z t) (ltZ t z) (ltZ z (t -ℤ pos 1)) (ltZ (t -ℤ pos 1) z) refl refl refl
   where
-    by : (a b c d : Bool) → ltZ z t ≡ a → ltZ z (t -ℤ pos 1) ≡ c → ltZ (t -ℤ pos 1) z ≡ d → isLt (cond a Less (cond b Greater Equal)) ≡ not (isGt (cond c Less (cond d Greater Equal)))
+    by : (a b c d : Bool) → ltZ z t ≡ a → ltZ z (t -ℤ pos 1) ≡ c → ltZ (t -ℤ pos 1) z ≡ d → isLt (cond a 0 (cond b 2 1)) ≡ not (isGt (cond c 0 (cond d 2 1)))
     by true b true d p q r = refl
     by true b false true p q r = absurd (omega (arith, lt-true z t p, lt-true (t -ℤ pos 1) z r, taken t (pos 1)))
     by true b false false p q r = refl
@@ -46,11 +44,11 @@ neighbours z t = by (ltZ z t) (ltZ t z) (ltZ z (t -ℤ pos 1)) (ltZ (t -ℤ pos 
     by false false false true p q r = refl
     by false b false false p q r = absurd (omega (arith, lt-false z t p, lt-false (t -ℤ pos 1) z r, taken t (pos 1)))
 
--- a greater number compares no lower
-pub rank-up : (t y z : ℤ) → plus y + minus z ≤ plus z + minus y → rank (compareℤ y t) ≤ rank (compareℤ z t)
+-- a greater number has no lower rank
+pub rank-up : (t y z : ℤ) → plus y + minus z ≤ plus z + minus y → compareℤ y t ≤ compareℤ z t
 rank-up t y z h = by (ltZ y t) (ltZ t y) (ltZ z t) (ltZ t z) refl refl refl refl
   where
-    by : (a b c d : Bool) → ltZ y t ≡ a → ltZ t y ≡ b → ltZ z t ≡ c → ltZ t z ≡ d → rank (cond a Less (cond b Greater Equal)) ≤ rank (cond c Less (cond d Greater Equal))
+    by : (a b c d : Bool) → ltZ y t ≡ a → ltZ t y ≡ b → ltZ z t ≡ c → ltZ t z ≡ d → cond a 0 (cond b 2 1) ≤ cond c 0 (cond d 2 1)
     by true b c d p q r s = omega arith
     by false b true d p q r s = absurd (omega (arith, lt-false y t p, lt-true z t r))
     by false true false true p q r s = omega arith

@@ -15,11 +15,8 @@ use Rattle.laws.specs.Sum.{countBy}
 use Rattle.laws.proofs.Orders.{le-or-lt}
 use Rattle.laws.proofs.Filtered.{filter-ext}
 use Rattle.pixel_segment.specs.Field.{cpu, tileOf, tileYOf}
-use Rattle.pixel_segment.specs.Order.{isGt, compareBool, Ordered}
-use Rattle.pixel_segment.specs.Search.{searchOf, orderAt, afterOf, between, isLt, isEq, Sorted, lastOf}
-use Rattle.pixel_segment.specs.declared.order.Ordering.{Ordering}
-use Rattle.pixel_segment.specs.declared.order.Ordering.the-variants.{Less, Equal}
-use Rattle.pixel_segment.specs.declared.search.Found.{Found}
+use Rattle.pixel_segment.specs.Order.{isLt, isEq, isGt, compareBool, Ordered}
+use Rattle.pixel_segment.specs.Search.{Place, searchOf, orderAt, afterOf, between, lastOf}
 use Rattle.pixel_segment.specs.declared.search.Key.the-variants.{TileY, TileYNotNegative}
 use Rattle.pixel_segment.proofs.Sorted.{Split, splits, sorted-search, above-from, below-to}
 use Rattle.pixel_segment.proofs.Keys.{tile-suc, le-tile}
@@ -29,8 +26,8 @@ use Rattle.plate.proofs.Neighbours.{neighbours, rank-up, tile-order, is
 
 -- ---- two keys, of which `before` is the one before `at`: an element is below the one exactly where it is not above the other
 
-module _ (at before : ℕ → Ordering) (l : List ℕ) (t : Sorted before l) (h : (w : ℕ) → isLt (at w) ≡ not (isGt (before w))) where
-  sorted-take : (n : ℕ) → Sorted before (take n l)
+module _ (at before : ℕ → ℕ) (l : List ℕ) (t : Ordered before l) (h : (w : ℕ) → isLt (at w) ≡ not (isGt (before w))) where
+  sorted-take : (n : ℕ) → Ordered before (take n l)
   sorted-take n =
       record {
         up =
@@ -39,14 +36,14 @@ module _ (at before : ℕ → Ordering) (l : List ℕ) (t : Sorted before l) (h 
             rw (getD-take n l i 0 (omega arith), getD-take n l j 0 g) (t .up i j p (omega (arith, length-take n l)));
       }
 
-  told-not : (w : ℕ) → at w ≡ Equal → isGt (before w) ≡ true
+  told-not : (w : ℕ) → at w ≡ 1 → isGt (before w) ≡ true
   told-not w e = flip (isGt (before w)) (sym (ap isLt e) ∙ h w)
     where
       flip : (b : Bool) → false ≡ not b → b ≡ true
       flip true r = refl
       flip false r = absurd (false≢true r)
 
-  told : (w : ℕ) → at w ≡ Less → isGt (before w) ≡ false
+  told : (w : ℕ) → at w ≡ 0 → isGt (before w) ≡ false
   told w e = flip (isGt (before w)) (sym (ap isLt e) ∙ h w)
     where
       flip : (b : Bool) → true ≡ not b → b ≡ false
@@ -83,7 +80,7 @@ module _ (at before : ℕ → Ordering) (l : List ℕ) (t : Sorted before l) (h 
 -- ---- the rows of segments that tile y sorts
 
 module _ (l : List ℕ) (o : Ordered (tileYOf cpu) l) where
-  sorted-rows : (t : ℤ) → Sorted (orderAt (TileY t)) l
+  sorted-rows : (t : ℤ) → Ordered (orderAt (TileY t)) l
   sorted-rows t =
       record {
         up =
@@ -96,13 +93,13 @@ module _ (l : List ℕ) (o : Ordered (tileYOf cpu) l) where
   tile-row : (t : ℤ) → between ((placeOf t l) .start) ((placeOf t l) .end) l ≡ filter (λ w. isEq (orderAt (TileY t) w)) l
   unfolding placeOf placeBy
   tile-row t =
-      ap (λ (f : Found). between ((placeBy t l f) .start) ((placeBy t l f) .end) l) (sorted-search at l s)
+      ap (λ (p : Place). between ((placeBy t l p) .start) ((placeBy t l p) .end) l) (sorted-search at l s)
       ∙ by (countBy (λ w. isEq (at w)) l) refl
     where
-      at : ℕ → Ordering
+      at : ℕ → ℕ
       at = orderAt (TileY t)
 
-      s : Sorted at l
+      s : Ordered at l
       s = sorted-rows t
 
       a : ℕ
@@ -133,8 +130,8 @@ module _ (l : List ℕ) (o : Ordered (tileYOf cpu) l) where
       let f : ℕ → ℕ = λ w. tileYOf cpu w in
       let key : orderAt (TileYNotNegative false) ≡ (λ w. compareBool (leb 1 (f w)) false) =
       fun-ext (λ w. ap (λ (b : Bool). compareBool b false) (ap (λ (z : ℤ). leZ z (tileOf (f w))) (sym (tile-suc 0)) ∙ le-tile 1 (f w))) in
-      ap (λ (at : ℕ → Ordering). drop (pastOf (searchOf at l)) l) key
-      ∙ ap (λ (found : Found). drop (pastOf found) l) (search-below f 1 l o)
+      ap (λ (at : ℕ → ℕ). drop (pastOf (searchOf at l)) l) key
+      ∙ ap (λ (p : Place). drop (pastOf p) l) (search-below f 1 l o)
       ∙ ap (λ (n : ℕ). drop n l) (past-last (countBy (λ w. ltb (f w) 1) l))
       ∙ from-part f 1 l o
     where

@@ -1,29 +1,33 @@
 -- The rows of a plate one after another, and what holds of every plate. Assumes nothing.
 use mathlib.Core.Path.{_≡_, refl, ap, ap₂, sym, _∙_}
-use mathlib.Core.Bool.{Bool, true, not}
+use mathlib.Core.Bool.{Bool, true, false, cond, not, _&&_, and-true}
 use mathlib.Core.Logic.{⊎-elim}
 use mathlib.Core.List.{List, [], _∷_, _++_}
-use Prim.Native.Nat.{ℕ, zero, suc, _+_, _%_, _≤_, _<_}
+use Prim.Native.Nat.{ℕ, zero, suc, _+_, _-_, _%_, _≤_, _<_}
 use native.Mathlib.Omega.{arith}
 use borrow.Author.Tests.{le-leb, lt-leb, leb-true, eq-eqb, ne-eqb, eqb-true}
 use lib.Dec.{leb, eqb}
 use lib.IntN.{ℤ}
 use lib.ListN.{getD}
 use Rattle.laws.specs.Lists.{all, filter}
+use Rattle.laws.proofs.Bools.{left, right, both, same}
 use Rattle.laws.proofs.Orders.{le-or-lt}
 use Rattle.laws.proofs.Every.{all-at, all-intro}
-use Rattle.laws.proofs.Filtered.{filter-all, filter-none, filter-twice, all-own}
+use Rattle.laws.proofs.Filtered.{filter-all, filter-none, filter-ext, filter-twice, all-own}
 use Rattle.pixel_segment.specs.Field.{cpu, tileOf, tileYOf}
-use Rattle.pixel_segment.specs.Order.{ascends, orderKey, Ordered, Words}
-use Rattle.pixel_segment.specs.Search.{searchOf, orderAt, between}
-use Rattle.pixel_segment.specs.declared.search.Found.{Found}
-use Rattle.pixel_segment.specs.declared.search.Found.the-variants.{At, Absent}
+use Rattle.pixel_segment.specs.Order.{ascends, orderKey, isRow, Ordered, Words}
+use Rattle.pixel_segment.specs.Search.{Place, found, absent, searchOf, orderAt, between}
 use Rattle.pixel_segment.specs.declared.search.Key.the-variants.{TileY}
 use Rattle.pixel_segment.proofs.Ascending.{from-ordered, from-intro}
 use Rattle.pixel_segment.proofs.Rows.{tile-y-ordered}
 use Rattle.pixel_segment.proofs.TileLayers.{filter-ascends}
-use Rattle.plate.specs.Rows.{castOf, placeBy, placeOf, notNegative, rowPart, rowsBelow}
-use Rattle.plate.specs.Sorted.{RowsOf, Edges}
+use Rattle.plate.specs.Crop.{isInCrop}
+use Rattle.plate.specs.Rows.{castOf, placeBy, placeOf, notNegative, rowPart}
+use Rattle.plate.specs.Print as printing
+use Rattle.plate.specs.Print.{skipped, partIn, printedPart, printedBelow}
+use Rattle.plate.specs.Sorted.{isPrinted, RowsOf, InRows, Edges}
+use Rattle.plate.specs.declared.Crop.{Crop}
+use Rattle.plate.specs.declared.Crop.the-variants.{Absent}
 use Rattle.plate.proofs.Finding.{found-tile}
 use Rattle.plate.proofs.Neighbours.{compares, is-row, cast-again}
 use Rattle.plate.proofs.Sorted.{row-part, not-negative}
@@ -65,61 +69,128 @@ filter-ordered f p l o =
 
 -- ---- the rows one after another
 
-module _ (l : List ℕ) (o : Ordered (tileYOf cpu) l) where
-  row : (j : ℕ) → j < 65535 → rowPart j l ≡ filter (λ w. eqb (tileYOf cpu w) (suc j)) l
-  row j h =
-      let e : (j + 1) % 65536 ≡ suc j = omega arith in
-      row-part l o j ∙ ap (λ (n : ℕ). filter (λ w. eqb (tileYOf cpu w) n) l) e
+-- the part of one row
+part-is : (l : List ℕ) → Ordered (tileYOf cpu) l → (j : ℕ) → j < 65535 → rowPart j l ≡ filter (λ w. eqb (tileYOf cpu w) (suc j)) l
+part-is l o j h =
+    let e : (j + 1) % 65536 ≡ suc j = omega arith in
+    row-part l o j ∙ ap (λ (n : ℕ). filter (λ w. eqb (tileYOf cpu w) n) l) e
 
-  -- in segments of which none has a negative tile y
-  rows : (n : ℕ) → n ≤ 65535 → all (λ w. leb 1 (tileYOf cpu w)) l ≡ true → rowsBelow n l ≡ filter (λ w. leb (tileYOf cpu w) n) l
-  unfolding rowsBelow
-  rows zero h a =
+-- a stored tile number is that of row j and in the crop exactly where row j is
+picked : (crop : Crop) (m j : ℕ) → ((leb 1 m && isInCrop crop (m - 1)) && eqb m (suc j)) ≡ (isInCrop crop j && eqb m (suc j))
+picked crop m j =
+    same ((leb 1 m && isInCrop crop (m - 1)) && eqb m (suc j)) (isInCrop crop j && eqb m (suc j))
+    (λ p.
+    let q = right (leb 1 m && isInCrop crop (m - 1)) (eqb m (suc j)) p in
+    both (isInCrop crop j) (eqb m (suc j))
+    (ap (isInCrop crop) (sym (before q)) ∙ right (leb 1 m) (isInCrop crop (m - 1)) (left (leb 1 m && isInCrop crop (m - 1)) (eqb m (suc j)) p))
+    q)
+    (λ p.
+    let q = right (isInCrop crop j) (eqb m (suc j)) p in
+    both (leb 1 m && isInCrop crop (m - 1)) (eqb m (suc j))
+    (both (leb 1 m) (isInCrop crop (m - 1)) (le-leb 1 m (omega (arith, eqb-true m (suc j) q))) (ap (isInCrop crop) (before q) ∙ left (isInCrop crop j) (eqb m (suc j)) p))
+    q)
+  where
+    before : eqb m (suc j) ≡ true → m - 1 ≡ j
+    before q = omega (arith, eqb-true m (suc j) q)
+
+module _ (crop : Crop) (l : List ℕ) (o : Ordered (tileYOf cpu) l) where
+  -- what is not skipped by `for_each_row`, and what of it is in the crop
+  rest : List ℕ
+  rest = filter (λ w. leb 1 (tileYOf cpu w)) l
+
+  shown : List ℕ
+  shown = filter (isPrinted crop) l
+
+  shown-ordered : Ordered (tileYOf cpu) shown
+  unfolding shown
+  shown-ordered = filter-ordered (tileYOf cpu) (isPrinted crop) l o
+
+  -- what is printed of one row
+  printed : (j : ℕ) → j < 65535 → printedPart crop j (notNegative l) ≡ filter (λ w. eqb (tileYOf cpu w) (suc j)) (filter (isPrinted crop) l)
+  unfolding rest rowPart
+  printed j h =
+      ap (printedPart crop j) (not-negative l o)
+      ∙ by (isInCrop crop j)
+      ∙ sym (filter-twice (isPrinted crop) (λ w. eqb (tileYOf cpu w) (suc j)) l ∙ filter-ext (λ w. isPrinted crop w && eqb (tileYOf cpu w) (suc j)) (λ w. isInCrop crop j && eqb (tileYOf cpu w) (suc j)) l (λ w. picked crop (tileYOf cpu w) j))
+    where
+      inside : (w : ℕ) → (leb 1 (tileYOf cpu w) && eqb (tileYOf cpu w) (suc j)) ≡ eqb (tileYOf cpu w) (suc j)
+      inside w =
+          ap (λ (t : Bool). t && eqb (tileYOf cpu w) (suc j)) (sym (and-true (leb 1 (tileYOf cpu w)))) ∙ picked Absent (tileYOf cpu w) j
+
+      by : (t : Bool) → partIn (cond t (printing.row ((placeOf (castOf j) rest) .start) ((placeOf (castOf j) rest) .end)) skipped) rest ≡ filter (λ w. t && eqb (tileYOf cpu w) (suc j)) l
+      by true =
+          part-is rest (filter-ordered (tileYOf cpu) (λ w. leb 1 (tileYOf cpu w)) l o) j h
+          ∙ filter-twice (λ w. leb 1 (tileYOf cpu w)) (λ w. eqb (tileYOf cpu w) (suc j)) l
+          ∙ filter-ext (λ w. leb 1 (tileYOf cpu w) && eqb (tileYOf cpu w) (suc j)) (λ w. eqb (tileYOf cpu w) (suc j)) l inside
+      by false = sym (filter-none (λ w. false) l (all-intro (λ w. true) l 0 (λ i p. refl)))
+
+  rows : (n : ℕ) → n ≤ 65535 → printedBelow crop n (notNegative l) ≡ filter (λ w. leb (tileYOf cpu w) n) shown
+  unfolding printedBelow shown
+  rows zero h =
       sym
-      (filter-none (λ w. leb (tileYOf cpu w) 0) l
-      (all-intro (λ w. not (leb (tileYOf cpu w) 0)) l 0
+      (filter-none (λ w. leb (tileYOf cpu w) 0) shown
+      (all-intro (λ w. not (leb (tileYOf cpu w) 0)) shown 0
       (λ i p.
-      let q = leb-true 1 (tileYOf cpu (getD l i 0)) (all-at (λ w. leb 1 (tileYOf cpu w)) l a i 0 p) in
-      ap not (lt-leb (tileYOf cpu (getD l i 0)) 0 (omega (arith, q))))))
-  rows (suc n) h a = ap₂ _++_ (rows n (omega arith) a) (row n (omega arith)) ∙ step (tileYOf cpu) n l o
+      let m = tileYOf cpu (getD shown i 0) in
+      let q = leb-true 1 m (left (leb 1 m) (isInCrop crop (m - 1)) (all-at (isPrinted crop) shown (all-own (isPrinted crop) l) i 0 p)) in
+      ap not (lt-leb m 0 (omega (arith, q))))))
+  rows (suc n) h = ap₂ _++_ (rows n (omega arith)) (printed n (omega arith)) ∙ step (tileYOf cpu) n shown shown-ordered
 
-module _ (l : List ℕ) (o : Ordered (tileYOf cpu) l) where
-  -- what is not skipped
-  kept : List ℕ
-  kept = filter (λ w. leb 1 (tileYOf cpu w)) l
-
-  kept-rows : (n : ℕ) → n ≤ 65535 → rowsBelow n (notNegative l) ≡ filter (λ w. leb (tileYOf cpu w) n) kept
-  unfolding kept
-  kept-rows n h =
-      ap (rowsBelow n) (not-negative l o)
-      ∙ rows kept (filter-ordered (tileYOf cpu) (λ w. leb 1 (tileYOf cpu w)) l o) n h (all-own (λ w. leb 1 (tileYOf cpu w)) l)
+  rows-once : (n : ℕ) → n ≤ 65535 → printedBelow crop n (notNegative l) ≡ filter (λ w. isPrinted crop w && leb (tileYOf cpu w) n) l
+  unfolding shown
+  rows-once n h = rows n h ∙ filter-twice (isPrinted crop) (λ w. leb (tileYOf cpu w) n) l
 
   -- every tile number is below 2,048
-  pub sorted-rows : RowsOf l
-  unfolding kept
-  sorted-rows =
+  rows-whole : (n : ℕ) → 2047 ≤ n → n ≤ 65535 → printedBelow crop n (notNegative l) ≡ filter (isPrinted crop) l
+  unfolding shown
+  rows-whole n g h =
+      rows n h
+      ∙ filter-all (λ w. leb (tileYOf cpu w) n) shown
+      (all-intro (λ w. leb (tileYOf cpu w) n) shown 0 (λ i p. le-leb (tileYOf cpu (getD shown i 0)) n (omega arith)))
+
+pub sorted-rows : (l : List ℕ) → Ordered (tileYOf cpu) l → RowsOf l
+sorted-rows l o =
+    record {
+      kept = not-negative l o;
+      part = part-is l o;
+      once = λ crop n h. rows-once crop l o n h;
+      whole = λ crop n g h. rows-whole crop l o n g h;
+      uncropped =
+          λ n g h.
+          rows-whole Absent l o n g h
+          ∙ filter-ext (isPrinted Absent) (λ w. leb 1 (tileYOf cpu w)) l (λ w. and-true (leb 1 (tileYOf cpu w)))
+          ∙ sym (not-negative l o);
+      last = row-part l o 65535;
+    }
+
+-- ---- segments in the painter's order: tile y leads it
+
+module _ (l : List ℕ) (s : Words l) (h : ascends (orderKey cpu) l ≡ true) where
+  by-tile-y : Ordered (tileYOf cpu) l
+  by-tile-y =
       record {
-        skipped = not-negative l o;
-        row = row l o;
-        once = λ n h. kept-rows n h ∙ filter-twice (λ w. leb 1 (tileYOf cpu w)) (λ w. leb (tileYOf cpu w) n) l;
-        whole =
-            λ n g h.
-            kept-rows n h
-            ∙ filter-all (λ w. leb (tileYOf cpu w) n) kept
-            (all-intro (λ w. leb (tileYOf cpu w) n) kept 0 (λ i p. le-leb (tileYOf cpu (getD kept i 0)) n (omega arith)))
-            ∙ sym (not-negative l o);
-        last = row-part l o 65535;
+        up =
+            λ i j p q.
+            tile-y-ordered (getD l i 0) (getD l j 0) (s .small i) (s .small j) (from-ordered (orderKey cpu) 0 l h i j p q);
       }
 
--- segments in order, as the painter's are: tile y leads the order
-pub rows-in-order : (l : List ℕ) → Words l → ascends (orderKey cpu) l ≡ true → RowsOf l
-rows-in-order l s h =
-    sorted-rows l
-    (record {
-      up =
-          λ i j p q.
-          tile-y-ordered (getD l i 0) (getD l j 0) (s .small i) (s .small j) (from-ordered (orderKey cpu) 0 l h i j p q);
-    })
+  pub rows-in-order : RowsOf l
+  rows-in-order = sorted-rows l by-tile-y
+
+  pub in-rows : InRows l
+  in-rows =
+      record {
+        part = λ j p. rw (part-is l by-tile-y j (omega arith)) (passes j l h);
+        printed =
+            λ crop j p.
+            rw (printed crop l by-tile-y j (omega arith))
+            (passes j (filter (isPrinted crop) l) (filter-ascends (orderKey cpu) (isPrinted crop) 0 l h));
+      }
+    where
+      passes : (j : ℕ) (m : List ℕ) → ascends (orderKey cpu) m ≡ true → isRow cpu (suc j) (filter (λ w. eqb (tileYOf cpu w) (suc j)) m) ≡ true
+      passes j m e =
+          let p : ℕ → Bool = λ w. eqb (tileYOf cpu w) (suc j) in
+          both (ascends (orderKey cpu) (filter p m)) (all p (filter p m)) (filter-ascends (orderKey cpu) p 0 m e) (all-own p m)
 
 -- ---- every plate
 
@@ -127,14 +198,16 @@ pub edges : (l : List ℕ) → Edges l
 unfolding rowPart placeOf placeBy
 edges l =
     record {
+      outside = λ crop j e. rw e;
+      inside = λ crop j e. rw e;
       empty = λ j g h. by j g h (searchOf (orderAt (TileY (castOf j))) l) refl;
       again = λ j. ap (λ (t : ℤ). between ((placeOf t l) .start) ((placeOf t l) .end) l) (cast-again j);
     }
   where
-    by : (j : ℕ) → 2047 ≤ j → j < 65535 → (f : Found) → searchOf (orderAt (TileY (castOf j))) l ≡ f → between ((placeBy (castOf j) l f) .start) ((placeBy (castOf j) l f) .end) l ≡ []
-    by j g h (At i) e =
+    by : (j : ℕ) → 2047 ≤ j → j < 65535 → (p : Place) → searchOf (orderAt (TileY (castOf j))) l ≡ p → between ((placeBy (castOf j) l p) .start) ((placeBy (castOf j) l p) .end) l ≡ []
+    by j g h (found i) e =
         let m = tileYOf cpu (getD l i 0) in
         let small : m < 2048 = omega arith in
         let is : eqb m ((j + 1) % 65536) ≡ true = sym (is-row m j small) ∙ compares (tileOf m) (castOf j) (found-tile (castOf j) l i e) in
         absurd (omega (arith, small, eqb-true m ((j + 1) % 65536) is))
-    by j g h (Absent i) e = refl
+    by j g h (absent i) e = refl

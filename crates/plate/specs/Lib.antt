@@ -1,4 +1,5 @@
 -- Rows of a plate: what its contracts say.
 pub mod Rows
 pub mod Crop
+pub mod Print
 pub mod Sorted

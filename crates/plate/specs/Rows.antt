@@ -1,16 +1,13 @@
 -- Which part of all segments of a plate is a row, as the Rust's searches find it, on every slice: `for_each_row` skips what has a negative
 -- tile y, and `print_row` finds row j. On a slice that tile y sorts see proofs/Sorted. Stands for 'row choice of `print_row` and
 -- `for_each_row`, one after another'.
-use mathlib.Core.Path.{_≡_}
 use mathlib.Core.Bool.{false}
-use mathlib.Core.List.{List, [], _++_}
-use Prim.Native.Nat.{ℕ, zero, suc, _≤_}
+use mathlib.Core.List.{List}
+use Prim.Native.Nat.{ℕ, suc}
 use lib.IntN.{ℤ, pos, _-ℤ_}
-use lib.ListN.{length, take, drop}
+use lib.ListN.{take, drop}
 use Rattle.pixel_segment.specs.Field.{signedOf}
-use Rattle.pixel_segment.specs.Search.{searchOf, orderAt, afterOf, between}
-use Rattle.pixel_segment.specs.declared.search.Found.{Found}
-use Rattle.pixel_segment.specs.declared.search.Found.the-variants.{At, Absent}
+use Rattle.pixel_segment.specs.Search.{Place, found, absent, searchOf, orderAt, afterOf, between}
 use Rattle.pixel_segment.specs.declared.search.Key.the-variants.{TileY, TileYNotNegative}
 use Rattle.plate.specs.declared.Part.{Part}
 
@@ -19,44 +16,26 @@ unfoldable pub castOf : ℕ → ℤ
 castOf j = signedOf 16 j
 
 -- past the place that a search found, or at the front
-abbrev pub pastOf : Found → ℕ
-pastOf (At last) = suc last
-pastOf (Absent i) = 0
+abbrev pub pastOf : Place → ℕ
+pastOf (found last) = suc last
+pastOf (absent i) = 0
 
 -- where the segments start that are past the last one with a negative tile y
 unfoldable pub startOf : List ℕ → ℕ
 startOf l = pastOf (searchOf (orderAt (TileYNotNegative false)) l)
-
--- what finding that place promises
-pub record Started (l : List ℕ) (r : ℕ) : Type 0 where
-  pub is : r ≡ startOf l
-  pub within : r ≤ length l
 
 -- those segments
 unfoldable pub notNegative : List ℕ → List ℕ
 notNegative l = drop (startOf l) l
 
 -- where the segments of tile row t stand whose last one was found: from the last one of the row above, looked for in what stands before
-unfoldable pub placeBy : ℤ → List ℕ → Found → Part
-placeBy t l (At last) = record { start = afterOf (searchOf (orderAt (TileY (t -ℤ pos 1))) (take last l)); end = suc last }
-placeBy t l (Absent i) = record { start = 0; end = 0 }
+unfoldable pub placeBy : ℤ → List ℕ → Place → Part
+placeBy t l (found last) = record { start = afterOf (searchOf (orderAt (TileY (t -ℤ pos 1))) (take last l)); end = suc last }
+placeBy t l (absent i) = record { start = 0; end = 0 }
 
 unfoldable pub placeOf : ℤ → List ℕ → Part
 placeOf t l = placeBy t l (searchOf (orderAt (TileY t)) l)
 
--- what finding a row promises: its place, which lies in the slice
-pub record Placed (j : ℕ) (l : List ℕ) (r : Part) : Type 0 where
-  pub is : r ≡ placeOf (castOf j) l
-  pub forward : r .start ≤ r .end
-  pub within : r .end ≤ length l
-
 -- the segments of row j
 unfoldable pub rowPart : ℕ → List ℕ → List ℕ
 rowPart j l = between ((placeOf (castOf j) l) .start) ((placeOf (castOf j) l) .end) l
-
--- ---- all rows, for the law on a sorted slice
-
--- the segments of rows 0 to n - 1, one row after another
-unfoldable pub rowsBelow : ℕ → List ℕ → List ℕ
-rowsBelow zero l = []
-rowsBelow (suc n) l = rowsBelow n l ++ rowPart n l

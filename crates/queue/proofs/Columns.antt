@@ -14,9 +14,9 @@ use Rattle.laws.specs.Lists.{over, all}
 use Rattle.laws.proofs.Bools.{left, right, both}
 use Rattle.laws.proofs.Rows.{is-tabulate}
 use Rattle.styling.specs.Ascending.{strictlyAscends}
-use Rattle.cover.specs.Cover.{coverAt}
-use Rattle.cover.specs.Entry.{entryOf}
-use Rattle.cover.proofs.Entries.{entry-at}
+use Rattle.cover_statements.specs.Cover.{coverAt}
+use Rattle.cover_statements.specs.Entry.{entryOf}
+use Rattle.cover_statements.proofs.Entries.{entry-at}
 use Rattle.queue.specs.Queue.{Carry, carryAt, queueOf, idsIn, coversIn, isQueue}
 use Rattle.queue.proofs.Queues.{noCarry, length-ids, getD-ids}
 

@@ -6,7 +6,7 @@ use lib.IntN.{pos}
 use lib.ListN.{set}
 use Rattle.laws.specs.Answer.{refused, given}
 use Rattle.laws.specs.Lists.{tabulate}
-use Rattle.cover.specs.Carry.{isLight}
+use Rattle.cover_statements.specs.Carry.{isLight}
 use Rattle.pixel_segment.specs.Field.{coverOf}
 use Rattle.queue.specs.Queue.{zeros}
 use Rattle.queue.specs.Opening.{addTo, addAll, openQueue, isLightOpening, openAnswer}

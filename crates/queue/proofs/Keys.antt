@@ -16,7 +16,7 @@ use Rattle.laws.proofs.Sums.{sum-ext-on, sum-filter}
 use Rattle.styling.specs.Ascending.{strictlyAscends}
 use Rattle.styling.proofs.Ascents.{ascends-lt}
 use Rattle.pixel_segment.specs.Field.{cpu, layerIdOf, localYOf}
-use Rattle.cover.specs.Carry.{inRow}
+use Rattle.cover_statements.specs.Carry.{inRow}
 use Rattle.queue.specs.Queue.{idsIn}
 use Rattle.queue.specs.Opening.{openQueue, ofLayer}
 use Rattle.queue.specs.Rank.{rankOf}

@@ -12,11 +12,11 @@ use lib.Seq.{ext-getD, getD-take, length-take-le}
 use Rattle.laws.proofs.Bools.{not-true}
 use Rattle.laws.proofs.Every.{every-intro, all-at, all-intro}
 use Rattle.pixel_segment.specs.Field.{cpu, layerIdOf, localYOf, coverOf}
-use Rattle.cover.specs.Carry.{loadIn, absCover, lightAt, isLight}
-use Rattle.cover.specs.Cover.{coverAt}
-use Rattle.cover.proofs.Carries.{light}
-use Rattle.cover.proofs.Filled.{getD-default}
-use Rattle.cover.proofs.Tables.{keyed, weighed}
+use Rattle.cover_statements.specs.Carry.{loadIn, absCover, lightAt, isLight}
+use Rattle.cover_statements.specs.Cover.{coverAt}
+use Rattle.cover_statements.proofs.Carries.{light}
+use Rattle.cover_statements.proofs.Filled.{getD-default}
+use Rattle.cover_statements.proofs.Tables.{keyed, weighed}
 use Rattle.queue.specs.Queue.{idsIn, coversIn, zeros}
 use Rattle.queue.specs.Opening.{openQueue, ofLayer, isLightOpening}
 use Rattle.queue.specs.Rank.{rankOf}

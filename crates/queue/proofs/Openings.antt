@@ -20,9 +20,9 @@ use Rattle.laws.proofs.Sums.{sumℤ-append}
 use Rattle.styling.specs.Ascending.{strictlyAscendsFrom, strictlyAscends}
 use Rattle.styling.proofs.Ascents.{ascends-tail, ascends-low}
 use Rattle.pixel_segment.specs.Field.{cpu, layerIdOf, localYOf, coverOf}
-use Rattle.cover.specs.Carry.{inRow, coverIn}
-use Rattle.cover.specs.Cover.{coverAt}
-use Rattle.cover.proofs.Filled.{getD-default}
+use Rattle.cover_statements.specs.Carry.{inRow, coverIn}
+use Rattle.cover_statements.specs.Cover.{coverAt}
+use Rattle.cover_statements.proofs.Filled.{getD-default}
 use Rattle.queue.specs.Queue.{Carry, idsIn, zeros, heldIn}
 use Rattle.queue.specs.Opening.{addWord, addTo, addAll, openQueue, ofLayer}
 use Rattle.queue.specs.Insert.{insertId, insertAll}

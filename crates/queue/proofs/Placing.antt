@@ -9,7 +9,7 @@ use lib.IntN.{ℤ, natAbs, _+ℤ_}
 use lib.ListN.{set}
 use Rattle.laws.proofs.Sums.{abs-add}
 use Rattle.pixel_segment.specs.Field.{cpu, coverOf}
-use Rattle.cover.specs.Cover.{coverAt}
+use Rattle.cover_statements.specs.Cover.{coverAt}
 use Rattle.queue.specs.Sums.{loadWith, Placing, Placed}
 
 module _ {place w : ℕ} {sums : List ℤ} {loads : List ℕ} where

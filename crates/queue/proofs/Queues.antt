@@ -13,7 +13,7 @@ use Rattle.laws.proofs.Rows.{length-tabulate, getD-tabulate, is-tabulate}
 use Rattle.styling.specs.Ascending.{strictlyAscendsFrom}
 use Rattle.styling.proofs.Ascents.{ascends-tail, ascends-low}
 use Rattle.styling.proofs.Listed.{map-tabulate}
-use Rattle.cover.specs.Entry.{entryOf}
+use Rattle.cover_statements.specs.Entry.{entryOf}
 use Rattle.queue.specs.Queue.{Carry, carryAt, queueOf, idsIn, zeros, heldIn, Queued}
 use Rattle.queue.specs.Rank.{rankOf, holdsAt}
 use Rattle.queue.proofs.Ranks.{Held, missed}

@@ -17,9 +17,9 @@ use Rattle.laws.proofs.Orders.{eq-or-ne}
 use Rattle.laws.proofs.Parts.{equal, whole}
 use Rattle.laws.proofs.Sums.{abs-add, abs-cond, sum-step, sum-end}
 use Rattle.pixel_segment.specs.Field.{cpu, coverOf}
-use Rattle.cover.specs.Carry.{absCover}
-use Rattle.cover.specs.Cover.{coverAt}
-use Rattle.cover.proofs.Tables.{keyed, weighed}
+use Rattle.cover_statements.specs.Carry.{absCover}
+use Rattle.cover_statements.specs.Cover.{coverAt}
+use Rattle.cover_statements.proofs.Tables.{keyed, weighed}
 use Rattle.queue.specs.Sums.{loadWith, Placing, Placed}
 
 -- a word's own goes from what is left to the table

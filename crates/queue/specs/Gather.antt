@@ -5,7 +5,7 @@ use Prim.Native.Nat.{ℕ, _*_, _≤_}
 use lib.IntN.{ℤ, natAbs}
 use lib.ListN.{take}
 use Rattle.laws.specs.Answer.{Answer, refused, given}
-use Rattle.cover.specs.Cover.{coverAt}
+use Rattle.cover_statements.specs.Cover.{coverAt}
 use Rattle.queue.specs.Queue.{idsIn, coversIn}
 use Rattle.queue.specs.Opening.{openQueue, openAnswer}
 

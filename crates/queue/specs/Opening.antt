@@ -10,8 +10,8 @@ use lib.ListN.{length, set}
 use Rattle.laws.specs.Answer.{Answer, refused, given}
 use Rattle.laws.specs.Lists.{all, over, filter}
 use Rattle.pixel_segment.specs.Field.{cpu, layerIdOf, localYOf, coverOf}
-use Rattle.cover.specs.Carry.{isLight}
-use Rattle.cover.specs.Cover.{coverAt}
+use Rattle.cover_statements.specs.Carry.{isLight}
+use Rattle.cover_statements.specs.Cover.{coverAt}
 use Rattle.queue.specs.Queue.{Carry, zeros, idsIn, coversIn}
 use Rattle.queue.specs.declared.opening.Opening.{Opening}
 use Rattle.queue.specs.declared.opening.Opening.the-variants.{Count, TooManyLayers, CoversTooLarge}

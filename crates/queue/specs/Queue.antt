@@ -8,7 +8,7 @@ use lib.Dec.{eqb, leb, ltb}
 use lib.IntN.{ℤ, pos}
 use lib.ListN.{length, getD, take, replicate}
 use Rattle.laws.specs.Lists.{tabulate}
-use Rattle.cover.specs.Entry.{entryOf}
+use Rattle.cover_statements.specs.Entry.{entryOf}
 use Rattle.styling.specs.Ascending.{strictlyAscends}
 
 pub record Carry : Type 0 where

@@ -8,8 +8,8 @@ use lib.Dec.{leb}
 use lib.IntN.{ℤ, natAbs, _+ℤ_}
 use lib.ListN.{length, getD, set, take}
 use Rattle.pixel_segment.specs.Field.{cpu, layerIdOf, localYOf, coverOf}
-use Rattle.cover.specs.Carry.{absCover}
-use Rattle.cover.specs.Cover.{coverAt}
+use Rattle.cover_statements.specs.Carry.{absCover}
+use Rattle.cover_statements.specs.Cover.{coverAt}
 use Rattle.queue.specs.Queue.{idsIn, coversIn}
 use Rattle.queue.specs.Opening.{openQueue, isLightOpening}
 use Rattle.queue.specs.Gather.{Clear}

@@ -9,8 +9,8 @@ use lib.ListN.{length, take, drop, getD, set, replicate, length-append}
 use lib.Seq.{take-suc, take-at, length-take-le, drop-cons, drop-at, drop-drop, set-at, append-snoc}
 use Rattle.laws.specs.Lists.{over}
 use Rattle.laws.proofs.Rows.{is-tabulate}
-use Rattle.cover.specs.Cover.{coverAt}
-use Rattle.cover.specs.Entry.{putEntry}
+use Rattle.cover_statements.specs.Cover.{coverAt}
+use Rattle.cover_statements.specs.Entry.{putEntry}
 use Rattle.queue.specs.Queue.{coversIn}
 use Rattle.queue_records.specs.Records.{carryOf, idsOf, coversOf, noRecord, readable, columnsOf}
 use Rattle.queue_records.specs.declared.CarryRecord.{CarryRecord}

@@ -7,7 +7,7 @@ ghost use Prim.Native.Nat.{_+_, _*_, _<_, _≤_, min};
 ghost use lib.IntN.{pos};
 ghost use lib.ListN.{length, getD, set, take, replicate};
 ghost use Rattle.laws.specs.Lists.{over};
-ghost use Rattle.cover.specs.Entry.{putEntry};
+ghost use Rattle.cover_statements.specs.Entry.{putEntry};
 ghost use Rattle.queue_records.specs.Records.{noRecord, idsOf, coversOf, readable, columnsOf};
 
 pub struct CarryRecord {

@@ -9,16 +9,12 @@ use mir.Syntax.{w32}
 use mir.Val.{Fits}
 use Rattle.decimal.specs.Decimal.{decimal}
 use Rattle.decimal.specs.Print.{Printing}
-use Rattle.decimal.proofs.Print.{length-at-most, joined, byte}
+use Rattle.decimal.proofs.Print.{joined, byte, ten}
 use Rattle.lines.specs.Bytes.{bytes}
 use Rattle.report.specs.declared.Op.{Op}
 use Rattle.report.specs.declared.TileLine.{TileLine}
 use Rattle.report.specs.Text.{numberField, opField, tileText, refusalText}
 use Rattle.report.specs.Put.{LineWritten}
-
--- a number of 32 bits has at most ten digits
-pub ten : (n : ℕ) → Fits w32 n → length (decimal n) ≤ 10
-ten n h = length-at-most 9 n (omega arith)
 
 pub number-after : {out out₁ : List ℕ} {at i n : ℕ} (end : ℕ) → Fits w32 n → Printing (decimal n) out at i out₁
     → Printing (numberField n end) out at (i + 1) (set out₁ i end) × (i + 1 ≤ at + 11)

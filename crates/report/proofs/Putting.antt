@@ -5,13 +5,14 @@ use mathlib.Core.List.{List}
 use mathlib.Core.Option.{some}
 use Prim.Native.Nat.{ℕ, _+_, _<_, _≤_}
 use native.Mathlib.Omega.{arith}
-use borrow.Author.Tests.{le-leb, lt-leb}
+use borrow.Author.Tests.{le-leb, lt-leb, leb-true}
 use lib.ListN.{length, take, drop}
 use lib.Seq.{sets-eq, take-at}
 use Rattle.decimal.specs.Print.{Printing}
+use Rattle.decimal.proofs.Steps.{cases}
 use Rattle.report.specs.declared.Printed.{Printed}
 use Rattle.report.specs.declared.Printed.the-variants.{Next, Full}
-use Rattle.report.specs.Put.{Put, LineWritten}
+use Rattle.report.specs.Put.{hasRoom, Put, LineWritten}
 
 pub full : {text out : List ℕ} {at : ℕ} → length out < at + length text → Put text out at Full out
 full {text} {out} {at} h = let e = lt-leb (at + length text) (length out) h in record { answer = rw e; printed = rw e }
@@ -20,6 +21,13 @@ pub next : {text out out′ : List ℕ} {at i : ℕ} → at + length text ≤ le
 next {text} {out} {out′} {at} h p =
     let e = le-leb (at + length text) (length out) h in
     record { answer = rw e (ap some (p .answer)); printed = rw e (p .printed) }
+
+-- the place after the text lies in the buffer
+pub within : {text out out′ : List ℕ} {at i : ℕ} → Put text out at (Next i) out′ → i ≤ length out
+within {text} {out} {at = at} {i = i} p =
+    cases (hasRoom text out at)
+    (λ e. let q : i ≡ at + length text = let a = rw e at (p .answer) in cc in omega (arith, leb-true (at + length text) (length out) e))
+    (λ e. let a = rw e at (p .answer) in let z : _≡_ {A = ℕ} 0 1 = cc in absurd (omega arith))
 
 -- the line is the front of its buffer
 pub front : {text out out′ : List ℕ} {r : ℕ} → LineWritten text out r out′ → take r out′ ≡ text

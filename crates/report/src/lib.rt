@@ -29,7 +29,7 @@ pub enum Printed {
 }
 
 // Prints a text from place `at` on, where it has room.
-fn put(out: &mut [u8], at: usize, text: &[u8]) -> Printed
+pub fn put(out: &mut [u8], at: usize, text: &[u8]) -> Printed
     ensures { λ r. ⌜ Put (now (text .entry)) (now (out .entry)) at r (now (out .exit)) ⌝ }
 {
     if out.len() < at {

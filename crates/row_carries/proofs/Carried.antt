@@ -14,14 +14,14 @@ use Rattle.pixel_segment.specs.Search.{leftPart, tilePart, layerPart}
 use Rattle.styling.specs.Ascending.{strictlyAscends}
 use Rattle.styling.specs.declared.FillRule.the-variants.{NonZero, EvenOdd}
 use Rattle.styling.specs.declared.Layer.{Layer}
-use Rattle.cover.specs.Carry.{carryOf}
-use Rattle.cover.specs.Cover.{coverAt, isEmpty}
-use Rattle.cover.specs.Plane.{planeOf}
-use Rattle.cover.specs.WholeRow.{partOf, leftCover, rowPlane, FromRow}
-use Rattle.cover.proofs.Agreement.{agrees-refl}
-use Rattle.cover.proofs.Carries.{carry-length}
-use Rattle.cover.proofs.Filled.{getD-default}
-use Rattle.cover.proofs.FromRow.{carry-from-row, dropped-from-row, plane-from-row}
+use Rattle.cover_statements.specs.Carry.{carryOf}
+use Rattle.cover_statements.specs.Cover.{coverAt, isEmpty}
+use Rattle.cover_statements.specs.Plane.{planeOf}
+use Rattle.cover_statements.specs.WholeRow.{partOf, leftCover, rowPlane, FromRow}
+use Rattle.cover_statements.proofs.Agreement.{agrees-refl}
+use Rattle.cover_statements.proofs.Carries.{carry-length}
+use Rattle.cover_statements.proofs.Filled.{getD-default}
+use Rattle.cover_statements.proofs.FromRow.{carry-from-row, dropped-from-row, plane-from-row}
 use Rattle.queue.specs.Queue.{Carry, idsIn, zeros, heldIn}
 use Rattle.queue.specs.Opening.{openQueue}
 use Rattle.queue.proofs.Columns.{areWide}

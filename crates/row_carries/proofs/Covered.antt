@@ -57,22 +57,23 @@ module _ {ty : ℕ} {row : List ℕ} (r : InOrder ty row) (table : List Layer) (
       ap (λ (x : Item). x .id) (item-listed table (layersAt table row from n) p h)
       ∙ item-id (lookup table (idAt table row from n p)) (entryOf (getD (layersAt table row from n) p noListed))
 
-  hidden : (n i p : ℕ) (o : Outcome) → i < p → p ≡ o .skipped → Over (itemsAt table row from n) (o .shown) i p → CoveredUnder table row from n o i
+  hidden : (n i p : ℕ) (o : Outcome) → i < p → p ≡ o .skipped → Over (itemsAt table row from n) (o .unmasked) i p → CoveredUnder table row from n o i
   hidden n i p o h s c =
       let ls = layersAt table row from n in
       let items = itemsAt table row from n in
       let many : length items ≡ length ls = length-map (map entryOf ls) (itemOf table) ∙ length-map ls entryOf in
-      let at : p < length ls = rw (← many) (c .listed) in
+      let over = c .covers in
+      let at : p < length ls = rw (← many) (over .listed) in
       record {
         place = p;
         listed = at;
         not-skipped = omega (arith, s);
-        is-shown = c .is-shown;
+        is-unmasked = over .is-unmasked;
         above = rw (← item-at-id n i (omega arith), ← item-at-id n p at) (c .above);
-        draws = opaque-draws (itemAt items p .func) (c .opaque);
-        opaque = c .opaque;
-        unclipped = ap (needsClip items (itemAt items p .func)) (sym (item-at-id n p at)) ∙ c .unclipped;
-        ones = full-ones r table from n p at (c .full);
+        draws = opaque-draws (itemAt items p .func) (over .opaque);
+        opaque = over .opaque;
+        unclipped = ap (needsClip items (itemAt items p .func)) (sym (item-at-id n p at)) ∙ over .unclipped;
+        ones = full-ones r table from n p at (over .full);
       }
 
   pub covered-under : (n : ℕ) (k : kept.Kept) (clear : Color) (previous : PreviousClear) (i : ℕ) → i < outcomeIn table k clear previous (layersAt table row from n) .skipped → CoveredUnder table row from n (outcomeIn table k clear previous (layersAt table row from n)) i

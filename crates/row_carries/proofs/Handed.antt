@@ -17,9 +17,9 @@ use Rattle.styling.specs.Ascending.{strictlyAscendsFrom}
 use Rattle.styling.specs.declared.FillRule.{FillRule}
 use Rattle.styling.specs.declared.Layer.{Layer}
 use Rattle.styling.proofs.Ascents.{ascends-head, ascends-tail, ascends-weaken}
-use Rattle.cover.specs.Carry.{carryOf}
-use Rattle.cover.specs.Cover.{isEmpty}
-use Rattle.cover.proofs.Carries.{carry-none}
+use Rattle.cover_statements.specs.Carry.{carryOf}
+use Rattle.cover_statements.specs.Cover.{isEmpty}
+use Rattle.cover_statements.proofs.Carries.{carry-none}
 use Rattle.queue.specs.Queue.{Carry, idsIn, zeros, heldIn}
 use Rattle.queue.proofs.Queues.{held-here, held-past}
 use Rattle.tile_layers.specs.Listing.{Listed, incomingOf}

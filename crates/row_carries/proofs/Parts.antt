@@ -13,7 +13,7 @@ use Rattle.pixel_segment.specs.Search.{leftPart, tilePart, layerPart}
 use Rattle.pixel_segment.proofs.Keys.{tile-suc}
 use Rattle.pixel_segment.proofs.TileParts.{tile-part, left-part, layer-part}
 use Rattle.pixel_segment.proofs.TileLayers.{layers-ordered}
-use Rattle.cover.specs.WholeRow as WholeRow
+use Rattle.cover_statements.specs.WholeRow as WholeRow
 use Rattle.queue.specs.Opening.{ofLayer}
 use Rattle.row_carries.specs.Carries.{InOrder}
 

@@ -21,13 +21,13 @@ use Rattle.styling.specs.Lookup.{lookup}
 use Rattle.styling.specs.declared.FillRule.{FillRule}
 use Rattle.styling.specs.declared.FillRule.the-variants.{NonZero, EvenOdd}
 use Rattle.styling.specs.declared.Layer.{Layer}
-use Rattle.cover.specs.Coverage.{coverageOf}
-use Rattle.cover.specs.Cover.{coverAt, emptyAt, fullAt, isFull}
-use Rattle.cover.specs.Plane.{inPlaces, planeOf}
-use Rattle.cover.specs.WholeRow.{leftCover, rowPlane, FromRow}
-use Rattle.cover.proofs.Coverages.{coverage-zero, coverage-one}
-use Rattle.cover.proofs.Filled.{getD-default}
-use Rattle.cover.proofs.FromRow.{plane-from-row, full-from-row, empty-plane, full-plane}
+use Rattle.cover_statements.specs.Coverage.{coverageOf}
+use Rattle.cover_statements.specs.Cover.{coverAt, emptyAt, fullAt, isFull}
+use Rattle.cover_statements.specs.Plane.{inPlaces, planeOf}
+use Rattle.cover_statements.specs.WholeRow.{leftCover, rowPlane, FromRow}
+use Rattle.cover_statements.proofs.Coverages.{coverage-zero, coverage-one}
+use Rattle.cover_statements.proofs.Filled.{getD-default}
+use Rattle.cover_statements.proofs.FromRow.{plane-from-row, full-from-row, empty-plane, full-plane}
 use Rattle.queue.specs.Queue.{zeros}
 use Rattle.queue.proofs.Openings.{held-wide}
 use Rattle.tile_layers.specs.Listing.{noListed, Listed, hasAny}

@@ -8,8 +8,8 @@ use lib.ListN.{length, getD, replicate}
 use Rattle.pixel_segment.specs.Field.{cpu}
 use Rattle.styling.specs.Style.{isOpaque}
 use Rattle.styling.specs.declared.Layer.{Layer}
-use Rattle.cover.specs.Coverage.{coverageOf}
-use Rattle.cover.specs.WholeRow.{rowPlane}
+use Rattle.cover_statements.specs.Coverage.{coverageOf}
+use Rattle.cover_statements.specs.WholeRow.{rowPlane}
 use Rattle.tile_layers.specs.Listing.{noListed}
 use Rattle.tile_layers.specs.Carrying.{ruleIn}
 use Rattle.passes.specs.Clips.{isClip}
@@ -34,7 +34,7 @@ pub record CoveredUnder (table : List Layer) (row : List ℕ) (from n : ℕ) (o 
   pub place : ℕ
   pub listed : place < length (layersAt table row from n)
   pub not-skipped : o .skipped ≤ place
-  pub is-shown : getD (o .shown) place false ≡ true
+  pub is-unmasked : getD (o .unmasked) place false ≡ true
   pub above : idAt table row from n i < idAt table row from n place
   pub draws : isClip (itemAt (itemsAt table row from n) place .func) ≡ false
   pub opaque : isOpaque (itemAt (itemsAt table row from n) place .func) ≡ true

@@ -10,12 +10,10 @@ use native.Mathlib.Omega.{arith}
 use lib.ListN.{length, drop}
 use lib.Seq.{sets, sets-eq, length-sets}
 use Rattle.laws.specs.Lists.{over}
-use Rattle.tile_row.specs.Refusal.{numberOf}
-use Rattle.tile_row.specs.Working.{listVerdict}
-use Rattle.tile_row.specs.Due.{OpenRow, tableOn, layersOn}
-use Rattle.tile_row.specs.declared.Refusal.{Refusal}
-use Rattle.tile_row.specs.declared.Verdict.{Verdict}
-use Rattle.tile_row.specs.declared.Verdict.the-variants.{Pass, Refuse}
+use Rattle.refusals.specs.Refusal.{Judgement, pass, refuse, numberOf}
+use Rattle.refusals.specs.declared.Refusal.{Refusal}
+use Rattle.row_statements.specs.TileWork.{listVerdict}
+use Rattle.row_statements.specs.Due.{OpenRow, tableOn, layersOn}
 use Rattle.row_driver.specs.Lines.{RowLines, linesBy, linesFrom, lineOn, lineWords, wordsOf}
 use Rattle.row_driver.specs.Driven.{drivingOf, refusalOf, Drives}
 use Rattle.row_driver.specs.declared.Line.{Line}
@@ -33,9 +31,9 @@ unfolding linesFrom
 few-lines o zero n = omega arith
 few-lines o (suc k) n = by (listVerdict (tableOn o) (layersOn o n)) (few-lines o k (suc n))
   where
-    by : (v : Verdict) → length (linesFrom o k (suc n) .lines) ≤ k → length (linesBy v (lineOn o n) (linesFrom o k (suc n)) .lines) ≤ suc k
-    by (Refuse r) h = omega arith
-    by Pass h = omega (arith, h)
+    by : (v : Judgement) → length (linesFrom o k (suc n) .lines) ≤ k → length (linesBy v (lineOn o n) (linesFrom o k (suc n)) .lines) ≤ suc k
+    by (refuse n) h = omega arith
+    by pass h = omega (arith, h)
 
 -- ---- the loop
 
@@ -72,11 +70,11 @@ module _ {o : OpenRow} {k : ℕ} {old : List ℕ} where
     unfolding linesFrom
     done p =
         let none : k - i ≡ 0 = omega arith in
-        let is : linesFrom o (k - i) i ≡ record { lines = []; end = Pass } = ap (λ (m : ℕ). linesFrom o m i) none in
+        let is : linesFrom o (k - i) i ≡ record { lines = []; end = pass } = ap (λ (m : ℕ). linesFrom o m i) none in
         let f = finished (ap (λ (x : RowLines). x .lines) is) in
         let all : k ≡ length (linesFrom o k 0 .lines) = omega (arith, v .within, f .0) in
-        let ends : Pass ≡ linesFrom o k 0 .end = sym (ap (λ (x : RowLines). x .end) is) ∙ v .end-is in
-        record { answer = λ j. record { written = all j; refusal = refusalOf (ends j) }; lines-are = f .1 }
+        let ends : pass ≡ linesFrom o k 0 .end = sym (ap (λ (x : RowLines). x .end) is) ∙ v .end-is in
+        record { answer = λ j. record { written = all j; refusal = refusalOf (ends j) }; long = v .long; lines-are = f .1 }
 
     module _ (p : i < k) where
       by-verdict : linesFrom o (k - i) i ≡ linesBy (listVerdict (tableOn o) (layersOn o i)) (lineOn o i) (linesFrom o (k - (i + 1)) (i + 1))
@@ -87,11 +85,11 @@ module _ {o : OpenRow} {k : ℕ} {old : List ℕ} where
           ∙ ap (λ (j : ℕ). linesBy (listVerdict (tableOn o) (layersOn o i)) (lineOn o i) (linesFrom o (k - (i + 1)) j)) (sym (add-one i))
 
       -- the line of a tile that is accepted
-      pub next : {new′ : List ℕ} → listVerdict (tableOn o) (layersOn o i) ≡ Pass → new′ ≡ sets new (i * 5) (lineWords (lineOn o i)) → Driving o k old (i + 1) new′
+      pub next : {new′ : List ℕ} → listVerdict (tableOn o) (layersOn o i) ≡ pass → new′ ≡ sets new (i * 5) (lineWords (lineOn o i)) → Driving o k old (i + 1) new′
       unfolding wordsOf flatten
       next {new′} e w =
           let after = linesFrom o (k - (i + 1)) (i + 1) in
-          let is : linesFrom o (k - i) i ≡ record { lines = lineOn o i ∷ after .lines; end = after .end } = by-verdict ∙ ap (λ (x : Verdict). linesBy x (lineOn o i) after) e in
+          let is : linesFrom o (k - i) i ≡ record { lines = lineOn o i ∷ after .lines; end = after .end } = by-verdict ∙ ap (λ (x : Judgement). linesBy x (lineOn o i) after) e in
           let more : i + length (linesFrom o (k - i) i .lines) ≡ i + suc (length (after .lines)) = ap (λ (x : RowLines). i + length (x .lines)) is in
           let five : (i + 1) * 5 ≡ suc (suc (suc (suc (suc (i * 5))))) = omega arith in
           record {
@@ -110,10 +108,10 @@ module _ {o : OpenRow} {k : ℕ} {old : List ℕ} where
       pub refused : {r : Refusal} → refusalOf (listVerdict (tableOn o) (layersOn o i)) ≡ some (numberOf r) → Drives (drivingOf (linesFrom o k 0)) old (Refused r i) new
       refused {r} h = by (listVerdict (tableOn o) (layersOn o i)) refl h
         where
-          by : (x : Verdict) → listVerdict (tableOn o) (layersOn o i) ≡ x → refusalOf x ≡ some (numberOf r) → Drives (drivingOf (linesFrom o k 0)) old (Refused r i) new
-          by Pass e h = absurd (let z : _≡_ {A = ℕ} 0 1 = cc in omega arith)
-          by (Refuse x) e h =
-              let is : linesFrom o (k - i) i ≡ record { lines = []; end = Refuse x } = by-verdict ∙ ap (λ (y : Verdict). linesBy y (lineOn o i) (linesFrom o (k - (i + 1)) (i + 1))) e in
+          by : (x : Judgement) → listVerdict (tableOn o) (layersOn o i) ≡ x → refusalOf x ≡ some (numberOf r) → Drives (drivingOf (linesFrom o k 0)) old (Refused r i) new
+          by pass e h = absurd (let z : _≡_ {A = ℕ} 0 1 = cc in omega arith)
+          by (refuse x) e h =
+              let is : linesFrom o (k - i) i ≡ record { lines = []; end = refuse x } = by-verdict ∙ ap (λ (y : Judgement). linesBy y (lineOn o i) (linesFrom o (k - (i + 1)) (i + 1))) e in
               let f = finished (ap (λ (y : RowLines). y .lines) is) in
               let ends : some (numberOf r) ≡ refusalOf (linesFrom o k 0 .end) = sym h ∙ ap refusalOf (sym (ap (λ (y : RowLines). y .end) is) ∙ v .end-is) in
-              record { answer = λ j. record { written = f .0 j; refusal = ends j }; lines-are = f .1 }
+              record { answer = λ j. record { written = f .0 j; refusal = ends j }; long = v .long; lines-are = f .1 }

@@ -2,6 +2,7 @@
 use mathlib.Core.Path.{_≡_, refl, ap, sym, _∙_}
 use mathlib.Core.Bool.{Bool, true, false, cond}
 use mathlib.Core.List.{List, [], _∷_}
+use mathlib.Core.Option.{none}
 use Prim.Native.Nat.{ℕ, suc, _+_}
 use native.Mathlib.Omega.{arith}
 use lib.Count.{ones}
@@ -13,26 +14,25 @@ use Rattle.queue.specs.Queue.{Carry, idsIn}
 use Rattle.cached_tile.specs.Kept.{noTile}
 use Rattle.tile_layers.specs.Listing.{Listed, incomingOf, areKnown}
 use Rattle.tile_layers.specs.Carrying.{handedOn}
-use Rattle.passes.specs.Decide.{codeOf}
+use Rattle.passes.specs.Decision.{codeOf}
 use Rattle.layer_workbench.specs.Work.{outcomeIn}
 use Rattle.row_carries.proofs.Carried.{queue-next}
 use Rattle.painter.specs.Clip.{clipAfter}
-use Rattle.painter.specs.declared.Clip.the-variants.{Absent}
-use Rattle.tile_row.specs.Due.{OpenRow, tableOn, queueOn, layersOn, funcOn, markOn}
-use Rattle.tile_row.specs.Holding.{IsOpen}
-use Rattle.tile_row.proofs.PaintSteps.{row-mark}
+use Rattle.layer_workbench.specs.declared.PreviousClear.the-variants.{Absent}
+use Rattle.row_statements.specs.Due.{OpenRow, tableOn, queueOn, layersOn, funcOn, markOn}
+use Rattle.row_statements.specs.InnerHolding.{IsOpen}
+use Rattle.row_statements.proofs.PaintSteps.{row-mark}
 use Rattle.row_driver.specs.Shown.{shownIn}
-use Rattle.row_driver.specs.Lines.{clearColor, noPrevious, isPaint, decidedOn, shownOn, octetsOn, lineOn}
-use Rattle.row_driver.specs.Steps.{atStart, tallyNext, tallied}
+use Rattle.row_driver.specs.Lines.{clearColor, isPaint, decidedOn, shownOn, octetsOn, lineOn}
+use Rattle.row_driver.specs.InnerSteps.{Sum, atStart, tallyNext, tallied}
 use Rattle.row_driver.specs.declared.Line.{Line}
-use Rattle.row_driver.specs.declared.tally.Tally.{Tally}
 use Rattle.row_driver.proofs.Tallying.{next-shown}
 
 -- ---- what a walk tallies
 
 module _ (table : List Layer) (queue : List Carry) (part : List ℕ) where
   -- as many as there are
-  tallied-shown : (paints : Bool) (ids : List ℕ) (t : Tally) → tallied paints table queue part t ids .shown ≡ t .shown + length ids
+  tallied-shown : (paints : Bool) (ids : List ℕ) (t : Sum) → tallied paints table queue part t ids .shown ≡ t .shown + length ids
   unfolding tallied
   tallied-shown paints [] t = omega arith
   tallied-shown paints (id ∷ ids) t =
@@ -40,7 +40,7 @@ module _ (table : List Layer) (queue : List Carry) (part : List ℕ) where
       omega (arith, step, next-shown paints table queue part t id)
 
   -- where the tile is not painted, no octet is used
-  tallied-none : (ids : List ℕ) (t : Tally) → tallied false table queue part t ids .octets ≡ t .octets
+  tallied-none : (ids : List ℕ) (t : Sum) → tallied false table queue part t ids .octets ≡ t .octets
   unfolding tallied tallyNext
   tallied-none [] t = refl
   tallied-none (id ∷ ids) t = tallied-none ids (tallyNext false table queue part t id)
@@ -50,7 +50,7 @@ module _ {o : OpenRow} (is-open : IsOpen o) (n : ℕ) (known : areKnown (tableOn
   part : List ℕ
   part = tilePart (pos (o .from + n)) (o .row)
 
-  tallied-octets : (ids : List ℕ) (t : Tally) → tallied true (tableOn o) (queueOn o n) part t ids .octets ≡ t .octets + octetsOn o n (t .clip) ids
+  tallied-octets : (ids : List ℕ) (t : Sum) → tallied true (tableOn o) (queueOn o n) part t ids .octets ≡ t .octets + octetsOn o n (t .clip) ids
   unfolding tallied tallyNext octetsOn part
   tallied-octets [] t = omega arith
   tallied-octets (id ∷ ids) t =
@@ -62,7 +62,7 @@ module _ {o : OpenRow} (is-open : IsOpen o) (n : ℕ) (known : areKnown (tableOn
       assoc : (x y z : ℕ) → x + y + z ≡ x + (y + z)
       assoc x y z = omega arith
 
-  octets-due : (paints : Bool) (ids : List ℕ) → tallied paints (tableOn o) (queueOn o n) part atStart ids .octets ≡ cond paints (octetsOn o n Absent ids) 0
+  octets-due : (paints : Bool) (ids : List ℕ) → tallied paints (tableOn o) (queueOn o n) part atStart ids .octets ≡ cond paints (octetsOn o n none ids) 0
   octets-due true ids = let e = tallied-octets ids atStart in omega (arith, e)
   octets-due false ids = tallied-none (tableOn o) (queueOn o n) part ids atStart
 
@@ -70,8 +70,8 @@ module _ {o : OpenRow} (is-open : IsOpen o) (n : ℕ) (known : areKnown (tableOn
 
   abbrev lineFor : List Listed → List Carry → List ℕ → Line
   lineFor ls q p =
-      let out = outcomeIn (tableOn o) noTile clearColor noPrevious ls in
-      let t = tallied (isPaint (out .decision)) (tableOn o) q p atStart (shownIn (out .skipped) (out .shown) (idsIn (incomingOf ls))) in
+      let out = outcomeIn (tableOn o) noTile clearColor Absent ls in
+      let t = tallied (isPaint (out .decision)) (tableOn o) q p atStart (shownIn (out .skipped) (out .unmasked) (idsIn (incomingOf ls))) in
       record { decision = codeOf (out .decision); listed = length ls; shown = t .shown; octets = t .octets; carried = length (handedOn (tableOn o) ls) }
 
   line-due : lineFor (layersOn o n) (queueOn o n) part ≡ lineOn o n

@@ -19,33 +19,34 @@ use Rattle.pixel_segment.proofs.TileParts.{layer-part}
 use Rattle.styling.specs.Ascending.{strictlyAscends}
 use Rattle.styling.specs.Lookup.{lookup}
 use Rattle.styling.specs.declared.Layer.{Layer}
-use Rattle.cover.specs.Carry.{isLight}
-use Rattle.queue.specs.Queue.{Carry, queueOf, idsIn}
+use Rattle.cover_statements.specs.Carry.{isLight}
+use Rattle.queue.specs.Queue.{Carry, idsIn}
 use Rattle.queue.proofs.Judging as queue-judging
 use Rattle.queue.proofs.Queues.{ids-queue}
 use Rattle.tile_layers.specs.Listing.{Listed, noListed, layersIn, incomingOf, isGiven}
 use Rattle.tile_layers.proofs.Handing.{handed-few}
 use Rattle.passes.specs.Item.{itemOf}
 use Rattle.passes.proofs.Words.{outcome-long}
-use Rattle.passes.specs.Decide.{codeOf}
+use Rattle.passes.specs.Decision.{codeOf, decisionIn}
 use Rattle.layer_workbench.specs.Work.{entryOf, outcomeOn, clearUnchanged, countFrom}
 use Rattle.cached_tile.specs.Kept.{previousCount}
 use Rattle.row_carries.proofs.Merged.{listed-cover, listed-own}
 use Rattle.painter.specs.Painting.{isLightIn}
-use Rattle.tile_row.specs.TileWork.{WorkArgs, WorkLent, tableIn, listedIn, outcomeFor, carriesFor, layersVerdict, workedBy, workAnswer, GivesWork}
-use Rattle.tile_row.specs.Refusal.{numberOf}
-use Rattle.tile_row.specs.declared.Refusal.{Refusal}
-use Rattle.tile_row.specs.declared.RowState.{RowState}
-use Rattle.tile_row.specs.declared.Verdict.{Verdict}
-use Rattle.tile_row.specs.declared.Verdict.the-variants.{Pass, Refuse}
-use Rattle.tile_row.specs.declared.working.TileDone.{TileDone}
-use Rattle.tile_row.specs.declared.working.TileWorked.{TileWorked}
-use Rattle.tile_row.specs.declared.working.WorkAnswer.the-variants as worked
-use Rattle.tile_row.proofs.TileWorks.{Listable, list-passed}
-use Rattle.tile_row.proofs.PaintVerdicts.{layer-passed}
+use Rattle.refusals.specs.Refusal.{Judgement, pass, refuse, numberOf}
+use Rattle.refusals.specs.declared.Refusal.{Refusal}
+use Rattle.row_statements.specs.Lent.{Columns, ListColumns, carriesIn, layersOf}
+use Rattle.row_statements.specs.State.{State, stateIn}
+use Rattle.row_statements.specs.TileWork.{WorkCall, WorkLent, TileTold, listedFor, saysFor, layersVerdict, toldIn, toldBy, workOut, workAnswer, GivesWork}
+use Rattle.row_statements.specs.InnerWork.{workedBy}
+use Rattle.row_statements.specs.declared.RowState.{RowState}
+use Rattle.row_statements.specs.declared.TileDone.{TileDone}
+use Rattle.row_statements.specs.declared.TileWorked.{TileWorked}
+use Rattle.row_statements.specs.declared.WorkAnswer.the-variants as worked
+use Rattle.row_statements.proofs.Works.{Listable, list-passed}
+use Rattle.row_statements.proofs.Paintings.{layer-passed}
 use Rattle.row_driver.specs.Shown.{shownIn}
 use Rattle.row_driver.specs.Lines.{isPaint}
-use Rattle.row_driver.specs.Steps.{atStart, tallied, tallyAt, lineAt, Painter, Paintable, Walkable, Workable}
+use Rattle.row_driver.specs.InnerSteps.{sumIn, atStart, tallied, tallyAt, lineAt, Painter, Paintable, Walkable, Workable}
 use Rattle.row_driver.specs.declared.Line.{Line}
 use Rattle.row_driver.specs.declared.tally.Tally.{Tally}
 
@@ -78,102 +79,113 @@ front ws old n e = ap (λ (k : ℕ). take k (over ws old)) e ∙ take-append-sea
 
 -- ---- a work that asks what `work_line` does
 
-module _ (a : WorkArgs) (lent : WorkLent) (ready : Workable a lent) where
+module _ (a : WorkCall) (lent : WorkLent) (ready : Workable a lent) where
   queue : List Carry
-  queue = queueOf (a .state .left) (a .ids) (a .covers)
+  queue = carriesIn (a .state .left) (a .queue)
 
   part : List ℕ
   part = tilePart (a .tile) (a .row)
 
   ascends : strictlyAscends (idsIn queue) ≡ true
   unfolding queue
-  ascends = ap strictlyAscends (ids-queue (a .state .left) (a .ids) (a .covers) (ready .judged .walks .long)) ∙ queue-judging.ordered (a .state .left) (a .ids) (ready .in-queue) .ascending
+  ascends = ap strictlyAscends (ids-queue (a .state .left) (a .queue .ids) (a .queue .covers) (ready .judged .walks .long)) ∙ queue-judging.ordered (a .state .left) (a .queue .ids) (ready .in-queue) .ascending
 
-  pub painter : Painter (a .state .left) (a .ids) (a .covers) (tilePart (a .tile) (a .row)) (a .words) (a .floats) (a .count)
+  pub painter : Painter (a .state .left) (a .queue .ids) (a .queue .covers) (tilePart (a .tile) (a .row)) (a .table .words) (a .table .floats) (a .table .count)
   painter =
       let j = ready .judged in
       record {
-        queued = record { ids-long = j .walks .long; covers-long = omega (arith, j .covers-long); ascending = queue-judging.ordered (a .state .left) (a .ids) (ready .in-queue) .ascending };
+        queued = record { ids-long = j .walks .long; covers-long = omega (arith, j .covers-long); ascending = queue-judging.ordered (a .state .left) (a .queue .ids) (ready .in-queue) .ascending };
         walks = j .walks;
         in-table = j .in-table;
       }
 
   -- what an accepted work says and leaves
   pub record Accepted (d : TileDone) (s : RowState) (back : WorkLent) : Type 0 where
-    pub passes : layersVerdict a ≡ Pass
-    pub done : d ≡ record { decision = outcomeFor a .decision; listed = length (listedIn a); skipped = record { 0 = outcomeFor a .skipped } }
-    pub left : s .left ≡ length (carriesFor a)
-    pub list-ids : back .listIds ≡ over (idsIn (incomingOf (listedIn a))) (lent .listIds)
-    pub list-shown : back .listShown ≡ over (outcomeFor a .shown) (lent .listShown)
+    pub passes : layersVerdict a ≡ pass
+    pub done : toldIn d ≡ toldBy (saysFor a)
+    pub left : s .left ≡ length (saysFor a .handed)
+    pub list-ids : back .list .ids ≡ over (idsIn (incomingOf (listedFor a))) (lent .list .ids)
+    pub list-unmasked : back .list .unmasked ≡ over (saysFor a .outcome .unmasked) (lent .list .unmasked)
 
-  pub accepted : {w : TileWorked} {back : WorkLent} {d : TileDone} → w .answer ≡ worked.Done d → GivesWork (workedBy (layersVerdict a) a lent) w back → Accepted d (w .state) back
-  unfolding workedBy
+  pub accepted : {w : TileWorked} {back : WorkLent} {d : TileDone} → w .answer ≡ worked.Done d → GivesWork (workedBy a lent) w back → Accepted d (w .state) back
+  unfolding workOut
   accepted {w} {back} {d} e g = by (layersVerdict a) refl (sym (ap workAnswer e) ∙ g .answer) (g .state) (g .lent-is)
     where
-      by : (v : Verdict) → layersVerdict a ≡ v → given d ≡ workedBy v a lent .answer → w .state ≡ workedBy v a lent .state → back ≡ workedBy v a lent .lent → Accepted d (w .state) back
-      by (Refuse r) ev ea es el = absurd (let z : _≡_ {A = ℕ} 0 1 = cc in omega arith)
-      by Pass ev ea es el =
+      by : (v : Judgement) → layersVerdict a ≡ v → given (toldIn d) ≡ workOut v (saysFor a) (a .state) (a .kept) lent .answer → stateIn (w .state) ≡ workOut v (saysFor a) (a .state) (a .kept) lent .state → back ≡ workOut v (saysFor a) (a .state) (a .kept) lent .lent → Accepted d (w .state) back
+      by (refuse n) ev ea es el = absurd (let z : _≡_ {A = ℕ} 0 1 = cc in omega arith)
+      by pass ev ea es el =
           record {
             passes = ev;
             done = cc;
-            left = ap (λ (x : RowState). x .left) es;
-            list-ids = ap (λ (x : WorkLent). x .listIds) el;
-            list-shown = ap (λ (x : WorkLent). x .listShown) el;
+            left = ap (λ (x : State). x .left) es;
+            list-ids = ap (λ (x : WorkLent). x .list .ids) el;
+            list-unmasked = ap (λ (x : WorkLent). x .list .unmasked) el;
           }
 
   -- a refused one is not accepted
-  pub line-refused : {w : TileWorked} {back : WorkLent} {k : Refusal} → w .answer ≡ worked.Refused k → GivesWork (workedBy (layersVerdict a) a lent) w back → layersVerdict a ≡ Pass → ⊥
-  unfolding workedBy
+  pub line-refused : {w : TileWorked} {back : WorkLent} {k : Refusal} → w .answer ≡ worked.Refused k → GivesWork (workedBy a lent) w back → layersVerdict a ≡ pass → ⊥
+  unfolding workOut
   line-refused {w} {back} {k} e g v =
-      let same : refused (numberOf k) ≡ workedBy Pass a lent .answer = sym (ap workAnswer e) ∙ g .answer ∙ ap (λ (x : Verdict). workedBy x a lent .answer) v in
+      let same : refused (numberOf k) ≡ workOut pass (saysFor a) (a .state) (a .kept) lent .answer = sym (ap workAnswer e) ∙ g .answer ∙ ap (λ (x : Judgement). workOut x (saysFor a) (a .state) (a .kept) lent .answer) v in
       let z : _≡_ {A = ℕ} 0 1 = cc in omega arith
 
   -- as many flags as layers
-  flags-long : length (outcomeFor a .shown) ≡ length (listedIn a)
+  flags-long : length (saysFor a .outcome .unmasked) ≡ length (listedFor a)
   unfolding outcomeOn
   flags-long =
-      outcome-long (a .clear) (clearUnchanged (a .previous) (a .clear)) (countFrom (previousCount (a .kept))) (map (itemOf (tableIn a)) (map entryOf (listedIn a)))
-      ∙ length-map (map entryOf (listedIn a)) (itemOf (tableIn a)) ∙ length-map (listedIn a) entryOf
+      outcome-long (a .clear) (clearUnchanged (a .previous) (a .clear)) (countFrom (previousCount (a .kept))) (map (itemOf (layersOf (a .table))) (map entryOf (listedFor a)))
+      ∙ length-map (map entryOf (listedFor a)) (itemOf (layersOf (a .table))) ∙ length-map (listedFor a) entryOf
 
-  ids-long : length (idsIn (incomingOf (listedIn a))) ≡ length (listedIn a)
-  ids-long = length-map (incomingOf (listedIn a)) (λ c. c .id) ∙ length-map (listedIn a) (λ x. record { id = x .id; cover = x .cover })
+  ids-long : length (idsIn (incomingOf (listedFor a))) ≡ length (listedFor a)
+  ids-long = length-map (incomingOf (listedFor a)) (λ c. c .id) ∙ length-map (listedFor a) (λ x. record { id = x .id; cover = x .cover })
 
   module _ {d : TileDone} {s : RowState} {back : WorkLent} (t : Accepted d s back) where
-    listable : Listable (tableIn a) (listedIn a)
-    listable = list-passed (tableIn a) (listedIn a) (t .passes)
+    listable : Listable (layersOf (a .table)) (listedFor a)
+    listable = list-passed (layersOf (a .table)) (listedFor a) (t .passes)
 
-    pub count : d .listed ≡ length (listedIn a)
-    count = ap (λ (x : TileDone). x .listed) (t .done)
+    pub count : d .listed ≡ length (listedFor a)
+    count = ap (λ (x : TileTold). x .listed) (t .done)
 
     pub few : (d .listed ≤ 256) × (s .left ≤ 256)
-    few = (omega (arith, count, listable .few), omega (arith, t .left, listable .few, handed-few (tableIn a) (listedIn a)))
+    few = (omega (arith, count, listable .few), omega (arith, t .left, listable .few, handed-few (layersOf (a .table)) (listedFor a)))
 
-    ids-front : take (d .listed) (back .listIds) ≡ idsIn (incomingOf (listedIn a))
-    ids-front = ap (take (d .listed)) (t .list-ids) ∙ front (idsIn (incomingOf (listedIn a))) (lent .listIds) (d .listed) (count ∙ sym ids-long)
+    ids-front : take (d .listed) (back .list .ids) ≡ idsIn (incomingOf (listedFor a))
+    ids-front = ap (take (d .listed)) (t .list-ids) ∙ front (idsIn (incomingOf (listedFor a))) (lent .list .ids) (d .listed) (count ∙ sym ids-long)
 
-    shown-front : take (d .listed) (back .listShown) ≡ outcomeFor a .shown
-    shown-front = ap (take (d .listed)) (t .list-shown) ∙ front (outcomeFor a .shown) (lent .listShown) (d .listed) (count ∙ sym flags-long)
+    unmasked-front : take (d .listed) (back .list .unmasked) ≡ saysFor a .outcome .unmasked
+    unmasked-front = ap (take (d .listed)) (t .list-unmasked) ∙ front (saysFor a .outcome .unmasked) (lent .list .unmasked) (d .listed) (count ∙ sym flags-long)
 
-    pub walkable : Walkable (tableIn a) (queueOf (a .state .left) (a .ids) (a .covers)) (tilePart (a .tile) (a .row)) (back .listIds) (back .listShown) (d .listed)
+    pub walkable : Walkable (layersOf (a .table)) (carriesIn (a .state .left) (a .queue)) (tilePart (a .tile) (a .row)) (back .list .ids) (back .list .unmasked) (d .listed)
     unfolding queue part
     walkable =
         let r = ready .judged .rooms in
-        let ids : length (back .listIds) ≡ length (lent .listIds) = ap length (t .list-ids) ∙ length-over (lent .listIds) (idsIn (incomingOf (listedIn a))) (omega (arith, ids-long, listable .few, r .list-ids)) in
-        let flags : length (back .listShown) ≡ length (lent .listShown) = ap length (t .list-shown) ∙ length-over (lent .listShown) (outcomeFor a .shown) (omega (arith, flags-long, listable .few, r .list-shown)) in
+        let ids : length (back .list .ids) ≡ length (lent .list .ids) = ap length (t .list-ids) ∙ length-over (lent .list .ids) (idsIn (incomingOf (listedFor a))) (omega (arith, ids-long, listable .few, r .list-ids)) in
+        let flags : length (back .list .unmasked) ≡ length (lent .list .unmasked) = ap length (t .list-unmasked) ∙ length-over (lent .list .unmasked) (saysFor a .outcome .unmasked) (omega (arith, flags-long, listable .few, r .list-unmasked)) in
         record {
           few = few .0;
           ids-long = omega (arith, few, ids, r .list-ids);
-          shown-long = omega (arith, few, flags, r .list-shown);
+          unmasked-long = omega (arith, few, flags, r .list-unmasked);
           each =
               λ i h.
-              let id : getD (back .listIds) i 0 ≡ getD (listedIn a) i noListed .id = sym (getD-take (d .listed) (back .listIds) i 0 h) ∙ ap (λ (l : List ℕ). getD l i 0) ids-front ∙ id-at (listedIn a) i (omega (arith, h, count)) in
-              subst (Paintable (tableIn a) queue part) (sym id) (paintable (tableIn a) queue part ascends (ready .judged .walks .ordered) listable i (omega (arith, h, count)));
+              let id : getD (back .list .ids) i 0 ≡ getD (listedFor a) i noListed .id = sym (getD-take (d .listed) (back .list .ids) i 0 h) ∙ ap (λ (l : List ℕ). getD l i 0) ids-front ∙ id-at (listedFor a) i (omega (arith, h, count)) in
+              subst (Paintable (layersOf (a .table)) queue part) (sym id) (paintable (layersOf (a .table)) queue part ascends (ready .judged .walks .ordered) listable i (omega (arith, h, count)));
         }
 
-    -- the line, from what the lent list tallies
-    pub line-done : {tally : Tally} {line : Line} → tally ≡ tallied (isPaint (d .decision)) (tableIn a) (queueOf (a .state .left) (a .ids) (a .covers)) (tilePart (a .tile) (a .row)) atStart (shownIn (d .skipped .0) (take (d .listed) (back .listShown)) (take (d .listed) (back .listIds)))
-        → line ≡ record { decision = codeOf (d .decision); listed = d .listed; shown = tally .shown; octets = tally .octets; carried = s .left } → line ≡ lineAt a
+    -- the line, from what the lent list sums up to
+    pub line-done : (tally : Tally) {line : Line} → sumIn tally ≡ tallied (isPaint (decisionIn (d .decision))) (layersOf (a .table)) (carriesIn (a .state .left) (a .queue)) (tilePart (a .tile) (a .row)) atStart (shownIn (d .skipped .0) (take (d .listed) (back .list .unmasked)) (take (d .listed) (back .list .ids)))
+        → line ≡ record { decision = codeOf (decisionIn (d .decision)); listed = d .listed; shown = tally .shown; octets = tally .octets; carried = s .left } → line ≡ lineAt a
     unfolding lineAt
-    line-done {tally} {line} e el =
-        let same : tally ≡ tallyAt a = e ∙ rw (ids-front, shown-front, t .done) in
-        el ∙ rw (same, t .done, t .left)
+    line-done tally {line} e el =
+        let same : sumIn tally ≡ tallyAt a =
+        e
+        ∙ rw (ids-front, unmasked-front)
+        (ap (λ (x : TileTold). tallied (isPaint (x .decision)) (layersOf (a .table)) (carriesIn (a .state .left) (a .queue)) (tilePart (a .tile) (a .row)) atStart (shownIn (x .skipped) (saysFor a .outcome .unmasked) (idsIn (incomingOf (listedFor a))))) (t .done)) in
+        el
+        ∙ (λ i.
+        record {
+          decision = codeOf (t .done i .decision);
+          listed = t .done i .listed;
+          shown = same i .shown;
+          octets = same i .octets;
+          carried = t .left i;
+        })

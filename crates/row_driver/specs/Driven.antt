@@ -1,24 +1,21 @@
--- What driving a row promises: how many lines are written, the refusal that ended it, and every entry of the lent array. Room for the lines is
--- judged first (1), then the opening, then the tiles one after the other. Stands for 'a refusal [..] after the names and the tiles already
--- worked' of the row program.
+-- What driving a row promises: how many lines are written, the refusal that ended it, and every entry of the lent array, which has a line for each
+-- tile that a row can have. The opening is judged first, then the tiles one after the other. Stands for 'a refusal [..] after the names and the
+-- tiles already worked' of the row program.
 use mathlib.Core.Path.{_≡_}
-use mathlib.Core.Bool.{Bool, cond}
 use mathlib.Core.List.{List, []}
 use mathlib.Core.Option.{Option, some, none}
-use Prim.Native.Nat.{ℕ, _-_, _/_, min}
-use lib.Dec.{ltb}
-use lib.Ieee.{Float}
+use Prim.Native.Nat.{ℕ, _-_, min}
 use lib.IntN.{ℤ, pos}
 use lib.ListN.{length, replicate}
 use Rattle.laws.specs.Answer.{Answer, refused, given}
 use Rattle.laws.specs.Integer.{plus}
 use Rattle.laws.specs.Lists.{over}
-use Rattle.tile_row.specs.Refusal.{numberOf}
-use Rattle.tile_row.specs.Opening.{openCount}
-use Rattle.tile_row.specs.Due.{OpenRow}
-use Rattle.tile_row.specs.Run.{openRow}
-use Rattle.tile_row.specs.declared.Verdict.{Verdict}
-use Rattle.tile_row.specs.declared.Verdict.the-variants.{Pass, Refuse}
+use Rattle.refusals.specs.Refusal.{Judgement, pass, refuse, numberOf}
+use Rattle.row_statements.specs.Lent.{Columns}
+use Rattle.row_statements.specs.State.{State}
+use Rattle.row_statements.specs.Opening.{OpenCall, openOf}
+use Rattle.row_statements.specs.Due.{OpenRow}
+use Rattle.row_statements.specs.Run.{openRow}
 use Rattle.row_driver.specs.Lines.{RowLines, linesFrom, wordsOf}
 use Rattle.row_driver.specs.declared.Line.{Line}
 use Rattle.row_driver.specs.declared.Driven.{Driven}
@@ -33,29 +30,23 @@ pub record Driving : Type 0 where
   pub lines : List Line
   pub refusal : Option ℕ
 
-abbrev pub refusalOf : Verdict → Option ℕ
-refusalOf Pass = none
-refusalOf (Refuse r) = some (numberOf r)
+abbrev pub refusalOf : Judgement → Option ℕ
+refusalOf pass = none
+refusalOf (refuse number) = some number
 
 abbrev pub drivingOf : RowLines → Driving
 drivingOf ls = record { lines = ls .lines; refusal = refusalOf (ls .end) }
 
 -- by what the opening answers, into an empty queue of 256 entries
-abbrev pub openedDriving : Answer ℕ → OpenRow → ℕ → Driving
-openedDriving (refused r) o k = record { lines = []; refusal = some r }
-openedDriving (given n) o k = drivingOf (linesFrom o k 0)
+abbrev pub openedDriving : Answer State → OpenRow → ℕ → Driving
+openedDriving (refused number) o k = record { lines = []; refusal = some number }
+openedDriving (given s) o k = drivingOf (linesFrom o k 0)
 
-abbrev pub rowCount : ℤ → ℤ → ℤ → List ℕ → List ℕ → List Float → ℕ → Answer ℕ
-rowCount tileY from to row words floats count = openCount tileY from to row words floats count (replicate 256 0) (replicate 4096 (pos 0))
+abbrev pub emptyQueue : Columns
+emptyQueue = record { ids = replicate 256 0; covers = replicate 4096 (pos 0) }
 
--- 1: the lent array has fewer lines than the row has tiles
-abbrev pub isLinesShort : List ℕ → ℕ → Bool
-isLinesShort lines due = ltb (length lines / 5) due
-
-unfoldable pub rowDriving : ℤ → ℤ → ℤ → ℤ → List ℕ → List ℕ → List Float → ℕ → List ℕ → Driving
-rowDriving tileY from to tiles row words floats count lines =
-    cond (isLinesShort lines (dueTiles from to tiles)) (record { lines = []; refusal = some 1 })
-    (openedDriving (rowCount tileY from to row words floats count) (openRow tileY from to row words floats count) (dueTiles from to tiles))
+unfoldable pub rowDriving : OpenCall → ℤ → Driving
+rowDriving c tiles = openedDriving (openOf c emptyQueue .answer) (openRow c) (dueTiles (c .from) (c .to) tiles)
 
 -- ---- the answer
 
@@ -71,4 +62,5 @@ toldBy (Refused r n) = record { written = n; refusal = some (numberOf r) }
 -- how many lines are written and the refusal, and the lines over what the array held
 pub record Drives (d : Driving) (old : List ℕ) (r : Driven) (lines : List ℕ) : Type 0 where
   pub answer : toldBy r ≡ record { written = length (d .lines); refusal = d .refusal }
+  pub long : length lines ≡ length old
   pub lines-are : lines ≡ over (wordsOf (d .lines)) old

@@ -13,4 +13,4 @@ flagged (s ∷ ss) (id ∷ ids) = cond s (id ∷ flagged ss ids) (flagged ss ids
 
 -- the ids of the shown layers, ascending: the first so many are skipped, and of the others those count that are not masked off
 abbrev pub shownIn : ℕ → List Bool → List ℕ → List ℕ
-shownIn skipped shown ids = flagged (drop skipped shown) (drop skipped ids)
+shownIn skipped unmasked ids = flagged (drop skipped unmasked) (drop skipped ids)

@@ -3,18 +3,19 @@
 pub mod tally;
 pub mod tile;
 
-use tile_row::Opened;
-use tile_row::Refusal;
-use tile_row::RowState;
-use tile_row::opening;
-use tile_row::working::WorkAnswer;
+use refusals::Refusal;
+use row_statements::Opened;
+use row_statements::RowState;
+use row_statements::WorkAnswer;
 ghost use mathlib.Core.Path.{_≡_};
 ghost use Prim.Native.Nat.{_+_, _≤_, min};
 ghost use lib.ListN.{length};
 ghost use lib.Seq.{sets};
+ghost use Rattle.row_statements.specs.Lent.{columns, listColumns, lentTable};
+ghost use Rattle.row_statements.specs.Opening.{openCall};
 ghost use Rattle.row_driver.specs.Lines.{linesFrom, lineWords};
 ghost use Rattle.row_driver.specs.Driven.{dueTiles, drivingOf, rowDriving, Drives};
-ghost use Rattle.row_driver.specs.Steps as steps;
+ghost use Rattle.row_driver.specs.InnerSteps as steps;
 
 // The line of a tile: the decision (0 none, 1 solid, 2 paint), layers listed, layers shown, used octets, carries handed on.
 pub struct Line {
@@ -41,8 +42,11 @@ fn least(a: u32, b: u32) -> u32
 fn due_tiles(from: i32, to: i32, tiles: i32) -> usize
     ensures { λ r. ⌜ r ≡ dueTiles from to tiles ⌝ }
 {
-    let end = least(least(opening::natural(to), opening::natural(tiles)), 4095);
-    let first = opening::natural(from);
+    let end = least(
+        least(row_state::natural(to), row_state::natural(tiles)),
+        4095,
+    );
+    let first = row_state::natural(from);
     if end < first {
         0
     } else {
@@ -76,11 +80,18 @@ fn drive_tiles(
     list_ids: &mut [u32],
     list_covers: &mut [i8],
     list_segments: &mut [bool],
-    list_shown: &mut [bool],
+    list_unmasked: &mut [bool],
     lines: &mut [u32],
 ) -> Driven
-    requires { ⌜ steps.Drivable (steps.rowBy state (now row) (now layers) (now colors) count) state n (record { ids = now «a_ids»; covers = now «a_covers» }) (record { ids = now «b_ids»; covers = now «b_covers» }) (record { ids = now «list_ids»; covers = now «list_covers»; segments = now «list_segments»; shown = now «list_shown» }) (now lines) ⌝ }
-    ensures { λ r. ⌜ Drives (drivingOf (linesFrom (steps.rowBy state (now (row .entry)) (now (layers .entry)) (now (colors .entry)) count) n 0)) (now (lines .entry)) r (now (lines .exit)) ⌝ }
+    requires { ⌜ steps.Drivable (steps.rowBy state (now row) (now layers) (now colors) count) state n
+        (columns (now «a_ids») (now «a_covers»)) (columns (now «b_ids») (now «b_covers»))
+        (listColumns (now «list_ids») (now «list_covers») (now «list_segments»)
+        (now «list_unmasked»))
+        (now lines) ⌝ }
+    ensures { λ r. ⌜ Drives
+        (drivingOf
+        (linesFrom (steps.rowBy state (now (row .entry)) (now (layers .entry)) (now (colors .entry)) count) n 0))
+        (now (lines .entry)) r (now (lines .exit)) ⌝ }
 {
     let mut at = state;
     let mut in_a = true;
@@ -101,7 +112,7 @@ fn drive_tiles(
             list_ids,
             list_covers,
             list_segments,
-            list_shown,
+            list_unmasked,
         );
         let worked = step.worked;
         let line = step.line;
@@ -133,15 +144,19 @@ fn drive_open(
     covers: &mut [i8],
     lines: &mut [u32],
 ) -> Driven
-    requires { ⌜ steps.Opened (steps.rowBy state (now row) (now layers) (now colors) count) state n (record { ids = now ids; covers = now covers }) (now lines) ⌝ }
-    ensures { λ r. ⌜ Drives (drivingOf (linesFrom (steps.rowBy state (now (row .entry)) (now (layers .entry)) (now (colors .entry)) count) n 0)) (now (lines .entry)) r (now (lines .exit)) ⌝ }
+    requires { ⌜ steps.Opened (steps.rowBy state (now row) (now layers) (now colors) count) state n
+        (columns (now ids) (now covers)) (now lines) ⌝ }
+    ensures { λ r. ⌜ Drives
+        (drivingOf
+        (linesFrom (steps.rowBy state (now (row .entry)) (now (layers .entry)) (now (colors .entry)) count) n 0))
+        (now (lines .entry)) r (now (lines .exit)) ⌝ }
 {
     let mut next_ids = [0u32; 256];
     let mut next_covers = [0i8; 4096];
     let mut list_ids = [0u32; 256];
     let mut list_covers = [0i8; 4096];
     let mut list_segments = [false; 256];
-    let mut list_shown = [false; 256];
+    let mut list_unmasked = [false; 256];
     drive_tiles(
         state,
         n,
@@ -156,12 +171,13 @@ fn drive_open(
         &mut list_ids,
         &mut list_covers,
         &mut list_segments,
-        &mut list_shown,
+        &mut list_unmasked,
         lines,
     )
 }
 
-// Drives the tiles of from..to that a row of so many tiles has. Five words of `lines` are written for each tile, up to the first that is refused.
+// Drives the tiles of from..to that a row of so many tiles has. Five words of `lines` are written for each tile, up to the first
+// that is refused; there are words for 4,095 tiles, as many as a row can have.
 pub fn drive_row(
     tile_y: i32,
     from: i32,
@@ -171,17 +187,18 @@ pub fn drive_row(
     layers: &[u32],
     colors: &[f32],
     count: usize,
-    lines: &mut [u32],
+    lines: &mut [u32; 20475],
 ) -> Driven
-    ensures { λ r. ⌜ Drives (rowDriving «tile_y» from to tiles (now (row .entry)) (now (layers .entry)) (now (colors .entry)) count (now (lines .entry))) (now (lines .entry)) r (now (lines .exit)) ⌝ }
+    ensures { λ r. ⌜ Drives
+        (rowDriving
+        (openCall «tile_y» from to (now (row .entry)) (lentTable (now (layers .entry)) (now (colors .entry)) count))
+        tiles)
+        (now (lines .entry)) r (now (lines .exit)) ⌝ }
 {
     let n = due_tiles(from, to, tiles);
-    if lines.len() / 5 < n {
-        return Driven::Refused(Refusal::Room, 0);
-    }
     let mut ids = [0u32; 256];
     let mut covers = [0i8; 4096];
-    match opening::open_tile_row(
+    match row_opening::open_tile_row(
         tile_y,
         from,
         to,

@@ -10,7 +10,8 @@ ghost use lib.ListN.{length, take};
 ghost use Rattle.styling.specs.Table.{tableOf};
 ghost use Rattle.queue.specs.Queue.{queueOf};
 ghost use Rattle.row_driver.specs.Shown.{shownIn};
-ghost use Rattle.row_driver.specs.Steps.{atStart, tallyNext, tallied, Painter, Paintable, Walkable};
+ghost use Rattle.row_driver.specs.InnerSteps.{sumIn, atStart, tallyNext, tallied};
+ghost use Rattle.row_driver.specs.InnerSteps.{Painter, Paintable, Walkable};
 
 // The painter's clip, how many layers were shown so far, and how many octets they used.
 pub struct Tally {
@@ -40,8 +41,13 @@ fn tally_layer(
     tally: Tally,
     plane: &mut [f32],
 ) -> Tally
-    requires { ⌜ Painter n (now ids) (now covers) (now part) (now layers) (now colors) count × Paintable (tableOf (now layers) (now colors) count) (queueOf n (now ids) (now covers)) (now part) id × (256 ≤ length (now plane)) × (tally .shown ≤ 256) × (tally .octets ≤ 8192) ⌝ }
-    ensures { λ r. ⌜ (r ≡ tallyNext paints (tableOf (now (layers .entry)) (now (colors .entry)) count) (queueOf n (now (ids .entry)) (now (covers .entry))) (now (part .entry)) tally id) × (r .octets ≤ tally .octets + 32) ⌝ }
+    requires { ⌜ Painter n (now ids) (now covers) (now part) (now layers) (now colors) count
+        × Paintable (tableOf (now layers) (now colors) count) (queueOf n (now ids) (now covers)) (now part) id
+        × (256 ≤ length (now plane)) × (tally .shown ≤ 256) × (tally .octets ≤ 8192) ⌝ }
+    ensures { λ r. ⌜ (sumIn r ≡ tallyNext paints
+        (tableOf (now (layers .entry)) (now (colors .entry)) count)
+        (queueOf n (now (ids .entry)) (now (covers .entry))) (now (part .entry)) (sumIn tally) id)
+        × (r .octets ≤ tally .octets + 32) ⌝ }
 {
     let clip = tally.clip;
     if !paints {
@@ -51,7 +57,7 @@ fn tally_layer(
             octets: tally.octets,
         };
     }
-    let found = tile_row::painting::record_of(layers, colors, count, id);
+    let found = row_painting::record_of(layers, colors, count, id);
     let painted = painting::paint(
         ids,
         covers,
@@ -75,7 +81,7 @@ fn tally_layer(
 
 // A listed layer: one that is masked off leaves the tally.
 fn tally_entry(
-    shown: bool,
+    unmasked: bool,
     paints: bool,
     ids: &[u32],
     covers: &[i8],
@@ -88,10 +94,15 @@ fn tally_entry(
     tally: Tally,
     plane: &mut [f32],
 ) -> Tally
-    requires { ⌜ Painter n (now ids) (now covers) (now part) (now layers) (now colors) count × Paintable (tableOf (now layers) (now colors) count) (queueOf n (now ids) (now covers)) (now part) id × (256 ≤ length (now plane)) × (tally .shown ≤ 256) × (tally .octets ≤ 8192) ⌝ }
-    ensures { λ r. ⌜ (r ≡ cond shown (tallyNext paints (tableOf (now (layers .entry)) (now (colors .entry)) count) (queueOf n (now (ids .entry)) (now (covers .entry))) (now (part .entry)) tally id) tally) × (r .octets ≤ tally .octets + 32) ⌝ }
+    requires { ⌜ Painter n (now ids) (now covers) (now part) (now layers) (now colors) count
+        × Paintable (tableOf (now layers) (now colors) count) (queueOf n (now ids) (now covers)) (now part) id
+        × (256 ≤ length (now plane)) × (tally .shown ≤ 256) × (tally .octets ≤ 8192) ⌝ }
+    ensures { λ r. ⌜ (sumIn r ≡ cond unmasked (tallyNext paints
+        (tableOf (now (layers .entry)) (now (colors .entry)) count)
+        (queueOf n (now (ids .entry)) (now (covers .entry))) (now (part .entry)) (sumIn tally) id) (sumIn tally))
+        × (r .octets ≤ tally .octets + 32) ⌝ }
 {
-    if shown {
+    if unmasked {
         tally_layer(
             paints,
             ids,
@@ -121,12 +132,16 @@ pub fn tally_shown(
     colors: &[f32],
     count: usize,
     list_ids: &[u32],
-    list_shown: &[bool],
+    list_unmasked: &[bool],
     skipped: usize,
     listed: usize,
 ) -> Tally
-    requires { ⌜ Painter n (now ids) (now covers) (now part) (now layers) (now colors) count × Walkable (tableOf (now layers) (now colors) count) (queueOf n (now ids) (now covers)) (now part) (now «list_ids») (now «list_shown») listed ⌝ }
-    ensures { λ r. ⌜ r ≡ tallied paints (tableOf (now (layers .entry)) (now (colors .entry)) count) (queueOf n (now (ids .entry)) (now (covers .entry))) (now (part .entry)) atStart (shownIn skipped (take listed (now («list_shown» .entry))) (take listed (now («list_ids» .entry)))) ⌝ }
+    requires { ⌜ Painter n (now ids) (now covers) (now part) (now layers) (now colors) count
+        × Walkable (tableOf (now layers) (now colors) count) (queueOf n (now ids) (now covers)) (now part)
+        (now «list_ids») (now «list_unmasked») listed ⌝ }
+    ensures { λ r. ⌜ sumIn r ≡ tallied paints (tableOf (now (layers .entry)) (now (colors .entry)) count)
+        (queueOf n (now (ids .entry)) (now (covers .entry))) (now (part .entry)) atStart
+        (shownIn skipped (take listed (now («list_unmasked» .entry))) (take listed (now («list_ids» .entry)))) ⌝ }
 {
     let mut plane = [0.0f32; 256];
     let mut tally = Tally {
@@ -137,7 +152,7 @@ pub fn tally_shown(
     let mut i = skipped;
     while i < listed {
         tally = tally_entry(
-            list_shown[i],
+            list_unmasked[i],
             paints,
             ids,
             covers,

@@ -7,18 +7,19 @@ use layer_workbench::PreviousClear;
 use passes::decide;
 use passes::decide::Decision;
 use pixel_segment::parts;
+use row_statements::RowState;
+use row_statements::TileDone;
+use row_statements::TileWorked;
+use row_statements::WorkAnswer;
 use styling::Color;
-use tile_row::RowState;
-use tile_row::working;
-use tile_row::working::TileDone;
-use tile_row::working::TileWorked;
-use tile_row::working::WorkAnswer;
 ghost use mathlib.Core.Path.{_≡_};
 ghost use mathlib.Core.Bool.{not};
 ghost use Prim.Native.Nat.{_≤_};
-ghost use Rattle.passes.specs.Decide.{codeOf};
-ghost use Rattle.row_driver.specs.Lines.{clearColor, noPrevious, isPaint};
-ghost use Rattle.row_driver.specs.Steps.{argsOf, lentOf, side, Workable, WorksLine, Turns};
+ghost use Rattle.passes.specs.Decision.{codeOf, decisionIn};
+ghost use Rattle.row_statements.specs.Lent.{columns, listColumns};
+ghost use Rattle.row_statements.specs.TileWork.{workLent};
+ghost use Rattle.row_driver.specs.Lines.{clearColor, isPaint};
+ghost use Rattle.row_driver.specs.InnerSteps.{argsOf, side, Workable, WorksLine, Turns};
 
 // The work on a tile, and its line; the line of a refused tile says nothing.
 pub struct TileLine {
@@ -37,17 +38,8 @@ fn clear_color() -> Color
     }
 }
 
-fn no_previous() -> PreviousClear
-    ensures { λ r. ⌜ r ≡ noPrevious ⌝ }
-{
-    PreviousClear {
-        given: false,
-        color: clear_color(),
-    }
-}
-
 fn is_paint(decision: Decision) -> bool
-    ensures { λ r. ⌜ r ≡ isPaint decision ⌝ }
+    ensures { λ r. ⌜ r ≡ isPaint (decisionIn decision) ⌝ }
 {
     match decision {
         Decision::None => false,
@@ -68,7 +60,13 @@ fn blank() -> Line {
 
 fn line_of(done: TileDone, tally: Tally, left: usize) -> Line
     requires { ⌜ (done .listed ≤ 256) × (left ≤ 256) ⌝ }
-    ensures { λ r. ⌜ r ≡ record { decision = codeOf (done .decision); listed = done .listed; shown = tally .shown; octets = tally .octets; carried = left } ⌝ }
+    ensures { λ r. ⌜ r ≡ record {
+      decision = codeOf (decisionIn (done .decision));
+      listed = done .listed;
+      shown = tally .shown;
+      octets = tally .octets;
+      carried = left;
+    } ⌝ }
 {
     let decision = done.decision;
     Line {
@@ -95,12 +93,25 @@ fn work_line(
     list_ids: &mut [u32],
     list_covers: &mut [i8],
     list_segments: &mut [bool],
-    list_shown: &mut [bool],
+    list_unmasked: &mut [bool],
 ) -> TileLine
-    requires { ⌜ Workable (argsOf state tile (now row) (now layers) (now colors) count (record { ids = now ids; covers = now covers })) (lentOf (record { ids = now «next_ids»; covers = now «next_covers» }) (record { ids = now «list_ids»; covers = now «list_covers»; segments = now «list_segments»; shown = now «list_shown» })) ⌝ }
-    ensures { λ r. ⌜ WorksLine (argsOf state tile (now (row .entry)) (now (layers .entry)) (now (colors .entry)) count (record { ids = now (ids .entry); covers = now (covers .entry) })) (lentOf (record { ids = now («next_ids» .entry); covers = now («next_covers» .entry) }) (record { ids = now («list_ids» .entry); covers = now («list_covers» .entry); segments = now («list_segments» .entry); shown = now («list_shown» .entry) })) r (lentOf (record { ids = now («next_ids» .exit); covers = now («next_covers» .exit) }) (record { ids = now («list_ids» .exit); covers = now («list_covers» .exit); segments = now («list_segments» .exit); shown = now («list_shown» .exit) })) ⌝ }
+    requires { ⌜ Workable
+        (argsOf state tile (now row) (now layers) (now colors) count (columns (now ids) (now covers)))
+        (workLent (columns (now «next_ids») (now «next_covers»))
+        (listColumns (now «list_ids») (now «list_covers») (now «list_segments»)
+        (now «list_unmasked»))) ⌝ }
+    ensures { λ r. ⌜ WorksLine
+        (argsOf state tile (now (row .entry)) (now (layers .entry)) (now (colors .entry)) count
+        (columns (now (ids .entry)) (now (covers .entry))))
+        (workLent (columns (now («next_ids» .entry)) (now («next_covers» .entry)))
+        (listColumns (now («list_ids» .entry)) (now («list_covers» .entry)) (now («list_segments» .entry))
+        (now («list_unmasked» .entry))))
+        r
+        (workLent (columns (now («next_ids» .exit)) (now («next_covers» .exit)))
+        (listColumns (now («list_ids» .exit)) (now («list_covers» .exit)) (now («list_segments» .exit))
+        (now («list_unmasked» .exit)))) ⌝ }
 {
-    let worked = working::work_judged(
+    let worked = row_working::work_judged(
         state,
         tile,
         row,
@@ -109,7 +120,7 @@ fn work_line(
         count,
         Kept::absent(),
         clear_color(),
-        no_previous(),
+        PreviousClear::Absent,
         ids,
         covers,
         next_ids,
@@ -117,7 +128,7 @@ fn work_line(
         list_ids,
         list_covers,
         list_segments,
-        list_shown,
+        list_unmasked,
     );
     let answer = worked.answer;
     match answer {
@@ -140,7 +151,7 @@ fn work_line(
                 colors,
                 count,
                 list_ids,
-                list_shown,
+                list_unmasked,
                 skipped.0,
                 done.listed,
             );
@@ -168,10 +179,26 @@ pub fn turn(
     list_ids: &mut [u32],
     list_covers: &mut [i8],
     list_segments: &mut [bool],
-    list_shown: &mut [bool],
+    list_unmasked: &mut [bool],
 ) -> TileLine
-    requires { ⌜ Workable (argsOf state tile (now row) (now layers) (now colors) count (side «in_a» (record { ids = now «a_ids»; covers = now «a_covers» }) (record { ids = now «b_ids»; covers = now «b_covers» }))) (lentOf (side (not «in_a») (record { ids = now «a_ids»; covers = now «a_covers» }) (record { ids = now «b_ids»; covers = now «b_covers» })) (record { ids = now «list_ids»; covers = now «list_covers»; segments = now «list_segments»; shown = now «list_shown» })) ⌝ }
-    ensures { λ r. ⌜ Turns «in_a» state tile (now (row .entry)) (now (layers .entry)) (now (colors .entry)) count (record { ids = now («a_ids» .entry); covers = now («a_covers» .entry) }) (record { ids = now («b_ids» .entry); covers = now («b_covers» .entry) }) (record { ids = now («list_ids» .entry); covers = now («list_covers» .entry); segments = now («list_segments» .entry); shown = now («list_shown» .entry) }) r (record { ids = now («a_ids» .exit); covers = now («a_covers» .exit) }) (record { ids = now («b_ids» .exit); covers = now («b_covers» .exit) }) (record { ids = now («list_ids» .exit); covers = now («list_covers» .exit); segments = now («list_segments» .exit); shown = now («list_shown» .exit) }) ⌝ }
+    requires { ⌜ Workable
+        (argsOf state tile (now row) (now layers) (now colors) count
+        (side «in_a» (columns (now «a_ids») (now «a_covers»)) (columns (now «b_ids») (now «b_covers»))))
+        (workLent
+        (side (not «in_a») (columns (now «a_ids») (now «a_covers»)) (columns (now «b_ids») (now «b_covers»)))
+        (listColumns (now «list_ids») (now «list_covers») (now «list_segments»)
+        (now «list_unmasked»))) ⌝ }
+    ensures { λ r. ⌜ Turns «in_a» state tile
+        (now (row .entry)) (now (layers .entry)) (now (colors .entry)) count
+        (columns (now («a_ids» .entry)) (now («a_covers» .entry)))
+        (columns (now («b_ids» .entry)) (now («b_covers» .entry)))
+        (listColumns (now («list_ids» .entry)) (now («list_covers» .entry)) (now («list_segments» .entry))
+        (now («list_unmasked» .entry)))
+        r
+        (columns (now («a_ids» .exit)) (now («a_covers» .exit)))
+        (columns (now («b_ids» .exit)) (now («b_covers» .exit)))
+        (listColumns (now («list_ids» .exit)) (now («list_covers» .exit)) (now («list_segments» .exit))
+        (now («list_unmasked» .exit))) ⌝ }
 {
     if in_a {
         work_line(
@@ -188,7 +215,7 @@ pub fn turn(
             list_ids,
             list_covers,
             list_segments,
-            list_shown,
+            list_unmasked,
         )
     } else {
         work_line(
@@ -205,7 +232,7 @@ pub fn turn(
             list_ids,
             list_covers,
             list_segments,
-            list_shown,
+            list_unmasked,
         )
     }
 }

@@ -8,8 +8,8 @@ use native.Mathlib.Omega.{arith}
 use lib.ListN.{length}
 use Rattle.decimal.specs.Print.{Printing}
 use Rattle.decimal.proofs.Print.{joined}
-use Rattle.tile_row.specs.Refusal.{numberOf}
-use Rattle.tile_row.specs.declared.Refusal.{Refusal}
+use Rattle.refusals.specs.Refusal.{numberOf}
+use Rattle.refusals.specs.declared.Refusal.{Refusal}
 use Rattle.row_driver.specs.Driven.{Told, toldBy}
 use Rattle.row_driver.specs.declared.Driven.{Driven}
 use Rattle.row_driver.specs.declared.Driven.the-variants.{Done, Refused}

@@ -10,6 +10,7 @@ use lib.ListN.{length, getD, length-append}
 use mir.Syntax.{w32}
 use mir.Val.{Fits}
 use Rattle.decimal.specs.Print.{Printing}
+use Rattle.decimal.proofs.Print.{ten}
 use Rattle.report.specs.Text.{opField, tileText, refusalText}
 use Rattle.report.specs.Put.{placeOf, Put}
 use Rattle.report.specs.declared.Op.{Op}
@@ -17,7 +18,6 @@ use Rattle.report.specs.declared.Op.the-variants.{None, Solid, Paint}
 use Rattle.report.specs.declared.Printed.{Printed}
 use Rattle.report.specs.declared.Printed.the-variants.{Next, Full}
 use Rattle.report.specs.declared.TileLine.{TileLine}
-use Rattle.report.proofs.Lines.{ten}
 use Rattle.row_text.specs.Told.{placeOr, tileIn}
 
 -- ---- how long a line is at most

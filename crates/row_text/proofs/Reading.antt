@@ -135,7 +135,3 @@ module _ {text layers : List ℕ} {colors : List Float} {row : List ℕ} {r : Re
 -- a text by another name
 pub same-text : {s t out out′ : List ℕ} {r : ℕ} → s ≡ t → LineWritten t out r out′ → LineWritten s out r out′
 same-text {out = out} {out′ = out′} {r = r} e w = subst (λ (x : List ℕ). LineWritten x out r out′) (sym e) w
-
--- the answer lies within the buffer
-pub within : {text out out′ : List ℕ} {r n : ℕ} → LineWritten text out r out′ → length out ≡ n → r ≤ n
-within w e = omega (arith, w .answer, w .fits, e)

@@ -1,17 +1,16 @@
--- The text of the lines that a driver told is that of the driven row, and 4,095 lines are never too few.
+-- The text of the lines that a driver told is that of the driven row.
 -- Assumes nothing.
 use mathlib.Core.Path.{_≡_, refl, ap, ap₂, sym, subst, _∙_}
 use mathlib.Core.List.{List, [], _∷_, _++_, append-nil, append-assoc, flatten}
-use Prim.Native.Nat.{ℕ, zero, suc, _+_, _*_, _/_, _≤_, min}
-use native.Mathlib.Nat.{add-zero, min-le-right}
+use Prim.Native.Nat.{ℕ, zero, suc, _+_, _*_, _≤_}
+use native.Mathlib.Nat.{add-zero}
 use native.Mathlib.Omega.{arith}
-use borrow.Author.Tests.{le-ltb}
 use lib.Ieee.{Float}
 use lib.ListN.{length, drop, getD, length-append}
 use Rattle.laws.specs.Integer.{plus}
 use Rattle.laws.specs.Lists.{over}
 use Rattle.row_driver.specs.Lines.{lineWords, wordsOf}
-use Rattle.row_driver.specs.Driven.{Driving, Told, dueTiles, rowDriving, toldBy, Drives}
+use Rattle.row_driver.specs.Driven.{Driving, Told, toldBy, Drives}
 use Rattle.row_driver.specs.declared.Driven.{Driven}
 use Rattle.row_driver.specs.declared.Line.{Line}
 use Rattle.job_text.specs.declared.Head.{Head}
@@ -79,20 +78,12 @@ module _ {d : Driving} {old : List ℕ} {r : Driven} {told : List ℕ} (g : Driv
       let words = length-words (d .lines) in
       record { written = omega arith; few = omega arith; low = low; room = room }
 
--- ---- a row that is driven with room for 4,095 lines
+-- ---- a row that is driven
 
-module _ (h : Head) (row words : List ℕ) (floats : List Float) (count : ℕ) (lines : List ℕ) (long : length lines ≡ 20475) where
-  never-short : rowDriving (h .row) (h .from) (h .to) (h .tiles) row words floats count lines ≡ headDriving h row words floats count
-  unfolding rowDriving
-  never-short =
-      let due = dueTiles (h .from) (h .to) (h .tiles) in
-      let few : due ≤ length lines / 5 = omega (arith, min-le-right (min (plus (h .to)) (plus (h .tiles))) 4095) in
-      rw (le-ltb (length lines / 5) due few)
+module _ (h : Head) (row words : List ℕ) (floats : List Float) (count : ℕ) {lines : List ℕ} {r : Driven} {told : List ℕ} (g : Drives (headDriving h row words floats count) lines r told) {first : ℕ} (e : first ≡ plus (h .from)) where
+  pub all-told : {out : List ℕ} → length told ≡ 20475 → plus (h .from) ≤ 2147483647 → answerRoom ≤ length out → Tells told first (toldBy r) out
+  all-told l low room = tells g l (omega arith) room
 
-  module _ {r : Driven} {told : List ℕ} (g : Drives (rowDriving (h .row) (h .from) (h .to) (h .tiles) row words floats count lines) lines r told) {first : ℕ} (e : first ≡ plus (h .from)) where
-    pub all-told : {out : List ℕ} → length told ≡ 20475 → plus (h .from) ≤ 2147483647 → answerRoom ≤ length out → Tells told first (toldBy r) out
-    all-told l low room = tells g l (omega arith) room
-
-    pub text-is : {out out′ : List ℕ} {n : ℕ} → LineWritten (toldText told first (toldBy r)) out n out′
-        → LineWritten (drivingText (plus (h .from)) (headDriving h row words floats count)) out n out′
-    text-is {out} {out′} {n} w = subst (λ (t : List ℕ). LineWritten t out n out′) (told-text g first ∙ ap₂ drivingText e never-short) w
+  pub text-is : {out out′ : List ℕ} {n : ℕ} → LineWritten (toldText told first (toldBy r)) out n out′
+      → LineWritten (drivingText (plus (h .from)) (headDriving h row words floats count)) out n out′
+  text-is {out} {out′} {n} w = subst (λ (t : List ℕ). LineWritten t out n out′) (told-text g first ∙ ap (λ (k : ℕ). drivingText k (headDriving h row words floats count)) e) w

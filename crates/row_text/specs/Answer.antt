@@ -8,8 +8,9 @@ use lib.Dec.{eqb}
 use lib.Ieee.{Float}
 use lib.ListN.{length}
 use Rattle.laws.specs.Integer.{plus}
-use Rattle.tile_row.specs.Run.{openRow}
-use Rattle.row_driver.specs.Driven.{Driving, dueTiles, openedDriving, rowCount}
+use Rattle.row_statements.specs.Lent.{lentTable}
+use Rattle.row_statements.specs.Opening.{openCall}
+use Rattle.row_driver.specs.Driven.{Driving, rowDriving}
 use Rattle.row_driver.specs.declared.Line.{Line}
 use Rattle.job_text.specs.Job.{Job}
 use Rattle.job_text.specs.Parse.{parse}
@@ -46,8 +47,7 @@ drivingText first d = names ++ linesText first (d .lines) ++ lastText (d .refusa
 
 -- a row driven by the numbers of block 1, with a table of so many layers
 abbrev pub headDriving : Head → List ℕ → List ℕ → List Float → ℕ → Driving
-headDriving h row words floats count =
-    openedDriving (rowCount (h .row) (h .from) (h .to) row words floats count) (openRow (h .row) (h .from) (h .to) row words floats count) (dueTiles (h .from) (h .to) (h .tiles))
+headDriving h row words floats count = rowDriving (openCall (h .row) (h .from) (h .to) row (lentTable words floats count)) (h .tiles)
 
 unfoldable pub jobDriving : Job → Driving
 jobDriving j = headDriving (j .head) (rowWords (j .head .row) (j .segments)) (tableWords (j .layers)) (tableColors (j .layers)) (length (j .layers))

@@ -2,14 +2,11 @@
 pub mod printing;
 
 use job::Reading;
-ghost use Prim.Native.Nat.{_≤_};
-ghost use lib.ListN.{length};
 ghost use Rattle.report.specs.Put.{LineWritten};
-ghost use Rattle.row_text.specs.Answer.{answerText, answerRoom};
+ghost use Rattle.row_text.specs.Answer.{answerText};
 
-// Writes the answer at the front of `out`, and answers its length. The arrays hold every job.
-pub fn answer(text: &[u8], out: &mut [u8]) -> usize
-    requires { ⌜ answerRoom ≤ length (now out) ⌝ }
+// Writes the answer at the front of `out`, which has room for every answer, and answers its length. The arrays hold every job.
+pub fn answer(text: &[u8], out: &mut [u8; 249850]) -> usize
     ensures { λ r. ⌜ LineWritten (answerText (now (text .entry))) (now (out .entry)) r (now (out .exit)) ⌝ }
 {
     let mut layers = [0u32; 512];

@@ -4,34 +4,16 @@ use report::Op;
 use report::Printed;
 use report::TileLine;
 use row_driver::Driven;
-use tile_row::Refusal;
 ghost use mathlib.Core.Path.{_≡_};
 ghost use Prim.Native.Nat.{_+_, _*_, _≤_};
 ghost use lib.ListN.{length};
 ghost use Rattle.laws.specs.Integer.{plus};
-ghost use Rattle.tile_row.specs.Refusal.{numberOf};
 ghost use Rattle.row_driver.specs.Driven.{toldBy};
 ghost use Rattle.decimal.specs.Print.{Printing};
 ghost use Rattle.report.specs.Text.{names, tileText, refusalText};
 ghost use Rattle.report.specs.Put.{LineWritten};
 ghost use Rattle.row_text.specs.Answer.{opOf, drivingText, headDriving, answerRoom};
 ghost use Rattle.row_text.specs.Told.{placeOr, tileIn, toldLines, toldText, Lines, Tells};
-
-fn number_of(refusal: Refusal) -> u32
-    ensures { λ r. ⌜ r ≡ numberOf refusal ⌝ }
-{
-    match refusal {
-        Refusal::Room => 1,
-        Refusal::Tile => 2,
-        Refusal::Row => 3,
-        Refusal::Table => 4,
-        Refusal::Queue => 5,
-        Refusal::Tag => 6,
-        Refusal::Layers => 7,
-        Refusal::Missing => 8,
-        Refusal::Covers => 9,
-    }
-}
 
 fn op_of(code: u32) -> Op
     ensures { λ r. ⌜ r ≡ opOf code ⌝ }
@@ -81,7 +63,8 @@ fn print_names(out: &mut [u8], at: usize) -> usize
 // Prints line i, as that of the given tile.
 fn print_tile(told: &[u32], i: usize, tile: u32, out: &mut [u8], at: usize) -> usize
     requires { ⌜ (i * 5 + 5 ≤ length (now told)) × (at + 61 ≤ length (now out)) ⌝ }
-    ensures { λ r. ⌜ (Printing (tileText (tileIn (now (told .entry)) i tile)) (now (out .entry)) at r (now (out .exit))) × (r ≤ at + 61) ⌝ }
+    ensures { λ r. ⌜ (Printing (tileText (tileIn (now (told .entry)) i tile)) (now (out .entry)) at r (now (out .exit)))
+        × (r ≤ at + 61) ⌝ }
 {
     place_or(at, report::print_tile(out, at, tile_in(told, i, tile)))
 }
@@ -96,7 +79,8 @@ pub fn print_refusal(out: &mut [u8], at: usize, number: u32) -> usize
 // Prints the first n lines, from the tile `first` on.
 fn print_lines(told: &[u32], first: u32, n: usize, out: &mut [u8], at: usize) -> usize
     requires { ⌜ Lines (now told) first n (now out) at ⌝ }
-    ensures { λ r. ⌜ (Printing (toldLines (now (told .entry)) first n) (now (out .entry)) at r (now (out .exit))) × (r ≤ at + n * 61) ⌝ }
+    ensures { λ r. ⌜ (Printing (toldLines (now (told .entry)) first n) (now (out .entry)) at r (now (out .exit)))
+        × (r ≤ at + n * 61) ⌝ }
 {
     let mut end = at;
     let mut tile = first;
@@ -112,14 +96,15 @@ fn print_lines(told: &[u32], first: u32, n: usize, out: &mut [u8], at: usize) ->
 // Prints what a driver told: the names, its lines, and the refusal that ended it.
 fn print_driven(driven: Driven, told: &[u32], first: u32, out: &mut [u8]) -> usize
     requires { ⌜ Tells (now told) first (toldBy driven) (now out) ⌝ }
-    ensures { λ r. ⌜ LineWritten (toldText (now (told .entry)) first (toldBy driven)) (now (out .entry)) r (now (out .exit)) ⌝ }
+    ensures { λ r. ⌜ LineWritten (toldText (now (told .entry)) first (toldBy driven)) (now (out .entry)) r
+        (now (out .exit)) ⌝ }
 {
     let start = print_names(out, 0);
     match driven {
         Driven::Done(n) => print_lines(told, first, n, out, start),
         Driven::Refused(refusal, n) => {
             let end = print_lines(told, first, n, out, start);
-            print_refusal(out, end, number_of(refusal))
+            print_refusal(out, end, refusals::number_of(refusal))
         }
     }
 }
@@ -134,7 +119,10 @@ pub fn drive(
     out: &mut [u8],
 ) -> usize
     requires { ⌜ answerRoom ≤ length (now out) ⌝ }
-    ensures { λ r. ⌜ LineWritten (drivingText (plus (head .from)) (headDriving head (now (row .entry)) (now (layers .entry)) (now (colors .entry)) count)) (now (out .entry)) r (now (out .exit)) ⌝ }
+    ensures { λ r. ⌜ LineWritten
+        (drivingText (plus (head .from))
+        (headDriving head (now (row .entry)) (now (layers .entry)) (now (colors .entry)) count))
+        (now (out .entry)) r (now (out .exit)) ⌝ }
 {
     let mut told = [0u32; 20475];
     let first = head.from;
@@ -149,5 +137,5 @@ pub fn drive(
         count,
         &mut told,
     );
-    print_driven(driven, &told, tile_row::opening::natural(first), out)
+    print_driven(driven, &told, row_state::natural(first), out)
 }

@@ -1,10 +1,11 @@
--- Cases of document 01 on colours and tables, as theorems over the definitions: NaN equals nothing and both zeros agree; equal ids, blend
+-- Cases of the scope on colours and tables, as theorems over the definitions: NaN equals nothing and both zeros agree; equal ids, blend
 -- mode 16 and what is past an edge are refused, and the edges pass. Assumes nothing.
 use mathlib.Core.Path.{_≡_, refl}
 use mathlib.Core.Bool.{true, false, _&&_}
+use mathlib.Core.Logic.{_⊎_, ⊎-elim}
 use mathlib.Core.List.{List, [], _∷_, _++_}
 use Prim.Native.Nat.{ℕ, _-_, _^_}
-use lib.Ieee.{Float, nan, eq, ofBits, ofInt, binary32}
+use lib.Ieee.{Float, nan, inf, fin, eq, ofBits, ofInt, binary32}
 use lib.IntN.{pos}
 use Rattle.laws.proofs.Bools.{not-left, not-right}
 use Rattle.styling.specs.declared.Color.{Color}
@@ -15,23 +16,29 @@ use Rattle.styling.specs.Table.{isShort, isValid, isTable, layerAt}
 
 -- ---- colours
 
-pub nan-equals : (x y : Float) → x ≡ nan → eq x y ≡ false
+-- on either side
+pub nan-equals : (x y : Float) → (x ≡ nan) ⊎ (y ≡ nan) → eq x y ≡ false
 unfolding eq
-nan-equals x y e = rw e refl
+nan-equals x y h = ⊎-elim (λ e. rw e refl) (λ e. rw e (right x)) h
+  where
+    right : (x : Float) → eq x nan ≡ false
+    right nan = refl
+    right (inf s) = refl
+    right (fin s m e) = refl
 
 -- in whichever field it stands
 module _ (c d : Color) where
-  pub nan-red : c .r ≡ nan → sameColor c d ≡ false
-  nan-red e = rw (nan-equals (c .r) (d .r) e) refl
+  pub nan-red : (c .r ≡ nan) ⊎ (d .r ≡ nan) → sameColor c d ≡ false
+  nan-red h = rw (nan-equals (c .r) (d .r) h) refl
 
-  pub nan-green : c .g ≡ nan → sameColor c d ≡ false
-  nan-green e = rw (nan-equals (c .g) (d .g) e) (not-left _ (eq (c .a) (d .a)) (not-left _ (eq (c .b) (d .b)) (not-right (eq (c .r) (d .r)) false refl)))
+  pub nan-green : (c .g ≡ nan) ⊎ (d .g ≡ nan) → sameColor c d ≡ false
+  nan-green h = rw (nan-equals (c .g) (d .g) h) (not-left _ (eq (c .a) (d .a)) (not-left _ (eq (c .b) (d .b)) (not-right (eq (c .r) (d .r)) false refl)))
 
-  pub nan-blue : c .b ≡ nan → sameColor c d ≡ false
-  nan-blue e = rw (nan-equals (c .b) (d .b) e) (not-left _ (eq (c .a) (d .a)) (not-right (eq (c .r) (d .r) && eq (c .g) (d .g)) false refl))
+  pub nan-blue : (c .b ≡ nan) ⊎ (d .b ≡ nan) → sameColor c d ≡ false
+  nan-blue h = rw (nan-equals (c .b) (d .b) h) (not-left _ (eq (c .a) (d .a)) (not-right (eq (c .r) (d .r) && eq (c .g) (d .g)) false refl))
 
-  pub nan-alpha : c .a ≡ nan → sameColor c d ≡ false
-  nan-alpha e = rw (nan-equals (c .a) (d .a) e) (not-right (eq (c .r) (d .r) && eq (c .g) (d .g) && eq (c .b) (d .b)) false refl)
+  pub nan-alpha : (c .a ≡ nan) ⊎ (d .a ≡ nan) → sameColor c d ≡ false
+  nan-alpha h = rw (nan-equals (c .a) (d .a) h) (not-right (eq (c .r) (d .r) && eq (c .g) (d .g) && eq (c .b) (d .b)) false refl)
 
 -- 0 and -0, by their bit patterns
 pub zeros-agree : eq (ofBits binary32 0) (ofBits binary32 0x80000000) ≡ true

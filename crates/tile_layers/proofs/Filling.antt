@@ -17,7 +17,7 @@ use Rattle.laws.proofs.Drops.{cons-lt}
 use Rattle.laws.proofs.Orders.{le-or-lt}
 use Rattle.laws.proofs.Rows.{filled}
 use Rattle.pixel_segment.specs.Search.{between}
-use Rattle.cover.specs.Entry.{putEntry}
+use Rattle.cover_statements.specs.Entry.{putEntry}
 use Rattle.queue.specs.Queue.{Carry, coversIn}
 use Rattle.queue.proofs.Columns.{isWide, areWide, length-covers}
 use Rattle.tile_layers.specs.Listing.{hasAny}

@@ -14,8 +14,8 @@ use Rattle.laws.proofs.Filtered.{all-kept, length-filter}
 use Rattle.laws.proofs.Rows.{filled, filled-more, filled-all, length-filled}
 use Rattle.pixel_segment.specs.Field.{cpu}
 use Rattle.pixel_segment.specs.Search.{between}
-use Rattle.cover.specs.Carry.{isLight, carryOf}
-use Rattle.cover.specs.Entry.{entryOf, putEntry}
+use Rattle.cover_statements.specs.Carry.{isLight, carryOf}
+use Rattle.cover_statements.specs.Entry.{entryOf, putEntry}
 use Rattle.styling.specs.declared.Layer.{Layer}
 use Rattle.queue.specs.Queue.{Carry, queueOf, idsIn, coversIn, zeros}
 use Rattle.queue.proofs.Columns.{isWide, areWide, length-covers}

@@ -8,3 +8,4 @@ pub mod Filling
 pub mod Writing
 pub mod Handing
 pub mod Ordering
+pub mod Members

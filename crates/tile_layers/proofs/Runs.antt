@@ -1,23 +1,22 @@
 -- The groups of a part: a run of segments of one layer, with another layer or nothing after it, is a group. Assumes nothing.
 use mathlib.Core.Path.{_≡_, refl, ap, ap₂, sym, subst₂, _∙_}
-use mathlib.Core.Bool.{Bool, true, false, cond, false≢true}
+use mathlib.Core.Bool.{Bool, true, false, cond}
 use mathlib.Core.List.{List, [], _∷_}
 use Prim.Native.Nat.{ℕ, zero, suc, _+_, _-_, _≤_, _<_}
 use native.Mathlib.Nat.{not-suc-le-zero, le-of-suc-le-suc, zero-add, add-zero}
 use native.Mathlib.Omega.{arith}
-use borrow.Author.Tests.{eq-eqb, ne-eqb, eqb-true, le-ltb}
+use borrow.Author.Tests.{eq-eqb, ne-eqb, eqb-true}
 use lib.Dec.{eqb}
 use lib.ListN.{length, getD, take, drop, length-drop}
 use lib.Seq.{getD-drop, drop-drop}
 use Rattle.laws.specs.Sum.{countBy}
 use Rattle.pixel_segment.specs.Field.{cpu, layerIdOf}
-use Rattle.pixel_segment.specs.Order.{Ordered, compareOf}
-use Rattle.pixel_segment.specs.Search.{searchOf, orderAt, lastOf, isLt, isEq}
-use Rattle.pixel_segment.specs.declared.order.Ordering.the-variants.{Less, Equal, Greater}
-use Rattle.pixel_segment.specs.declared.search.Found.the-variants.{At}
+use Rattle.pixel_segment.specs.Order.{Ordered, compareOf, isLt, isEq}
+use Rattle.pixel_segment.specs.Search.{found, searchOf, orderAt, lastOf}
 use Rattle.pixel_segment.specs.declared.search.Key.the-variants.{LayerId}
 use Rattle.pixel_segment.proofs.Sorted.{Split, splits, sorted-search}
-use Rattle.pixel_segment.proofs.Keys.{sorted-by, is-eq, is-lt}
+use Rattle.pixel_segment.proofs.Lexical.{compare-equal}
+use Rattle.pixel_segment.proofs.Keys.{sorted-by, is-eq}
 use Rattle.tile_layers.specs.Groups.{Group, single, joinTo, groupsOf}
 use Rattle.tile_layers.specs.Walk.{GroupEnds}
 
@@ -73,22 +72,22 @@ run id (suc b) (w ∷ ws) h same next =
 -- the search for the first segment's layer finds the last segment of its group, at b
 pub record Grouped (l : List ℕ) : Type 0 where
   pub b : ℕ
-  pub found : searchOf (orderAt (LayerId (layerIdOf cpu (getD l 0 0)))) l ≡ At b
+  pub searched : searchOf (orderAt (LayerId (layerIdOf cpu (getD l 0 0)))) l ≡ found b
   pub within : suc b ≤ length l
   pub group : groupsOf l ≡ record { id = layerIdOf cpu (getD l 0 0); own = take (suc b) l } ∷ groupsOf (drop (suc b) l)
 
-told-equal : (m n : ℕ) → compareOf m n ≡ Equal → m ≡ n
+told-equal : (m n : ℕ) → compareOf m n ≡ 1 → m ≡ n
 told-equal m n e = eqb-true m n (sym (is-eq m n) ∙ ap isEq e)
 
-told-greater : (m n : ℕ) → compareOf m n ≡ Greater → m ≡ n → ⊥
-told-greater m n e p = false≢true (sym (ap isEq e) ∙ is-eq m n ∙ eq-eqb m n p)
+told-greater : (m n : ℕ) → 1 < compareOf m n → m ≡ n → ⊥
+told-greater m n h p = omega (arith, compare-equal m n p)
 
 module _ (l : List ℕ) (some : 0 < length l) (o : Ordered (layerIdOf cpu) l) where
   by-counts : (a b : ℕ) → Split (λ w. compareOf (layerIdOf cpu w) (layerIdOf cpu (getD l 0 0))) l a b → searchOf (orderAt (LayerId (layerIdOf cpu (getD l 0 0)))) l ≡ lastOf a b → Grouped l
   by-counts zero (suc b) s e =
       record {
         b = b;
-        found = e ∙ ap At (zero-add b);
+        searched = e ∙ ap found (zero-add b);
         within = omega (arith, s .within);
         group =
             run (layerIdOf cpu (getD l 0 0)) b l (omega (arith, s .within))
@@ -98,8 +97,8 @@ module _ (l : List ℕ) (some : 0 < length l) (o : Ordered (layerIdOf cpu) l) wh
   by-counts zero zero s e = absurd (told-greater (layerIdOf cpu (getD l 0 0)) (layerIdOf cpu (getD l 0 0)) (s .high 0 (omega arith) some) refl)
   by-counts (suc a) b s e = absurd (told-less (layerIdOf cpu (getD l 0 0)) (s .low 0 (omega arith)))
     where
-      told-less : (m : ℕ) → compareOf m m ≡ Less → ⊥
-      told-less m q = false≢true (sym (le-ltb m m (omega arith)) ∙ sym (is-lt m m) ∙ ap isLt q)
+      told-less : (m : ℕ) → compareOf m m ≡ 0 → ⊥
+      told-less m q = omega (arith, compare-equal m m refl)
 
   pub grouped : Grouped l
   grouped =

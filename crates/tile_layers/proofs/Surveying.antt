@@ -8,8 +8,8 @@ use lib.ListN.{length, drop}
 use Rattle.laws.proofs.Drops.{all-again, all-end}
 use Rattle.pixel_segment.specs.Field.{cpu}
 use Rattle.pixel_segment.specs.Search.{between}
-use Rattle.cover.specs.Carry.{isLight}
-use Rattle.cover.specs.Entry.{entryOf}
+use Rattle.cover_statements.specs.Carry.{isLight}
+use Rattle.cover_statements.specs.Entry.{entryOf}
 use Rattle.styling.specs.Lookup.{lookup}
 use Rattle.styling.specs.declared.Layer.{Layer}
 use Rattle.queue.specs.Queue.{queueOf, zeros}

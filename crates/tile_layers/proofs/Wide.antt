@@ -11,8 +11,8 @@ use lib.ListN.{length}
 use Rattle.laws.proofs.Bools.{left, right, both}
 use Rattle.laws.proofs.Every.{all-intro}
 use Rattle.laws.proofs.Rows.{length-tabulate, getD-tabulate}
-use Rattle.cover.specs.Entry.{entryOf}
-use Rattle.cover.proofs.Entries.{entry-length}
+use Rattle.cover_statements.specs.Entry.{entryOf}
+use Rattle.cover_statements.proofs.Entries.{entry-length}
 use Rattle.queue.specs.Queue.{Carry, carryAt, queueOf}
 use Rattle.queue.proofs.Columns.{isWide, areWide}
 use Rattle.tile_layers.specs.Groups.{Group}

@@ -9,9 +9,9 @@ use lib.ListN.{length, set}
 use Rattle.laws.specs.Answer.{Answer, refused, given}
 use Rattle.laws.specs.Lists.{filter, over}
 use Rattle.pixel_segment.specs.Field.{cpu}
-use Rattle.cover.specs.Carry.{carryOf}
-use Rattle.cover.specs.Cover.{isEmpty}
-use Rattle.cover.specs.Entry.{putEntry}
+use Rattle.cover_statements.specs.Carry.{carryOf}
+use Rattle.cover_statements.specs.Cover.{isEmpty}
+use Rattle.cover_statements.specs.Entry.{putEntry}
 use Rattle.styling.specs.Lookup.{lookup}
 use Rattle.styling.specs.declared.Layer.{Layer}
 use Rattle.styling.specs.declared.FillRule.{FillRule}

@@ -4,13 +4,13 @@ use mathlib.Core.Path.{_≡_}
 use mathlib.Core.Bool.{Bool, true, false, cond}
 use mathlib.Core.List.{List, [], _∷_, map}
 use Prim.Native.Nat.{ℕ, _*_, _≤_}
-use lib.Dec.{ltb}
+use lib.Dec.{ltb, eqb}
 use lib.IntN.{ℤ}
 use lib.ListN.{length}
 use Rattle.laws.specs.Answer.{Answer, refused, given}
-use Rattle.laws.specs.Lists.{all, over}
-use Rattle.pixel_segment.specs.Field.{cpu}
-use Rattle.cover.specs.Carry.{isLight}
+use Rattle.laws.specs.Lists.{all, any, over}
+use Rattle.pixel_segment.specs.Field.{cpu, layerIdOf}
+use Rattle.cover_statements.specs.Carry.{isLight}
 use Rattle.styling.specs.Lookup.{lookup}
 use Rattle.styling.specs.declared.Layer.{Layer}
 use Rattle.queue.specs.Queue.{Carry, zeros, idsIn, coversIn}
@@ -48,6 +48,17 @@ listOf (c ∷ q) (g ∷ gs) =
 -- the layers of a tile, of the queue that comes in and the tile's part of the row
 abbrev pub layersIn : List Carry → List ℕ → List Listed
 layersIn q part = listOf q (groupsOf part)
+
+-- ---- who is listed: a layer with a carry or a segment
+
+abbrev pub isListed : List Listed → ℕ → Bool
+isListed ls id = any (λ l. eqb (l .id) id) ls
+
+abbrev pub hasCarry : List Carry → ℕ → Bool
+hasCarry q id = any (λ c. eqb (c .id) id) q
+
+abbrev pub hasSegment : List ℕ → ℕ → Bool
+hasSegment part id = any (λ w. eqb (layerIdOf cpu w) id) part
 
 -- ---- the list as it is lent, a column for each: layer ids, incoming covers, whether the layer has segments in the tile
 

@@ -8,7 +8,7 @@ use lib.ListN.{length, drop, getD}
 use Rattle.pixel_segment.specs.Field.{cpu, layerIdOf}
 use Rattle.pixel_segment.specs.Order.{Ordered}
 use Rattle.pixel_segment.specs.Search.{between}
-use Rattle.cover.specs.Entry.{entryOf}
+use Rattle.cover_statements.specs.Entry.{entryOf}
 use Rattle.queue.specs.Queue.{queueOf, zeros}
 use Rattle.tile_layers.specs.Groups.{groupsOf}
 use Rattle.tile_layers.specs.Listing.{Listed, listOf}

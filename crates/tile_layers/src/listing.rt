@@ -11,7 +11,7 @@ ghost use Prim.Native.Nat.{_*_, _+_, _≤_, _<_};
 ghost use lib.ListN.{length};
 ghost use Rattle.styling.specs.Lookup.{lookup};
 ghost use Rattle.styling.specs.Table.{Table, tableOf};
-ghost use Rattle.cover.specs.Entry.{entryOf};
+ghost use Rattle.cover_statements.specs.Entry.{entryOf};
 ghost use Rattle.queue.specs.Queue.{queueOf, zeros};
 ghost use Rattle.tile_layers.specs.Listing.{layersIn, isGiven, Surveyed, Lists, Room};
 ghost use Rattle.tile_layers.specs.Walk.{Walks};

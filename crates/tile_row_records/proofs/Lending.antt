@@ -1,33 +1,28 @@
 -- What was read is lent as far as it counts: n entries, where n is that number. Assumes nothing.
 use mathlib.Core.Path.{_≡_, subst}
 use mathlib.Core.List.{List}
-use Prim.Native.Nat.{ℕ, _*_, min}
+use Prim.Native.Nat.{ℕ, min}
 use lib.Ieee.{Float}
-use lib.IntN.{ℤ}
-use lib.ListN.{take}
-use Rattle.cached_tile.specs.declared.kept.Kept as kept
-use Rattle.styling.specs.declared.Color.{Color}
-use Rattle.layer_workbench.specs.declared.PreviousClear.{PreviousClear}
-use Rattle.tile_row.specs.declared.RowState.{RowState}
-use Rattle.tile_row.specs.declared.painting.Painted.{Painted}
-use Rattle.tile_row.specs.declared.working.TileWorked.{TileWorked}
-use Rattle.tile_row.specs.Painting.{PaintsLayer}
-use Rattle.tile_row.specs.TileWork.{WorkArgs, WorkLent, workOf, GivesWork}
-use Rattle.queue_records.specs.declared.Columns.{Columns}
-use Rattle.tile_row_records.specs.Lent.{idsLent, coversLent}
+use Rattle.queue_records.specs.declared.Columns as read
+use Rattle.row_statements.specs.Lent.{Columns}
+use Rattle.row_statements.specs.TileWork.{WorkCall, WorkLent, workOf, GivesWork}
+use Rattle.row_statements.specs.Painting.{PaintCall, paintOf, PaintsLayer}
+use Rattle.row_statements.specs.declared.Painted.{Painted}
+use Rattle.row_statements.specs.declared.TileWorked.{TileWorked}
+use Rattle.tile_row_records.specs.Lent.{entriesLent, lentColumns}
 
-pub painted-lent : (s : RowState) (tile : ℤ) (id : ℕ) (row words : List ℕ) (floats : List Float) (count : ℕ) (c : Columns) (old : List Float) (r : Painted) (plane : List Float) (n : ℕ) → n ≡ min (c .entries) 256
-    → PaintsLayer s tile id row words floats count (take n (c .ids)) (take (n * 16) (c .covers)) old r plane → PaintsLayer s tile id row words floats count (idsLent c) (coversLent c) old r plane
-painted-lent s tile id row words floats count c old r plane n e p =
-    subst (λ (k : ℕ). PaintsLayer s tile id row words floats count (take k (c .ids)) (take (k * 16) (c .covers)) old r plane) e p
+-- a call with another queue
+abbrev pub workFrom : WorkCall → Columns → WorkCall
+workFrom a k =
+    record { state = a .state; tile = a .tile; row = a .row; table = a .table; kept = a .kept; clear = a .clear; previous = a .previous; queue = k }
 
--- the arguments of a work from columns
-abbrev pub argsWith : RowState → ℤ → List ℕ → List ℕ → List Float → ℕ → kept.Kept → Color → PreviousClear → List ℕ → List ℤ → WorkArgs
-argsWith s tile row words floats count k clear previous ids covers =
-    record { state = s; tile = tile; row = row; words = words; floats = floats; count = count; kept = k; clear = clear; previous = previous; ids = ids; covers = covers }
+abbrev pub paintFrom : PaintCall → Columns → PaintCall
+paintFrom a k = record { state = a .state; tile = a .tile; layer = a .layer; row = a .row; table = a .table; queue = k }
 
-pub worked-lent : (s : RowState) (tile : ℤ) (row words : List ℕ) (floats : List Float) (count : ℕ) (k : kept.Kept) (clear : Color) (previous : PreviousClear) (c : Columns) (lent : WorkLent) (r : TileWorked) (after : WorkLent) (n : ℕ) → n ≡ min (c .entries) 256
-    → GivesWork (workOf (argsWith s tile row words floats count k clear previous (take n (c .ids)) (take (n * 16) (c .covers))) lent) r after
-    → GivesWork (workOf (argsWith s tile row words floats count k clear previous (idsLent c) (coversLent c)) lent) r after
-worked-lent s tile row words floats count k clear previous c lent r after n e p =
-    subst (λ (m : ℕ). GivesWork (workOf (argsWith s tile row words floats count k clear previous (take m (c .ids)) (take (m * 16) (c .covers))) lent) r after) e p
+pub worked-lent : (a : WorkCall) (lent : WorkLent) (c : read.Columns) {r : TileWorked} {back : WorkLent} (n : ℕ) → n ≡ min (c .entries) 256
+    → GivesWork (workOf (workFrom a (entriesLent n c)) lent) r back → GivesWork (workOf (workFrom a (lentColumns c)) lent) r back
+worked-lent a lent c {r} {back} n e p = subst (λ (m : ℕ). GivesWork (workOf (workFrom a (entriesLent m c)) lent) r back) e p
+
+pub painted-lent : (a : PaintCall) (plane : List Float) (c : read.Columns) {r : Painted} {back : List Float} (n : ℕ) → n ≡ min (c .entries) 256
+    → PaintsLayer (paintOf (paintFrom a (entriesLent n c)) plane) r back → PaintsLayer (paintOf (paintFrom a (lentColumns c)) plane) r back
+painted-lent a plane c {r} {back} n e p = subst (λ (m : ℕ). PaintsLayer (paintOf (paintFrom a (entriesLent m c)) plane) r back) e p

@@ -3,3 +3,5 @@ pub mod Wide
 pub mod Lending
 pub mod SameQueue
 pub mod SameAnswers
+pub mod Steps
+pub mod Making

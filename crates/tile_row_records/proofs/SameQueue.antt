@@ -18,9 +18,9 @@ use Rattle.queue.specs.Queue.{Carry, roomOf, isShort, isQueue, queueOf, idsIn, 
 use Rattle.queue.proofs.Columns.{areWide, take-ids, reads-back}
 use Rattle.queue_records.specs.Records.{carryOf, carriesOf, idsOf, coversOf, readable, columnsOf}
 use Rattle.queue_records.specs.declared.CarryRecord.{CarryRecord}
-use Rattle.queue_records.specs.declared.Columns.{Columns}
+use Rattle.queue_records.specs.declared.Columns as read
 use Rattle.queue_records.proofs.Reading.{ids-append, covers-append, ids-length, covers-length}
-use Rattle.tile_row_records.specs.Lent.{idsLent, coversLent}
+use Rattle.tile_row_records.specs.Lent.{lentColumns}
 
 -- records have 16 covers each
 wide : (q : List CarryRecord) → areWide (carriesOf q) ≡ true
@@ -32,46 +32,50 @@ over-self : {A : Type 0} (ws ys : List A) → ws ++ ys ≡ over ws (ws ++ ys)
 unfolding over
 over-self ws ys = ap (λ l. ws ++ l) (sym (drop-append-seam ws ys))
 
+-- refusal 1 of 256 records or more
+pub records-long : (q : List CarryRecord) → 256 ≤ length q → isShort (idsOf q) (coversOf q) ≡ false
+records-long q l = le-ltb (roomOf (idsOf q) (coversOf q)) 256 (omega (arith, ids-length q, covers-length q))
+
 module _ (q : List CarryRecord) (n : ℕ) where
   -- how many records are read
   abbrev m : ℕ
   m = readable n (length q) 256 4096
 
-  abbrev c : Columns
+  abbrev c : read.Columns
   c = columnsOf q n
 
-  read : length (take m q) ≡ m
-  read = length-take-le m q (omega arith)
+  taken : length (take m q) ≡ m
+  taken = length-take-le m q (omega arith)
 
   ids-long : length (c .ids) ≡ 256
   unfolding columnsOf
-  ids-long = length-over (replicate 256 0) (idsOf (take m q)) (omega (arith, ids-length (take m q), read))
+  ids-long = length-over (replicate 256 0) (idsOf (take m q)) (omega (arith, ids-length (take m q), taken))
 
   covers-long : length (c .covers) ≡ 4096
   unfolding columnsOf
-  covers-long = length-over (replicate 4096 (pos 0)) (coversOf (take m q)) (omega (arith, covers-length (take m q), read))
+  covers-long = length-over (replicate 4096 (pos 0)) (coversOf (take m q)) (omega (arith, covers-length (take m q), taken))
 
   entries-are : c .entries ≡ min (length q) 256
   unfolding columnsOf
   entries-are = refl
 
   -- refusal 1
-  pub same-short : isShort (idsLent c) (coversLent c) ≡ isShort (idsOf q) (coversOf q)
+  pub same-short : isShort (lentColumns c .ids) (lentColumns c .covers) ≡ isShort (idsOf q) (coversOf q)
   same-short = by (ltb (length q) 256) refl
     where
-      of-ids : length (idsLent c) ≡ min (length q) 256
+      of-ids : length (lentColumns c .ids) ≡ min (length q) 256
       of-ids = length-take-le (min (c .entries) 256) (c .ids) (omega (arith, ids-long)) ∙ omega (arith, entries-are)
 
-      of-covers : length (coversLent c) ≡ min (length q) 256 * 16
+      of-covers : length (lentColumns c .covers) ≡ min (length q) 256 * 16
       of-covers = length-take-le (min (c .entries) 256 * 16) (c .covers) (omega (arith, covers-long)) ∙ omega (arith, entries-are)
 
-      by : (t : Bool) → ltb (length q) 256 ≡ t → isShort (idsLent c) (coversLent c) ≡ isShort (idsOf q) (coversOf q)
+      by : (t : Bool) → ltb (length q) 256 ≡ t → isShort (lentColumns c .ids) (lentColumns c .covers) ≡ isShort (idsOf q) (coversOf q)
       by true e =
           let l : length q < 256 = ltb-true (length q) 256 e in
-          lt-ltb (roomOf (idsLent c) (coversLent c)) 256 (omega (arith, of-ids)) ∙ sym (lt-ltb (roomOf (idsOf q) (coversOf q)) 256 (omega (arith, ids-length q)))
+          lt-ltb (roomOf (lentColumns c .ids) (lentColumns c .covers)) 256 (omega (arith, of-ids)) ∙ sym (lt-ltb (roomOf (idsOf q) (coversOf q)) 256 (omega (arith, ids-length q)))
       by false e =
           let l : 256 ≤ length q = ltb-false (length q) 256 e in
-          le-ltb (roomOf (idsLent c) (coversLent c)) 256 (omega (arith, of-ids, of-covers)) ∙ sym (le-ltb (roomOf (idsOf q) (coversOf q)) 256 (omega (arith, ids-length q, covers-length q)))
+          le-ltb (roomOf (lentColumns c .ids) (lentColumns c .covers)) 256 (omega (arith, of-ids, of-covers)) ∙ sym (records-long q l)
 
   -- where it doesn't apply there are 256 records
   there : isShort (idsOf q) (coversOf q) ≡ false → 256 ≤ length q
@@ -89,11 +93,11 @@ module _ (q : List CarryRecord) (n : ℕ) where
     unfolding front
     front-length = length-map (take n q) carryOf ∙ length-take-le n q (omega arith)
 
-    ids-lent : idsLent c ≡ over (idsIn front) (replicate 256 0)
+    ids-lent : lentColumns c .ids ≡ over (idsIn front) (replicate 256 0)
     unfolding columnsOf front
     ids-lent = take-all (min (c .entries) 256) (c .ids) (omega (arith, ids-long, entries-are)) ∙ ap (λ (k : ℕ). over (idsOf (take k q)) (replicate 256 0)) read-n
 
-    covers-lent : coversLent c ≡ over (coversIn front) (replicate 4096 (pos 0))
+    covers-lent : lentColumns c .covers ≡ over (coversIn front) (replicate 4096 (pos 0))
     unfolding columnsOf front
     covers-lent = take-all (min (c .entries) 256 * 16) (c .covers) (omega (arith, covers-long, entries-are)) ∙ ap (λ (k : ℕ). over (coversOf (take k q)) (replicate 4096 (pos 0))) read-n
 
@@ -113,27 +117,36 @@ module _ (q : List CarryRecord) (n : ℕ) where
     unfolding front
     front-wide = wide (take n q)
 
-    same-ids : take n (idsLent c) ≡ take n (idsOf q)
+    same-ids : take n (lentColumns c .ids) ≡ take n (idsOf q)
     same-ids =
         ap (λ (l : List ℕ). take n l) ids-lent ∙ ap (λ (k : ℕ). take k (over (idsIn front) (replicate 256 0))) (sym front-length) ∙ take-ids front (replicate 256 0) []
         ∙ sym (ap (λ (l : List ℕ). take n l) ids-whole ∙ ap (λ (k : ℕ). take k (over (idsIn front) (idsOf q))) (sym front-length) ∙ take-ids front (idsOf q) [])
 
-    same-carries : queueOf n (idsLent c) (coversLent c) ≡ queueOf n (idsOf q) (coversOf q)
+    -- the records' own columns hold the front
+    whole-reads : queueOf n (idsOf q) (coversOf q) ≡ front
+    whole-reads =
+        ap₂ (queueOf n) ids-whole covers-whole ∙ ap (λ (k : ℕ). queueOf k (over (idsIn front) (idsOf q)) (over (coversIn front) (coversOf q))) (sym front-length) ∙ reads-back front (idsOf q) (coversOf q) front-wide
+
+    pub records-read : queueOf n (idsOf q) (coversOf q) ≡ carriesOf (take n q)
+    unfolding front
+    records-read = whole-reads
+
+    same-carries : queueOf n (lentColumns c .ids) (lentColumns c .covers) ≡ queueOf n (idsOf q) (coversOf q)
     same-carries =
         ap₂ (queueOf n) ids-lent covers-lent ∙ ap (λ (k : ℕ). queueOf k (over (idsIn front) (replicate 256 0)) (over (coversIn front) (replicate 4096 (pos 0)))) (sym front-length)
         ∙ reads-back front (replicate 256 0) (replicate 4096 (pos 0)) front-wide
-        ∙ sym (ap₂ (queueOf n) ids-whole covers-whole ∙ ap (λ (k : ℕ). queueOf k (over (idsIn front) (idsOf q)) (over (coversIn front) (coversOf q))) (sym front-length) ∙ reads-back front (idsOf q) (coversOf q) front-wide)
+        ∙ sym whole-reads
 
   -- refusal 5, where 1 does not apply
-  pub same-order : isShort (idsOf q) (coversOf q) ≡ false → isQueue n (idsLent c) ≡ isQueue n (idsOf q)
+  pub same-order : isShort (idsOf q) (coversOf q) ≡ false → isQueue n (lentColumns c .ids) ≡ isQueue n (idsOf q)
   unfolding isQueue
   same-order e = by (leb n 256) refl
     where
-      by : (t : Bool) → leb n 256 ≡ t → (t && strictlyAscends (take n (idsLent c))) ≡ (t && strictlyAscends (take n (idsOf q)))
+      by : (t : Bool) → leb n 256 ≡ t → (t && strictlyAscends (take n (lentColumns c .ids))) ≡ (t && strictlyAscends (take n (idsOf q)))
       by true few = ap strictlyAscends (same-ids (leb-true n 256 few) (there e))
       by false few = refl
 
   -- and the carries, where neither does
-  pub same-queue : isShort (idsOf q) (coversOf q) ≡ false → isQueue n (idsOf q) ≡ true → queueOf n (idsLent c) (coversLent c) ≡ queueOf n (idsOf q) (coversOf q)
+  pub same-queue : isShort (idsOf q) (coversOf q) ≡ false → isQueue n (idsOf q) ≡ true → queueOf n (lentColumns c .ids) (lentColumns c .covers) ≡ queueOf n (idsOf q) (coversOf q)
   unfolding isQueue
   same-queue e ok = same-carries (leb-true n 256 (left (leb n 256) (strictlyAscends (take n (idsOf q))) ok)) (there e)

@@ -1,13 +1,20 @@
--- How the code lends what it read of a queue's records: as many entries of the columns as the slice has records, 256 at most, so that refusal 1 is told from
--- the columns as from the records.
+-- A queue of carry records as columns, and how the code lends what it read of the records: as many entries of the columns as the slice has records, 256
+-- at most, so that refusal 1 is told from the columns as from the records.
 use mathlib.Core.List.{List}
 use Prim.Native.Nat.{ℕ, _*_, min}
-use lib.IntN.{ℤ}
 use lib.ListN.{take}
-use Rattle.queue_records.specs.declared.Columns.{Columns}
+use Rattle.queue_records.specs.Records.{idsOf, coversOf}
+use Rattle.queue_records.specs.declared.CarryRecord.{CarryRecord}
+use Rattle.queue_records.specs.declared.Columns as read
+use Rattle.row_statements.specs.Lent.{Columns, columns}
 
-abbrev pub idsLent : Columns → List ℕ
-idsLent c = take (min (c .entries) 256) (c .ids)
+-- the columns that the records stand for
+abbrev pub columnsFor : List CarryRecord → Columns
+columnsFor q = columns (idsOf q) (coversOf q)
 
-abbrev pub coversLent : Columns → List ℤ
-coversLent c = take (min (c .entries) 256 * 16) (c .covers)
+-- n entries of what was read
+abbrev pub entriesLent : ℕ → read.Columns → Columns
+entriesLent n c = columns (take n (c .ids)) (take (n * 16) (c .covers))
+
+abbrev pub lentColumns : read.Columns → Columns
+lentColumns c = entriesLent (min (c .entries) 256) c

@@ -1,12 +1,13 @@
 // The painting of a layer, from a queue of carry records.
 use queue_records::CarryRecord;
 use queue_records::Columns;
-use tile_row::RowState;
-use tile_row::painting::Painted;
+use row_statements::Painted;
+use row_statements::RowState;
 ghost use mathlib.Core.Path.{_≡_};
-ghost use Rattle.tile_row.specs.Painting.{PaintsLayer};
-ghost use Rattle.queue_records.specs.Records.{idsOf, coversOf};
-ghost use Rattle.tile_row_records.specs.Lent.{idsLent, coversLent};
+ghost use Rattle.row_statements.specs.Lent.{lentTable};
+ghost use Rattle.row_statements.specs.State.{stateIn};
+ghost use Rattle.row_statements.specs.Painting.{paintCall, paintOf, PaintsLayer};
+ghost use Rattle.tile_row_records.specs.Lent.{columnsFor, lentColumns};
 
 // The painting from columns that were read.
 pub fn paint_columns(
@@ -20,13 +21,20 @@ pub fn paint_columns(
     columns: Columns,
     plane: &mut [f32],
 ) -> Painted
-    ensures { λ r. ⌜ PaintsLayer state tile layer (now (row .entry)) (now (layers .entry)) (now (colors .entry)) count (idsLent columns) (coversLent columns) (now (plane .entry)) r (now (plane .exit)) ⌝ }
+    ensures { λ r. ⌜ PaintsLayer
+        (paintOf
+        (paintCall (stateIn state) tile layer (now (row .entry))
+        (lentTable (now (layers .entry)) (now (colors .entry)) count)
+        (lentColumns columns))
+        (now (plane .entry)))
+        r
+        (now (plane .exit)) ⌝ }
 {
     let n = queue_records::lesser(columns.entries, 256);
     let end = n * 16;
     let ids = columns.ids;
     let covers = columns.covers;
-    tile_row::painting::paint_layer(
+    row_painting::paint_layer(
         state,
         tile,
         layer,
@@ -40,7 +48,8 @@ pub fn paint_columns(
     )
 }
 
-// Paints a layer of the tile just worked, as `tile_row::painting::paint_layer` does with the columns that the records stand for.
+// Paints a layer of the tile just worked, as `row_painting::paint_layer` does with the columns that the records stand
+// for.
 pub fn paint_layer(
     state: RowState,
     tile: i32,
@@ -52,7 +61,14 @@ pub fn paint_layer(
     queue: &[CarryRecord],
     plane: &mut [f32],
 ) -> Painted
-    ensures { λ r. ⌜ PaintsLayer state tile layer (now (row .entry)) (now (layers .entry)) (now (colors .entry)) count (idsOf (now (queue .entry))) (coversOf (now (queue .entry))) (now (plane .entry)) r (now (plane .exit)) ⌝ }
+    ensures { λ r. ⌜ PaintsLayer
+        (paintOf
+        (paintCall (stateIn state) tile layer (now (row .entry))
+        (lentTable (now (layers .entry)) (now (colors .entry)) count)
+        (columnsFor (now (queue .entry))))
+        (now (plane .entry)))
+        r
+        (now (plane .exit)) ⌝ }
 {
     let columns = queue_records::read_columns(queue, state.taken);
     paint_columns(
@@ -80,7 +96,14 @@ pub fn paint_array(
     queue: [CarryRecord; 256],
     plane: &mut [f32],
 ) -> Painted
-    ensures { λ r. ⌜ PaintsLayer state tile layer (now (row .entry)) (now (layers .entry)) (now (colors .entry)) count (idsOf queue) (coversOf queue) (now (plane .entry)) r (now (plane .exit)) ⌝ }
+    ensures { λ r. ⌜ PaintsLayer
+        (paintOf
+        (paintCall (stateIn state) tile layer (now (row .entry))
+        (lentTable (now (layers .entry)) (now (colors .entry)) count)
+        (columnsFor queue))
+        (now (plane .entry)))
+        r
+        (now (plane .exit)) ⌝ }
 {
     paint_layer(
         state,

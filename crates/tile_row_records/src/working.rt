@@ -3,13 +3,15 @@ use cached_tile::kept::Kept;
 use layer_workbench::PreviousClear;
 use queue_records::CarryRecord;
 use queue_records::Columns;
+use row_statements::RowState;
+use row_statements::TileWorked;
 use styling::Color;
-use tile_row::RowState;
-use tile_row::working::TileWorked;
 ghost use mathlib.Core.Path.{_≡_};
-ghost use Rattle.tile_row.specs.TileWork.{workOf, GivesWork};
-ghost use Rattle.queue_records.specs.Records.{idsOf, coversOf};
-ghost use Rattle.tile_row_records.specs.Lent.{idsLent, coversLent};
+ghost use Rattle.row_statements.specs.Lent as lent;
+ghost use Rattle.row_statements.specs.Lent.{listColumns, lentTable};
+ghost use Rattle.row_statements.specs.State.{stateIn};
+ghost use Rattle.row_statements.specs.TileWork.{workCall, workLent, workOf, GivesWork};
+ghost use Rattle.tile_row_records.specs.Lent.{columnsFor, lentColumns};
 
 // The work from columns that were read.
 pub fn work_columns(
@@ -28,15 +30,26 @@ pub fn work_columns(
     list_ids: &mut [u32],
     list_covers: &mut [i8],
     list_segments: &mut [bool],
-    list_shown: &mut [bool],
+    list_unmasked: &mut [bool],
 ) -> TileWorked
-    ensures { λ r. ⌜ GivesWork (workOf (record { state = state; tile = tile; row = now (row .entry); words = now (layers .entry); floats = now (colors .entry); count = count; kept = kept; clear = clear; previous = previous; ids = idsLent columns; covers = coversLent columns }) (record { queueIds = now («next_ids» .entry); queueCovers = now («next_covers» .entry); listIds = now («list_ids» .entry); listCovers = now («list_covers» .entry); listSegments = now («list_segments» .entry); listShown = now («list_shown» .entry) })) r (record { queueIds = now («next_ids» .exit); queueCovers = now («next_covers» .exit); listIds = now («list_ids» .exit); listCovers = now («list_covers» .exit); listSegments = now («list_segments» .exit); listShown = now («list_shown» .exit) }) ⌝ }
+    ensures { λ r. ⌜ GivesWork
+        (workOf
+        (workCall (stateIn state) tile (now (row .entry))
+        (lentTable (now (layers .entry)) (now (colors .entry)) count) kept clear previous
+        (lentColumns columns))
+        (workLent (lent.columns (now («next_ids» .entry)) (now («next_covers» .entry)))
+        (listColumns (now («list_ids» .entry)) (now («list_covers» .entry))
+        (now («list_segments» .entry)) (now («list_unmasked» .entry)))))
+        r
+        (workLent (lent.columns (now («next_ids» .exit)) (now («next_covers» .exit)))
+        (listColumns (now («list_ids» .exit)) (now («list_covers» .exit))
+        (now («list_segments» .exit)) (now («list_unmasked» .exit)))) ⌝ }
 {
     let n = queue_records::lesser(columns.entries, 256);
     let end = n * 16;
     let ids = columns.ids;
     let covers = columns.covers;
-    tile_row::working::work_tile(
+    row_working::work_tile(
         state,
         tile,
         row,
@@ -53,11 +66,11 @@ pub fn work_columns(
         list_ids,
         list_covers,
         list_segments,
-        list_shown,
+        list_unmasked,
     )
 }
 
-// Works the next tile of a row, as `tile_row::working::work_tile` does with the columns that the records stand for.
+// Works the next tile of a row, as `row_working::work_tile` does with the columns that the records stand for.
 pub fn work_tile(
     state: RowState,
     tile: i32,
@@ -74,9 +87,20 @@ pub fn work_tile(
     list_ids: &mut [u32],
     list_covers: &mut [i8],
     list_segments: &mut [bool],
-    list_shown: &mut [bool],
+    list_unmasked: &mut [bool],
 ) -> TileWorked
-    ensures { λ r. ⌜ GivesWork (workOf (record { state = state; tile = tile; row = now (row .entry); words = now (layers .entry); floats = now (colors .entry); count = count; kept = kept; clear = clear; previous = previous; ids = idsOf (now (queue .entry)); covers = coversOf (now (queue .entry)) }) (record { queueIds = now («next_ids» .entry); queueCovers = now («next_covers» .entry); listIds = now («list_ids» .entry); listCovers = now («list_covers» .entry); listSegments = now («list_segments» .entry); listShown = now («list_shown» .entry) })) r (record { queueIds = now («next_ids» .exit); queueCovers = now («next_covers» .exit); listIds = now («list_ids» .exit); listCovers = now («list_covers» .exit); listSegments = now («list_segments» .exit); listShown = now («list_shown» .exit) }) ⌝ }
+    ensures { λ r. ⌜ GivesWork
+        (workOf
+        (workCall (stateIn state) tile (now (row .entry))
+        (lentTable (now (layers .entry)) (now (colors .entry)) count) kept clear previous
+        (columnsFor (now (queue .entry))))
+        (workLent (lent.columns (now («next_ids» .entry)) (now («next_covers» .entry)))
+        (listColumns (now («list_ids» .entry)) (now («list_covers» .entry))
+        (now («list_segments» .entry)) (now («list_unmasked» .entry)))))
+        r
+        (workLent (lent.columns (now («next_ids» .exit)) (now («next_covers» .exit)))
+        (listColumns (now («list_ids» .exit)) (now («list_covers» .exit))
+        (now («list_segments» .exit)) (now («list_unmasked» .exit)))) ⌝ }
 {
     let columns = queue_records::read_columns(queue, state.left);
     work_columns(
@@ -95,7 +119,7 @@ pub fn work_tile(
         list_ids,
         list_covers,
         list_segments,
-        list_shown,
+        list_unmasked,
     )
 }
 
@@ -116,9 +140,20 @@ pub fn work_array(
     list_ids: &mut [u32],
     list_covers: &mut [i8],
     list_segments: &mut [bool],
-    list_shown: &mut [bool],
+    list_unmasked: &mut [bool],
 ) -> TileWorked
-    ensures { λ r. ⌜ GivesWork (workOf (record { state = state; tile = tile; row = now (row .entry); words = now (layers .entry); floats = now (colors .entry); count = count; kept = kept; clear = clear; previous = previous; ids = idsOf queue; covers = coversOf queue }) (record { queueIds = now («next_ids» .entry); queueCovers = now («next_covers» .entry); listIds = now («list_ids» .entry); listCovers = now («list_covers» .entry); listSegments = now («list_segments» .entry); listShown = now («list_shown» .entry) })) r (record { queueIds = now («next_ids» .exit); queueCovers = now («next_covers» .exit); listIds = now («list_ids» .exit); listCovers = now («list_covers» .exit); listSegments = now («list_segments» .exit); listShown = now («list_shown» .exit) }) ⌝ }
+    ensures { λ r. ⌜ GivesWork
+        (workOf
+        (workCall (stateIn state) tile (now (row .entry))
+        (lentTable (now (layers .entry)) (now (colors .entry)) count) kept clear previous
+        (columnsFor queue))
+        (workLent (lent.columns (now («next_ids» .entry)) (now («next_covers» .entry)))
+        (listColumns (now («list_ids» .entry)) (now («list_covers» .entry))
+        (now («list_segments» .entry)) (now («list_unmasked» .entry)))))
+        r
+        (workLent (lent.columns (now («next_ids» .exit)) (now («next_covers» .exit)))
+        (listColumns (now («list_ids» .exit)) (now («list_covers» .exit))
+        (now («list_segments» .exit)) (now («list_unmasked» .exit)))) ⌝ }
 {
     work_tile(
         state,
@@ -136,6 +171,6 @@ pub fn work_array(
         list_ids,
         list_covers,
         list_segments,
-        list_shown,
+        list_unmasked,
     )
 }

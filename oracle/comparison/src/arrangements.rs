@@ -1,11 +1,9 @@
-//! Every arrangement of up to three layers in one tile: draws, clipped draws and clips, covered in each way, changed or not.
+//! Every arrangement of up to three layers in one tile: draws, clipped draws and clips, covered in each way, changed or
+//! not.
 
 use reference::plain::Record;
 
-use crate::{
-    library::Fields,
-    scene::word,
-};
+use crate::{given::Fields, scene::word};
 
 /// What a layer is: clip or draw, clipped, span, fill, alpha.
 const SORTS: [(u32, u32, u32, u32, f32); 8] = [
@@ -41,8 +39,16 @@ pub fn arrangement(layers: u32, number: usize) -> (Vec<u64>, Vec<Record>) {
         let (carry, segment) = COVERS[way / SORTS.len() % COVERS.len()];
         let unchanged = (way / SORTS.len() / COVERS.len()) as u32;
         let color = [id as f32 / 4.0, 0.5, 0.25, alpha];
-        records.push(Record { id, rule: id % 2 ^ 1, func, span, clipped, fill, mode: 0, unchanged, color });
-        let fields = |tile_x, local_y, cover| Fields { layer_id: id, tile_x, tile_y: 0, local_x: 3, local_y, double_area_multiplier: 32, cover };
+        records.push(Record { id, rule: 1 - id % 2, func, span, clipped, fill, mode: 0, unchanged, color });
+        let fields = |tile_x, local_y, cover| Fields {
+            layer_id: id,
+            tile_x,
+            tile_y: 0,
+            local_x: 3,
+            local_y,
+            double_area_multiplier: 32,
+            cover,
+        };
         if carry != 0 || !segment {
             words.extend((0..16).map(|local_y| word(fields(-1, local_y, carry))));
         }

@@ -52,7 +52,9 @@ fn update(kind: &mut Kind, cached: &mut Cached, count: Option<Option<u32>>, colo
     }
     let rust = (rust, tile.layer_count(), tile.solid_color(), painter::cached_of(&tile));
     let ours = (ours, library::layer_count(*cached), library::solid_color(*cached), *cached);
-    kind.case(ours == rust, || format!("{before:?}, count {count:?}, colour {color:?}: the Rust {rust:?}, the library {ours:?}"));
+    kind.case(ours == rust, || {
+        format!("{before:?}, count {count:?}, colour {color:?}: the Rust {rust:?}, the library {ours:?}")
+    });
 }
 
 fn updates(kind: &mut Kind) {
@@ -70,7 +72,13 @@ fn updates(kind: &mut Kind) {
 
 fn tags(kind: &mut Kind) {
     for tag in 0..=255 {
-        for (count, color) in [(None, None), (Some(None), None), (Some(Some(0x0102_0304)), None), (None, Some(None)), (None, Some(Some([9, 8, 7, 6])))] {
+        for (count, color) in [
+            (None, None),
+            (Some(None), None),
+            (Some(Some(0x0102_0304)), None),
+            (None, Some(None)),
+            (None, Some(Some([9, 8, 7, 6]))),
+        ] {
             update(kind, &mut Cached([tag, 3, 2, 1, 4, 5, 6, 7]), count, color);
         }
     }
@@ -102,5 +110,7 @@ fn settle(kind: &mut Kind) {
         Ok(true) => "write",
         Ok(false) => "keep",
     });
-    kind.case(ours == expected, || format!("{cached:?}, given {given}, {display:?}: expected {expected:?}, the library {ours:?}"));
+    kind.case(ours == expected, || {
+        format!("{cached:?}, given {given}, {display:?}: expected {expected:?}, the library {ours:?}")
+    });
 }

@@ -6,7 +6,8 @@ use reference::{
 };
 
 use crate::{
-    library::{self, Fields, UNTOUCHED},
+    given::Fields,
+    library::{self, UNTOUCHED},
     random::Random,
     scene::word,
     tally::{caught, Kind, Tally},
@@ -39,7 +40,8 @@ pub fn any_cover(random: &mut Random) -> [i8; 16] {
     };
     if random.once_in(3) {
         let y = random.below(16);
-        cover[y] = if random.once_in(2) { any[y] } else { cover[y].saturating_add(random.within(-1..=1) as i8).max(-127) };
+        cover[y] =
+            if random.once_in(2) { any[y] } else { cover[y].saturating_add(random.within(-1..=1) as i8).max(-127) };
     }
     cover
 }
@@ -56,7 +58,9 @@ fn empty_and_full(kind: &mut Kind) {
         ]
     });
     let ours = judged(cover);
-    for (answer, told) in ours.iter().zip(["empty by NonZero", "empty by EvenOdd", "full by NonZero", "full by EvenOdd"]) {
+    for (answer, told) in
+        ours.iter().zip(["empty by NonZero", "empty by EvenOdd", "full by NonZero", "full by EvenOdd"])
+    {
         if *answer {
             kind.note(told);
         }
@@ -64,14 +68,17 @@ fn empty_and_full(kind: &mut Kind) {
     kind.case(Some(ours) == rust, || format!("{cover:?}: the Rust {rust:?}, the library {ours:?}"));
 }
 
-/// The absolute value of -128 overflows in the Rust (FINDINGS.md), so these are held to the scope: 128 is a multiple of 32, and not 16.
+/// The absolute value of -128 overflows in the Rust (FINDINGS.md), so these are held to the scope: 128 is a multiple of
+/// 32, and not 16.
 fn lowest(kind: &mut Kind) {
     let mut cover = any_cover(&mut kind.random);
     cover[kind.random.below(16)] = -128;
     let overflows = RULES.map(|rule| caught(|| painter::is_full(cover, rule)).is_none()) == [true, true];
     let expected = [false, cover.iter().all(|&byte| i32::from(byte) % 32 == 0), false, false];
     let ours = judged(cover);
-    kind.case(overflows && ours == expected, || format!("{cover:?}: expected {expected:?}, the library {ours:?}; the Rust overflows: {overflows}"));
+    kind.case(overflows && ours == expected, || {
+        format!("{cover:?}: expected {expected:?}, the library {ours:?}; the Rust overflows: {overflows}")
+    });
 }
 
 /// Segments of one layer in one tile, light enough or not.
@@ -82,7 +89,15 @@ pub fn any_part(random: &mut Random, layer_id: u32) -> Vec<u64> {
         .map(|_| {
             let cover = if random.once_in(20) { -32 } else { random.within(-widest..=widest) as i8 };
             let (local_x, local_y) = (random.below(16) as u8, random.below(16) as u8);
-            word(Fields { layer_id, tile_x: 3, tile_y: 0, local_x, local_y, double_area_multiplier: random.below(64) as u8, cover })
+            word(Fields {
+                layer_id,
+                tile_x: 3,
+                tile_y: 0,
+                local_x,
+                local_y,
+                double_area_multiplier: random.below(64) as u8,
+                cover,
+            })
         })
         .collect()
 }
@@ -111,14 +126,18 @@ fn carry(kind: &mut Kind) {
     let (number, ours) = library::carry(&part, cover);
     if is_heavy(&part, cover) {
         kind.note("refused");
-        kind.case((number, ours) == (9, cover), || format!("{part:x?} on {cover:?}: expected 9, the library {number} and {ours:?}"));
+        kind.case((number, ours) == (9, cover), || {
+            format!("{part:x?} on {cover:?}: expected 9, the library {number} and {ours:?}")
+        });
         return;
     }
     // An empty carry is dropped.
     let rust = caught(|| row::carry(&part, Some(cover), &record));
     let kept = (!library::is_empty(ours, rule)).then_some(ours);
     kind.note(if kept.is_some() { "kept" } else { "dropped" });
-    kind.case(number == 0 && rust == Some(kept), || format!("{part:x?} on {cover:?}, rule {rule}: the Rust {rust:?}, the library {number} and {ours:?}"));
+    kind.case(number == 0 && rust == Some(kept), || {
+        format!("{part:x?} on {cover:?}, rule {rule}: the Rust {rust:?}, the library {number} and {ours:?}")
+    });
 }
 
 /// Every d of 16 bits, by both rules; an accepted row gives none beyond 8,001.
@@ -173,15 +192,37 @@ fn paint(kind: &mut Kind) {
         }
         (None, None) => false,
     };
-    kind.case(same, || format!("{part:x?} on {cover:?}, rule {rule}, plane of {}: the library {number} and {mark:#x}, the Rust {rust:?}", before.len()));
+    kind.case(same, || {
+        format!(
+            "{part:x?} on {cover:?}, rule {rule}, plane of {}: the library {number} and {mark:#x}, the Rust {rust:?}",
+            before.len()
+        )
+    });
 }
 
 /// A bit for each octet that has a number above 0.
 fn marks(kind: &mut Kind) {
     let random = &mut kind.random;
-    let numbers = [0.0, 0.0, 0.0, 0.0, 0.0, 0.0, -0.0, 1.0, 0.001_953_125, f32::NAN, -1.0, f32::INFINITY, f32::MIN_POSITIVE / 2.0];
+    let numbers = [
+        0.0,
+        0.0,
+        0.0,
+        0.0,
+        0.0,
+        0.0,
+        -0.0,
+        1.0,
+        0.001_953_125,
+        f32::NAN,
+        -1.0,
+        f32::INFINITY,
+        f32::MIN_POSITIVE / 2.0,
+    ];
     let few = random.once_in(2);
-    let plane: Vec<f32> = any_plane(random).iter().map(|_| if few && !random.once_in(60) { 0.0 } else { random.pick(&numbers) }).collect();
+    let plane: Vec<f32> = any_plane(random)
+        .iter()
+        .map(|_| if few && !random.once_in(60) { 0.0 } else { random.pick(&numbers) })
+        .collect();
     let expected = if plane.len() < 256 {
         (1, UNTOUCHED as u32)
     } else {

@@ -82,7 +82,10 @@ fn at_word(random: &mut Random, job: &Job, change: fn(&mut Random, i64) -> Strin
 
 /// A neighbour, an edge of some field, or any number of seven digits.
 fn other_number(random: &mut Random, number: i64) -> String {
-    let edges = [-33, -32, -2, -1, 0, 1, 15, 16, 31, 32, 63, 64, 255, 256, 257, 2046, 2047, 4094, 4095, 4096, 2_097_151, 2_097_152];
+    let edges = [
+        -33, -32, -2, -1, 0, 1, 15, 16, 31, 32, 63, 64, 255, 256, 257, 2046, 2047, 4094, 4095, 4096, 2_097_151,
+        2_097_152,
+    ];
     let number = match random.below(4) {
         0 => number + random.pick(&[-1, 1]),
         1 => -number,
@@ -163,7 +166,8 @@ fn carriage_returns(random: &mut Random, text: &[u8]) -> Vec<u8> {
 }
 
 fn bytes_behind(random: &mut Random, job: &Job) -> Vec<u8> {
-    let behind: &[u8] = random.pick(&[&b"\n"[..], b" ", b"\0", b"0", b"0 0\n", b"row tiles from to\n", b"0 0 0 0 1 0 0", b"\x1a"]);
+    let behind: &[u8] =
+        random.pick(&[&b"\n"[..], b" ", b"\0", b"0", b"0 0\n", b"row tiles from to\n", b"0 0 0 0 1 0 0", b"\x1a"]);
     [job.text(), behind.to_vec()].concat()
 }
 

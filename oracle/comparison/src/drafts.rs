@@ -3,21 +3,28 @@
 use std::collections::BTreeMap;
 
 use crate::{
+    given::LAYER_LIMIT,
     job_reader::{Job, LAYERS, LINES, SEGMENTS},
     random::Random,
-    scene::LAYER_LIMIT,
 };
 
 const LAST_TILE: i64 = 4094;
 const LAST_LAYER: i64 = LAYER_LIMIT as i64;
 
-/// A well-formed job: mostly one that no condition refuses, at times spoiled by one, at times as large as a text may say.
+/// A well-formed job: mostly one that no condition refuses, at times spoiled by one, at times as large as a text may
+/// say.
 pub fn any_job(random: &mut Random) -> Job {
     let (first, tiles) = any_tiles(random);
     let head = any_head(random, first, tiles);
     let layers = any_layers(random);
     let ids: Vec<i64> = layers.iter().map(|layer| layer[0]).collect();
-    let mut draft = Draft { random, first, end: first + tiles, loads: BTreeMap::new(), job: Job { head, layers, lines: Vec::new() } };
+    let mut draft = Draft {
+        random,
+        first,
+        end: first + tiles,
+        loads: BTreeMap::new(),
+        job: Job { head, layers, lines: Vec::new() },
+    };
     if !draft.random.once_in(12) {
         ids.into_iter().for_each(|id| draft.draw(id));
     }

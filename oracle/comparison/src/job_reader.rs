@@ -1,6 +1,7 @@
 //! The job text of the row program, read by the scope's paragraph 'The row program' and nothing else.
 
-const NAMES: [&str; 3] = ["row tiles from to", "layer rule clip span clipped fill mode alpha", "tile_x layer x y rows mult cover"];
+const NAMES: [&str; 3] =
+    ["row tiles from to", "layer rule clip span clipped fill mode alpha", "tile_x layer x y rows mult cover"];
 
 pub const LONGEST_TEXT: usize = 65_536;
 pub const LAYERS: usize = 64;
@@ -47,7 +48,8 @@ pub fn read(text: &[u8]) -> Option<Job> {
     if lines.pop() != Some(b"") {
         return None;
     }
-    let starts: Vec<usize> = (0..lines.len()).filter(|&at| NAMES.iter().any(|names| names.as_bytes() == lines[at])).collect();
+    let starts: Vec<usize> =
+        (0..lines.len()).filter(|&at| NAMES.iter().any(|names| names.as_bytes() == lines[at])).collect();
     let [0, second, third] = starts[..] else {
         return None;
     };

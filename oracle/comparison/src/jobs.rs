@@ -15,12 +15,12 @@ use reference::{
 };
 
 use crate::{
-    calls::records,
     damages::damaged,
     drafts::any_job,
+    given::{LentTable, State},
     job_reader::{read, Job},
-    judge::{self, LentTable, Tile},
-    library::State,
+    judge::{self, Tile},
+    layers::records,
     tally::{caught, Kind, Tally},
     words::Segment,
 };
@@ -99,13 +99,22 @@ fn work_refusal(words: [i32; 4], rust: &Row<'_>, row: &[u64], table: &LentTable)
     judge::work(&Tile { state, tile: words[3], lent_short: false, queue: &queue, tag: None }, row, table)
 }
 
-/// The segments, each line repeated downward. A row number that 2 refuses is cut to the width of its field: nothing looks at it.
+/// The segments, each line repeated downward. A row number that 2 refuses is cut to the width of its field: nothing
+/// looks at it.
 fn words_of(job: &Job) -> Vec<u64> {
     let tile_y = (job.head[0] & 2047) as i16;
     let mut words = Vec::new();
     for &[tile_x, layer, x, y, rows, mult, cover] in &job.lines {
         for y in y..y + rows {
-            words.push(u64::from(&Segment::new(layer as u32, tile_x as i16, tile_y, x as u8, y as u8, mult as u8, cover as i8)));
+            words.push(u64::from(&Segment::new(
+                layer as u32,
+                tile_x as i16,
+                tile_y,
+                x as u8,
+                y as u8,
+                mult as u8,
+                cover as i8,
+            )));
         }
     }
     words
@@ -118,7 +127,11 @@ fn table_of(job: &Job) -> LentTable {
         [id, rule, clip, span, clipped, fill, mode, 0]
     };
     let color = |layer: &[i64; 8]| [0.0, 0.0, 0.0, layer[7] as f32 / 256.0];
-    LentTable { layers: job.layers.iter().flat_map(words).collect(), colors: job.layers.iter().flat_map(color).collect(), count: job.layers.len() }
+    LentTable {
+        layers: job.layers.iter().flat_map(words).collect(),
+        colors: job.layers.iter().flat_map(color).collect(),
+        count: job.layers.len(),
+    }
 }
 
 /// A line of the row program: tile, decision, listed, shown, octets, carried.
@@ -136,7 +149,11 @@ pub fn line(tile: usize, worked: &Worked) -> String {
 /// What the program prints for a text, and whether it ends well.
 fn printed(text: &[u8]) -> (Vec<u8>, bool) {
     let program = PathBuf::from(env!("CARGO_MANIFEST_DIR")).join("../../target/bin/row");
-    let mut child = Command::new(program).stdin(Stdio::piped()).stdout(Stdio::piped()).spawn().expect("`rt check row` builds target/bin/row");
+    let mut child = Command::new(program)
+        .stdin(Stdio::piped())
+        .stdout(Stdio::piped())
+        .spawn()
+        .expect("`rt check row` builds target/bin/row");
     let mut input = child.stdin.take().unwrap();
     let output = thread::scope(|scope| {
         // The program need not read a text to its end, so the pipe may close before.

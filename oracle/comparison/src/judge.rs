@@ -1,18 +1,11 @@
-//! The table of refusals ('Turned down') in the scope's words, beside the Rust, which has none: the lowest number that applies, 0 where none does.
+//! The table of refusals ('Turned down') in the scope's words, beside the Rust, which has none: the lowest number that
+//! applies, 0 where none does.
 
 use std::collections::BTreeMap;
 
 use reference::plain::Carry;
 
-use crate::{library::State, scene::LAYER_LIMIT};
-
-/// A layer table as it is lent: eight words and four floats a record.
-#[derive(Clone, Debug)]
-pub struct LentTable {
-    pub layers: Vec<u32>,
-    pub colors: Vec<f32>,
-    pub count: usize,
-}
+use crate::given::{LentTable, State, LAYER_LIMIT};
 
 impl LentTable {
     pub fn is_short(&self) -> bool {

@@ -3,10 +3,10 @@
 use reference::plain::{color_of, Record, Rgba, MODES};
 
 use crate::{
-    judge::LentTable,
+    given::{LentTable, LAYER_LIMIT},
     library,
     random::Random,
-    scene::{any_color, any_table, LAYER_LIMIT},
+    scene::{any_color, any_table},
     tally::{Kind, Tally},
 };
 
@@ -63,7 +63,9 @@ fn opaque(kind: &mut Kind) {
     let expected = fill == 0 && mode == 0 && color[3] == 1.0;
     kind.note(if expected { "opaque" } else { "not" });
     let ours = library::is_opaque(fill, mode, color);
-    kind.case(ours == expected, || format!("fill {fill}, mode {mode}, {color:?}: expected {expected}, the library {ours}"));
+    kind.case(ours == expected, || {
+        format!("fill {fill}, mode {mode}, {color:?}: expected {expected}, the library {ours}")
+    });
 }
 
 /// The table as it is lent: eight words and four floats a record.
@@ -74,6 +76,16 @@ pub fn lent(records: &[Record]) -> LentTable {
         colors: records.iter().flat_map(|r| r.color).collect(),
         count: records.len(),
     }
+}
+
+/// A table's records, as the Rust has them.
+pub fn records(table: &LentTable) -> Vec<Record> {
+    let one = |i: usize| {
+        let [id, rule, func, span, clipped, fill, mode, unchanged] = table.layers[8 * i..8 * i + 8].try_into().unwrap();
+        let color = table.colors[4 * i..4 * i + 4].try_into().unwrap();
+        Record { id, rule, func, span, clipped, fill, mode, unchanged, color }
+    };
+    (0..table.count).map(one).collect()
 }
 
 /// A table with a word changed, a record twice or out of its place, or lent too short; at times as it was.
@@ -110,7 +122,15 @@ fn tables(kind: &mut Kind) {
     let table = damaged(&mut kind.random, &records);
     let is_short = table.is_short();
     let is_table = !is_short && table.is_valid();
-    kind.note(if is_short { "refused by 1" } else if is_table { "accepted" } else { "refused by 4" });
+    kind.note(if is_short {
+        "refused by 1"
+    } else if is_table {
+        "accepted"
+    } else {
+        "refused by 4"
+    });
     let ours = library::judge_table(&table.layers, &table.colors, table.count);
-    kind.case(ours == (is_short, is_table), || format!("{table:?}: expected {is_short}, {is_table}, the library {ours:?}"));
+    kind.case(ours == (is_short, is_table), || {
+        format!("{table:?}: expected {is_short}, {is_table}, the library {ours:?}")
+    });
 }

@@ -1,11 +1,15 @@
 //! The same cases on the Rust and on the proved library: one module for each group of kinds.
 
 pub mod arrangements;
+pub mod bench;
 pub mod cached;
 pub mod calls;
 pub mod covers;
+pub mod curve;
 pub mod damages;
 pub mod drafts;
+mod exports;
+pub mod given;
 pub mod job_reader;
 pub mod jobs;
 pub mod judge;
@@ -20,10 +24,13 @@ pub mod rows;
 pub mod scene;
 pub mod stored;
 pub mod stored_jobs;
+pub mod stored_lines;
 pub mod stored_rows;
 pub mod tally;
+pub mod tiles;
 pub mod timed_parts;
 pub mod timed_rows;
+pub mod timed_scenes;
 pub mod timed_words;
 pub mod timing;
 pub mod words;

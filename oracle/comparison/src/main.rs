@@ -1,19 +1,25 @@
-//! `comparison answers` prints the Rust's answers for the crate `compare`, and writes those of the crate `jobs`. `comparison N SEED`: N random cases of
-//! each kind on both sides, or with a word behind, of each kind whose name has it. The last line says how many were compared and how many differ.
-//! `comparison bench` prints times of both.
+//! `comparison answers` prints the Rust's answers for the crate `compare`, and writes those of the crates `jobs` and
+//! `curve`.
+//! `comparison N SEED`: N random cases of each kind on both sides, or with a word behind, of each kind whose name has
+//! it. The last line says how many were compared and how many differ. `comparison bench`, or with a word behind, prints
+//! times of both.
 
 use std::{env, process::ExitCode};
 
-use comparison::{cached, calls, covers, jobs, layers, openings, paintings, plates, rows, stored, stored_jobs, tally::Tally, timing, words};
+use comparison::{
+    bench, cached, covers, curve, jobs, layers, openings, paintings, plates, rows, stored, stored_jobs, tally::Tally,
+    tiles, words,
+};
 
 fn main() -> ExitCode {
     if env::args().nth(1).as_deref() == Some("answers") {
         print!("{}", stored::answers());
         stored_jobs::write();
+        curve::write();
         return ExitCode::SUCCESS;
     }
     if env::args().nth(1).as_deref() == Some("bench") {
-        timing::print();
+        bench::print(env::args().nth(2).unwrap_or_default());
         return ExitCode::SUCCESS;
     }
     let numbers: Vec<u64> = env::args().skip(1).take(2).filter_map(|word| word.parse().ok()).collect();
@@ -29,9 +35,10 @@ fn main() -> ExitCode {
     plates::compare(&mut tally);
     openings::compare(&mut tally);
     rows::compare(&mut tally);
-    calls::compare(&mut tally);
+    tiles::compare(&mut tally);
     paintings::compare(&mut tally);
     jobs::compare(&mut tally);
     stored_jobs::compare(&mut tally);
+    curve::compare(&mut tally);
     tally.end()
 }

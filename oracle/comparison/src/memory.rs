@@ -3,7 +3,7 @@
 use reference::plain::{Cached, Carry, Decision, Worked};
 
 use crate::{
-    library::{Memory, Queue, State, Work},
+    given::{Memory, Queue, State, Work},
     random::Random,
 };
 
@@ -21,12 +21,33 @@ pub const REFUSED: [&str; 10] = [
     "refused by 9",
 ];
 
+/// The same where no cached tile is given.
+pub const REFUSED_WITHOUT: [&str; 10] = [
+    "accepted, no cached tile",
+    "refused by 1, no cached tile",
+    "refused by 2, no cached tile",
+    "refused by 3, no cached tile",
+    "refused by 4, no cached tile",
+    "refused by 5, no cached tile",
+    "refused by 6, no cached tile",
+    "refused by 7, no cached tile",
+    "refused by 8, no cached tile",
+    "refused by 9, no cached tile",
+];
+
 /// Lent columns, each number another than what belongs there. Of `len` entries, at times one too few.
 pub fn any_queue(random: &mut Random, may_be_short: bool) -> Queue {
     let len = if random.once_in(4) { 256 + random.below(5) } else { 256 };
     let short = may_be_short && random.once_in(3);
-    let (ids, covers) = if !short { (len, 16 * len + random.below(16)) } else { random.pick(&[(255, 4096), (256, 4095), (0, 0), (300, 15), (3, 9999)]) };
-    Queue { ids: (0..ids).map(|_| random.word() as u32).collect(), covers: (0..covers).map(|_| random.word() as i8).collect() }
+    let (ids, covers) = if !short {
+        (len, 16 * len + random.below(16))
+    } else {
+        random.pick(&[(255, 4096), (256, 4095), (0, 0), (300, 15), (3, 9999)])
+    };
+    Queue {
+        ids: (0..ids).map(|_| random.word() as u32).collect(),
+        covers: (0..covers).map(|_| random.word() as i8).collect(),
+    }
 }
 
 pub fn any_state(random: &mut Random) -> State {
@@ -82,7 +103,8 @@ pub fn any_memory(random: &mut Random, state: State, cached: Cached) -> Memory {
 pub fn expected(before: &Memory, worked: &Worked) -> Memory {
     let mut after = before.clone();
     let [tile_y, from, to, next, ..] = before.state.words;
-    after.state = State { words: [tile_y, from, to, next + 1, 0, 0], counts: [worked.queue.len(), before.state.counts[0]] };
+    after.state =
+        State { words: [tile_y, from, to, next + 1, 0, 0], counts: [worked.queue.len(), before.state.counts[0]] };
     if let Some((kept, _)) = worked.cached {
         after.kept = kept.0;
     }
@@ -116,7 +138,12 @@ pub fn told(ours: &Memory, wanted: &Memory) -> String {
     if ours.told != wanted.told || ours.bottom != wanted.bottom {
         parts.push(format!("told {:?} {:x?}, not {:?} {:x?}", ours.told, ours.bottom, wanted.told, wanted.bottom));
     }
-    for (name, same) in [("queue", ours.next == wanted.next), ("list", ours.list == wanted.list), ("segments", ours.segments == wanted.segments), ("shown", ours.shown == wanted.shown)] {
+    for (name, same) in [
+        ("queue", ours.next == wanted.next),
+        ("list", ours.list == wanted.list),
+        ("segments", ours.segments == wanted.segments),
+        ("shown", ours.shown == wanted.shown),
+    ] {
         if !same {
             parts.push(format!("another {name}"));
         }
@@ -134,7 +161,10 @@ pub fn input(call: &Work, memory: &Memory) -> String {
     let Work { tile, row, table, is_kept, clear, previous, queue } = call;
     let held = carries(queue, memory.state.counts[0].min(queue.ids.len()).min(queue.covers.len() / 16));
     let kept = is_kept.then_some(memory.kept);
-    format!("tile {tile}, {:?}, row {row:x?}, {table:?}, kept {kept:?}, clear {clear:?}, before {previous:?}, {held:?}", memory.state)
+    format!(
+        "tile {tile}, {:?}, row {row:x?}, {table:?}, kept {kept:?}, clear {clear:?}, before {previous:?}, {held:?}",
+        memory.state
+    )
 }
 
 pub fn brief(worked: &Worked) -> String {

@@ -7,9 +7,10 @@ use reference::{
 };
 
 use crate::{
-    judge::{self, LentTable},
+    given::{Fields, LentTable, State},
+    judge,
     layers::{damaged, lent},
-    library::{self, Fields, State},
+    library,
     memory::{any_queue, any_state, damaged_row, written, REFUSED},
     scene::{any_scene, word},
     tally::{caught, Kind, Tally},
@@ -43,18 +44,24 @@ fn check(kind: &mut Kind, opening: &Opening, may_be_short: bool) {
     let mut wanted = (any_queue(&mut kind.random, may_be_short), any_state(&mut kind.random));
     let (mut queue, mut state) = wanted.clone();
     let number = library::open_tile_row(*tile_y, *from, *to, row, table, &mut queue, &mut state);
-    let expected = judge::opening(*tile_y, *from, *to, row, table, judge::is_short(queue.ids.len(), queue.covers.len()));
+    let expected =
+        judge::opening(*tile_y, *from, *to, row, table, judge::is_short(queue.ids.len(), queue.covers.len()));
     kind.note(REFUSED[expected as usize]);
     if expected == 0 {
         let Some(carries) = carries(opening) else {
             kind.case(false, || format!("{opening:x?}: the Rust panics"));
             return;
         };
-        wanted.1 = State { words: [*tile_y, *from, *to, *from, 0, 0].map(|word| word as u32), counts: [carries.len(), 0] };
+        wanted.1 =
+            State { words: [*tile_y, *from, *to, *from, 0, 0].map(|word| word as u32), counts: [carries.len(), 0] };
         written(&mut wanted.0, carries.iter().map(|carry| (carry.id, carry.cover)));
     }
     kind.case(number == expected && (&queue, state) == (&wanted.0, wanted.1), || {
-        format!("{opening:x?}: expected {expected}, {:?}, the library {number}, {state:?}; queues the same: {}", wanted.1, queue == wanted.0)
+        format!(
+            "{opening:x?}: expected {expected}, {:?}, the library {number}, {state:?}; queues the same: {}",
+            wanted.1,
+            queue == wanted.0
+        )
     });
 }
 
@@ -89,12 +96,14 @@ fn crowd(kind: &mut Kind) {
     let random = &mut kind.random;
     let layers = 254 + random.below(5) as u32;
     let heavy = random.below(3 * layers as usize) as u32;
-    let record = |id| Record { id, rule: 0, func: 0, span: 0, clipped: 0, fill: 0, mode: 0, unchanged: 0, color: [0.0; 4] };
+    let record =
+        |id| Record { id, rule: 0, func: 0, span: 0, clipped: 0, fill: 0, mode: 0, unchanged: 0, color: [0.0; 4] };
     let records: Vec<Record> = (0..layers).map(record).collect();
     let mut row = Vec::new();
     for layer_id in 0..layers {
         let tile_x = random.within(-1..=1) as i16;
-        let fields = Fields { layer_id, tile_x, tile_y: 0, local_x: 1, local_y: 2, double_area_multiplier: 3, cover: -32 };
+        let fields =
+            Fields { layer_id, tile_x, tile_y: 0, local_x: 1, local_y: 2, double_area_multiplier: 3, cover: -32 };
         let count = if layer_id == heavy { 4 } else { 1 };
         row.extend((0..count).map(|_| word(fields)));
     }

@@ -1,11 +1,13 @@
 //! Painting layers of the tile just worked.
 
-use reference::plain::Painted;
+use reference::{plain::Painted, Table};
 
 use crate::{
     calls::{any_call, damage, refusal, worked_row},
+    given::{Canvas, Memory, State, Work},
     judge::{self, is_short, Tile},
-    library::{self, Canvas, Memory, State, Work},
+    layers::records,
+    library,
     memory::{carries, input, REFUSED},
     random::Random,
     tally::{caught, Kind, Tally},
@@ -17,7 +19,11 @@ pub fn compare(tally: &mut Tally) {
 
 /// A plane of 256 numbers or more, none of which is a coverage; at times too short.
 pub fn any_canvas(random: &mut Random, state: State, may_be_short: bool) -> Canvas {
-    let len = if may_be_short && random.once_in(8) { random.pick(&[0, 255]) } else { 256 + random.below(2) * random.below(9) };
+    let len = if may_be_short && random.once_in(8) {
+        random.pick(&[0, 255])
+    } else {
+        256 + random.below(2) * random.below(9)
+    };
     Canvas { state, plane: (0..len).map(|i| -1000.0 - i as f32).collect(), mark: random.word() as u32 }
 }
 
@@ -49,7 +55,8 @@ fn tell(call: &Work, layer: u32, before: &Canvas, number: u32, after: &Canvas, w
     let held = carries(queue, before.state.counts[1].min(queue.ids.len()).min(queue.covers.len() / 16));
     let planes = after.plane.iter().zip(&wanted.plane).position(|(a, b)| a.to_bits() != b.to_bits());
     format!(
-        "tile {tile}, layer {layer}, {:?}, row {row:x?}, {table:?}, {held:?}: the library {number}, {:x} {:?}; wanted {:x} {:?}; planes differ at {planes:?}",
+        "tile {tile}, layer {layer}, {:?}, row {row:x?}, {table:?}, {held:?}: the library {number}, {:x} {:?}; \
+         wanted {:x} {:?}; planes differ at {planes:?}",
         before.state, after.mark, after.state, wanted.mark, wanted.state
     )
 }
@@ -71,8 +78,8 @@ fn any_layers(kind: &mut Kind) {
     }
     let mut after = memory.clone();
     library::work_tile(&call, &mut after);
-    let records = crate::calls::records(&call.table);
-    let table = reference::Table::new(&records);
+    let records = records(&call.table);
+    let table = Table::new(&records);
     let Some((mut row, _)) = caught(|| worked_row(&call, &memory, &table)) else {
         kind.case(false, || format!("{}: the Rust panics", input(&call, &memory)));
         return;

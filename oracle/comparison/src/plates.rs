@@ -13,7 +13,8 @@ use crate::{
 pub fn compare(tally: &mut Tally) {
     tally.random("print_row, with and without a crop", print_row);
     tally.kind("print_row, every row number up to 131,072", every_row);
-    tally.random("for_each_row, row by row and whole", for_each_row);
+    tally.kind("print_row and for_each_row, every crop of a small plate", every_crop);
+    tally.random("for_each_row, with and without a crop", for_each_row);
 }
 
 /// Segments with these stored tile numbers, tile x -1, and each with its place as its layer.
@@ -29,7 +30,8 @@ fn any_tiles(random: &mut Random) -> Vec<u64> {
         _ => random.below(24),
     };
     let highest = random.pick(&[2, 4, 40, 2047]);
-    let mut tiles: Vec<u64> = (0..len).map(|_| if random.once_in(6) { 0 } else { random.below(highest + 1) as u64 }).collect();
+    let mut tiles: Vec<u64> =
+        (0..len).map(|_| if random.once_in(6) { 0 } else { random.below(highest + 1) as u64 }).collect();
     if !random.once_in(3) {
         tiles.sort();
     }
@@ -79,7 +81,9 @@ fn compare_row(kind: &mut Kind, tiles: &[u64], words: &[u64], j: usize, crop: Op
         (false, Some(row)) if row.is_empty() => "unsorted and empty",
         (false, Some(_)) => "unsorted and found",
     });
-    kind.case(rust.as_ref() == Some(&ours), || format!("row {j}, crop {crop:?} of {tiles:?}: the Rust {rust:?}, the library {ours:?}"));
+    kind.case(rust.as_ref() == Some(&ours), || {
+        format!("row {j}, crop {crop:?} of {tiles:?}: the Rust {rust:?}, the library {ours:?}")
+    });
 }
 
 fn print_row(kind: &mut Kind) {
@@ -99,19 +103,47 @@ fn every_row(kind: &mut Kind) {
     }
 }
 
-/// The whole of it: what is skipped, then each row by a crop of its own, then all rows without one.
+/// Every crop of a small plate, empty and reversed ones and those past its end too, by every row.
+fn every_crop(kind: &mut Kind) {
+    let tiles = [0, 1, 1, 2, 4, 4, 5];
+    let words = words_of(&tiles, &mut kind.random);
+    let ends = [0, 1, 2, 3, 4, 5, 6, usize::MAX - 1, usize::MAX];
+    for (start, end) in ends.iter().flat_map(|&start| ends.map(|end| (start, end))) {
+        ends.iter().for_each(|&j| compare_row(kind, &tiles, &words, j, Some((start, end))));
+        compare_plate(kind, &tiles, &words, 5, Some((start, end)));
+    }
+    compare_plate(kind, &tiles, &words, 5, None);
+}
+
+/// The whole of it: the segments of negative rows are passed over, then each row in the crop is painted from its own
+/// segments, and the others are left as they were.
+fn compare_plate(kind: &mut Kind, tiles: &[u64], words: &[u64], height: usize, crop: Option<(usize, usize)>) {
+    let passed = library::find_not_negative(words);
+    let written: Vec<usize> = (0..height).filter(|&j| library::is_in_crop(crop, j)).collect();
+    let row = |&j: &usize| library::find_row(&words[passed..], j).map(|place| passed + place);
+    let ours = (written.iter().flat_map(row).collect::<BTreeSet<usize>>(), written);
+    let rust = caught(|| seen_in(words, height, crop));
+    kind.note(match (ours.1.len(), passed) {
+        (0, _) => "plate: every row skipped",
+        (rows, _) if rows < height => "plate: some rows skipped",
+        (_, 0) => "plate: no row skipped",
+        _ => "plate: no row skipped, negative rows passed over",
+    });
+    kind.case(rust.as_ref() == Some(&ours), || {
+        format!(
+            "{height} rows of {tiles:?}, crop {crop:?}: the Rust {rust:?}, the library {ours:?}, {passed} passed over"
+        )
+    });
+}
+
+/// A plate whole, by a crop of one row, and by any crop.
 fn for_each_row(kind: &mut Kind) {
     let tiles = any_tiles(&mut kind.random);
     let words = words_of(&tiles, &mut kind.random);
     let height = 1 + kind.random.below(5);
-    let skipped = library::find_not_negative(&words);
-    let row = |j: usize| -> Vec<usize> { places(library::find_row(&words[skipped..], j)).iter().map(|place| skipped + place).collect() };
     let j = kind.random.below(height);
-    let all: BTreeSet<usize> = (0..height).flat_map(row).collect();
-    let ours = (row(j).into_iter().collect::<BTreeSet<usize>>(), all);
-    let rust = caught(|| (seen_in(&words, height, Some((j, j + 1))), seen_in(&words, height, None)));
-    kind.note(if skipped == 0 { "nothing skipped" } else { "some skipped" });
-    kind.case(rust.as_ref() == Some(&ours), || {
-        format!("row {j} and all of {height} of {tiles:?}: the Rust {rust:?}, the library {ours:?}, {skipped} skipped")
-    });
+    let crop = any_crop(j, &mut kind.random);
+    for crop in [None, Some((j, j + 1)), crop] {
+        compare_plate(kind, &tiles, &words, height, crop);
+    }
 }

@@ -7,9 +7,9 @@ use reference::{
 };
 
 use crate::{
-    judge::LentTable,
+    given::{LentTable, Memory, Queue, State, Work},
     layers::lent,
-    library::{self, Memory, Queue, State, Work},
+    library,
     memory::{any_memory, any_queue, any_state, brief, expected, input, told},
     paintings::paint_all,
     random::Random,
@@ -49,7 +49,8 @@ impl<'t> Pair<'t> {
     }
 }
 
-/// The colour of a solid tile, mixed by the Rust from what the library says: the bottom colour and the shown layers after the first.
+/// The colour of a solid tile, mixed by the Rust from what the library says: the bottom colour and the shown layers
+/// after the first.
 fn mixed(memory: &Memory, records: &[Record]) -> Rgba {
     let [_, before, listed, skipped] = memory.told;
     let shown = (skipped..listed).filter(|&i| memory.shown[i]).skip(before);
@@ -80,12 +81,15 @@ fn note(kind: &mut Kind, worked: &Worked) {
 
 fn rows(kind: &mut Kind) {
     let scene = any_scene(&mut kind.random);
-    let mut cached = vec![Cached::default(); scene.tiles];
+    // Bytes that are not given may be any, and stay.
+    let bytes =
+        |random: &mut Random| if scene.caches { Cached::default() } else { Cached(random.word().to_le_bytes()) };
+    let mut cached: Vec<Cached> = (0..scene.tiles).map(|_| bytes(&mut kind.random)).collect();
     for picture in &scene.pictures {
         let table = Table::new(&picture.records);
         let mut pair = Pair::open(&mut kind.random, &scene, picture, &table);
-        for tile in scene.from..scene.to {
-            work(kind, &mut pair, tile, picture, scene.caches, &mut cached[tile]);
+        for (tile, cached) in (scene.from..scene.to).zip(&mut cached[scene.from..scene.to]) {
+            work(kind, &mut pair, tile, picture, scene.caches, cached);
         }
     }
 }
@@ -103,21 +107,29 @@ fn work(kind: &mut Kind, pair: &mut Pair<'_>, tile: usize, picture: &Picture, ca
     };
     note(kind, &worked);
     let wanted = expected(&before, &worked);
-    kind.case(number == 0 && after == wanted, || format!("{}: the library {number}, {}; the Rust {}", input(&call, &before), told(&after, &wanted), brief(&worked)));
+    kind.case(number == 0 && after == wanted, || {
+        let (call, seen) = (input(&call, &before), told(&after, &wanted));
+        format!("{call}: the library {number}, {seen}; the Rust {}", brief(&worked))
+    });
     if let (Decision::Solid { mixed: rust, .. }, true) = (worked.decision, after == wanted) {
         let ours = mixed(&after, pair.records);
         kind.case(same_color(ours, rust), || format!("{}: mixed {ours:?}, the Rust {rust:?}", input(&call, &before)));
     }
     paint_all(kind, &call, wanted.state, &worked.painted);
-    let mut kept = Cached(after.kept);
-    if let Some((bytes, is_written)) = worked.settled {
-        let ours = library::settle(caches, &mut kept, bytes);
-        kind.case(ours == Ok(is_written), || format!("{}: settling {bytes:?} gives {ours:?}, the Rust writes: {is_written}", input(&call, &before)));
-    }
-    if let Some((_, settled)) = worked.cached {
-        kind.case(kept == settled, || format!("{}: kept {kept:?}, the Rust {settled:?}", input(&call, &before)));
-        *cached = settled;
-    }
+    *cached = settle(kind, &call, &before, Cached(after.kept), &worked);
     pair.state = after.state;
     pair.queue = after.next;
+}
+
+/// What is kept in the end: of a solid tile after settling. Where no cached tile is given, all bytes are as before.
+fn settle(kind: &mut Kind, call: &Work, before: &Memory, mut kept: Cached, worked: &Worked) -> Cached {
+    if let Some((bytes, is_written)) = worked.settled {
+        let ours = library::settle(call.is_kept, &mut kept, bytes);
+        kind.case(ours == Ok(is_written), || {
+            format!("{}: settling {bytes:?} gives {ours:?}, the Rust writes: {is_written}", input(call, before))
+        });
+    }
+    let wanted = worked.cached.map_or(Cached(before.kept), |(_, settled)| settled);
+    kind.case(kept == wanted, || format!("{}: kept {kept:?}, the Rust {wanted:?}", input(call, before)));
+    wanted
 }

@@ -8,9 +8,10 @@ use reference::{
     plain::{Record, Rgba},
 };
 
-use crate::{library::Fields, random::Random};
-
-pub const LAYER_LIMIT: u32 = (1 << 21) - 1;
+use crate::{
+    given::{Fields, LAYER_LIMIT},
+    random::Random,
+};
 
 /// A row of tiles, and what each frame draws in it.
 #[derive(Clone, Debug)]
@@ -52,7 +53,8 @@ pub fn any_scene(random: &mut Random) -> Scene {
     let to = if random.once_in(3) { from + random.below(tiles - from + 1) } else { tiles };
     let tile_y = random.pick(&[0, 1, 77, 2046]);
     let records = any_table(random);
-    let mut shapes = Shapes { random, tile_y: tile_y as i16, tiles: tiles as i16, loads: BTreeMap::new(), words: Vec::new() };
+    let mut shapes =
+        Shapes { random, tile_y: tile_y as i16, tiles: tiles as i16, loads: BTreeMap::new(), words: Vec::new() };
     for record in &records {
         if !shapes.random.once_in(5) {
             shapes.draw(record);
@@ -137,7 +139,13 @@ fn any_record(random: &mut Random, id: u32, clips: usize) -> Record {
         id,
         rule: random.below(2) as u32,
         func,
-        span: if func == 0 { 0 } else if long { LAYER_LIMIT } else { random.below(6) as u32 },
+        span: if func == 0 {
+            0
+        } else if long {
+            LAYER_LIMIT
+        } else {
+            random.below(6) as u32
+        },
         clipped: if func == 1 { 0 } else { u32::from(random.below(8) < clips) },
         fill: if random.once_in(8) { 1 + random.below(2) as u32 } else { 0 },
         mode: if random.once_in(5) { random.below(16) as u32 } else { 0 },

@@ -1,68 +1,32 @@
-//! The Rust's answers as text, for the crate `compare`, which says the form of each kind: a block of a kind is its name with how many cases, then a
-//! line for each. Numbers are hexadecimal; signed ones stand by their bits, floats by their multiple of 1/512 or a code.
+//! The Rust's answers as text, for the crate `compare`, which says the form of each kind: a block of a kind is its name
+//! with how many cases, then a line for each. Numbers are hexadecimal; signed ones stand by their bits, floats by their
+//! multiple of 1/512 or a code.
 
 use std::fmt::Write;
 
 use reference::{
     cpu,
-    painter::{
-        self, recorder,
-        row::{self, Row},
-    },
+    painter::{self, recorder, row},
     pixel_segment,
-    plain::{Carry, Record, RULES},
-    Table,
+    plain::{Record, RULES},
 };
 
 use crate::{
     cached::{any_color, any_count, any_tile},
     covers::{any_cover, any_part, is_heavy},
-    judge::{self, LentTable},
+    given::{Fields, Key},
+    judge,
     layers::{damaged, lent},
-    library::{Fields, Key},
     memory::damaged_row,
     random::Random,
-    scene::{any_scene, Scene},
-    stored_rows,
+    stored_lines::{bytes, float, Line},
+    stored_rows::{self, opened, row_given, small_scene},
     tally::caught,
     words::{any_fields, any_row, any_word, layer, segment, tile, Segment},
 };
 
 /// The seed of the stored cases.
 const SEED: u64 = 1;
-
-/// One line: what is given, and what the Rust answers.
-#[derive(Default)]
-pub struct Line {
-    pub given: Vec<u64>,
-    pub answer: Vec<u64>,
-}
-
-impl Line {
-    pub fn text(&self) -> String {
-        let hex = |numbers: &[u64]| numbers.iter().map(|number| format!("{number:x}")).collect::<Vec<_>>().join(" ");
-        format!("{} > {}", hex(&self.given), hex(&self.answer))
-    }
-
-    pub fn covers(bytes: &[i8]) -> impl Iterator<Item = u64> + '_ {
-        bytes.iter().map(|&byte| u64::from(byte as u8))
-    }
-}
-
-/// The code of a float: its multiple of 1/512, or one beyond them.
-pub fn float(value: f32) -> u64 {
-    let multiple = value * 512.0;
-    if value.is_nan() {
-        0x8002
-    } else if value == f32::INFINITY {
-        0x8001
-    } else if value.to_bits() == (-0.0f32).to_bits() {
-        0x8000
-    } else {
-        assert!((0.0..32768.0).contains(&multiple) && multiple.fract() == 0.0, "{value} has no code");
-        multiple as u64
-    }
-}
 
 /// All blocks, in the order in which the program reads them.
 pub fn answers() -> String {
@@ -96,7 +60,8 @@ pub fn answers() -> String {
 
 fn pack(random: &mut Random) -> Line {
     let Fields { layer_id, tile_x, tile_y, local_x, local_y, double_area_multiplier, cover } = any_fields(random);
-    let word = caught(|| u64::from(&Segment::new(layer_id, tile_x, tile_y, local_x, local_y, double_area_multiplier, cover)));
+    let word =
+        caught(|| u64::from(&Segment::new(layer_id, tile_x, tile_y, local_x, local_y, double_area_multiplier, cover)));
     let bytes = [local_x, local_y, double_area_multiplier, cover as u8].map(u64::from);
     let given = [vec![layer_id.into(), (tile_x as u16).into(), (tile_y as u16).into()], bytes.to_vec()].concat();
     Line { given, answer: word.map_or(vec![2, 5], |word| vec![0, word]) }
@@ -158,8 +123,12 @@ fn search(random: &mut Random) -> Line {
         Key::TileY(y) => (cpu::search_last_by_key(&segments, y, |s| s.tile_y()), 0, (y as u16).into(), false),
         Key::TileX(x) => (cpu::search_last_by_key(&segments, x, |s| s.tile_x()), 1, (x as u16).into(), false),
         Key::LayerId(id) => (cpu::search_last_by_key(&segments, id, |s| s.layer_id()), 2, id.into(), false),
-        Key::TileXAtLeast(x, wanted) => (cpu::search_last_by_key(&segments, wanted, |s| s.tile_x() >= x), 3, (x as u16).into(), wanted),
-        Key::TileYNotNegative(wanted) => (cpu::search_last_by_key(&segments, wanted, |s| s.tile_y() >= 0), 4, 0, wanted),
+        Key::TileXAtLeast(x, wanted) => {
+            (cpu::search_last_by_key(&segments, wanted, |s| s.tile_x() >= x), 3, (x as u16).into(), wanted)
+        }
+        Key::TileYNotNegative(wanted) => {
+            (cpu::search_last_by_key(&segments, wanted, |s| s.tile_y() >= 0), 4, 0, wanted)
+        }
     };
     let given = [vec![code, value, wanted.into(), words.len() as u64], words].concat();
     let place = found.unwrap_or_else(|place| place);
@@ -181,14 +150,16 @@ fn any_weight(random: &mut Random) -> (Vec<u64>, [i8; 16]) {
     (part, cover)
 }
 
-/// What is handed on, dropped or not: the rule under which it is not empty tells it, and an empty one is zeros by NonZero.
+/// What is handed on, dropped or not: the rule under which it is not empty tells it, and an empty one is zeros by
+/// NonZero.
 fn carry(random: &mut Random) -> Line {
     let (part, cover) = any_weight(random);
     let given = [Line::covers(&cover).collect(), vec![part.len() as u64], part.clone()].concat();
     if is_heavy(&part, cover) {
         return Line { given, answer: [vec![9], Line::covers(&cover).collect()].concat() };
     }
-    let record = Record { id: 5, rule: 0, func: 0, span: 0, clipped: 0, fill: 0, mode: 0, unchanged: 0, color: [0.0; 4] };
+    let record =
+        Record { id: 5, rule: 0, func: 0, span: 0, clipped: 0, fill: 0, mode: 0, unchanged: 0, color: [0.0; 4] };
     let after = row::carry(&part, Some(cover), &record).unwrap_or([0; 16]);
     Line { given, answer: [vec![0], Line::covers(&after).collect()].concat() }
 }
@@ -207,16 +178,13 @@ fn paint(random: &mut Random) -> Line {
     Line { given, answer }
 }
 
-pub fn bytes(bytes: &[u8]) -> Vec<u64> {
-    bytes.iter().map(|&byte| byte.into()).collect()
-}
-
 fn count(random: &mut Random) -> Line {
     let (before, count) = (any_tile(random), any_count(random));
     let tile = painter::tile_of(before);
     let previous = tile.update_layer_count(count);
     let given = [bytes(&before.0), vec![count.is_some().into(), count.unwrap_or(9).into()]].concat();
-    let answer = [vec![previous.is_some().into(), previous.unwrap_or(5).into()], bytes(&painter::cached_of(&tile).0)].concat();
+    let answer =
+        [vec![previous.is_some().into(), previous.unwrap_or(5).into()], bytes(&painter::cached_of(&tile).0)].concat();
     Line { given, answer }
 }
 
@@ -225,7 +193,9 @@ fn color(random: &mut Random) -> Line {
     let tile = painter::tile_of(before);
     let previous = tile.update_solid_color(color);
     let given = [bytes(&before.0), vec![color.is_some().into()], bytes(&color.unwrap_or([9; 4]))].concat();
-    let answer = [vec![previous.is_some().into()], bytes(&previous.unwrap_or([5; 4])), bytes(&painter::cached_of(&tile).0)].concat();
+    let answer =
+        [vec![previous.is_some().into()], bytes(&previous.unwrap_or([5; 4])), bytes(&painter::cached_of(&tile).0)]
+            .concat();
     Line { given, answer }
 }
 
@@ -247,28 +217,11 @@ fn settle(random: &mut Random) -> Line {
     Line { given, answer: [vec![number, is_written.into()], bytes(&after.0)].concat() }
 }
 
-/// A row that is short enough to be stored, with colours that have codes.
-pub fn small_scene(random: &mut Random) -> Scene {
-    loop {
-        let mut scene = any_scene(random);
-        let codes = [0.0, 0.25, 0.5, 1.0, 2.0, -0.0, f32::INFINITY, f32::NAN];
-        for picture in &mut scene.pictures {
-            let frame = &mut picture.frame;
-            let clears = frame.clear.iter_mut().chain(frame.previous_clear.iter_mut().flatten());
-            let colors = picture.records.iter_mut().flat_map(|record| &mut record.color).chain(clears);
-            colors.for_each(|number| if !codes.iter().any(|code| code.to_bits() == number.to_bits()) { *number = 0.75 });
-        }
-        let picture = &scene.pictures[0];
-        if picture.words.len() <= 100 && picture.records.len() <= 8 {
-            return scene;
-        }
-    }
-}
-
 fn open(random: &mut Random) -> Line {
     let scene = small_scene(random);
     let picture = &scene.pictures[0];
-    let (mut ends, mut row, mut table) = ([scene.tile_y as i32, scene.from as i32, scene.to as i32], picture.words.clone(), lent(&picture.records));
+    let (mut ends, mut row, mut table) =
+        ([scene.tile_y as i32, scene.from as i32, scene.to as i32], picture.words.clone(), lent(&picture.records));
     match random.below(8) {
         0 => ends[random.below(3)] = random.pick(&[-1, 0, 5, 2046, 2047, 4095, 4096, i32::MIN, i32::MAX]),
         1 | 2 => row = damaged_row(random, &row),
@@ -283,30 +236,4 @@ fn open(random: &mut Random) -> Line {
     let answer = if number == 0 { opened(ends, &row) } else { [vec![number.into()], vec![5; 8]].concat() };
     // No tile follows.
     Line { given: row_given(ends, &table, &row), answer: [answer, vec![0]].concat() }
-}
-
-/// What an opening is given.
-pub fn row_given(ends: [i32; 3], table: &LentTable, row: &[u64]) -> Vec<u64> {
-    let (layers, colors) = (&table.layers[..8 * table.count], &table.colors[..4 * table.count]);
-    [
-        ends.map(|end| u64::from(end as u32)).to_vec(),
-        vec![table.count as u64, row.len() as u64],
-        layers.iter().map(|&word| word.into()).collect(),
-        colors.iter().copied().map(float).collect(),
-        row.to_vec(),
-    ]
-    .concat()
-}
-
-/// What an accepted opening answers.
-pub fn opened([tile_y, from, to]: [i32; 3], row: &[u64]) -> Vec<u64> {
-    let carries = Row::open(tile_y as usize, from as usize, to as usize, row, &Table::new(&[])).queue();
-    let words = [tile_y, from, to, from, 0, 0].map(|word| word as u64);
-    [vec![0], words.to_vec(), vec![carries.len() as u64, 0], queue(&carries)].concat()
-}
-
-/// Carries: ids, then covers.
-pub fn queue(carries: &[Carry]) -> Vec<u64> {
-    let ids = carries.iter().map(|carry| carry.id.into());
-    ids.chain(carries.iter().flat_map(|carry| carry.cover).map(|byte| u64::from(byte as u8))).collect()
 }

@@ -1,5 +1,6 @@
-//! Whole rows among the stored answers: each frame of a row is a case, with the cached tiles that the frame before left. Besides them some of the
-//! arrangements of up to three layers in one tile, in which the passes have most to decide.
+//! Whole rows among the stored answers: each frame of a row is a case, with the cached tiles that the frame before
+//! left. Besides them some of the arrangements of up to three layers in one tile, in which the passes have most to
+//! decide.
 
 use reference::{
     cpu::RGBA,
@@ -10,10 +11,11 @@ use reference::{
 
 use crate::{
     arrangements::{arrangement, count},
+    given::LentTable,
     layers::lent,
     random::Random,
-    scene::{Picture, Scene},
-    stored::{bytes, float, opened, queue, row_given, small_scene, Line},
+    scene::{any_scene, Picture, Scene},
+    stored_lines::{bytes, float, queue, Line},
 };
 
 /// How many rows are stored, and how many bytes they have at most.
@@ -41,7 +43,8 @@ pub fn rows(random: &mut Random) -> Vec<String> {
 
 /// Some of the layers that are painted, and at times one that is not.
 fn some_layers(random: &mut Random, worked: &Worked, picture: &Picture) -> Vec<u32> {
-    let mut layers: Vec<u32> = worked.painted.iter().map(|painted| painted.id).filter(|_| random.once_in(2)).take(2).collect();
+    let mut layers: Vec<u32> =
+        worked.painted.iter().map(|painted| painted.id).filter(|_| random.once_in(2)).take(2).collect();
     if let (true, Some(record)) = (random.once_in(6), picture.records.last()) {
         layers.push(record.id);
     }
@@ -50,10 +53,10 @@ fn some_layers(random: &mut Random, worked: &Worked, picture: &Picture) -> Vec<u
 
 /// None, every layer of the table, so that one clip follows another, or the last alone, with no clip painted before it.
 fn none_all_or_last(random: &mut Random, _: &Worked, picture: &Picture) -> Vec<u32> {
-    let ids = picture.records.iter().map(|record| record.id);
+    let mut ids = picture.records.iter().map(|record| record.id);
     match random.below(6) {
         0 => ids.collect(),
-        1 | 2 => ids.last().into_iter().collect(),
+        1 | 2 => ids.next_back().into_iter().collect(),
         _ => Vec::new(),
     }
 }
@@ -64,15 +67,16 @@ fn any_arrangement(random: &mut Random) -> (Vec<u64>, Vec<Record>) {
     let is_clipped = random.once_in(2);
     loop {
         let (words, records) = arrangement(layers, random.below(count(layers)));
-        let clips = records.iter().any(|record| record.func == 1) && records.last().is_some_and(|record| record.clipped == 1);
+        let clips =
+            records.iter().any(|record| record.func == 1) && records.last().is_some_and(|record| record.clipped == 1);
         if clips || !is_clipped {
             return (words, records);
         }
     }
 }
 
-/// An arrangement in one tile. The cached tile, where there is one, kept as many layers, one less or one more; the clear colour is the one
-/// before, or another.
+/// An arrangement in one tile. The cached tile, where there is one, kept as many layers, one less or one more; the
+/// clear colour is the one before, or another.
 fn arranged(random: &mut Random) -> String {
     let (words, records) = any_arrangement(random);
     let kept = (records.len() + random.below(3) - 1) as u8;
@@ -94,21 +98,28 @@ fn row(random: &mut Random, scene: &Scene, picture: &Picture, cached: &mut [Cach
     let mut text = Line { given, answer: opened(ends, &picture.words) }.text();
     let mut rust = Row::open(scene.tile_y, scene.from, scene.to, &picture.words, &table);
     text += &format!(" TILES {:x}", scene.to - scene.from);
-    for tile in scene.from..scene.to {
+    for (tile, cached) in (scene.from..scene.to).zip(&mut cached[scene.from..scene.to]) {
         let taken = rust.queue().len();
-        let before = cached[tile];
+        let before = *cached;
         let worked = rust.work(tile, &picture.frame, scene.caches.then_some(before));
-        let mut state = vec![ends[0] as u64, ends[1] as u64, ends[2] as u64, tile as u64 + 1, 0, 0, worked.queue.len() as u64, taken as u64];
-        let line = Line { given: tile_given(tile, scene.caches, before, picture), answer: tile_answer(&state, before, &worked) };
+        let [tile_y, from, to] = ends.map(|end| end as u64);
+        let mut state = [tile_y, from, to, tile as u64 + 1, 0, 0, worked.queue.len() as u64, taken as u64];
+        let line = Line {
+            given: tile_given(tile, scene.caches, before, picture),
+            answer: tile_answer(&state, before, &worked),
+        };
         text += &format!(" TILE {}", line.text());
         if let Some((_, after)) = worked.cached {
-            cached[tile] = after;
+            *cached = after;
         }
         let layers = choice(random, &worked, picture);
         text += &format!(" PAINT {:x}", layers.len());
         for layer in layers {
             let painted = rust.paint(layer);
-            text += &format!(" {}", Line { given: vec![layer.into()], answer: painted_answer(&mut state, &painted) }.text());
+            text += &format!(
+                " {}",
+                Line { given: vec![layer.into()], answer: painted_answer(&mut state, &painted) }.text()
+            );
         }
     }
     text
@@ -156,4 +167,46 @@ fn painted_answer(state: &mut [u64], painted: &Painted) -> Vec<u64> {
     state[4] = painted.clip.is_some().into();
     state[5] = painted.clip.unwrap_or(0).into();
     [vec![0], state.to_vec(), vec![painted.mark.into()], painted.plane.map(float).to_vec()].concat()
+}
+
+/// A row that is short enough to be stored, with colours that have codes.
+pub fn small_scene(random: &mut Random) -> Scene {
+    loop {
+        let mut scene = any_scene(random);
+        let codes = [0.0, 0.25, 0.5, 1.0, 2.0, -0.0, f32::INFINITY, f32::NAN];
+        for picture in &mut scene.pictures {
+            let frame = &mut picture.frame;
+            let clears = frame.clear.iter_mut().chain(frame.previous_clear.iter_mut().flatten());
+            let colors = picture.records.iter_mut().flat_map(|record| &mut record.color).chain(clears);
+            colors.for_each(|number| {
+                if !codes.iter().any(|code| code.to_bits() == number.to_bits()) {
+                    *number = 0.75
+                }
+            });
+        }
+        let picture = &scene.pictures[0];
+        if picture.words.len() <= 100 && picture.records.len() <= 8 {
+            return scene;
+        }
+    }
+}
+
+/// What an opening is given.
+pub fn row_given(ends: [i32; 3], table: &LentTable, row: &[u64]) -> Vec<u64> {
+    let (layers, colors) = (&table.layers[..8 * table.count], &table.colors[..4 * table.count]);
+    [
+        ends.map(|end| u64::from(end as u32)).to_vec(),
+        vec![table.count as u64, row.len() as u64],
+        layers.iter().map(|&word| word.into()).collect(),
+        colors.iter().copied().map(float).collect(),
+        row.to_vec(),
+    ]
+    .concat()
+}
+
+/// What an accepted opening answers.
+pub fn opened([tile_y, from, to]: [i32; 3], row: &[u64]) -> Vec<u64> {
+    let carries = Row::open(tile_y as usize, from as usize, to as usize, row, &Table::new(&[])).queue();
+    let words = [tile_y, from, to, from, 0, 0].map(|word| word as u64);
+    [vec![0], words.to_vec(), vec![carries.len() as u64, 0], queue(&carries)].concat()
 }

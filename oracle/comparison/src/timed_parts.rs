@@ -1,79 +1,180 @@
-//! One layer in one tile: `paint_layer` of a clip beside `ffi_paint_part`.
+//! One layer in one tile: `paint_layer` beside `ffi_paint_part` and `ffi_paint_layer`.
 
-use std::{cell::RefCell, hint::black_box};
+use std::hint::black_box;
 
-use reference::painter::timed::ClipPainter;
+use reference::{
+    painter::{recorder, timed::ClipPainter},
+    plain::{Record, RULES},
+};
 
 use crate::{
-    library::{self, Fields},
+    given::{Canvas, Fields, Queue, State, Work},
+    layers::lent,
+    library,
     random::Random,
     scene::word,
-    timing::line,
+    timing::Bench,
     words::{segment, Segment},
 };
 
 /// How many parts are painted in turn: few enough to stay near the processor.
 const PARTS: usize = 8;
 
-/// The segments of a layer in a tile, on both sides, and its incoming cover.
+const LAYER: u32 = 5;
+const TILE: i16 = 3;
+
+/// What the ratio should be at most.
+const AIM: f64 = 0.65;
+
+/// The incoming cover.
+const COVER: [i8; 16] = [16; 16];
+
+/// The segments of a layer in a tile, on both sides.
 struct Part {
     segments: Vec<Segment>,
     words: Vec<u64>,
-    cover: [i8; 16],
 }
 
 impl Part {
-    /// `len` segments anywhere in the tile, as many in each pixel row, light enough with the carry: 16 of up to 4, and 16.
-    fn new(random: &mut Random, len: usize) -> Self {
-        let mut words: Vec<u64> = (0..len)
-            .map(|i| {
-                let cover = random.pick(&[-4, -3, -2, -1, 1, 2, 3, 4]);
-                let (local_x, local_y) = (random.below(16) as u8, i as u8 % 16);
-                word(Fields { layer_id: 5, tile_x: 3, tile_y: 0, local_x, local_y, double_area_multiplier: random.below(33) as u8, cover })
-            })
-            .collect();
-        for i in 1..len {
-            words.swap(i, random.below(i + 1));
-        }
-        Self { segments: words.iter().map(|&word| segment(word)).collect(), words, cover: [16; 16] }
+    fn new(words: Vec<u64>) -> Self {
+        Self { segments: words.iter().map(|&word| segment(word)).collect(), words }
     }
 }
 
-/// Both sides give the same coverages.
+/// A segment of the layer: its column, its row, how much of its double area, and its cover.
+fn placed(local_x: u8, local_y: u8, double_area_multiplier: u8, cover: i8) -> u64 {
+    word(Fields { layer_id: LAYER, tile_x: TILE, tile_y: 0, local_x, local_y, double_area_multiplier, cover })
+}
+
+/// Segments anywhere in the tile, as many in each pixel row, light enough with the carry: 16 of up to 4, and 16.
+fn scattered(random: &mut Random, len: usize) -> Vec<u64> {
+    let covers = [-4, -3, -2, -1, 1, 2, 3, 4];
+    let one = |i| placed(random.below(16) as u8, i as u8 % 16, random.below(33) as u8, random.pick(&covers));
+    let mut words: Vec<u64> = (0..len).map(one).collect();
+    for i in 1..len {
+        words.swap(i, random.below(i + 1));
+    }
+    words
+}
+
+/// The edge at which a shape ends, one segment a row: upright in one column, or slanted over eight.
+fn edge(random: &mut Random, is_slanted: bool) -> Vec<u64> {
+    let (first, multiplier) = (random.below(9) as u8, random.below(33) as u8);
+    (0..16).map(|y| placed(first + u8::from(is_slanted) * y / 2, y, multiplier, -16)).collect()
+}
+
+/// What a part is, and how one is made.
+type Shape = (&'static str, fn(&mut Random) -> Vec<u64>);
+
+const SHAPES: [Shape; 7] = [
+    ("no segment", |_| Vec::new()),
+    ("4 segments", |random| scattered(random, 4)),
+    ("16 segments", |random| scattered(random, 16)),
+    ("an upright edge", |random| edge(random, false)),
+    ("a slanted edge", |random| edge(random, true)),
+    ("64 segments", |random| scattered(random, 64)),
+    ("256 segments", |random| scattered(random, 256)),
+];
+
+/// What `ffi_paint_layer` is given to paint the part: a row, a table and a queue with this layer alone.
+fn call(part: &Part, rule: u32, func: u32) -> Work {
+    let color = [0.5, 0.25, 0.75, 0.5];
+    let record = Record { id: LAYER, rule, func, span: 0, clipped: 0, fill: 0, mode: 0, unchanged: 0, color };
+    let mut queue = Queue { ids: vec![0; 256], covers: vec![0; 4096] };
+    queue.ids[0] = LAYER;
+    queue.covers[..16].copy_from_slice(&COVER);
+    let (row, table) = (part.words.clone(), lent(&[record]));
+    Work { tile: TILE.into(), row, table, is_kept: false, clear: [0.0; 4], previous: None, queue }
+}
+
+/// After the work on the tile, which took in one carry.
+const WORKED: State = State { words: [0, 0, 8, TILE as u32 + 1, 0, 0], counts: [1, 1] };
+
+fn canvas() -> Canvas {
+    Canvas { state: WORKED, plane: vec![7.0; 256], mark: 7 }
+}
+
+fn bits(plane: &[f32]) -> Vec<u32> {
+    plane.iter().map(|number| number.to_bits()).collect()
+}
+
+/// All ways to paint give the same coverages and the same octets.
 fn check(parts: &[Part], rule: u32) {
-    let planes = RefCell::new(Vec::new());
-    let mut rust = ClipPainter::new(|mask| planes.borrow_mut().push(mask.plane()));
+    let mut clip = ClipPainter::default();
+    clip.planes = Some(Vec::new());
     for part in parts {
-        rust.paint(&part.segments, part.cover, rule);
+        let wanted = recorder::paint(&part.words, COVER, RULES[rule as usize]);
+        clip.paint(&part.segments, COVER, rule);
+        assert_eq!(bits(clip.planes.as_ref().unwrap().last().unwrap()), bits(&wanted.plane));
         let mut plane = [7.0; 256];
-        let (number, _) = library::paint_part(&part.words, part.cover, rule, &mut plane);
-        assert_eq!(number, 0, "a timed part meets no condition");
-        assert_eq!(planes.borrow_mut().pop().unwrap().map(f32::to_bits), plane.map(f32::to_bits));
+        assert_eq!(library::paint_part(&part.words, COVER, rule, &mut plane), (0, wanted.mark));
+        assert_eq!(bits(&plane), bits(&wanted.plane));
+        for (func, mark) in [(0, wanted.mark), (1, 0)] {
+            let mut canvas = canvas();
+            let number = library::paint_layer(&call(part, rule, func), LAYER, &mut canvas);
+            assert_eq!((number, canvas.mark), (0, mark));
+            assert_eq!(bits(&canvas.plane), bits(&wanted.plane));
+        }
     }
 }
 
-pub fn print() {
-    let mut random = Random::new(1);
-    for len in [0, 16, 64, 256] {
-        let parts: Vec<Part> = (0..PARTS).map(|_| Part::new(&mut random, len)).collect();
-        for (rule, name) in [(0, "NonZero"), (1, "EvenOdd")] {
-            check(&parts, rule);
-            let mut painter = ClipPainter::new(|mask| {
-                black_box(mask);
-            });
-            let rust = || {
-                for part in black_box(&parts) {
-                    painter.paint(black_box(&part.segments), black_box(part.cover), black_box(rule));
-                }
-            };
-            let mut plane = [0.0; 256];
-            let ours = || {
-                for part in black_box(&parts) {
-                    black_box(library::paint_part(black_box(&part.words), black_box(part.cover), black_box(rule), &mut plane));
-                    black_box(&mut plane);
-                }
-            };
-            line(&format!("{len} segments and a carry, {name}"), PARTS, true, rust, ours);
+/// The Rust, which paints each part as a clip.
+fn rust(parts: &[Part], rule: u32) -> impl FnMut() + '_ {
+    let mut painter = ClipPainter::default();
+    move || {
+        for part in black_box(parts) {
+            painter.paint(black_box(&part.segments), black_box(COVER), black_box(rule));
         }
+    }
+}
+
+/// Parts given alone, to `ffi_paint_part`.
+fn alone(parts: &[Part], rule: u32) -> impl FnMut() + '_ {
+    let mut plane = [0.0; 256];
+    move || {
+        for part in black_box(parts) {
+            black_box(library::paint_part(black_box(&part.words), black_box(COVER), black_box(rule), &mut plane));
+            black_box(&mut plane);
+        }
+    }
+}
+
+/// Layers of a table, drawn (0) or as clips (1), by `ffi_paint_layer`.
+fn of_table(parts: &[Part], rule: u32, func: u32) -> impl FnMut() {
+    let calls: Vec<Work> = parts.iter().map(|part| call(part, rule, func)).collect();
+    let mut canvas = canvas();
+    move || {
+        for call in black_box(&calls) {
+            // No clip is left from the call before.
+            canvas.state = WORKED;
+            black_box(library::paint_layer(call, LAYER, &mut canvas));
+            black_box(&mut canvas);
+        }
+    }
+}
+
+/// The parts of each shape, by each rule.
+fn each(mut line: impl FnMut(&str, &[Part], u32)) {
+    let mut random = Random::new(1);
+    for (name, words) in SHAPES {
+        let parts: Vec<Part> = (0..PARTS).map(|_| Part::new(words(&mut random))).collect();
+        for (rule, rule_name) in [(0, "NonZero"), (1, "EvenOdd")] {
+            line(&format!("{name}, {rule_name}"), &parts, rule);
+        }
+    }
+}
+
+pub fn print_alone(bench: &mut Bench) {
+    each(|name, parts, rule| {
+        check(parts, rule);
+        bench.line(&format!("part: {name}"), PARTS, Some(AIM), rust(parts, rule), alone(parts, rule));
+    });
+}
+
+pub fn print_of_table(bench: &mut Bench) {
+    for (func, func_name) in [(0, "drawn"), (1, "as a clip")] {
+        each(|name, parts, rule| {
+            bench.line(&format!("{func_name}: {name}"), PARTS, None, rust(parts, rule), of_table(parts, rule, func));
+        });
     }
 }

@@ -1,118 +1,134 @@
 //! Whole rows: opening, the work on each tile, and the coverages of every layer that is painted.
 
-use std::{cell::RefCell, hint::black_box};
+use std::hint::black_box;
 
 use reference::{
     cpu::RGBA,
     painter::{row::Frame, timed::TimedRow},
-    plain::Record,
     Table,
 };
 
 use crate::{
+    given::{Canvas, Memory, Queue, State, Work},
     layers::lent,
-    library::{self, Canvas, Fields, Memory, Queue, State, Work},
+    library,
+    memory::carries,
     random::Random,
-    scene::word,
-    timing::line,
-    words::segment,
+    timed_scenes::{bands, clips, dense, draws, left_of, made, Row},
+    timing::Bench,
+    words::{segment, Segment},
 };
 
-const TILES: usize = 32;
 const CLEAR: [f32; 4] = [1.0; 4];
 const FRAME: Frame = Frame { clear: CLEAR, previous_clear: None, channels: RGBA };
 
 /// The library's side of a row, with all that its calls are lent.
 struct Ours {
+    tiles: usize,
     work: Work,
     memory: Memory,
     canvas: Canvas,
 }
 
 impl Ours {
-    fn new(words: &[u64], records: &[Record]) -> Self {
+    fn new(row: &Row) -> Self {
         let queue = || Queue { ids: vec![0; 256], covers: vec![0; 4096] };
         let state = State { words: [0; 6], counts: [0; 2] };
         let (segments, shown) = (vec![false; 256], vec![false; 256]);
-        let table = lent(records);
-        Self {
-            work: Work { tile: 0, row: words.to_vec(), table, is_kept: false, clear: CLEAR, previous: None, queue: queue() },
-            memory: Memory { state, kept: [0; 8], next: queue(), list: queue(), segments, shown, told: [0; 4], bottom: [0; 4] },
-            canvas: Canvas { state, plane: vec![0.0; 256], mark: 0 },
-        }
+        let (words, table) = (row.words.clone(), lent(&row.records));
+        let work = Work { tile: 0, row: words, table, is_kept: false, clear: CLEAR, previous: None, queue: queue() };
+        let (next, list) = (queue(), queue());
+        let memory = Memory { state, kept: [0; 8], next, list, segments, shown, told: [0; 4], bottom: [0; 4] };
+        Self { tiles: row.tiles, work, memory, canvas: Canvas { state, plane: vec![0.0; 256], mark: 0 } }
     }
 
-    /// One call to open the row, one for each tile, and one for each layer that is painted.
+    /// One call to open the row, one for each tile, and one for each layer that is painted, up to a refusal.
     #[inline(never)]
-    fn run(&mut self, mut seen: impl FnMut(&Canvas)) {
-        let Self { work, memory, canvas } = self;
-        let number = library::open_tile_row(0, 0, TILES as i32, &work.row, &work.table, &mut work.queue, &mut memory.state);
-        assert_eq!(number, 0, "a timed row meets no condition");
-        for tile in 0..TILES {
-            work.tile = tile as i32;
-            assert_eq!(library::work_tile(work, memory), 0);
+    fn run(&mut self, mut seen: impl FnMut(&Canvas)) -> Result<(), u32> {
+        let accepted = |number| if number == 0 { Ok(()) } else { Err(number) };
+        let Self { tiles, work, memory, canvas } = self;
+        let (row, table, to) = (&work.row, &work.table, *tiles as i32);
+        accepted(library::open_tile_row(0, 0, to, row, table, &mut work.queue, &mut memory.state))?;
+        for tile in 0..to {
+            work.tile = tile;
+            accepted(library::work_tile(work, memory))?;
             canvas.state = memory.state;
             let [decision, _, listed, skipped] = memory.told;
             for i in (skipped..listed).filter(|&i| decision == 2 && memory.shown[i]) {
-                assert_eq!(library::paint_layer(work, memory.list.ids[i], canvas), 0);
+                accepted(library::paint_layer(work, memory.list.ids[i], canvas))?;
                 seen(canvas);
             }
             std::mem::swap(&mut work.queue, &mut memory.next);
         }
+        Ok(())
     }
 }
 
-/// A draw for each layer, filled with one colour.
-fn records(layers: usize, alpha: f32) -> Vec<Record> {
-    let record = |id| Record { id, rule: id % 2, func: 0, span: 0, clipped: 0, fill: 0, mode: 0, unchanged: 0, color: [0.5, 0.25, 0.75, alpha] };
-    (0..layers as u32).map(record).collect()
-}
-
-/// A band of each layer: a slanted edge in one tile, at times left of the row, and one in a later tile, at times right of it.
-fn bands(random: &mut Random, layers: usize) -> Vec<u64> {
-    let mut words = Vec::new();
-    for layer_id in 0..layers as u32 {
-        let start = random.within(-1..=TILES as i64 - 2) as i16;
-        let end = random.within(i64::from(start) + 1..=TILES as i64) as i16;
-        for (tile_x, cover) in [(start, 16), (end, -16)] {
-            for local_y in 0..16 {
-                let double_area_multiplier = random.below(33) as u8;
-                words.push(word(Fields { layer_id, tile_x, tile_y: 0, local_x: local_y, local_y, double_area_multiplier, cover }));
-            }
-        }
-    }
-    words.sort();
-    words
+fn segments(row: &Row) -> Vec<Segment> {
+    row.words.iter().map(|&word| segment(word)).collect()
 }
 
 /// Both sides paint the same coverages in the same order; how many layers that is.
-fn check(words: &[u64], records: &[Record], table: &Table) -> usize {
-    let planes = RefCell::new(Vec::new());
-    let segments = words.iter().map(|&word| segment(word)).collect();
-    TimedRow::new(segments, table, FRAME, |mask| planes.borrow_mut().push(mask.plane().map(f32::to_bits))).run(0, TILES);
+fn check(row: &Row) -> usize {
+    let bits = |plane: &[f32]| plane.iter().map(|number| number.to_bits()).collect::<Vec<_>>();
+    let table = Table::new(&row.records);
+    let mut rust = TimedRow::new(segments(row), &table, FRAME);
+    rust.painter.planes = Some(Vec::new());
+    rust.run(0, row.tiles);
     let mut ours = Vec::new();
-    Ours::new(words, records).run(|canvas| ours.push(std::array::from_fn(|i| canvas.plane[i].to_bits())));
-    assert!(planes.into_inner() == ours);
+    assert_eq!(Ours::new(row).run(|canvas| ours.push(bits(&canvas.plane))), Ok(()));
+    assert!(rust.painter.planes.unwrap().iter().map(|plane| bits(plane)).eq(ours.iter().cloned()));
     ours.len()
 }
 
-pub fn print() {
-    let mut random = Random::new(2);
-    for (layers, alpha, name) in [(4, 0.5, "translucent"), (32, 0.5, "translucent"), (128, 0.5, "translucent"), (32, 1.0, "opaque")] {
-        let (words, records) = (bands(&mut random, layers), records(layers, alpha));
-        let table = Table::new(&records);
-        let painted = check(&words, &records, &table);
-        let segments = words.iter().map(|&word| segment(word)).collect();
-        let mut row = TimedRow::new(segments, &table, FRAME, |mask| {
-            black_box(mask);
+/// A line for a row.
+fn line(bench: &mut Bench, name: &str, row: &Row) {
+    let table = Table::new(&row.records);
+    let mut rust = TimedRow::new(segments(row), &table, FRAME);
+    let rust = || black_box(&mut rust).run(black_box(0), black_box(row.tiles));
+    let mut ours = Ours::new(row);
+    let ours = || {
+        let result = black_box(&mut ours).run(|canvas| {
+            black_box(canvas);
         });
-        let rust = || black_box(&mut row).run(black_box(0), black_box(TILES));
-        let mut ours = Ours::new(&words, &records);
-        let ours = || {
-            black_box(&mut ours).run(|canvas| {
-                black_box(canvas);
-            })
-        };
-        line(&format!("{TILES} tiles, {layers} {name}, {painted} painted"), 1, false, rust, ours);
+        assert_eq!(result, Ok(()));
+    };
+    bench.line(name, 1, None, rust, ours);
+}
+
+/// How many layers are painted stands behind a row's name.
+pub fn print(bench: &mut Bench) {
+    let no_condition_refuses = |row: &Row| Ours::new(row).run(|_| ()).is_ok();
+    for (tiles, segments, rule) in [(4, 64, 0), (64, 512, 0), (64, 512, 1), (1024, 512, 0), (4095, 512, 0)] {
+        let mut seeds = 0..;
+        let row = seeds.find_map(|seed| Some(made(seed, tiles, segments, rule)).filter(no_condition_refuses)).unwrap();
+        let rule = ["NonZero", "EvenOdd"][rule as usize];
+        print_row(bench, &format!("row: {tiles} tiles, {segments} segments, {rule}"), &row);
+    }
+    print_row(bench, "row: 8 tiles, 8 layers, 16 segments each", &dense(16));
+    print_row(bench, "row: 8 tiles, 8 layers, 64 segments each", &dense(64));
+    let random = &mut Random::new(2);
+    for (layers, alpha, name) in
+        [(4, 0.5, "translucent"), (32, 0.5, "translucent"), (128, 0.5, "translucent"), (32, 1.0, "opaque")]
+    {
+        print_row(bench, &format!("row: 32 tiles, {layers} {name}"), &bands(random, draws(layers, alpha)));
+    }
+    print_row(bench, "row: 32 tiles, 64 with clips", &bands(random, clips(64)));
+}
+
+fn print_row(bench: &mut Bench, name: &str, row: &Row) {
+    let painted = check(row);
+    line(bench, &format!("{name}, {painted} painted"), row);
+}
+
+/// Rows with no tile, and all segments left of it.
+pub fn print_openings(bench: &mut Bench) {
+    for (layers, each) in [(8, 16), (64, 16), (200, 4)] {
+        let row = left_of(layers, each);
+        let rust = reference::painter::row::Row::open(0, 0, 0, &row.words, &Table::new(&row.records)).queue();
+        let mut ours = Ours::new(&row);
+        assert_eq!(ours.run(|_| ()), Ok(()));
+        assert_eq!(carries(&ours.work.queue, ours.memory.state.counts[0]), rust);
+        line(bench, &format!("opening: {layers} layers, {each} segments each"), &row);
     }
 }

@@ -1,81 +1,117 @@
-//! Times of the library beside the Rust, on the same inputs and in one process. Before a pair is timed, its two answers are compared.
+//! How long two sides take on the same inputs, in one process.
 
-use std::{
-    hint::black_box,
-    time::{Duration, Instant},
-};
+use std::{hint::black_box, mem::MaybeUninit, time::Duration};
 
-use crate::{tally::caught, timed_parts, timed_rows, timed_words};
+/// Rounds of each pair.
+pub const ROUNDS: usize = 301;
 
-/// Rounds of each pair; the medians are told.
-const ROUNDS: usize = 101;
+/// How long one side of a round is at least: short, so that many rounds meet no other work on the machine.
+const SIDE: Duration = Duration::from_micros(200);
 
-/// How long one side of a round is, about.
-const SIDE: Duration = Duration::from_millis(1);
+/// Prints tables of times, line by line.
+pub struct Bench {
+    /// Only lines with this in their name are timed.
+    only: String,
+    /// The table's name, until it is printed with the first line.
+    title: Option<&'static str>,
+}
 
-/// What the ratio should be at most, for one layer in one tile.
-const AIM: f64 = 0.65;
-
-pub fn print() {
-    if caught(|| black_box(i8::MAX) + black_box(1)).is_none() {
-        println!("Overflow checks are on: these times say nothing. The profile `timing` has none.");
+impl Bench {
+    pub fn new(only: String) -> Self {
+        Self { only, title: None }
     }
-    println!("Nanoseconds, medians of {ROUNDS} rounds with both sides in turn. Ratio: the time here by the Rust's.");
-    title("One layer in one tile", "     aim");
-    timed_parts::print();
-    println!("The Rust paints it as a clip, so nothing is blended. Comparable; here conditions are judged and the mark is made besides.");
-    title("Whole rows", "");
-    timed_rows::print();
-    println!("Not the same work. The Rust's layers are painted as clips; it mixes the colours of solid tiles and gives their display bytes.");
-    println!("Here each call judges the whole row and the table again: once for a tile, and once for each layer painted.");
-    title("Single operations", "");
-    timed_words::print();
-    println!("By calls that are not inlined. Packing looks here for a tile of 32,767, which the Rust does not.");
+
+    pub fn title(&mut self, name: &'static str) {
+        self.title = Some(name);
+    }
+
+    /// A line: a pair of closures that each make `calls` calls, and what the ratio should be at most, where that is
+    /// said.
+    pub fn line(&mut self, name: &str, calls: usize, aim: Option<f64>, mut rust: impl FnMut(), mut ours: impl FnMut()) {
+        if !name.contains(&self.only) {
+            return;
+        }
+        if let Some(title) = self.title.take() {
+            println!("\n{title:<54}{:>23}{:>23}{:>15}", "the Rust", "here", "ratio");
+        }
+        let [rust, ours] = race([&mut rust, &mut ours], calls as f64);
+        let ratios: Vec<f64> = ours.iter().zip(&rust).map(|(ours, rust)| ours / rust).collect();
+        let ratio = format!("{:.2} / {:.2}", best(&ours) / best(&rust), median(&ratios));
+        let aim = aim.map_or(String::new(), |aim| format!("   aim {aim}"));
+        println!("{name:<54}{:>23}{:>23}{ratio:>15}{aim}", told(&rust), told(&ours));
+    }
+
+    /// A line in which every input is a call.
+    pub fn each<T, R, O>(&mut self, name: &str, inputs: &[T], rust: impl Fn(&T) -> R, ours: impl Fn(&T) -> O) {
+        let rust = || {
+            for input in inputs {
+                black_box(rust(black_box(input)));
+            }
+        };
+        let ours = || {
+            for input in inputs {
+                black_box(ours(black_box(input)));
+            }
+        };
+        self.line(name, inputs.len(), None, rust, ours);
+    }
 }
 
-fn title(name: &str, aim: &str) {
-    println!("\n{name:<44}{:>12}{:>12}{:>8}{aim}", "the Rust", "here", "ratio");
+fn best(times: &[f64]) -> f64 {
+    times.iter().copied().fold(f64::INFINITY, f64::min)
 }
 
-/// A line of the table: a pair of closures that each make `calls` calls. With an aim where there is one.
-pub fn line(name: &str, calls: usize, has_aim: bool, rust: impl FnMut(), ours: impl FnMut()) {
-    let [rust, ours] = medians(rust, ours).map(|time| time / calls as f64);
-    let aim = if has_aim { format!("{AIM:>8}") } else { String::new() };
-    println!("{name:<44}{rust:>12.1}{ours:>12.1}{:>8.2}{aim}", ours / rust);
+fn median(times: &[f64]) -> f64 {
+    let mut times = times.to_vec();
+    times.sort_by(f64::total_cmp);
+    times[times.len() / 2]
 }
 
-/// The median nanoseconds of each side. Which one begins changes from round to round.
-fn medians(mut rust: impl FnMut(), mut ours: impl FnMut()) -> [f64; 2] {
-    let repeats = [repeats(&mut rust), repeats(&mut ours)];
+/// Best and median in nanoseconds, or in microseconds where they are large.
+fn told(times: &[f64]) -> String {
+    let (best, median) = (best(times), median(times));
+    if median < 10_000.0 {
+        format!("{best:.1} / {median:.1}")
+    } else {
+        format!("{:.1} / {:.1} µs", best / 1000.0, median / 1000.0)
+    }
+}
+
+/// Nanoseconds a call in each round, of both sides in turn; which one begins changes from round to round.
+fn race(sides: [&mut dyn FnMut(); 2], calls: f64) -> [Vec<f64>; 2] {
+    let repeats = [repeats(sides[0]), repeats(sides[1])];
     let mut times = [Vec::new(), Vec::new()];
     for round in 0..ROUNDS {
         for side in [round % 2, 1 - round % 2] {
-            let time = if side == 0 { time(&mut rust, repeats[0]) } else { time(&mut ours, repeats[1]) };
-            times[side].push(time);
+            times[side].push(time(sides[side], repeats[side]) / calls);
         }
     }
-    times.map(|mut times| {
-        times.sort_by(f64::total_cmp);
-        times[ROUNDS / 2]
-    })
+    times
 }
 
 /// How often a closure runs in one side of a round; it has run before.
-fn repeats(run: &mut impl FnMut()) -> u32 {
+fn repeats(run: &mut dyn FnMut()) -> u32 {
     run();
     let mut repeats = 1;
-    loop {
-        let start = Instant::now();
-        (0..repeats).for_each(|_| run());
-        if start.elapsed() >= SIDE {
-            return repeats;
-        }
+    while time(run, repeats) * f64::from(repeats) < SIDE.as_nanos() as f64 {
         repeats *= 2;
     }
+    repeats
 }
 
-fn time(run: &mut impl FnMut(), repeats: u32) -> f64 {
-    let start = Instant::now();
+/// Nanoseconds of one run, of so many.
+fn time(run: &mut dyn FnMut(), repeats: u32) -> f64 {
+    let start = processor_time();
     (0..repeats).for_each(|_| run());
-    start.elapsed().as_nanos() as f64 / f64::from(repeats)
+    (processor_time() - start).as_nanos() as f64 / f64::from(repeats)
+}
+
+/// What the processor has given to this thread so far: waiting for it while other work runs does not count.
+fn processor_time() -> Duration {
+    let mut time = MaybeUninit::<libc::timespec>::uninit();
+    let time = unsafe {
+        assert_eq!(libc::clock_gettime(libc::CLOCK_THREAD_CPUTIME_ID, time.as_mut_ptr()), 0);
+        time.assume_init()
+    };
+    Duration::new(time.tv_sec as u64, time.tv_nsec as u32)
 }

@@ -3,7 +3,8 @@
 use reference::{cpu, pixel_segment};
 
 use crate::{
-    library::{self, Fields, Key, UNTOUCHED},
+    given::{Fields, Key},
+    library::{self, UNTOUCHED},
     random::Random,
     tally::{caught, Kind, Tally},
 };
@@ -18,11 +19,15 @@ pub fn compare(tally: &mut Tally) {
     tally.random("rows in order", rows);
     tally.random("search_last_by_key, tile y", |kind| search(kind, |random, w| Key::TileY(tile(random, w.tile_y()))));
     tally.random("search_last_by_key, tile x", |kind| search(kind, |random, w| Key::TileX(tile(random, w.tile_x()))));
-    tally.random("search_last_by_key, layer id", |kind| search(kind, |random, w| Key::LayerId(layer(random, w.layer_id()))));
+    tally.random("search_last_by_key, layer id", |kind| {
+        search(kind, |random, w| Key::LayerId(layer(random, w.layer_id())))
+    });
     tally.random("search_last_by_key, tile x at least", |kind| {
         search(kind, |random, w| Key::TileXAtLeast(tile(random, w.tile_x()), random.once_in(2)))
     });
-    tally.random("search_last_by_key, tile y not negative", |kind| search(kind, |random, _| Key::TileYNotNegative(random.once_in(2))));
+    tally.random("search_last_by_key, tile y not negative", |kind| {
+        search(kind, |random, _| Key::TileYNotNegative(random.once_in(2)))
+    });
 }
 
 pub fn segment(word: u64) -> Segment {
@@ -64,7 +69,8 @@ pub fn layer(random: &mut Random, near: u32) -> u32 {
 
 fn compare_pack(kind: &mut Kind, fields: Fields) {
     let Fields { layer_id, tile_x, tile_y, local_x, local_y, double_area_multiplier, cover } = fields;
-    let rust = caught(|| u64::from(&Segment::new(layer_id, tile_x, tile_y, local_x, local_y, double_area_multiplier, cover)));
+    let rust =
+        caught(|| u64::from(&Segment::new(layer_id, tile_x, tile_y, local_x, local_y, double_area_multiplier, cover)));
     let ours = library::pack(fields);
     // Where the Rust overflows, packing is refused by 2 and the lent word stays.
     let expected = rust.map_or((2, UNTOUCHED), |word| (0, word));
@@ -200,7 +206,13 @@ fn rows(kind: &mut Kind) {
     let ascends = row.windows(2).all(|pair| segment(pair[0]) <= segment(pair[1]));
     let in_row = row.iter().all(|&word| i128::from(segment(word).tile_y()) + 1 == i128::from(stored_tile_y));
     let rust = (ascends, ascends && in_row);
-    kind.note(if rust.1 { "in order" } else if ascends { "another tile y" } else { "descending" });
+    kind.note(if rust.1 {
+        "in order"
+    } else if ascends {
+        "another tile y"
+    } else {
+        "descending"
+    });
     let ours = (library::does_ascend(&row), library::is_row(&row, stored_tile_y));
     kind.case(ours == rust, || format!("{row:x?}, tile y {stored_tile_y}: the Rust {rust:?}, the library {ours:?}"));
 }

@@ -38,9 +38,25 @@ fn with(from: &str, to: &str) -> String {
 fn malformed_texts() {
     let spellings = ["00 4", "-0 4", "0  4", "0 04", "0 +4", "0 10000000", "0 4.", "", "0 4\r", "0 4\0"];
     spellings.iter().for_each(|to| assert_eq!(printed(&with("0 4", to)), "refused 10\n", "{to:?}"));
-    let lines = ["-2 1 0 0 1 0 0", "4095 1 0 0 1 0 0", "0 2097152 0 0 1 0 0", "0 1 16 0 1 0 0", "0 1 0 9 8 0 0", "0 1 0 0 0 0 0", "0 1 0 0 1 64 0", "0 1 0 0 1 0 32"];
+    let lines = [
+        "-2 1 0 0 1 0 0",
+        "4095 1 0 0 1 0 0",
+        "0 2097152 0 0 1 0 0",
+        "0 1 16 0 1 0 0",
+        "0 1 0 9 8 0 0",
+        "0 1 0 0 0 0 0",
+        "0 1 0 0 1 64 0",
+        "0 1 0 0 1 0 32",
+    ];
     lines.iter().for_each(|to| assert_eq!(printed(&with("0 1 0 0 16 32 16", to)), "refused 10\n", "{to}"));
-    let layers = ["1 0 0 1 0 0 0 256", "1 0 0 0 0 0 0 257", "1 0 1 1 0 0 0 1", "1 0 1 1 0 0 1 0", "1 0 1 1 0 1 0 0", "1 0 1 1 1 0 0 0"];
+    let layers = [
+        "1 0 0 1 0 0 0 256",
+        "1 0 0 0 0 0 0 257",
+        "1 0 1 1 0 0 0 1",
+        "1 0 1 1 0 0 1 0",
+        "1 0 1 1 0 1 0 0",
+        "1 0 1 1 1 0 0 0",
+    ];
     layers.iter().for_each(|to| assert_eq!(printed(&with("1 0 0 0 0 0 0 256", to)), "refused 10\n", "{to}"));
     assert_eq!(printed(EXAMPLE.trim_end()), "refused 10\n");
     assert_eq!(printed(&(EXAMPLE.to_string() + "\n")), "refused 10\n");
@@ -53,6 +69,9 @@ fn texts_that_other_numbers_judge() {
     assert_eq!(printed(&with("0 4 0 4", "0 4 0 4096")), format!("{names}\nrefused 2\n"));
     assert_eq!(printed(&with("2 1 8", "-1 1 8")), format!("{names}\nrefused 3\n"));
     assert_eq!(printed(&with("1 0 0 0 0 0 0 256", "1 0 2 5 2 3 16 256")), format!("{names}\nrefused 4\n"));
-    assert_eq!(printed(&with("2 1 8", "2 2 8")), LINES.lines().take(3).chain(["refused 8", ""]).collect::<Vec<_>>().join("\n"));
+    assert_eq!(
+        printed(&with("2 1 8", "2 2 8")),
+        LINES.lines().take(3).chain(["refused 8", ""]).collect::<Vec<_>>().join("\n")
+    );
     assert_eq!(printed(&with("0 4 0 4", "0 -1 4 4")), format!("{names}\n"));
 }

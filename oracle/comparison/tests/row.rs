@@ -1,8 +1,8 @@
 //! The row driver of the Rust itself: it does what `paint_tile_row` does, and gives the worked cases.
 
 use comparison::{
+    given::Fields,
     jobs::line,
-    library::Fields,
     random::Random,
     scene::{any_scene, word, Picture, Scene},
 };
@@ -70,8 +70,8 @@ fn a_solid_tile_is_written_once() {
     let first = Row::open(0, 0, 1, &[], &table).work(0, &FRAME, Some(Cached::default()));
     let (_, kept) = first.cached.unwrap();
     let second = Row::open(0, 0, 1, &[], &table).work(0, &FRAME, Some(kept));
-    assert_eq!(first.settled.unwrap().1, true);
-    assert_eq!(second.settled.unwrap().1, false);
+    assert!(first.settled.unwrap().1);
+    assert!(!second.settled.unwrap().1);
     assert_eq!(second.cached.unwrap().1, kept);
 }
 
@@ -117,8 +117,16 @@ fn the_driver_does_what_paint_tile_row_does() {
             driven(&scene, picture, &mut cached, &mut buffer);
             let table = Table::new(&picture.records);
             let crop = Some((scene.from, scene.to));
-            whole_cached =
-                paint_row(scene.tile_y, scene.tiles, crop, &picture.words, &table, &picture.frame, whole_cached.as_deref(), &mut whole_buffer);
+            whole_cached = paint_row(
+                scene.tile_y,
+                scene.tiles,
+                crop,
+                &picture.words,
+                &table,
+                &picture.frame,
+                whole_cached.as_deref(),
+                &mut whole_buffer,
+            );
             assert_eq!(cached, whole_cached, "{scene:?}");
             assert_eq!(buffer, whole_buffer, "{scene:?}");
             count(&scene, picture, &mut decisions);

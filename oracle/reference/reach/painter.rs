@@ -1,4 +1,5 @@
-//! Covers, coverages and cached tiles as plain numbers; below it the painter that records (recorder.rs), the row (row.rs) and times (timed.rs).
+//! Covers, coverages and cached tiles as plain numbers; below it the painter that records (recorder.rs), the row
+//! (row.rs) and times (timed.rs).
 
 use super::*;
 use crate::{
@@ -35,7 +36,8 @@ pub fn coverage(d: i32, rule: FillRule) -> f32 {
     lanes[0]
 }
 
-/// A solid tile through `convert_optimizer_op`: its display bytes, whether they are written, and what the cached tile then is.
+/// A solid tile through `convert_optimizer_op`: its display bytes, whether they are written, and what the cached tile
+/// then is.
 pub fn settle(cached: Option<Cached>, color: [f32; 4]) -> ([u8; 4], bool, Option<Cached>) {
     let table = Table::new(&[]);
     let tile = cached.map(tile_of);

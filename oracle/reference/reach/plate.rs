@@ -1,5 +1,5 @@
-//! The rows of a plate, as `print_row` and `for_each_row` choose them. The words lent here have tile x -1 and each its place as its layer: so
-//! the layers that a row opens with tell which segments it was given.
+//! The rows of a plate, as `print_row` and `for_each_row` choose them. The words lent here have tile x -1 and each its
+//! place as its layer: so the layers that a row opens with tell which segments it was given.
 
 use std::{collections::BTreeSet, sync::Mutex};
 
@@ -14,6 +14,9 @@ use layer_workbench::reach::queue;
 
 /// What stays in the queue where a row is skipped. No place is as large.
 const SKIPPED: u32 = u32::MAX;
+
+/// The bytes of a buffer where nothing is written: the clear colour has others.
+const UNWRITTEN: u8 = 0xA5;
 
 /// The places of the segments that `print_row` hands on for row j, or nothing where it skips the row.
 pub fn row_of(words: &[u64], j: usize, crop: Option<(usize, usize)>) -> Option<Vec<usize>> {
@@ -38,12 +41,14 @@ pub fn row_of(words: &[u64], j: usize, crop: Option<(usize, usize)>) -> Option<V
     })
 }
 
-/// The places of all segments that come up while `for_each_row` paints a plate of one column of tiles.
-pub fn seen_in(words: &[u64], height: usize, crop: Option<(usize, usize)>) -> BTreeSet<usize> {
+/// What `for_each_row` does with a plate of one column of tiles: the places of all segments that come up, and the rows
+/// that are written. A row that a crop skips keeps its bytes.
+pub fn seen_in(words: &[u64], height: usize, crop: Option<(usize, usize)>) -> (BTreeSet<usize>, Vec<usize>) {
     let seen = Seen::default();
+    let mut buffer = vec![UNWRITTEN; height * 16 * 64];
     for_each_row(
         &mut LinearLayout::new(16, 64, height * 16),
-        &mut vec![0; height * 16 * 64],
+        &mut buffer,
         RGBA,
         None,
         None,
@@ -53,7 +58,9 @@ pub fn seen_in(words: &[u64], height: usize, crop: Option<(usize, usize)>) -> BT
         &crop.map(rect_of),
         &seen,
     );
-    seen.0.into_inner().unwrap()
+    let rows = buffer.chunks_exact(16 * 64).enumerate();
+    let written = rows.filter(|(_, row)| row.iter().any(|&byte| byte != UNWRITTEN)).map(|(j, _)| j);
+    (seen.0.into_inner().unwrap(), written.collect())
 }
 
 fn rect_of((start, end): (usize, usize)) -> Rect {

@@ -74,8 +74,8 @@ impl<'t> Row<'t> {
         self.workbench.init(queue.iter().map(|carry| CoverCarry { cover: cover_of(carry.cover), layer_id: carry.id }));
     }
 
-    /// `drive_tile_painting` for the next tile. The list, the masks and the decision are those of the same functions, called once more on
-    /// a copy of the queue and of the cached tile.
+    /// `drive_tile_painting` for the next tile. The list, the masks and the decision are those of the same functions,
+    /// called once more on a copy of the queue and of the cached tile.
     pub fn work(&mut self, tile: usize, frame: &Frame, cached: Option<Cached>) -> Worked {
         self.take_in(tile);
         let Last { segments, queue, .. } = &self.last;
@@ -142,7 +142,8 @@ impl<'t> Row<'t> {
         self.last = Last { tile, segments, queue: queue(&self.workbench).to_vec(), skip_clipping: Vec::new() };
     }
 
-    /// Which colour lies at the bottom of a solid tile shows where the clear colour is no number: then so is what is mixed above it.
+    /// Which colour lies at the bottom of a solid tile shows where the clear colour is no number: then so is what is
+    /// mixed above it.
     fn decision(&self, passed: &Passed, frame: &Frame, cached: Option<Cached>) -> Decision {
         let mixed = match passed.op {
             ControlFlow::Continue(()) => return Decision::Paint,
@@ -165,7 +166,8 @@ impl<'t> Row<'t> {
     }
 }
 
-/// A whole row painted by `paint_tile_row` into a buffer of 16 lines, `tiles` wide, with what it leaves of the cached tiles.
+/// A whole row painted by `paint_tile_row` into a buffer of 16 lines, `tiles` wide, with what it leaves of the cached
+/// tiles.
 #[allow(clippy::too_many_arguments)]
 pub fn paint_row(
     tile_y: usize,
@@ -199,7 +201,8 @@ pub fn paint_row(
 pub fn carry(words: &[u64], incoming: Option<[i8; 16]>, record: &Record) -> Option<[i8; 16]> {
     let table = Table::new(&[*record]);
     let frame = Frame { clear: [0.0; 4], previous_clear: None, channels: RGBA };
-    let queue: Vec<CoverCarry> = incoming.iter().map(|&bytes| CoverCarry { cover: cover_of(bytes), layer_id: record.id }).collect();
+    let queue: Vec<CoverCarry> =
+        incoming.iter().map(|&bytes| CoverCarry { cover: cover_of(bytes), layer_id: record.id }).collect();
     let segments = segments_of(words);
     let carry = layer_workbench::reach::carry(&queue, &context(&table, 0, 0, &segments, &frame, None), record.id);
     carry.map(|carry| bytes_of(carry.cover))
@@ -238,10 +241,12 @@ fn entry_of(listed: &Listed) -> Entry {
     Entry { id: listed.id, cover, has_segments: listed.has_segments, shown: listed.mask }
 }
 
-/// The draws that need no clip. Where the first pass kept the tile, the second did not run and its set is empty: then the set is the one
-/// that it would have left.
+/// The draws that need no clip. Where the first pass kept the tile, the second did not run and its set is empty: then
+/// the set is the one that it would have left.
 fn skip_clipping(passed: &Passed, clips: &Passed) -> Vec<u32> {
-    let ids = |passed: &Passed| passed.entries.iter().filter(|entry| entry.skips_clipping).map(|entry| entry.id).collect::<Vec<_>>();
+    let ids = |passed: &Passed| {
+        passed.entries.iter().filter(|entry| entry.skips_clipping).map(|entry| entry.id).collect::<Vec<_>>()
+    };
     if !matches!(passed.op, ControlFlow::Break(OptimizerTileWriteOp::None)) {
         assert_eq!(ids(passed), ids(clips));
     }

@@ -1,4 +1,7 @@
-//! The painter as it is timed: every layer is painted as a clip, so that its coverages are computed and stored, and nothing is blended.
+//! The painter as it is timed: every layer is painted as a clip, so that its coverages are computed and stored, and
+//! nothing is blended.
+
+use std::hint::black_box;
 
 use super::super::*;
 use super::{
@@ -11,29 +14,23 @@ use crate::{
     table::Table,
 };
 
-/// A clip's mask.
-pub struct Mask<'m>(&'m [f32x8; 32]);
-
-impl Mask<'_> {
-    pub fn plane(&self) -> [f32; 256] {
-        flat(self.0)
-    }
-}
-
-/// The real painter, which shows `seen` each mask that it leaves. Layers are painted with id 0: so the clip stays, and its mask is written over,
-/// not built again.
-pub struct ClipPainter<F> {
+/// The real painter. Layers are painted with id 0: so the clip stays, and its mask is written over, not built again.
+/// It has no type parameter, so it is compiled here with what it calls, and not anew for each caller.
+pub struct ClipPainter {
     painter: Painter,
     rules: [Props; 2],
-    seen: F,
+    /// The masks, where they are kept.
+    pub planes: Option<Vec<[f32; 256]>>,
 }
 
-impl<F: FnMut(Mask<'_>)> ClipPainter<F> {
-    pub fn new(seen: F) -> Self {
+impl Default for ClipPainter {
+    fn default() -> Self {
         let rules = [FillRule::NonZero, FillRule::EvenOdd].map(|fill_rule| Props { fill_rule, func: Func::Clip(0) });
-        Self { painter: Painter::new(), rules, seen }
+        Self { painter: Painter::new(), rules, planes: None }
     }
+}
 
+impl ClipPainter {
     /// One layer in one tile, as `drive_tile_painting` paints it.
     #[inline(never)]
     pub fn paint(&mut self, part: &[Segment], cover: [i8; 16], rule: u32) {
@@ -48,12 +45,16 @@ impl<F: FnMut(Mask<'_>)> ClipPainter<F> {
     fn paint_as_clip(&mut self, rule: usize) -> Cover {
         let cover = self.painter.paint_layer(0, 0, 0, &self.rules[rule], false);
         let (mask, _) = self.painter.clip.as_ref().expect("a clip layer leaves a clip");
-        (self.seen)(Mask(mask));
+        if let Some(planes) = &mut self.planes {
+            planes.push(flat(black_box(mask)));
+        } else {
+            black_box(mask);
+        }
         cover
     }
 }
 
-impl<F: FnMut(Mask<'_>)> LayerPainter for ClipPainter<F> {
+impl LayerPainter for ClipPainter {
     fn clear_cells(&mut self) {
         self.painter.clear_cells();
     }
@@ -75,20 +76,20 @@ impl<F: FnMut(Mask<'_>)> LayerPainter for ClipPainter<F> {
 }
 
 /// Goes through a row as `paint_tile_row` does, with a painter of clips and no display.
-pub struct TimedRow<'t, F> {
+pub struct TimedRow<'t> {
     segments: Vec<Segment>,
     /// Where the first tile's segments begin, which `paint_tile_row` knows from its opening.
     start: usize,
     table: &'t Table,
     frame: Frame,
     workbench: LayerWorkbench,
-    painter: ClipPainter<F>,
+    pub painter: ClipPainter,
 }
 
-impl<'t, F: FnMut(Mask<'_>)> TimedRow<'t, F> {
-    pub fn new(segments: Vec<Segment>, table: &'t Table, frame: Frame, seen: F) -> Self {
+impl<'t> TimedRow<'t> {
+    pub fn new(segments: Vec<Segment>, table: &'t Table, frame: Frame) -> Self {
         let start = segments.partition_point(|segment| segment.tile_x() < 0);
-        Self { segments, start, table, frame, workbench: LayerWorkbench::new(), painter: ClipPainter::new(seen) }
+        Self { segments, start, table, frame, workbench: LayerWorkbench::new(), painter: ClipPainter::default() }
     }
 
     /// The opening and the work on each of the tiles.
@@ -97,11 +98,12 @@ impl<'t, F: FnMut(Mask<'_>)> TimedRow<'t, F> {
         self.open(tile_y, tiles);
         let mut left = &self.segments[self.start..];
         for tile in 0..tiles {
-            let count = crate::cpu::search_last_by_key(left, tile as i16, |segment| segment.tile_x()).map_or(0, |last| last + 1);
+            let count = crate::cpu::search_last_by_key(left, tile as i16, |segment| segment.tile_x())
+                .map_or(0, |last| last + 1);
             let (segments, rest) = left.split_at(count);
             left = rest;
             let context = context(self.table, tile, tile_y, segments, &self.frame, None);
-            std::hint::black_box(self.workbench.drive_tile_painting(&mut self.painter, &context));
+            black_box(self.workbench.drive_tile_painting(&mut self.painter, &context));
         }
     }
 

@@ -75,7 +75,11 @@ pub struct Entry {
 pub enum Decision {
     None,
     /// The bottom colour, how many shown layers lie before those to mix above it, and what the mixing gives.
-    Solid { bottom: Rgba, before: usize, mixed: Rgba },
+    Solid {
+        bottom: Rgba,
+        before: usize,
+        mixed: Rgba,
+    },
     Paint,
 }
 

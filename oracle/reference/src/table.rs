@@ -20,7 +20,10 @@ impl Table {
 
     /// The same layers in grey, opaque where they were: which colours are mixed plays no part in the passes.
     pub fn recolored(&self) -> Self {
-        let recolored = |record: &Record| Record { color: [0.5, 0.5, 0.5, if record.color[3] == 1.0 { 1.0 } else { 0.5 }], ..*record };
+        let recolored = |record: &Record| Record {
+            color: [0.5, 0.5, 0.5, if record.color[3] == 1.0 { 1.0 } else { 0.5 }],
+            ..*record
+        };
         Self::new(&self.records.iter().map(|(record, _)| recolored(record)).collect::<Vec<_>>())
     }
 

@@ -44,7 +44,7 @@ returns c =
     let s = c .before .before .before .before .before .before .before .before .before .before .before .before .before .before .before .before .before .before .before .before .before .before .before .before .before .before .before .before .before .before .before .before in
     let a = s .args in
     let ls = layersIn (queueOf (a .n) (a .ids .now) (a .covers .now)) (a .part .now) in
-    worked (tableOf (a .layers .now) (a .colors .now) (a .count)) ls (a .kept) (a .clear) (a .previous) (a .list-ids .now) (a .list-covers .now) (a .list-segments .now) (a .list-shown .now) (a .next-ids .now) (a .next-covers .now)
+    worked (tableOf (a .layers .now) (a .colors .now) (a .count)) ls (a .kept) (a .clear) (a .previous) (a .list-ids .now) (a .list-covers .now) (a .list-segments .now) (a .list-unmasked .now) (a .next-ids .now) (a .next-covers .now)
     (list-wide (queueOf (a .n) (a .ids .now) (a .covers .now)) (groupsOf (a .part .now)) (queue-wide (a .n) (a .ids .now) (a .covers .now) (s .pre .1)))
     (s .pre .5) (c .before .before .before .before .before .before .before .before .before .before .before .before .before .before .before .before .before .before .before .before .list-layers .ensures) (c .before .before .before .before .before .before .before .before .before .before .decide-tile .ensures) (c .before .before .before .before .before .hand-on .ensures)
 

@@ -1,8 +1,9 @@
--- `cover_bits` meets its contract. 128 is a multiple of 64, and with it no cover is negative. Assumes nothing.
+-- `cover_bits` meets its contract. 256 is a multiple of 64, and with it no cover is negative. Assumes nothing.
 -- the cover's range, and the sum's parts
 use mathlib.Core.Path.{ap}
 use Prim.Native.Nat.{ℕ, _%_}
 use native.Mathlib.Omega.{arith}
+use borrow.Author.Needs.{needs}
 use lib.Dec.{lit<}
 use lib.IntN.{pos, _+ℤ_}
 use mir.Syntax.{w8, w16, w64}
@@ -14,11 +15,11 @@ use Rattle.laws.proofs.Machine.{Within, within, sfits, unsigned}
 use Rattle.pixel_segment.proofs.cover_bits.Statement.{statement}
 use Rattle.pixel_segment.proofs.cover_bits.Tie as tie
 
-known : (c : tie.Start) → Within w8 (c .args .cover) × Sum (c .args .cover) (pos 128) (c .args .cover +ℤ pos 128)
-known c = (within w8 (c .args .cover) (c .fits .cover), added (c .args .cover) (pos 128))
+known : (c : tie.Start) → Within w8 (c .args .cover) × Sum (c .args .cover) (pos 256) (c .args .cover +ℤ pos 256)
+known c = (within w8 (c .args .cover) (c .fits .cover), added (c .args .cover) (pos 256))
 
-raised : (c : tie.Start) → SFits w16 (c .args .cover +ℤ pos 128)
-raised c = sfits w16 (c .args .cover +ℤ pos 128) (omega (arith, known c))
+raised : (c : tie.Start) → SFits w16 (c .args .cover +ℤ pos 256)
+raised c = sfits w16 (c .args .cover +ℤ pos 256) (omega (arith, known c))
 
 cast-result : tie.Need-cast-result
 cast-result c = rw (toZ-ofZ (c .fits .cover)) (sfits-widen tt (c .fits .cover))
@@ -31,12 +32,19 @@ add-result c =
 cast-result-2 : tie.Need-cast-result-2
 cast-result-2 c =
     let h : SFits w16 (c .args .cover) = sfits-widen tt (c .fits .cover) in
-    rw (toZ-ofZ (c .fits .cover), toZ-ofZ h, toZ-ofZ (raised c)) (unsigned w64 (c .args .cover +ℤ pos 128) (omega (arith, known c)) (omega (arith, known c)))
+    rw (toZ-ofZ (c .fits .cover), toZ-ofZ h, toZ-ofZ (raised c)) (unsigned w64 (c .args .cover +ℤ pos 256) (omega (arith, known c)) (omega (arith, known c)))
+
+size-requires : tie.Need-size-requires
+size-requires c κs = search needs
+
+rem-result : tie.Need-rem-result
+rem-result c = rw (c .size .ensures) (lit< tt)
 
 returns : tie.Need-returns
 returns c =
-    let h : SFits w16 (c .args .cover) = sfits-widen tt (c .fits .cover) in
-    rw (toZ-ofZ (c .fits .cover), toZ-ofZ h, toZ-ofZ (raised c)) (rw (lifted 64 (c .args .cover) 2 (lit< tt) (omega (arith, known c))) (ap (λ (n : ℕ). n % 64) (omega (arith, known c))))
+    let s = c .before in
+    let h : SFits w16 (s .args .cover) = sfits-widen tt (s .fits .cover) in
+    rw (c .size .ensures, toZ-ofZ (s .fits .cover), toZ-ofZ h, toZ-ofZ (raised s)) (rw (lifted 64 (s .args .cover) 4 (lit< tt) (omega (arith, known s))) (ap (λ (n : ℕ). n % 64) (omega (arith, known s))))
 
 pub cover-bits-spec : {M : Type 1} → statement M
-cover-bits-spec = tie.close (tie.spec cast-result add-result cast-result-2 returns)
+cover-bits-spec = tie.close (tie.spec cast-result add-result cast-result-2 size-requires rem-result returns)

@@ -1,5 +1,5 @@
 -- `find_row` meets its contract: what is found has the tile y that is looked for, so the row above it has a number. Assumes nothing.
-use mathlib.Core.Path.{_≡_, sym, _∙_}
+use mathlib.Core.Path.{_≡_, ap, sym, _∙_}
 use native.Mathlib.Omega.{arith}
 use borrow.Author.Needs.{needs}
 use lib.IntN.{pos, _-ℤ_}
@@ -8,10 +8,9 @@ use mir.Syntax.{w16}
 use mir.Val.{SFits, toZ, ofZ}
 use mir.Facts.{toZ-ofZ}
 use Rattle.laws.proofs.Machine.{kept}
-use Rattle.pixel_segment.specs.Search.{searchOf, orderAt}
-use Rattle.pixel_segment.specs.declared.search.Found.the-variants.{At}
+use Rattle.pixel_segment.specs.Search.{found, placeIn, searchOf, orderAt, afterOf}
 use Rattle.pixel_segment.specs.declared.search.Key.the-variants.{TileY}
-use Rattle.pixel_segment.proofs.Halving.{found-lt}
+use Rattle.pixel_segment.proofs.Halving.{told-le, found-lt}
 use Rattle.plate.specs.Rows.{castOf}
 use Rattle.plate.proofs.Finding.{row-found, row-absent, above-fits}
 use Rattle.plate.proofs.find_row.Statement.{statement}
@@ -22,15 +21,15 @@ tile-y : (c : tie.After-cast) → toZ w16 (ofZ w16 (c .cast .result)) ≡ castOf
 tile-y c = kept w16 (c .cast .result) (c .cast .ok) ∙ c .cast .ensures
 
 -- the last segment of the row
-found : (c : tie.After-search-end-arg) → searchOf (orderAt (TileY (castOf (c .before .before .before .before .before .before .before .args .j)))) (c .before .before .before .before .before .before .before .args .segments .now) ≡ At (c .before .before .last .given .0 .0)
-found c =
-    rw (tile-y (c .before .before .before .before .before)) at (sym (c .before .before .before .before .search-last-by-tile-y .ensures) ∙ c .before .before .last .given .1)
+at-last : (c : tie.After-search-last-by-tile-y-arg) → searchOf (orderAt (TileY (castOf (c .before .before .before .before .before .before .before .args .j)))) (c .before .before .before .before .before .before .before .args .segments .now) ≡ found (c .before .before .last .given .0 .0)
+at-last c =
+    rw (tile-y (c .before .before .before .before .before)) at (sym (c .before .before .before .before .search-last-by-tile-y .ensures) ∙ ap placeIn (c .before .before .last .given .1))
 
 -- the row above
-above : (c : tie.After-search-end-arg) → SFits w16 (castOf (c .before .before .before .before .before .before .before .args .j) -ℤ pos 1)
+above : (c : tie.After-search-last-by-tile-y-arg) → SFits w16 (castOf (c .before .before .before .before .before .before .before .args .j) -ℤ pos 1)
 above c =
     let s = c .before .before .before .before .before .before .before .args in
-    above-fits (castOf (s .j)) (s .segments .now) (c .before .before .last .given .0 .0) (found c)
+    above-fits (castOf (s .j)) (s .segments .now) (c .before .before .last .given .0 .0) (at-last c)
 
 cast-requires : tie.Need-cast-requires
 cast-requires c κs = search needs
@@ -41,37 +40,43 @@ search-last-by-tile-y-requires c κs = search needs
 enum-known-last : tie.Need-enum-known-last
 enum-known-last c = search needs
 
-slice-aggregate-search-end : tie.Need-slice-aggregate-search-end
-slice-aggregate-search-end c =
+slice-aggregate-search-last-by-tile-y : tie.Need-slice-aggregate-search-last-by-tile-y
+slice-aggregate-search-last-by-tile-y c =
     let s = c .before .before .before .before .before .before .before .args in
     let last = c .before .before .last .given .0 .0 in
-    omega (arith, length-take last (s .segments .now), found-lt (orderAt (TileY (castOf (s .j)))) (s .segments .now) last (found c))
+    omega (arith, length-take last (s .segments .now), found-lt (orderAt (TileY (castOf (s .j)))) (s .segments .now) last (at-last c))
 
-sub-t10 : tie.Need-sub-t10
-sub-t10 c = rw (tile-y (c .before .before .before .before .before)) (above c)
+sub-search-last-by-tile-y : tie.Need-sub-search-last-by-tile-y
+sub-search-last-by-tile-y c = rw (tile-y (c .before .before .before .before .before)) (above c)
 
-search-end-requires : tie.Need-search-end-requires
-search-end-requires c κs = search needs
+search-last-by-tile-y-requires-2 : tie.Need-search-last-by-tile-y-requires-2
+search-last-by-tile-y-requires-2 c κs = search needs
+
+end-of-requires : tie.Need-end-of-requires
+end-of-requires c κs =
+    let s = c .before .before .before .before .before .before .before .before .args in
+    let last = c .before .before .before .last .given .0 .0 in
+    omega (arith, told-le _ _ (c .search-last-by-tile-y2 .ensures), length-take last (s .segments .now))
 
 add-t12 : tie.Need-add-t12
 add-t12 c =
-    let s = c .before .before .before .before .before .before .before .before .args in
-    omega (arith, found-lt (orderAt (TileY (castOf (s .j)))) (s .segments .now) (c .before .before .before .last .given .0 .0) (found (c .before)))
+    let s = c .before .before .before .before .before .before .before .before .before .args in
+    omega (arith, found-lt (orderAt (TileY (castOf (s .j)))) (s .segments .now) (c .before .before .before .before .last .given .0 .0) (at-last (c .before .before)))
 
 enum-told : tie.Need-enum-told
 enum-told c = search needs
 
 returns : tie.Need-returns
 returns c =
-    let s = c .before .before .before .before .before .before .before .before .args in
-    row-found (s .j) (s .segments .now) (c .before .before .before .last .given .0 .0) (c .search-end .result) (found (c .before))
-    (rw (tile-y (c .before .before .before .before .before .before), toZ-ofZ (above (c .before))) at (c .search-end .ensures))
+    let s = c .before .before .before .before .before .before .before .before .before .args in
+    row-found (castOf (s .j)) (s .segments .now) (c .before .before .before .before .last .given .0 .0) (c .end-of .result) (at-last (c .before .before))
+    (rw (tile-y (c .before .before .before .before .before .before .before), toZ-ofZ (above (c .before .before))) at (c .end-of .ensures ∙ ap afterOf (c .before .search-last-by-tile-y2 .ensures)))
 
 returns-2 : tie.Need-returns-2
 returns-2 c =
     let s = c .before .before .before .before .before .args in
-    row-absent (s .j) (s .segments .now) (c .enum-told .given .0 .0)
-    (rw (tile-y (c .before .before .before)) at (sym (c .before .before .search-last-by-tile-y .ensures) ∙ c .enum-told .given .1))
+    row-absent (castOf (s .j)) (s .segments .now) (c .enum-told .given .0 .0)
+    (rw (tile-y (c .before .before .before)) at (sym (c .before .before .search-last-by-tile-y .ensures) ∙ ap placeIn (c .enum-told .given .1)))
 
 pub find-row-spec : {M : Type 1} → statement M
 find-row-spec =
@@ -80,9 +85,10 @@ find-row-spec =
     cast-requires
     search-last-by-tile-y-requires
     enum-known-last
-    slice-aggregate-search-end
-    sub-t10
-    search-end-requires
+    slice-aggregate-search-last-by-tile-y
+    sub-search-last-by-tile-y
+    search-last-by-tile-y-requires-2
+    end-of-requires
     add-t12
     enum-told
     returns

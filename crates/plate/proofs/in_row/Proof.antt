@@ -1,29 +1,26 @@
 -- `in_row` meets its contract. Assumes nothing.
+use mathlib.Core.Path.{ap, _∙_}
 use borrow.Author.Needs.{needs}
-use Rattle.plate.specs.Rows.{rowPart}
+use Rattle.pixel_segment.specs.Search.{between}
+use Rattle.plate.specs.Rows.{castOf, rowPart}
+use Rattle.plate.specs.declared.Part.{Part}
+use Rattle.plate.proofs.Finding.{place-inside}
 use Rattle.plate.proofs.in_row.Statement.{statement}
 use Rattle.plate.proofs.in_row.Tie as tie
 
 find-row-requires : tie.Need-find-row-requires
 find-row-requires c κs = search needs
 
-mul-result : tie.Need-mul-result
-mul-result c = search needs
-
-sub-result : tie.Need-sub-result
-sub-result c = search needs
-
-part-result-start : tie.Need-part-result-start
-part-result-start c = search needs
-
-part-result-end : tie.Need-part-result-end
-part-result-end c = search needs
+slice-of-requires : tie.Need-slice-of-requires
+slice-of-requires c κs =
+    let s = c .before .before .args in
+    rw (c .find-row .ensures) (place-inside (castOf (s .j)) (s .segments .now))
 
 returns : tie.Need-returns
 unfolding rowPart
-returns c = rw (c .before .find-row .ensures .is)
+returns c =
+    let l = c .before .before .before .args .segments .now in
+    c .slice-of .ensures ∙ ap (λ (p : Part). between (p .start) (p .end) l) (c .before .find-row .ensures)
 
 pub in-row-spec : {M : Type 1} → statement M
-in-row-spec =
-    tie.close
-    (tie.spec find-row-requires mul-result sub-result part-result-start part-result-end returns)
+in-row-spec = tie.close (tie.spec find-row-requires slice-of-requires returns)

@@ -1,25 +1,30 @@
 -- `skip_negative` meets its contract. Assumes nothing.
 use mathlib.Core.Path.{ap, _∙_}
-use Prim.Native.Nat.{ℕ, _-_}
+use Prim.Native.Nat.{ℕ, _-_, _≤_}
 use native.Mathlib.Omega.{arith}
 use borrow.Author.Needs.{needs}
 use lib.ListN.{length, drop, length-drop}
 use lib.Seq.{take-all}
 use Rattle.plate.specs.Rows.{notNegative}
+use Rattle.plate.proofs.Finding.{start-le}
 use Rattle.plate.proofs.skip_negative.Statement.{statement}
 use Rattle.plate.proofs.skip_negative.Tie as tie
 
 find-not-negative-requires : tie.Need-find-not-negative-requires
 find-not-negative-requires c κs = search needs
 
+-- the first segment that is kept stands inside
+inside : (c : tie.After-find-not-negative) → c .find-not-negative .result ≤ length (c .before .before .args .segments .now)
+inside c = rw (c .find-not-negative .ensures) (start-le (c .before .before .args .segments .now))
+
 mul-result : tie.Need-mul-result
-mul-result c = search needs
+mul-result c = omega (arith, inside c)
 
 sub-result : tie.Need-sub-result
-sub-result c = search needs
+sub-result c = omega (arith, inside c)
 
 part-result-start : tie.Need-part-result-start
-part-result-start c = search needs
+part-result-start c = omega (arith, inside c)
 
 part-result-end : tie.Need-part-result-end
 part-result-end c = search needs
@@ -29,7 +34,7 @@ unfolding notNegative
 returns c =
     let l = c .before .before .before .args .segments .now in
     let start = c .before .find-not-negative .result in
-    take-all (length l - start) (drop start l) (omega (arith, length-drop start l)) ∙ ap (λ (n : ℕ). drop n l) (c .before .find-not-negative .ensures .is)
+    take-all (length l - start) (drop start l) (omega (arith, length-drop start l)) ∙ ap (λ (n : ℕ). drop n l) (c .before .find-not-negative .ensures)
 
 pub skip-negative-spec : {M : Type 1} → statement M
 skip-negative-spec =

@@ -35,7 +35,7 @@ use lib.ListN.{length, getD, set, length-map}
 use lib.WfN.{Nat·lt-wfRel}
 use mir.Syntax.{Ty, named, erased, imm, mut, w8, w32, w64, tyInt, tyBool, tyUnit, tyRef, loop}
 use mir.Val.{Val, vbool, vint}
-use Rattle.cover.specs.Entry.{putEntry}
+use Rattle.cover_statements.specs.Entry.{putEntry}
 use Rattle.queue_records.specs.Records.{noRecord, readable}
 use Rattle.queue_records.specs.declared.CarryRecord.{CarryRecord}
 use Rattle.queue_records.proofs.Again.{LentAgain, lends-at, back-at}

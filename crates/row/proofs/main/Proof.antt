@@ -1,8 +1,9 @@
 -- `main` meets its contract: what is written is the front of the buffer that the answer fills. Assumes nothing.
-use mathlib.Core.Path.{sym}
+use mathlib.Core.Path.{ap, sym}
+use native.Mathlib.Omega.{arith}
 use borrow.Author.Needs.{needs}
-use lib.Seq.{length-take-le}
-use Rattle.row_text.proofs.Reading.{within}
+use lib.ListN.{length}
+use lib.Seq.{length-sets, length-take-le}
 use Rattle.row.proofs.main.Statement.{statement}
 use Rattle.row.proofs.main.Tie as tie
 
@@ -18,19 +19,16 @@ array-share-prefix-text c = search needs
 slice-aggregate-answer : tie.Need-slice-aggregate-answer
 slice-aggregate-answer c = search needs
 
-slice-aggregate-answer-2 : tie.Need-slice-aggregate-answer-2
-slice-aggregate-answer-2 c = search needs
-
 answer-requires : tie.Need-answer-requires
 answer-requires c κs = search needs
 
 array-share-prefix-out : tie.Need-array-share-prefix-out
-array-share-prefix-out c = let a = c .before .answer in within (a .ensures) (sym (a .kept .1 .0))
+array-share-prefix-out c = let a = c .answer in omega (arith, a .ensures .answer, a .ensures .fits, simp length-sets at (ap length (a .ensures .written)))
 
 slice-aggregate-write-all : tie.Need-slice-aggregate-write-all
 slice-aggregate-write-all c =
-    let a = c .before .before .answer in
-    sym (length-take-le (a .result) (a .last .1 .0) (within (a .ensures) (sym (a .kept .1 .0))))
+    let a = c .before .answer in
+    sym (length-take-le (a .result) (a .last .1 .0) (omega (arith, a .ensures .answer, a .ensures .fits, simp length-sets at (ap length (a .ensures .written)))))
 
 write-all-requires : tie.Need-write-all-requires
 write-all-requires c κs = search needs
@@ -46,7 +44,6 @@ main-spec =
     read-full-requires
     array-share-prefix-text
     slice-aggregate-answer
-    slice-aggregate-answer-2
     answer-requires
     array-share-prefix-out
     slice-aggregate-write-all

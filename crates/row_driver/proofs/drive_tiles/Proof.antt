@@ -11,11 +11,11 @@ use mir.Syntax.{w32}
 use mir.Val.{toZ}
 use mir.Facts.{toZ-pos}
 use Rattle.laws.proofs.Machine.{small}
-use Rattle.painter.specs.declared.Clip.the-variants.{Absent}
-use Rattle.tile_row.specs.Holding.{Holds}
-use Rattle.tile_row.specs.Run.{Columns}
+use mathlib.Core.Option.{none}
+use Rattle.row_statements.specs.InnerHolding.{Holds}
+use Rattle.row_statements.specs.Lent.{Columns, ListColumns}
 use Rattle.row_driver.specs.Lines.{lineWords}
-use Rattle.row_driver.specs.Steps.{ListColumns, heldBy, rowBy}
+use Rattle.row_driver.specs.InnerSteps.{heldBy, rowBy}
 use Rattle.row_driver.specs.declared.Line.{Line}
 use Rattle.row_driver.proofs.drive_tiles.Statement.{statement}
 use Rattle.row_driver.proofs.drive_tiles.Tie as tie
@@ -23,9 +23,9 @@ use Rattle.row_driver.proofs.Turning as turning
 use Rattle.row_driver.proofs.Driving.{Driving, start, next, done, refused}
 
 abbrev Inv-loop : tie.InvT-loop
-Inv-loop n row layers colors count a-ids₀ a-covers₀ b-ids₀ b-covers₀ list-ids₀ list-covers₀ list-segments₀ list-shown₀ lines₀ at₀ in-a₀ i₀ a-ids a-covers b-ids b-covers list-ids list-covers list-segments list-shown lines at in-a i =
+Inv-loop n row layers colors count a-ids₀ a-covers₀ b-ids₀ b-covers₀ list-ids₀ list-covers₀ list-segments₀ list-unmasked₀ lines₀ at₀ in-a₀ i₀ a-ids a-covers b-ids b-covers list-ids list-covers list-segments list-unmasked lines at in-a i =
     Driving (rowBy at₀ row layers colors count) n lines₀ i lines
-    × Holds (rowBy at₀ row layers colors count) (record { tiles = i; clip = Absent }) (heldBy in-a at (record { ids = a-ids; covers = a-covers }) (record { ids = b-ids; covers = b-covers }))
+    × Holds (rowBy at₀ row layers colors count) (record { tiles = i; clip = none }) (heldBy in-a at (record { ids = a-ids; covers = a-covers }) (record { ids = b-ids; covers = b-covers }))
     × (length a-ids ≡ length a-ids₀)
     × (length a-covers ≡ length a-covers₀)
     × (length b-ids ≡ length b-ids₀)
@@ -33,10 +33,10 @@ Inv-loop n row layers colors count a-ids₀ a-covers₀ b-ids₀ b-covers₀ lis
     × (length list-ids ≡ length list-ids₀)
     × (length list-covers ≡ length list-covers₀)
     × (length list-segments ≡ length list-segments₀)
-    × (length list-shown ≡ length list-shown₀)
+    × (length list-unmasked ≡ length list-unmasked₀)
 
 abbrev μ-loop : tie.MeasureT-loop
-μ-loop n row layers colors count a-ids₀ a-covers₀ b-ids₀ b-covers₀ list-ids₀ list-covers₀ list-segments₀ list-shown₀ lines₀ at₀ in-a₀ i₀ a-ids a-covers b-ids b-covers list-ids list-covers list-segments list-shown lines at in-a i =
+μ-loop n row layers colors count a-ids₀ a-covers₀ b-ids₀ b-covers₀ list-ids₀ list-covers₀ list-segments₀ list-unmasked₀ lines₀ at₀ in-a₀ i₀ a-ids a-covers b-ids b-covers list-ids list-covers list-segments list-unmasked lines at in-a i =
     n - i
 
 loop-holds : tie.Need-loop-holds Inv-loop μ-loop
@@ -52,11 +52,11 @@ cast-turn c =
     let h = c .before .loop-test .taken in
     let left : Columns = record { ids = l .a-ids; covers = l .a-covers } in
     let right : Columns = record { ids = l .b-ids; covers = l .b-covers } in
-    let list₀ : ListColumns = record { ids = a .list-ids .now; covers = a .list-covers .now; segments = a .list-segments .now; shown = a .list-shown .now } in
-    let list : ListColumns = record { ids = l .list-ids; covers = l .list-covers; segments = l .list-segments; shown = l .list-shown } in
+    let list₀ : ListColumns = record { ids = a .list-ids .now; covers = a .list-covers .now; segments = a .list-segments .now; unmasked = a .list-unmasked .now } in
+    let list : ListColumns = record { ids = l .list-ids; covers = l .list-covers; segments = l .list-segments; unmasked = l .list-unmasked } in
     let inside : a .state .from + l .i < a .state .to = omega (arith, h, p .inside) in
     let long = turning.list-kept list₀ list (l .inv .6) (l .inv .7) (l .inv .8) (l .inv .9) (p .list-long) in
-    let next-is = turning.tile-is (l .in-a) left right (p .is-open) (l .inv .1) inside list long in
+    let next-is = turning.tile-is (l .in-a) (l .at) left right (p .is-open) (l .inv .1) inside list long in
     let low : l .at .next < 2 ^ 31 = omega (arith, next-is, inside, p .is-open .last) in
     let tile : toZ w32 (l .at .next) ≡ pos (a .state .from + l .i) = toZ-pos w32 low ∙ ap pos next-is in
     small w32 (pos (l .at .next)) low
@@ -70,14 +70,14 @@ turn-requires c κs =
     let h = c .before .before .before .before .before .before .before .before .before .loop-test .taken in
     let left : Columns = record { ids = l .a-ids; covers = l .a-covers } in
     let right : Columns = record { ids = l .b-ids; covers = l .b-covers } in
-    let list₀ : ListColumns = record { ids = a .list-ids .now; covers = a .list-covers .now; segments = a .list-segments .now; shown = a .list-shown .now } in
-    let list : ListColumns = record { ids = l .list-ids; covers = l .list-covers; segments = l .list-segments; shown = l .list-shown } in
+    let list₀ : ListColumns = record { ids = a .list-ids .now; covers = a .list-covers .now; segments = a .list-segments .now; unmasked = a .list-unmasked .now } in
+    let list : ListColumns = record { ids = l .list-ids; covers = l .list-covers; segments = l .list-segments; unmasked = l .list-unmasked } in
     let inside : a .state .from + l .i < a .state .to = omega (arith, h, p .inside) in
     let long = turning.list-kept list₀ list (l .inv .6) (l .inv .7) (l .inv .8) (l .inv .9) (p .list-long) in
-    let next-is = turning.tile-is (l .in-a) left right (p .is-open) (l .inv .1) inside list long in
+    let next-is = turning.tile-is (l .in-a) (l .at) left right (p .is-open) (l .inv .1) inside list long in
     let low : l .at .next < 2 ^ 31 = omega (arith, next-is, inside, p .is-open .last) in
     let tile : toZ w32 (l .at .next) ≡ pos (a .state .from + l .i) = toZ-pos w32 low ∙ ap pos next-is in
-    rw tile (turning.workable (l .in-a) left right (p .is-open) (l .inv .1) inside list long)
+    rw tile (turning.workable (l .in-a) (l .at) left right (p .is-open) (l .inv .1) inside list long)
 
 enum-known-answer : tie.Need-enum-known-answer Inv-loop μ-loop
 enum-known-answer c =
@@ -128,15 +128,15 @@ returns c =
     let h = c .before .before .before .before .before .before .before .before .before .before .before .before .before .before .before .before .before .before .before .before .before .before .before .before .before .before .before .before .loop-test .taken in
     let left : Columns = record { ids = l .a-ids; covers = l .a-covers } in
     let right : Columns = record { ids = l .b-ids; covers = l .b-covers } in
-    let list₀ : ListColumns = record { ids = a .list-ids .now; covers = a .list-covers .now; segments = a .list-segments .now; shown = a .list-shown .now } in
-    let list : ListColumns = record { ids = l .list-ids; covers = l .list-covers; segments = l .list-segments; shown = l .list-shown } in
+    let list₀ : ListColumns = record { ids = a .list-ids .now; covers = a .list-covers .now; segments = a .list-segments .now; unmasked = a .list-unmasked .now } in
+    let list : ListColumns = record { ids = l .list-ids; covers = l .list-covers; segments = l .list-segments; unmasked = l .list-unmasked } in
     let inside : a .state .from + l .i < a .state .to = omega (arith, h, p .inside) in
     let long = turning.list-kept list₀ list (l .inv .6) (l .inv .7) (l .inv .8) (l .inv .9) (p .list-long) in
-    let next-is = turning.tile-is (l .in-a) left right (p .is-open) (l .inv .1) inside list long in
+    let next-is = turning.tile-is (l .in-a) (l .at) left right (p .is-open) (l .inv .1) inside list long in
     let low : l .at .next < 2 ^ 31 = omega (arith, next-is, inside, p .is-open .last) in
     let tile : toZ w32 (l .at .next) ≡ pos (a .state .from + l .i) = toZ-pos w32 low ∙ ap pos next-is in
     let t = rw tile at (c .before .before .before .before .before .before .before .before .before .before .before .before .before .before .before .before .before .before .turn .ensures) in
-    refused (l .inv .0) h (turning.refused-is (l .in-a) left right (p .is-open) (l .inv .1) inside list long _ _ _ t (c .before .answer .given .1))
+    refused (l .inv .0) h (turning.refused-is (l .in-a) (l .at) left right (p .is-open) (l .inv .1) inside list long _ _ _ t (c .before .answer .given .1))
 
 enum-told : tie.Need-enum-told Inv-loop μ-loop
 enum-told c =
@@ -167,19 +167,19 @@ loop-again c =
     let h = c .before .before .before .before .before .before .before .before .before .before .before .before .before .before .before .before .before .before .before .before .before .before .before .before .before .before .before .before .before .before .before .before .loop-test .taken in
     let left : Columns = record { ids = l .a-ids; covers = l .a-covers } in
     let right : Columns = record { ids = l .b-ids; covers = l .b-covers } in
-    let list₀ : ListColumns = record { ids = a .list-ids .now; covers = a .list-covers .now; segments = a .list-segments .now; shown = a .list-shown .now } in
-    let list : ListColumns = record { ids = l .list-ids; covers = l .list-covers; segments = l .list-segments; shown = l .list-shown } in
+    let list₀ : ListColumns = record { ids = a .list-ids .now; covers = a .list-covers .now; segments = a .list-segments .now; unmasked = a .list-unmasked .now } in
+    let list : ListColumns = record { ids = l .list-ids; covers = l .list-covers; segments = l .list-segments; unmasked = l .list-unmasked } in
     let inside : a .state .from + l .i < a .state .to = omega (arith, h, p .inside) in
     let long = turning.list-kept list₀ list (l .inv .6) (l .inv .7) (l .inv .8) (l .inv .9) (p .list-long) in
-    let next-is = turning.tile-is (l .in-a) left right (p .is-open) (l .inv .1) inside list long in
+    let next-is = turning.tile-is (l .in-a) (l .at) left right (p .is-open) (l .inv .1) inside list long in
     let low : l .at .next < 2 ^ 31 = omega (arith, next-is, inside, p .is-open .last) in
     let tile : toZ w32 (l .at .next) ≡ pos (a .state .from + l .i) = toZ-pos w32 low ∙ ap pos next-is in
     let t = rw tile at (c .before .before .before .before .before .before .before .before .before .before .before .before .before .before .before .before .before .before .before .before .before .before .turn .ensures) in
     let e = c .before .before .before .before .before .enum-told .given .1 in
-    let told = c .before .before .before .write-line .ensures ∙ ap (λ (x : Line). sets (l .lines) (l .i * 5) (lineWords x)) (turning.line-is (l .in-a) left right (p .is-open) (l .inv .1) inside list long _ _ _ t e) in
+    let told = c .before .before .before .write-line .ensures ∙ ap (λ (x : Line). sets (l .lines) (l .i * 5) (lineWords x)) (turning.line-is (l .in-a) (l .at) left right (p .is-open) (l .inv .1) inside list long _ _ _ t e) in
     let k = c .before .before .before .before .before .before .before .before .before .before .before .before .before .before .before .before .before .before .before .before .before .before .turn .kept in (
-      next (l .inv .0) h (turning.accepted (l .in-a) left right (p .is-open) (l .inv .1) inside list long _ _ _ t e) told,
-      rw (add-one (l .i)) (turning.holds-next (l .in-a) left right (p .is-open) (l .inv .1) inside list long _ _ _ t e),
+      next (l .inv .0) h (turning.accepted (l .in-a) (l .at) left right (p .is-open) (l .inv .1) inside list long _ _ _ t e) told,
+      rw (add-one (l .i)) (turning.holds-next (l .in-a) (l .at) left right (p .is-open) (l .inv .1) inside list long _ _ _ t e),
       k .1 .1 .1 .1 .1 .1 .1 .0 ∙ l .inv .2,
       k .1 .1 .1 .1 .1 .1 .1 .1 .0 ∙ l .inv .3,
       k .1 .1 .1 .1 .1 .1 .1 .1 .1 .0 ∙ l .inv .4,

@@ -84,25 +84,19 @@ enum-told-2 c = search needs
 print-refusal-requires : tie.Need-print-refusal-requires
 print-refusal-requires c κs = search needs
 
-same-length : tie.Need-same-length
-same-length c = search needs
-
 returns : tie.Need-returns
 returns c =
-    let j = c .before .before .before .before .before .before .before .before .before .before .before .before .before .read-job in
-    let x = accepts (j .ensures) refl refl refl (c .before .before .before .before .before .before .before .before .head .given .1) in
-    same-text (x .answer) (c .before .before .drive .ensures)
+    let j = c .before .before .before .before .before .before .before .before .before .before .before .read-job in
+    let x = accepts (j .ensures) refl refl refl (c .before .before .before .before .before .before .head .given .1) in
+    same-text (x .answer) (c .drive .ensures)
 
 returns-2 : tie.Need-returns-2
 returns-2 c = absurd (has-room (c .before .before .before .before .before .read-job .ensures) refl refl refl (c .enum-told .given .1))
 
-same-length-2 : tie.Need-same-length-2
-same-length-2 c = search needs
-
 returns-3 : tie.Need-returns-3
 returns-3 c =
-    let p = c .before .before .print-refusal .ensures in
-    same-text (refuses (c .before .before .before .before .before .before .before .before .before .read-job .ensures) refl refl refl (c .before .before .before .before .enum-told2 .given .1)) (at-front (p .0) (omega (arith, p .1, c .before .before .before .before .before .before .before .before .before .before .before .before .before .before .before .pre)))
+    let p = c .print-refusal .ensures in
+    same-text (refuses (c .before .before .before .before .before .before .before .read-job .ensures) refl refl refl (c .before .before .enum-told2 .given .1)) (at-front (p .0) (omega (arith, p .1)))
 
 pub answer-spec : {M : Type 1} → statement M
 answer-spec =
@@ -125,8 +119,6 @@ answer-spec =
     enum-told
     enum-told-2
     print-refusal-requires
-    same-length
     returns
     returns-2
-    same-length-2
     returns-3)

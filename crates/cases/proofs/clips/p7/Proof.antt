@@ -1,29 +1,46 @@
--- `clips::p7` meets its contract. Assumes nothing.
+-- P7, from the contracts. Assumes nothing.
+use mathlib.Core.Path.{refl}
 use borrow.Author.Needs.{needs}
+use Rattle.cases.proofs.Tile.{first-known, second-known, draw-known, first-seen, second-seen, draw-seen}
 use Rattle.cases.proofs.clips.p7.Statement.{statement}
 use Rattle.cases.proofs.clips.p7.Tie as tie
 
-clip-after-requires : tie.Need-clip-after-requires
-clip-after-requires c κs = search needs
+layer-of-requires : tie.Need-layer-of-requires
+layer-of-requires c κs = search needs
 
-clip-after-requires-2 : tie.Need-clip-after-requires-2
-clip-after-requires-2 c κs = search needs
+paint-anew-requires : tie.Need-paint-anew-requires
+paint-anew-requires c κs = first-known (c .layer-of .ensures)
 
-alive-at-requires : tie.Need-alive-at-requires
-alive-at-requires c κs = search needs
+layer-of-requires-2 : tie.Need-layer-of-requires-2
+layer-of-requires-2 c κs = search needs
 
-lacks-clip-requires : tie.Need-lacks-clip-requires
-lacks-clip-requires c κs = search needs
+paint-anew-requires-2 : tie.Need-paint-anew-requires-2
+paint-anew-requires-2 c κs = second-known (c .layer-of2 .ensures)
+
+clipped-draw-requires : tie.Need-clipped-draw-requires
+clipped-draw-requires c κs = search needs
+
+paint-anew-requires-3 : tie.Need-paint-anew-requires-3
+paint-anew-requires-3 c κs = draw-known (c .clipped-draw .ensures)
 
 returns : tie.Need-returns
-returns c = rw (c .lacks-clip .ensures, c .before .alive-at .ensures, c .before .before .clip-after2 .ensures, c .before .before .before .clip-after .ensures)
+returns c =
+    let third = c .before .before .before .before .before .before in
+    let second = third .before .before in
+    let first = second .before .before in
+    let one = first-seen (first .before .layer-of .ensures) refl (first .paint-anew .ensures) in
+    let two = second-seen (second .before .layer-of2 .ensures) (one .clip-is) (second .paint-anew2 .ensures) in
+    let three = draw-seen (third .before .clipped-draw .ensures) (two .clip-is) (third .paint-anew3 .ensures) in
+    rw (one .mark-is, two .mark-is, three .mark-is, one .half-is, two .half-is, three .half-is)
 
 pub p7-spec : {M : Type 1} → statement M
 p7-spec =
     tie.close
     (tie.spec
-    clip-after-requires
-    clip-after-requires-2
-    alive-at-requires
-    lacks-clip-requires
+    layer-of-requires
+    paint-anew-requires
+    layer-of-requires-2
+    paint-anew-requires-2
+    clipped-draw-requires
+    paint-anew-requires-3
     returns)

@@ -2,7 +2,7 @@
 use mathlib.Core.Path.{_∙_}
 use borrow.Author.Needs.{needs}
 use lib.Ieee.{eq, ofBits}
-use Rattle.cover.proofs.Cases.{P10}
+use Rattle.cases.proofs.Table.{cases}
 use Rattle.cases.proofs.covers.p10.Statement.{statement}
 use Rattle.cases.proofs.covers.p10.Tie as tie
 
@@ -18,9 +18,9 @@ doubled-area-to-coverage-requires-3 c κs = search needs
 returns : tie.Need-returns
 unfolding eq ofBits
 returns c = rw (
-  c .before .before .doubled-area-to-coverage .ensures ∙ P10 .0,
-  c .before .doubled-area-to-coverage2 .ensures ∙ P10 .1,
-  c .doubled-area-to-coverage3 .ensures ∙ P10 .2,
+  c .before .before .doubled-area-to-coverage .ensures ∙ cases .p10-past,
+  c .before .doubled-area-to-coverage2 .ensures ∙ cases .p10-half,
+  c .doubled-area-to-coverage3 .ensures ∙ cases .p10-none,
 )
 
 pub p10-spec : {M : Type 1} → statement M

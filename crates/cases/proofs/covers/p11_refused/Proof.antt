@@ -2,9 +2,9 @@
 use mathlib.Core.Path.{_∙_, ap}
 use mathlib.Core.Bool.{not}
 use borrow.Author.Needs.{needs}
-use Rattle.cover.proofs.Cases.{refused-9}
 use Rattle.cases.specs.Answers.{isGiven}
 use Rattle.cases.proofs.Accepted.{accepted-is}
+use Rattle.cases.proofs.Table.{edges}
 use Rattle.cases.proofs.covers.p11_refused.Statement.{statement}
 use Rattle.cases.proofs.covers.p11_refused.Tie as tie
 
@@ -15,7 +15,7 @@ carry-requires : tie.Need-carry-requires
 carry-requires c κs = search needs
 
 returns : tie.Need-returns
-returns c = ap not (accepted-is (c .before .carry .ensures) ∙ ap isGiven refused-9)
+returns c = ap not (accepted-is (c .before .carry .ensures) ∙ ap isGiven (edges .load-refused))
 
 pub p11-refused-spec : {M : Type 1} → statement M
 p11-refused-spec = tie.close (tie.spec slice-aggregate-carry carry-requires returns)

@@ -1,7 +1,7 @@
 -- P6, from the contracts. Assumes nothing.
 use mathlib.Core.Path.{_∙_}
 use borrow.Author.Needs.{needs}
-use Rattle.cover.proofs.Cases.{P6-double}
+use Rattle.cases.proofs.Table.{cases}
 use Rattle.cases.proofs.covers.p6_double.Statement.{statement}
 use Rattle.cases.proofs.covers.p6_double.Tie as tie
 
@@ -12,7 +12,7 @@ is-full-requires-2 : tie.Need-is-full-requires-2
 is-full-requires-2 c κs = search needs
 
 returns : tie.Need-returns
-returns c = rw (c .before .is-full .ensures ∙ P6-double .0, c .is-full2 .ensures ∙ P6-double .1)
+returns c = rw (c .before .is-full .ensures ∙ cases .p6-double, c .is-full2 .ensures ∙ cases .p6-double-not-full)
 
 pub p6-double-spec : {M : Type 1} → statement M
 p6-double-spec = tie.close (tie.spec is-full-requires is-full-requires-2 returns)

@@ -1,7 +1,7 @@
 -- P6, from the contracts. Assumes nothing.
 use mathlib.Core.Path.{_∙_}
 use borrow.Author.Needs.{needs}
-use Rattle.cover.proofs.Cases.{P6-empty}
+use Rattle.cases.proofs.Table.{cases}
 use Rattle.cases.proofs.covers.p6_empty.Statement.{statement}
 use Rattle.cases.proofs.covers.p6_empty.Tie as tie
 
@@ -12,7 +12,7 @@ is-empty-requires-2 : tie.Need-is-empty-requires-2
 is-empty-requires-2 c κs = search needs
 
 returns : tie.Need-returns
-returns c = rw (c .before .is-empty .ensures ∙ P6-empty .0, c .is-empty2 .ensures ∙ P6-empty .1)
+returns c = rw (c .before .is-empty .ensures ∙ cases .p6-empty, c .is-empty2 .ensures ∙ cases .p6-not-empty)
 
 pub p6-empty-spec : {M : Type 1} → statement M
 p6-empty-spec = tie.close (tie.spec is-empty-requires is-empty-requires-2 returns)

@@ -2,7 +2,7 @@
 use mathlib.Core.Path.{_∙_}
 use borrow.Author.Needs.{needs}
 use lib.Ieee.{eq, ofBits}
-use Rattle.cover.proofs.Cases.{P9}
+use Rattle.cases.proofs.Table.{cases}
 use Rattle.cases.proofs.covers.p9.Statement.{statement}
 use Rattle.cases.proofs.covers.p9.Tie as tie
 
@@ -14,7 +14,7 @@ doubled-area-to-coverage-requires-2 c κs = search needs
 
 returns : tie.Need-returns
 unfolding eq ofBits
-returns c = rw (c .before .doubled-area-to-coverage .ensures ∙ P9 .0, c .doubled-area-to-coverage2 .ensures ∙ P9 .1)
+returns c = rw (c .before .doubled-area-to-coverage .ensures ∙ cases .p9-half, c .doubled-area-to-coverage2 .ensures ∙ cases .p9-whole)
 
 pub p9-spec : {M : Type 1} → statement M
 p9-spec =

@@ -5,8 +5,8 @@ use borrow.Author.Needs.{needs, sfits-of}
 use lib.IntN.{pos}
 use mir.Facts.{toZ-ofZ}
 use mir.Syntax.{w8}
-use Rattle.cover.specs.Cover.{emptyAt, isEmpty}
-use Rattle.cover.proofs.Testing.{Testing, test-start, test-next, test-end}
+use Rattle.cover_statements.specs.Cover.{emptyAt, isEmpty}
+use Rattle.cover_statements.proofs.Testing.{Testing, test-start, test-next, test-end}
 use Rattle.cover.proofs.Cover.is_empty.Statement.{statement}
 use Rattle.cover.proofs.Cover.is_empty.Tie as tie
 

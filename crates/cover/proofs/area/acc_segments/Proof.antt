@@ -9,11 +9,11 @@ use mir.Facts.{toZ-ofZ}
 use mir.Syntax.{w8, w16}
 use Rattle.laws.proofs.Machine.{small, kept}
 use Rattle.pixel_segment.specs.Field.{cpu, coverOf, doubleAreaOf}
-use Rattle.cover.specs.Carry.{absCover}
-use Rattle.cover.specs.Cell.{cellOf}
-use Rattle.cover.proofs.Areas.{area-weight}
-use Rattle.cover.proofs.Cells.{cells-start, cells-end}
-use Rattle.cover.proofs.Tables.{Filling, fill-next, fill-fits}
+use Rattle.cover_statements.specs.Carry.{absCover}
+use Rattle.cover_statements.specs.Cell.{cellOf}
+use Rattle.cover_statements.proofs.Areas.{area-weight}
+use Rattle.cover_statements.proofs.Cells.{cells-start, cells-end}
+use Rattle.cover_statements.proofs.Tables.{Filling, fill-next, fill-fits}
 use Rattle.cover.proofs.area.acc_segments.Statement.{statement}
 use Rattle.cover.proofs.area.acc_segments.Tie as tie
 

@@ -10,9 +10,9 @@ use mir.Syntax.{w8, w16}
 use mir.Val.{SFits}
 use Rattle.laws.proofs.Machine.{sfits, within, small, kept}
 use Rattle.laws.proofs.Parts.{times}
-use Rattle.cover.specs.Cell.{Shaded}
-use Rattle.cover.specs.Cover.{coverAt}
-use Rattle.cover.proofs.Shades.{shade-start, shade-area, shade-next}
+use Rattle.cover_statements.specs.Cell.{Shaded}
+use Rattle.cover_statements.specs.Cover.{coverAt}
+use Rattle.cover_statements.proofs.Shades.{shade-start, shade-area, shade-next}
 use Rattle.cover.proofs.area.compute_doubled_areas.Statement.{statement}
 use Rattle.cover.proofs.area.compute_doubled_areas.Tie as tie
 

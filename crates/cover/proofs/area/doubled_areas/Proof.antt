@@ -3,9 +3,9 @@ use mathlib.Core.Path.{refl}
 use Prim.Native.Nat.{_-_}
 use native.Mathlib.Omega.{arith}
 use Rattle.pixel_segment.specs.Field.{cpu}
-use Rattle.cover.specs.Cell.{noCells}
-use Rattle.cover.proofs.Carries.{light}
-use Rattle.cover.proofs.Columns.{Columns, bounded, columns-start, columns-ready, columns-next, columns-end}
+use Rattle.cover_statements.specs.Cell.{noCells}
+use Rattle.cover_statements.proofs.Carries.{light}
+use Rattle.cover_statements.proofs.Columns.{Columns, bounded, columns-start, columns-ready, columns-next, columns-end}
 use Rattle.cover.proofs.area.doubled_areas.Statement.{statement}
 use Rattle.cover.proofs.area.doubled_areas.Tie as tie
 

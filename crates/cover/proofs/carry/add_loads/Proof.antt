@@ -6,7 +6,7 @@ use lib.ListN.{length}
 use mir.Syntax.{w8}
 use Rattle.laws.proofs.Machine.{kept}
 use Rattle.pixel_segment.specs.Field.{cpu}
-use Rattle.cover.proofs.Loads.{Loading, load-start, load-next, load-end}
+use Rattle.cover_statements.proofs.Loads.{Loading, load-start, load-next, load-end}
 use Rattle.cover.proofs.carry.add_loads.Statement.{statement}
 use Rattle.cover.proofs.carry.add_loads.Tie as tie
 

@@ -8,9 +8,9 @@ use mir.Facts.{toZ-ofZ}
 use mir.Syntax.{w8}
 use Rattle.laws.proofs.Machine.{small, kept}
 use Rattle.pixel_segment.specs.Field.{cpu, localYOf, coverOf}
-use Rattle.cover.specs.Carry.{carryOf}
-use Rattle.cover.proofs.Carries.{light}
-use Rattle.cover.proofs.Tables.{Filling, fill-start, fill-next, fill-fits, fill-end}
+use Rattle.cover_statements.specs.Carry.{carryOf}
+use Rattle.cover_statements.proofs.Carries.{light}
+use Rattle.cover_statements.proofs.Tables.{Filling, fill-start, fill-next, fill-fits, fill-end}
 use Rattle.cover.proofs.carry.add_segments.Statement.{statement}
 use Rattle.cover.proofs.carry.add_segments.Tie as tie
 

@@ -4,8 +4,8 @@ use mathlib.Core.List.{List}
 use Prim.Native.Nat.{ℕ}
 use borrow.Author.Needs.{needs}
 use Rattle.pixel_segment.specs.Field.{cpu}
-use Rattle.cover.specs.Load.{loadsOf, allLight}
-use Rattle.cover.proofs.Loads.{loads-judge}
+use Rattle.cover_statements.specs.Load.{loadsOf, allLight}
+use Rattle.cover_statements.proofs.Loads.{loads-judge}
 use Rattle.cover.proofs.carry.is_light.Statement.{statement}
 use Rattle.cover.proofs.carry.is_light.Tie as tie
 

@@ -4,7 +4,7 @@ use native.Mathlib.Omega.{arith}
 use borrow.Author.Needs.{needs, sfits-of}
 use mir.Facts.{toZ-ofZ}
 use mir.Syntax.{w8}
-use Rattle.cover.proofs.Loads.{Measuring, measure-start, measure-next, measure-end}
+use Rattle.cover_statements.proofs.Loads.{Measuring, measure-start, measure-next, measure-end}
 use Rattle.cover.proofs.carry.magnitudes.Statement.{statement}
 use Rattle.cover.proofs.carry.magnitudes.Tie as tie
 

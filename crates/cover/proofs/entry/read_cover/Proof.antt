@@ -6,7 +6,7 @@ use lib.IntN.{pos}
 use lib.ListN.{getD}
 use mir.Syntax.{w8}
 use Rattle.laws.proofs.Machine.{kept}
-use Rattle.cover.proofs.Entries.{Reading, read-start, read-next, read-end}
+use Rattle.cover_statements.proofs.Entries.{Reading, read-start, read-next, read-end}
 use Rattle.cover.proofs.entry.read_cover.Statement.{statement}
 use Rattle.cover.proofs.entry.read_cover.Tie as tie
 

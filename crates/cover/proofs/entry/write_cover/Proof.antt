@@ -7,7 +7,7 @@ use lib.IntN.{pos}
 use lib.ListN.{getD}
 use mir.Syntax.{w8}
 use Rattle.laws.proofs.Machine.{kept}
-use Rattle.cover.proofs.Entries.{Writing, write-start, write-next, write-end}
+use Rattle.cover_statements.proofs.Entries.{Writing, write-start, write-next, write-end}
 use Rattle.cover.proofs.entry.write_cover.Statement.{statement}
 use Rattle.cover.proofs.entry.write_cover.Tie as tie
 

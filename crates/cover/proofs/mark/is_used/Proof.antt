@@ -1,6 +1,6 @@
 -- `cover::mark::is_used` meets its contract. Assumes nothing.
 use borrow.Author.Needs.{needs}
-use Rattle.cover.proofs.Marks.{used-eight}
+use Rattle.cover_statements.proofs.Marks.{used-eight}
 use Rattle.cover.proofs.mark.is_used.Statement.{statement}
 use Rattle.cover.proofs.mark.is_used.Tie as tie
 

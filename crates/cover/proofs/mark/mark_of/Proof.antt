@@ -1,7 +1,7 @@
 -- `cover::mark::mark_of` meets its contract. Assumes nothing.
 use native.Mathlib.Omega.{arith}
 use borrow.Author.Needs.{needs}
-use Rattle.cover.proofs.Marks.{Marking, mark-start, mark-small, mark-next, mark-end, bit-lt}
+use Rattle.cover_statements.proofs.Marks.{Marking, mark-start, mark-small, mark-next, mark-end, bit-lt}
 use Rattle.cover.proofs.mark.mark_of.Statement.{statement}
 use Rattle.cover.proofs.mark.mark_of.Tie as tie
 

@@ -1,7 +1,7 @@
 -- `cover::mark::octets` meets its contract. Assumes nothing.
 use mathlib.Core.Path.{refl, ap, _∙_}
 use lib.Count.{ones}
-use Rattle.cover.proofs.Marks.{ones-mark}
+use Rattle.cover_statements.proofs.Marks.{ones-mark}
 use Rattle.cover.proofs.mark.octets.Statement.{statement}
 use Rattle.cover.proofs.mark.octets.Tie as tie
 

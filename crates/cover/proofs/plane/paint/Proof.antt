@@ -5,10 +5,10 @@ use borrow.Author.Needs.{needs}
 use lib.Ieee.{Float}
 use Rattle.laws.specs.Lists.{over}
 use Rattle.pixel_segment.specs.Field.{cpu}
-use Rattle.cover.specs.Cell.{noCells}
-use Rattle.cover.specs.Cover.{coverAt}
-use Rattle.cover.specs.Plane.{coveragesOf}
-use Rattle.cover.proofs.Planes.{areas-in-range, plane-of-areas}
+use Rattle.cover_statements.specs.Cell.{noCells}
+use Rattle.cover_statements.specs.Cover.{coverAt}
+use Rattle.cover_statements.specs.Plane.{coveragesOf}
+use Rattle.cover_statements.proofs.Planes.{areas-length, plane-of-areas}
 use Rattle.cover.proofs.plane.paint.Statement.{statement}
 use Rattle.cover.proofs.plane.paint.Tie as tie
 
@@ -20,7 +20,7 @@ write-coverages-requires : tie.Need-write-coverages-requires
 write-coverages-requires c κs =
     let a = c .before .before in
     let s = a .before .before .before .before in
-    (rw (a .doubled-areas .ensures) (areas-in-range (s .args .cover .covers) (s .args .part .now) (s .pre .0)), s .pre .1)
+    (rw (a .doubled-areas .ensures) (areas-length cpu 16 (coverAt (s .args .cover .covers)) (s .args .part .now)), s .pre .1)
 
 same-length : tie.Need-same-length
 same-length c = search needs

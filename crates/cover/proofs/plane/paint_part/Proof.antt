@@ -2,7 +2,7 @@
 use mathlib.Core.Path.{sym, _∙_}
 use borrow.Author.Tests.{not-true, not-false}
 use borrow.Author.Needs.{needs}
-use Rattle.cover.proofs.Paintings.{paint-short, paint-heavy, paint-done}
+use Rattle.cover_statements.proofs.Paintings.{paint-short, paint-heavy, paint-done}
 use Rattle.cover.proofs.plane.paint_part.Statement.{statement}
 use Rattle.cover.proofs.plane.paint_part.Tie as tie
 

@@ -4,8 +4,8 @@ use native.Mathlib.Omega.{arith}
 use borrow.Author.Needs.{needs}
 use mir.Syntax.{w16}
 use Rattle.laws.proofs.Machine.{kept}
-use Rattle.cover.specs.Cover.{coverAt}
-use Rattle.cover.proofs.Planes.{Writing, write-start, write-next, write-end}
+use Rattle.cover_statements.specs.Cover.{coverAt}
+use Rattle.cover_statements.proofs.Planes.{Writing, write-start, write-next, write-end}
 use Rattle.cover.proofs.plane.write_coverages.Statement.{statement}
 use Rattle.cover.proofs.plane.write_coverages.Tie as tie
 
@@ -16,7 +16,7 @@ abbrev μ-loop : tie.MeasureT-loop
 μ-loop areas rule plane₀ k₀ plane k = 256 - k
 
 loop-holds : tie.Need-loop-holds Inv-loop μ-loop
-loop-holds c = write-start (c .before .pre .0 .long) (c .before .pre .1)
+loop-holds c = write-start (c .before .pre .0) (c .before .pre .1)
 
 mul-doubled-area-to-coverage : tie.Need-mul-doubled-area-to-coverage Inv-loop μ-loop
 mul-doubled-area-to-coverage c = omega arith

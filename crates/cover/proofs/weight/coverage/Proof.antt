@@ -1,6 +1,6 @@
 -- `cover::weight::coverage` meets its contract: that the product with 1/512 is exact is one test over all 513 weights. Assumes nothing.
 use borrow.Author.Needs.{needs}
-use Rattle.cover.proofs.Coverages.{coverage-product}
+use Rattle.cover_statements.proofs.Coverages.{coverage-product}
 use Rattle.cover.proofs.weight.coverage.Statement.{statement}
 use Rattle.cover.proofs.weight.coverage.Tie as tie
 

@@ -2,9 +2,9 @@
 use mathlib.Core.Path.{_≡_, ap, _∙_}
 use borrow.Author.Needs.{needs}
 use mir.Facts.{toZ-ofZ}
-use Rattle.cover.specs.Coverage.{coverageOf}
-use Rattle.cover.specs.Weight.{weightOf}
-use Rattle.cover.proofs.Weights.{weight-le}
+use Rattle.cover_statements.specs.Coverage.{coverageOf}
+use Rattle.cover_statements.specs.Weight.{weightOf}
+use Rattle.cover_statements.proofs.Weights.{weight-le}
 use Rattle.cover.proofs.weight.doubled_area_to_coverage.Statement.{statement}
 use Rattle.cover.proofs.weight.doubled_area_to_coverage.Tie as tie
 

@@ -13,7 +13,7 @@ use Rattle.laws.proofs.Machine.{sfits, within, unsigned}
 use Rattle.laws.proofs.Mod.{lifted}
 use Rattle.laws.proofs.Parts.{added}
 use Rattle.laws.specs.Integer.{modℤ}
-use Rattle.cover.proofs.Weights.{low, high}
+use Rattle.cover_statements.proofs.Weights.{low, high}
 use Rattle.cover.proofs.weight.even_odd.Statement.{statement}
 use Rattle.cover.proofs.weight.even_odd.Tie as tie
 

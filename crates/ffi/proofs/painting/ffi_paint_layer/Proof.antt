@@ -1,6 +1,9 @@
 -- `painting::ffi_paint_layer` meets its contract. It tells what painting answers. Assumes nothing.
 use borrow.Author.Needs.{needs}
 use mir.Facts.{toZ-ofZ}
+use Rattle.row_statements.specs.Lent.{columns, lentTable}
+use Rattle.row_statements.specs.State.{State}
+use Rattle.row_statements.specs.Painting.{paintCall}
 use Rattle.ffi.proofs.Told.{painted}
 use Rattle.ffi.proofs.painting.ffi_paint_layer.Statement.{statement}
 use Rattle.ffi.proofs.painting.ffi_paint_layer.Tie as tie
@@ -20,15 +23,13 @@ same-length c = search needs
 returns : tie.Need-returns
 returns c =
     let s = c .before .before .before .before .before .before .before .before .before .before .before .before .before .before .before .before .before in
-    let paints = rw (c .before .before .before .before .before .before .before .before .before .to-state .ensures, toZ-ofZ (s .fits .tile)) at (c .before .before .before .before .before .before .before .paint-layer .ensures) in
-    let told = painted (s .args .words .now) (s .args .counts .now) (s .args .mark .now) (paints .answer) (paints .state-is) (c .put-painted .ensures) in
-    record {
-      number = told .0;
-      words-are = told .1 .0;
-      counts-are = told .1 .1 .0;
-      mark-is = told .1 .1 .1;
-      plane-is = paints .plane-is;
-    }
+    let a = s .args in
+    painted
+    (λ (x : State). paintCall x (a .tile) (a .layer) (a .row .now) (lentTable (a .layers .now) (a .colors .now) (a .count)) (columns (a .ids .now) (a .covers .now)))
+    (a .plane .now)
+    (c .before .before .before .before .before .before .before .before .before .to-state .ensures)
+    (rw (toZ-ofZ (s .fits .tile)) at (c .before .before .before .before .before .before .before .paint-layer .ensures))
+    (c .put-painted .ensures)
 
 pub ffi-paint-layer-spec : {M : Type 1} → statement M
 ffi-paint-layer-spec =

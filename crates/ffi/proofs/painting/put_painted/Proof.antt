@@ -17,10 +17,13 @@ put-state-requires : tie.Need-put-state-requires
 put-state-requires c κs = search needs
 
 returns : tie.Need-returns
-returns c = rw (c .before .before .answer .given .1) (c .number-of .ensures, (refl, (refl, refl)))
+returns c = rw (c .before .before .answer .given .1) (c .number-of .ensures, refl)
 
 returns-2 : tie.Need-returns-2
-returns-2 c = rw (c .before .before .before .before .answer2 .given .1) (refl, (c .put-state .ensures .0, (c .put-state .ensures .1, refl)))
+returns-2 c =
+    let put = c .put-state .ensures in
+    let told = c .before .before .before .before .answer2 .given in
+    rw (told .1) (refl, λ i. record { words = put .0 i; counts = put .1 i; mark = told .0 .0 })
 
 pub put-painted-spec : {M : Type 1} → statement M
 put-painted-spec =

@@ -10,7 +10,7 @@ find-row-requires c κs = search needs
 
 returns : tie.Need-returns
 returns c =
-    (ap (λ (p : Part). p .start) (c .find-row .ensures .is), ap (λ (p : Part). p .end) (c .find-row .ensures .is))
+    (ap (λ (p : Part). p .start) (c .find-row .ensures), ap (λ (p : Part). p .end) (c .find-row .ensures))
 
 pub ffi-find-row-spec : {M : Type 1} → statement M
 ffi-find-row-spec = tie.close (tie.spec find-row-requires returns)

@@ -1,7 +1,7 @@
 -- `rows::ffi_open_tile_row` meets its contract. It tells what opening answers. Assumes nothing.
 use borrow.Author.Needs.{needs}
 use mir.Facts.{toZ-ofZ}
-use Rattle.ffi.proofs.Told.{staged}
+use Rattle.ffi.proofs.Told.{opened}
 use Rattle.ffi.proofs.rows.ffi_open_tile_row.Statement.{statement}
 use Rattle.ffi.proofs.rows.ffi_open_tile_row.Tie as tie
 
@@ -21,8 +21,7 @@ returns : tie.Need-returns
 returns c =
     let s = c .before .before .before .before .before .before .before .before .before .before .before .before .before in
     let opens = rw (toZ-ofZ (s .fits .tile-y), toZ-ofZ (s .fits .from), toZ-ofZ (s .fits .to)) at (c .before .before .before .before .before .before .open-tile-row .ensures) in
-    let told = staged (s .args .words .now) (s .args .counts .now) (opens .answer) (c .put-opened .ensures) in
-    (told .0, (opens .ids-are, (opens .covers-are, (told .1 .0, told .1 .1))))
+    opened (opens .answer) (opens .lent-is) (c .put-opened .ensures)
 
 pub ffi-open-tile-row-spec : {M : Type 1} → statement M
 ffi-open-tile-row-spec =

@@ -17,10 +17,12 @@ number-of-requires : tie.Need-number-of-requires
 number-of-requires c κs = search needs
 
 returns : tie.Need-returns
-returns c = rw (c .before .before .before .before .opened .given .1) (refl, c .put-state .ensures)
+returns c =
+    let put = c .put-state .ensures in
+    rw (c .before .before .before .before .opened .given .1) (refl, λ i. record { words = put .0 i; counts = put .1 i })
 
 returns-2 : tie.Need-returns-2
-returns-2 c = rw (c .before .before .opened2 .given .1) (c .number-of .ensures, (refl, refl))
+returns-2 c = rw (c .before .before .opened2 .given .1) (c .number-of .ensures, refl)
 
 pub put-opened-spec : {M : Type 1} → statement M
 put-opened-spec =

@@ -1,7 +1,6 @@
 -- `words::ffi_cmp` meets its contract: the rank of the order that `cmp` gives. Assumes nothing.
-use mathlib.Core.Path.{ap, _∙_}
+use mathlib.Core.Path.{_∙_}
 use borrow.Author.Needs.{needs}
-use Rattle.pixel_segment.specs.Search.{rank}
 use Rattle.ffi.proofs.words.ffi_cmp.Statement.{statement}
 use Rattle.ffi.proofs.words.ffi_cmp.Tie as tie
 
@@ -12,7 +11,7 @@ rank-of-requires : tie.Need-rank-of-requires
 rank-of-requires c κs = search needs
 
 returns : tie.Need-returns
-returns c = c .rank-of .ensures ∙ ap rank (c .before .cmp .ensures)
+returns c = c .rank-of .ensures ∙ c .before .cmp .ensures
 
 pub ffi-cmp-spec : {M : Type 1} → statement M
 ffi-cmp-spec = tie.close (tie.spec cmp-requires rank-of-requires returns)

@@ -1,9 +1,11 @@
 -- `working::ffi_work_tile` meets its contract. It tells what the work answers. Assumes nothing.
-use mathlib.Core.Path.{ap, _∙_}
 use borrow.Author.Needs.{needs}
 use mir.Facts.{toZ-ofZ}
-use Rattle.cached_tile.specs.declared.kept.Kept.{Kept}
-use Rattle.ffi.specs.Cached.{bytesOf}
+use Rattle.row_statements.specs.Lent.{columns, listColumns, lentTable}
+use Rattle.row_statements.specs.State.{State}
+use Rattle.row_statements.specs.TileWork.{workCall, workLent}
+use Rattle.ffi.specs.Cached.{keptOf}
+use Rattle.ffi.specs.Layers.{colorOf, previousOf}
 use Rattle.ffi.proofs.Told.{worked}
 use Rattle.ffi.proofs.working.ffi_work_tile.Statement.{statement}
 use Rattle.ffi.proofs.working.ffi_work_tile.Tie as tie
@@ -17,14 +19,11 @@ to-color-requires c κs = search needs
 to-state-requires : tie.Need-to-state-requires
 to-state-requires c κs = search needs
 
-to-color-requires-2 : tie.Need-to-color-requires-2
-to-color-requires-2 c κs = search needs
+to-previous-requires : tie.Need-to-previous-requires
+to-previous-requires c κs = search needs
 
 work-tile-requires : tie.Need-work-tile-requires
 work-tile-requires c κs = search needs
-
-to-bytes-requires : tie.Need-to-bytes-requires
-to-bytes-requires c κs = search needs
 
 put-worked-requires : tie.Need-put-worked-requires
 put-worked-requires c κs = search needs
@@ -50,30 +49,23 @@ same-length-6 c = search needs
 returns : tie.Need-returns
 returns c =
     let s = c .before .before .before .before .before .before .before .before .before .before .before .before .before .before .before .before .before .before .before .before .before .before .before .before .before .before .before .before .before .before .before .before .before .before .before .before .before .before .before .before .before .before in
-    let works =
-    rw (c .before .before .before .before .before .before .before .before .before .before .before .before .before .before .before .before .before .before .before .before .before .before .before .before .before .before .to-state .ensures, c .before .before .before .before .before .before .before .before .before .before .before .before .before .before .before .before .before .before .before .before .before .before .before .before .before .before .before .before .to-tile .ensures, c .before .before .before .before .before .before .before .before .before .before .before .before .before .before .before .before .before .before .before .before .before .before .before .before .before .before .before .to-color .ensures, c .before .before .before .before .before .before .before .before .before .before .before .before .before .before .before .before .before .before .before .before .before .before .before .before .before .to-color2 .ensures, toZ-ofZ (s .fits .tile)) at (c .before .before .before .before .before .before .before .before .before .before .before .before .before .before .before .before .before .before .work-tile .ensures) in
-    let told =
-    worked (s .args .words .now) (s .args .counts .now) (s .args .told .now) (s .args .bottom .now) (works .answer) (works .state) (c .put-worked .ensures) in
-    record {
-      number = told .0;
-      words-are = told .1 .0;
-      counts-are = told .1 .1 .0;
-      kept-is = c .before .before .before .before .before .to-bytes .ensures ∙ ap (λ (k : Kept). bytesOf (k .tile)) (works .kept);
-      told-is = told .1 .1 .1 .0;
-      bottom-is = told .1 .1 .1 .1;
-      lent-is = works .lent-is;
-    }
+    let a = s .args in
+    worked
+    (λ (x : State). workCall x (a .tile) (a .row .now) (lentTable (a .layers .now) (a .colors .now) (a .count)) (keptOf (a .is-kept) (a .kept .now)) (colorOf (a .clear .now)) (previousOf (a .is-previous) (a .previous .now)) (columns (a .ids .now) (a .covers .now)))
+    (workLent (columns (a .next-ids .now) (a .next-covers .now)) (listColumns (a .list-ids .now) (a .list-covers .now) (a .list-segments .now) (a .list-unmasked .now)))
+    (c .before .before .before .before .before .before .before .before .before .before .before .before .before .before .before .before .before .before .before .before .before .before .before .before .before .before .before .to-state .ensures)
+    (rw (c .before .before .before .before .before .before .before .before .before .before .before .before .before .before .before .before .before .before .before .before .before .before .before .before .before .before .before .before .to-tile .ensures, c .before .before .before .before .before .before .before .before .before .before .before .before .before .before .before .before .before .before .before .before .before .before .before .before .before .before .to-color .ensures, c .before .before .before .before .before .before .before .before .before .before .before .before .before .before .before .before .before .before .before .before .before .before .before .before .before .to-previous .ensures, toZ-ofZ (s .fits .tile)) at (c .before .before .before .before .before .before .before .before .before .before .before .before .before .before .before .before .before .before .work-tile .ensures))
+    (c .put-worked .ensures)
 
 pub ffi-work-tile-spec : {M : Type 1} → statement M
 ffi-work-tile-spec =
     tie.close
     (tie.spec
     to-tile-requires
-    to-color-requires
     to-state-requires
-    to-color-requires-2
+    to-color-requires
+    to-previous-requires
     work-tile-requires
-    to-bytes-requires
     put-worked-requires
     same-length
     same-length-2

@@ -16,14 +16,22 @@ enum-known-answer-2 c = search needs
 put-state-requires : tie.Need-put-state-requires
 put-state-requires c κs = search needs
 
+put-kept-requires : tie.Need-put-kept-requires
+put-kept-requires c κs = search needs
+
 put-done-requires : tie.Need-put-done-requires
 put-done-requires c κs = search needs
 
 returns : tie.Need-returns
-returns c = rw (c .before .before .answer .given .1) (c .number-of .ensures, (refl, (refl, (refl, refl))))
+returns c = rw (c .before .before .answer .given .1) (c .number-of .ensures, refl)
 
 returns-2 : tie.Need-returns-2
-returns-2 c = rw (c .before .before .before .before .before .before .before .answer2 .given .1) (refl, (c .before .before .before .put-state .ensures .0, (c .before .before .before .put-state .ensures .1, c .put-done .ensures)))
+returns-2 c =
+    let state = c .before .before .before .before .before .put-state .ensures in
+    let kept = c .before .before .before .put-kept .ensures in
+    let done = c .put-done .ensures in
+    rw (c .before .before .before .before .before .before .before .before .before .answer2 .given .1)
+    (refl, λ i. record { words = state .0 i; counts = state .1 i; kept = kept i; told = done .0 i; bottom = done .1 i })
 
 pub put-worked-spec : {M : Type 1} → statement M
 put-worked-spec =
@@ -33,6 +41,7 @@ put-worked-spec =
     number-of-requires
     enum-known-answer-2
     put-state-requires
+    put-kept-requires
     put-done-requires
     returns
     returns-2)

@@ -5,6 +5,7 @@ use Rattle.styling.specs.Table.{tableOf}
 use Rattle.queue.specs.Queue.{queueOf}
 use Rattle.painter.proofs.Lasting.{last-small}
 use Rattle.painter.proofs.Painted.{painted}
+use Rattle.painter.specs.Clip.{clipIn}
 use Rattle.painter.proofs.painting.paint.Statement.{statement}
 use Rattle.painter.proofs.painting.paint.Tie as tie
 
@@ -42,7 +43,7 @@ returns : tie.Need-returns
 returns c =
     let s = c .before .before .before .before .before .before .before .before .before .before .before .before .before .before .before .before .before in
     let a = s .args in
-    painted (tableOf (a .layers .now) (a .colors .now) (a .count)) (queueOf (a .n) (a .ids .now) (a .covers .now)) (a .part .now) (a .id) (a .layer) (a .clip) (a .plane .now)
+    painted (tableOf (a .layers .now) (a .colors .now) (a .count)) (queueOf (a .n) (a .ids .now) (a .covers .now)) (a .part .now) (a .id) (a .layer) (clipIn (a .clip)) (a .plane .now)
     (c .before .before .before .before .before .before .before .before .before .before .of-layer .ensures) (c .before .before .before .before .before .before .before .before .before .incoming .ensures) (c .before .before .before .before .before .before .before .paint .ensures) (c .before .before .before .before .needs-clip .ensures) (c .before .before .before .alive-at .ensures) (c .before .before .clip-after .ensures) (c .mark-for .ensures)
 
 pub paint-spec : {M : Type 1} → statement M

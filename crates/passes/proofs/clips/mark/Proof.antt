@@ -23,7 +23,7 @@ same-length-2 c = search needs
 returns : tie.Need-returns
 returns c =
     let a = c .before .before .before .before .before .before .before .before .before .before .before .args in
-    (off-after (a .shown .now) (a .i) (a .s) (c .before .before .before .before .before .before .before .mask-off .ensures) (c .before .before .mask-off2 .ensures), refl)
+    (off-after (a .unmasked .now) (a .i .0) (a .s) (c .before .before .before .before .before .before .before .mask-off .ensures) (c .before .before .mask-off2 .ensures), refl)
 
 pub mark-spec : {M : Type 1} → statement M
 mark-spec =

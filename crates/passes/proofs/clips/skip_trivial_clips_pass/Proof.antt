@@ -11,11 +11,11 @@ use Rattle.passes.proofs.clips.skip_trivial_clips_pass.Statement.{state
 use Rattle.passes.proofs.clips.skip_trivial_clips_pass.Tie as tie
 
 abbrev Inv-loop : tie.InvT-loop
-Inv-loop ids covers segments n layers colors count shown₀ unclipped₀ cur₀ i₀ shown unclipped cur i =
-    Passing (itemsOf (tableOf layers colors count) (entriesOf n ids covers segments)) n shown₀ unclipped₀ shown unclipped cur i
+Inv-loop ids covers segments n layers colors count unmasked₀ unclipped₀ cur₀ i₀ unmasked unclipped cur i =
+    Passing (itemsOf (tableOf layers colors count) (entriesOf n ids covers segments)) n unmasked₀ unclipped₀ unmasked unclipped cur i
 
 abbrev μ-loop : tie.MeasureT-loop
-μ-loop ids covers segments n layers colors count shown₀ unclipped₀ cur₀ i₀ shown unclipped cur i = n - i
+μ-loop ids covers segments n layers colors count unmasked₀ unclipped₀ cur₀ i₀ unmasked unclipped cur i = n - i
 
 fill-requires : tie.Need-fill-requires Inv-loop μ-loop
 fill-requires c κs = c .before .before .before .before .before .before .before .pre .2
@@ -66,7 +66,7 @@ mask-last-requires : tie.Need-mask-last-requires Inv-loop μ-loop
 mask-last-requires c κs = tt
 
 same-length : tie.Need-same-length Inv-loop μ-loop
-same-length c = c .before .before .mask-last .kept .0 ∙ c .before .before .before .before .before .loop .inv .shown-same ∙ c .before .before .before .before .before .before .before .before .before .before .before .before .fill .kept .0
+same-length c = c .before .before .mask-last .kept .0 ∙ c .before .before .before .before .before .loop .inv .unmasked-same ∙ c .before .before .before .before .before .before .before .before .before .before .before .before .fill .kept .0
 
 same-length-2 : tie.Need-same-length-2 Inv-loop μ-loop
 same-length-2 c = c .before .before .before .before .before .loop .inv .unclipped-same ∙ c .before .before .before .before .before .before .before .before .fill2 .kept .0

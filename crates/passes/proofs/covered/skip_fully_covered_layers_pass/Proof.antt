@@ -10,11 +10,11 @@ use Rattle.passes.proofs.covered.skip_fully_covered_layers_pass.Stateme
 use Rattle.passes.proofs.covered.skip_fully_covered_layers_pass.Tie as tie
 
 abbrev Inv-loop : tie.InvT-loop
-Inv-loop ids covers segments n layers colors count shown unclipped removed found₀ i₀ found i =
-    Looking (itemsOf (tableOf layers colors count) (entriesOf n ids covers segments)) shown unclipped n removed i found
+Inv-loop ids covers segments n layers colors count unmasked unclipped removed found₀ i₀ found i =
+    Looking (itemsOf (tableOf layers colors count) (entriesOf n ids covers segments)) unmasked unclipped n removed i found
 
 abbrev μ-loop : tie.MeasureT-loop
-μ-loop ids covers segments n layers colors count shown unclipped removed found₀ i₀ found i = i
+μ-loop ids covers segments n layers colors count unmasked unclipped removed found₀ i₀ found i = i
 
 loop-holds : tie.Need-loop-holds Inv-loop μ-loop
 loop-holds c = look-start (length-items _ _ _ _ _)

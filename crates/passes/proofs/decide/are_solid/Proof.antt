@@ -14,11 +14,11 @@ use Rattle.passes.proofs.decide.are_solid.Statement.{statement}
 use Rattle.passes.proofs.decide.are_solid.Tie as tie
 
 abbrev Inv-loop : tie.InvT-loop
-Inv-loop ids covers segments n layers colors count shown skipped below ok₀ left₀ i₀ ok left i =
-    Mixing (itemsOf (tableOf layers colors count) (entriesOf n ids covers segments)) shown skipped below ok left i
+Inv-loop ids covers segments n layers colors count unmasked below ok₀ left₀ i₀ ok left i =
+    Mixing (itemsOf (tableOf layers colors count) (entriesOf n ids covers segments)) unmasked i₀ below ok left i
 
 abbrev μ-loop : tie.MeasureT-loop
-μ-loop ids covers segments n layers colors count shown skipped below ok₀ left₀ i₀ ok left i = n - i
+μ-loop ids covers segments n layers colors count unmasked below ok₀ left₀ i₀ ok left i = n - i
 
 loop-holds : tie.Need-loop-holds Inv-loop μ-loop
 loop-holds c = mix-start

@@ -13,11 +13,11 @@ slice-aggregate-skip-trivial-clips-pass c = search needs
 skip-trivial-clips-pass-requires : tie.Need-skip-trivial-clips-pass-requires
 skip-trivial-clips-pass-requires c κs = search needs
 
-slice-aggregate-decide-shown : tie.Need-slice-aggregate-decide-shown
-slice-aggregate-decide-shown c = search needs
+slice-aggregate-decide-unmasked : tie.Need-slice-aggregate-decide-unmasked
+slice-aggregate-decide-unmasked c = search needs
 
-decide-shown-requires : tie.Need-decide-shown-requires
-decide-shown-requires c κs = search needs
+decide-unmasked-requires : tie.Need-decide-unmasked-requires
+decide-unmasked-requires c κs = search needs
 
 same-length : tie.Need-same-length
 same-length c = search needs
@@ -27,7 +27,7 @@ returns c =
     let a = c .before .before .before .before .before .before .before .before .before .before .before .before .before .before .args in
     decided-passed {items = itemsOf (tableOf (a .layers .now) (a .colors .now) (a .count)) (entriesOf (a .n) (a .ids .now) (a .covers .now) (a .segments .now))} _ (a .clear) (a .removed)
     (c .before .before .before .before .before .before .skip-trivial-clips-pass .ensures)
-    (c .decide-shown .ensures)
+    (c .decide-unmasked .ensures)
 
 pub run-passes-spec : {M : Type 1} → statement M
 run-passes-spec =
@@ -35,7 +35,7 @@ run-passes-spec =
     (tie.spec
     slice-aggregate-skip-trivial-clips-pass
     skip-trivial-clips-pass-requires
-    slice-aggregate-decide-shown
-    decide-shown-requires
+    slice-aggregate-decide-unmasked
+    decide-unmasked-requires
     same-length
     returns)

@@ -44,10 +44,10 @@ returns c =
     let a = c .before .before .before .before .before .before .before .before .before .before .before .before .before in
     let found = at-place {floats = a .args .colors .now} (c .before .before .before .before .before .p .given .1) (c .before .before .before .before .before .before .before .find .ensures) (a .pre .1 .ascending) in
     item-found (tableOf (a .args .layers .now) (a .args .colors .now) (a .args .count))
-    (entryAt (a .args .ids .now) (a .args .covers .now) (a .args .segments .now) (a .args .i))
+    (entryAt (a .args .ids .now) (a .args .covers .now) (a .args .segments .now) (a .args .i .0))
     (c .item-for .ensures)
     (c .before .before .before .layer-at .ensures)
-    (c .before .before .read-cover .ensures ∙ sym (cover-entry (a .args .covers .now) (a .args .i) (omega (arith, a .pre .0 .covers-long, a .pre .2))))
+    (c .before .before .read-cover .ensures ∙ sym (cover-entry (a .args .covers .now) (a .args .i .0) (omega (arith, a .pre .0 .covers-long, a .pre .2))))
     (found .looked)
 
 returns-2 : tie.Need-returns-2
@@ -55,7 +55,7 @@ returns-2 c =
     let a = c .before .before .before .before .before .before .before .before in
     let found = at-none {floats = a .args .colors .now} (c .enum-told .given .1) (c .before .before .find .ensures) in
     item-missing (tableOf (a .args .layers .now) (a .args .colors .now) (a .args .count))
-    (entryAt (a .args .ids .now) (a .args .covers .now) (a .args .segments .now) (a .args .i))
+    (entryAt (a .args .ids .now) (a .args .covers .now) (a .args .segments .now) (a .args .i .0))
     (found .looked)
 
 pub item-at-spec : {M : Type 1} → statement M

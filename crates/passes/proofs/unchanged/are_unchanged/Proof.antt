@@ -4,7 +4,7 @@ use mathlib.Core.Bool.{Bool}
 use Prim.Native.Nat.{_-_}
 use native.Mathlib.Omega.{arith}
 use Rattle.styling.specs.Table.{tableOf}
-use Rattle.cover.proofs.Testing.{Testing, test-start, test-next, test-end}
+use Rattle.cover_statements.proofs.Testing.{Testing, test-start, test-next, test-end}
 use Rattle.passes.specs.declared.item.Item.{Item}
 use Rattle.passes.specs.Entry.{entriesOf}
 use Rattle.passes.specs.Item.{itemsOf}

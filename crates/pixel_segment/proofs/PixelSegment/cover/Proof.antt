@@ -1,5 +1,5 @@
--- `PixelSegment::cover` meets its contract. The field plus 32, modulo 64, is a small number, so the machine's difference is the
--- definition's. Assumes nothing.
+-- `PixelSegment::cover` meets its contract. The field plus half its size, modulo its size, is a small number, so the machine's difference
+-- is the definition's. Assumes nothing.
 use mathlib.Core.Path.{_∙_}
 use Prim.Native.Nat.{_+_, _%_}
 use native.Mathlib.Omega.{arith}
@@ -13,24 +13,45 @@ use Rattle.pixel_segment.specs.Field.{coverOf}
 use Rattle.pixel_segment.proofs.PixelSegment.cover.Statement.{statement}
 use Rattle.pixel_segment.proofs.PixelSegment.cover.Tie as tie
 
+size-requires : tie.Need-size-requires
+size-requires c κs = search needs
+
 extract-requires : tie.Need-extract-requires
 extract-requires c κs = search needs
 
 add-result : tie.Need-add-result
 add-result c = search needs
 
+rem-result : tie.Need-rem-result
+rem-result c = search needs
+
 cast-result : tie.Need-cast-result
-cast-result c = search needs
+cast-result c = rw (c .before .size .ensures) (omega arith)
+
+cast-result-2 : tie.Need-cast-result-2
+cast-result-2 c = search needs
 
 sub-result : tie.Need-sub-result
 sub-result c =
     let n = (c .extract .result + 32) % 64 in
-    rw (toZ-pos w8 {n = n} (omega arith)) (sfits w8 (subℕ n 32) (omega (arith, difference n 32)))
+    rw (c .before .size .ensures, toZ-pos w8 {n = n} (omega arith))
+    (sfits w8 (subℕ n 32) (omega (arith, difference n 32)))
 
 returns : tie.Need-returns
 unfolding coverOf
 returns c = let n = (c .extract .result + 32) % 64 in
-    toZ-ofZ (sub-result c) ∙ rw (toZ-pos w8 {n = n} (omega arith), c .extract .ensures)
+    toZ-ofZ (sub-result c)
+    ∙ rw (c .before .size .ensures, toZ-pos w8 {n = n} (omega arith), c .extract .ensures)
 
 pub cover-spec : {M : Type 1} → statement M
-cover-spec = tie.close (tie.spec extract-requires add-result cast-result sub-result returns)
+cover-spec =
+    tie.close
+    (tie.spec
+    size-requires
+    extract-requires
+    add-result
+    rem-result
+    cast-result
+    cast-result-2
+    sub-result
+    returns)

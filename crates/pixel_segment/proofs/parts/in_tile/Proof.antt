@@ -1,23 +1,48 @@
 -- `parts::in_tile` meets its contract. Assumes nothing.
+use native.Mathlib.Omega.{arith}
 use borrow.Author.Needs.{needs}
 use mir.Facts.{toZ-ofZ}
 use Rattle.pixel_segment.specs.Search.{tilePart}
+use Rattle.pixel_segment.proofs.Halving.{told-le}
 use Rattle.pixel_segment.proofs.parts.in_tile.Statement.{statement}
 use Rattle.pixel_segment.proofs.parts.in_tile.Tie as tie
 
-search-end-requires : tie.Need-search-end-requires
-search-end-requires c κs = search needs
+search-last-by-tile-x-at-least-requires : tie.Need-search-last-by-tile-x-at-least-requires
+search-last-by-tile-x-at-least-requires c κs = search needs
 
-search-end-requires-2 : tie.Need-search-end-requires-2
-search-end-requires-2 c κs = search needs
+end-of-requires : tie.Need-end-of-requires
+end-of-requires c κs = omega (arith, told-le _ _ (c .search-last-by-tile-x-at-least .ensures))
+
+search-last-by-tile-x-requires : tie.Need-search-last-by-tile-x-requires
+search-last-by-tile-x-requires c κs = search needs
+
+end-of-requires-2 : tie.Need-end-of-requires-2
+end-of-requires-2 c κs = omega (arith, told-le _ _ (c .search-last-by-tile-x .ensures))
 
 slice-between-requires : tie.Need-slice-between-requires
-slice-between-requires c κs = search needs
+slice-between-requires c κs = omega (arith, c .end-of2 .ensures, told-le _ _ (c .before .search-last-by-tile-x .ensures))
 
 returns : tie.Need-returns
 unfolding tilePart
-returns c = rw (c .slice-between .ensures, c .before .search-end2 .ensures .is, c .before .before .search-end .ensures .is, toZ-ofZ (c .before .before .before .before .fits .tile-x))
+returns c =
+    let second = c .before in
+    let first = second .before .before in
+    rw (
+      c .slice-between .ensures,
+      second .end-of2 .ensures,
+      second .before .search-last-by-tile-x .ensures,
+      first .end-of .ensures,
+      first .before .search-last-by-tile-x-at-least .ensures,
+      toZ-ofZ (first .before .before .before .fits .tile-x),
+    )
 
 pub in-tile-spec : {M : Type 1} → statement M
 in-tile-spec =
-    tie.close (tie.spec search-end-requires search-end-requires-2 slice-between-requires returns)
+    tie.close
+    (tie.spec
+    search-last-by-tile-x-at-least-requires
+    end-of-requires
+    search-last-by-tile-x-requires
+    end-of-requires-2
+    slice-between-requires
+    returns)

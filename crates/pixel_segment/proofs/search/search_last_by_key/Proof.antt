@@ -1,18 +1,23 @@
 -- `search::search_last_by_key` meets its contract. The invariant: the halving of what is left ends where the whole one does.
 -- Assumes nothing.
 use mathlib.Core.Path.{_≡_, refl, sym, ap, _∙_}
+use mathlib.Core.Bool.{Bool}
 use Prim.Native.Nat.{ℕ, _+_, _≤_}
 use native.Mathlib.Omega.{arith}
 use borrow.Author.Needs.{needs}
 use lib.ListN.{length, getD}
 use Rattle.pixel_segment.specs.Order.{isGt}
 use Rattle.pixel_segment.specs.Search.{halved, ended, orderAt}
+use Rattle.pixel_segment.specs.declared.search.Key.{Key}
 use Rattle.pixel_segment.proofs.Halving.{halved-end, halved-left, halved-right, search-is, search-empty}
 use Rattle.pixel_segment.proofs.search.search_last_by_key.Statement.{statement}
 use Rattle.pixel_segment.proofs.search.search_last_by_key.Tie as tie
 
+abbrev isAbove : Key → ℕ → Bool
+isAbove key w = isGt (orderAt key w)
+
 abbrev Inv-loop : tie.InvT-loop
-Inv-loop segments key len₀ start₀ len start = (1 ≤ len) × (start + len ≤ length segments) × (halved (orderAt key) segments len start len ≡ halved (orderAt key) segments (length segments) 0 (length segments))
+Inv-loop segments key len₀ start₀ len start = (1 ≤ len) × (start + len ≤ length segments) × (halved (isAbove key) segments len start len ≡ halved (isAbove key) segments (length segments) 0 (length segments))
 
 abbrev μ-loop : tie.MeasureT-loop
 μ-loop segments key len₀ start₀ len start = len
@@ -45,7 +50,7 @@ loop-again : tie.Need-loop-again Inv-loop μ-loop
 loop-again c =
     let s = c .before .before .before .before .before .before .before .before .args in
     let at-loop = c .before .before .before .before .before in
-    (omega arith, omega arith, sym (halved-left (orderAt (s .key)) (s .segments .now) (at-loop .loop .start) (at-loop .loop .len) (omega arith) (sym (c .before .is-gt .ensures ∙ ap isGt (c .before .before .compare-key .ensures)) ∙ c .if2 .taken)) ∙ at-loop .loop .inv .2)
+    (omega arith, omega arith, sym (halved-left (isAbove (s .key)) (s .segments .now) (at-loop .loop .start) (at-loop .loop .len) (omega arith) (sym (c .before .is-gt .ensures ∙ ap isGt (c .before .before .compare-key .ensures)) ∙ c .if2 .taken)) ∙ at-loop .loop .inv .2)
 
 sub-len : tie.Need-sub-len Inv-loop μ-loop
 sub-len c = omega arith
@@ -57,7 +62,7 @@ loop-again-2 : tie.Need-loop-again-2 Inv-loop μ-loop
 loop-again-2 c =
     let s = c .before .before .before .before .before .before .before .before .args in
     let at-loop = c .before .before .before .before .before in
-    (omega arith, omega arith, sym (halved-right (orderAt (s .key)) (s .segments .now) (at-loop .loop .start) (at-loop .loop .len) (omega arith) (sym (c .before .is-gt .ensures ∙ ap isGt (c .before .before .compare-key .ensures)) ∙ c .if2 .left)) ∙ at-loop .loop .inv .2)
+    (omega arith, omega arith, sym (halved-right (isAbove (s .key)) (s .segments .now) (at-loop .loop .start) (at-loop .loop .len) (omega arith) (sym (c .before .is-gt .ensures ∙ ap isGt (c .before .before .compare-key .ensures)) ∙ c .if2 .left)) ∙ at-loop .loop .inv .2)
 
 mul-compare-key-2 : tie.Need-mul-compare-key-2 Inv-loop μ-loop
 mul-compare-key-2 c = omega arith
@@ -75,8 +80,8 @@ returns-2 : tie.Need-returns-2 Inv-loop μ-loop
 returns-2 c =
     let s = c .before .before .before .before .before .before .before .args in
     let at-loop = c .before .before .before .before in
-    let e = sym (halved-end (orderAt (s .key)) (s .segments .now) (at-loop .loop .len) (at-loop .loop .start) (at-loop .loop .len) (omega arith)) ∙ at-loop .loop .inv .2 in
-    c .answer .ensures ∙ ap (λ o. ended o (at-loop .loop .start)) (c .before .compare-key2 .ensures) ∙ ap (λ (n : ℕ). ended (orderAt (s .key) (getD (s .segments .now) n 0)) n) e ∙ sym (search-is (orderAt (s .key)) (s .segments .now) (omega arith))
+    let e = sym (halved-end (isAbove (s .key)) (s .segments .now) (at-loop .loop .len) (at-loop .loop .start) (at-loop .loop .len) (omega arith)) ∙ at-loop .loop .inv .2 in
+    c .answer .ensures ∙ ap (λ (r : ℕ). ended r (at-loop .loop .start)) (c .before .compare-key2 .ensures) ∙ ap (λ (n : ℕ). ended (orderAt (s .key) (getD (s .segments .now) n 0)) n) e ∙ sym (search-is (orderAt (s .key)) (s .segments .now) (omega arith))
 
 pub search-last-by-key-spec : {M : Type 1} → statement M
 search-last-by-key-spec =

@@ -2,7 +2,7 @@
 use mathlib.Core.Path.{refl, ap}
 use borrow.Author.Needs.{needs}
 use lib.IntN.{natAbs}
-use Rattle.cover.proofs.Filled.{getD-default}
+use Rattle.cover_statements.proofs.Filled.{getD-default}
 use Rattle.queue.proofs.Gathering.{opens}
 use Rattle.queue.proofs.opening.open_queue.Statement.{statement}
 use Rattle.queue.proofs.opening.open_queue.Tie as tie

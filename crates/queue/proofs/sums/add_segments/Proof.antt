@@ -4,7 +4,7 @@ use Prim.Native.Nat.{_-_}
 use native.Mathlib.Omega.{arith}
 use borrow.Author.Tests.{not-true, not-false}
 use lib.ListN.{length, getD}
-use Rattle.cover.proofs.Filled.{getD-default}
+use Rattle.cover_statements.proofs.Filled.{getD-default}
 use Rattle.queue.proofs.Summing.{keyOf, ascending, start, end, refuse}
 use Rattle.queue.proofs.Tallying.{Tallying, tally-placing, tally-next}
 use Rattle.queue.proofs.sums.add_segments.Statement.{statement}

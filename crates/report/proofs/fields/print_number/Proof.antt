@@ -2,7 +2,8 @@
 -- Assumes nothing.
 use native.Mathlib.Omega.{arith}
 use borrow.Author.Needs.{needs}
-use Rattle.report.proofs.Lines.{ten, number-after}
+use Rattle.decimal.proofs.Print.{ten}
+use Rattle.report.proofs.Lines.{number-after}
 use Rattle.report.proofs.fields.print_number.Statement.{statement}
 use Rattle.report.proofs.fields.print_number.Tie as tie
 

@@ -2,6 +2,7 @@
 use native.Mathlib.Omega.{arith}
 use borrow.Author.Tests.{not-true, not-false}
 use borrow.Author.Needs.{needs}
+use Rattle.row_driver.specs.InnerSteps.{sumIn}
 use Rattle.row_driver.proofs.tally.tally_layer.Statement.{statement}
 use Rattle.row_driver.proofs.tally.tally_layer.Tie as tie
 use Rattle.row_driver.proofs.Tallying.{unpainted, painted}
@@ -10,7 +11,7 @@ add-t17 : tie.Need-add-t17
 add-t17 c = search needs
 
 returns : tie.Need-returns
-returns c = (unpainted _ _ _ (c .before .before .before .before .before .before .before .args .tally) _ (not-true _ (c .before .if1 .taken)), omega arith)
+returns c = (unpainted _ _ _ (sumIn (c .before .before .before .before .before .before .before .args .tally)) _ (not-true _ (c .before .if1 .taken)), omega arith)
 
 record-of-requires : tie.Need-record-of-requires
 record-of-requires c κs = c .before .before .before .before .before .before .pre .0 .in-table
@@ -37,7 +38,7 @@ returns-2 : tie.Need-returns-2
 returns-2 c =
     let o = c .before .used-octets .ensures in
     let p = rw (c .before .before .before .before .before .before .before .record-of .ensures) at (c .before .before .before .before .before .paint .ensures) in
-    (painted _ _ _ (c .before .before .before .before .before .before .before .before .before .before .before .before .before .before .args .tally) _ (not-false _ (c .before .before .before .before .before .before .before .before .if1 .left)) (p .mark-is) (p .clip-is) (o .0), omega (arith, o .1))
+    (painted _ _ _ (sumIn (c .before .before .before .before .before .before .before .before .before .before .before .before .before .before .args .tally)) _ (not-false _ (c .before .before .before .before .before .before .before .before .if1 .left)) (p .mark-is) (p .clip-is) (o .0), omega (arith, o .1))
 
 pub tally-layer-spec : {M : Type 1} → statement M
 tally-layer-spec =

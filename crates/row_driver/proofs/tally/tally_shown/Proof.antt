@@ -6,23 +6,24 @@ use borrow.Author.Needs.{needs}
 use lib.ListN.{length}
 use Rattle.styling.specs.Table.{tableOf}
 use Rattle.queue.specs.Queue.{queueOf}
+use Rattle.row_driver.specs.InnerSteps.{sumIn}
 use Rattle.row_driver.proofs.tally.tally_shown.Statement.{statement}
 use Rattle.row_driver.proofs.tally.tally_shown.Tie as tie
 use Rattle.row_driver.proofs.Tallying.{Tallying, start, next, end}
 
 abbrev Inv-loop : tie.InvT-loop
-Inv-loop paints ids covers n part layers colors count list-ids list-shown skipped listed plane₀ tally₀ i₀ plane tally i =
-    Tallying paints (tableOf layers colors count) (queueOf n ids covers) part list-ids list-shown skipped listed tally i × (length plane ≡ 256)
+Inv-loop paints ids covers n part layers colors count list-ids list-unmasked skipped listed plane₀ tally₀ i₀ plane tally i =
+    Tallying paints (tableOf layers colors count) (queueOf n ids covers) part list-ids list-unmasked skipped listed (sumIn tally) i × (length plane ≡ 256)
 
 abbrev μ-loop : tie.MeasureT-loop
-μ-loop paints ids covers n part layers colors count list-ids list-shown skipped listed plane₀ tally₀ i₀ plane tally i =
+μ-loop paints ids covers n part layers colors count list-ids list-unmasked skipped listed plane₀ tally₀ i₀ plane tally i =
     listed - i
 
 loop-holds : tie.Need-loop-holds Inv-loop μ-loop
 loop-holds c = (start, refl)
 
 shared-slice-read-tally-entry : tie.Need-shared-slice-read-tally-entry Inv-loop μ-loop
-shared-slice-read-tally-entry c = omega (arith, c .before .loop-test .taken, c .before .before .before .before .before .before .before .before .before .pre .1 .shown-long)
+shared-slice-read-tally-entry c = omega (arith, c .before .loop-test .taken, c .before .before .before .before .before .before .before .before .before .pre .1 .unmasked-long)
 
 mul-tally-entry : tie.Need-mul-tally-entry Inv-loop μ-loop
 mul-tally-entry c = omega (arith, c .before .loop-test .taken, c .before .before .before .before .before .before .before .before .before .pre .1 .few)
@@ -51,10 +52,10 @@ loop-again c =
     let p = c .before .before .before .before .before .before .before .before .before .before .before .before .before .pre .1 in
     let e = c .before .tally-entry .ensures in
     let v = c .before .before .before .before .before .before .loop .inv in
-    (next (v .0) (c .before .before .before .before .before .loop-test .taken) (p .ids-long) (p .shown-long) (e .0) (e .1), c .before .tally-entry .kept .1 .1 .1 .1 .1 .1 .1 .1 .1 .1 .1 .0 ∙ v .1)
+    (next (v .0) (c .before .before .before .before .before .loop-test .taken) (p .ids-long) (p .unmasked-long) (e .0) (e .1), c .before .tally-entry .kept .1 .1 .1 .1 .1 .1 .1 .1 .1 .1 .1 .0 ∙ v .1)
 
 returns : tie.Need-returns Inv-loop μ-loop
-returns c = let p = c .before .before .before .before .before .before .before .before .pre .1 in end (c .before .loop .inv .0) (c .loop-test .left) (p .ids-long) (p .shown-long)
+returns c = let p = c .before .before .before .before .before .before .before .before .pre .1 in end (c .before .loop .inv .0) (c .loop-test .left) (p .ids-long) (p .unmasked-long)
 
 pub tally-shown-spec : {M : Type 1} → statement M
 tally-shown-spec =

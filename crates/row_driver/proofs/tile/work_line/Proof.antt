@@ -8,30 +8,31 @@ use mir.Facts.{toZ-ofZ}
 use Rattle.laws.proofs.Machine.{sfits}
 use Rattle.laws.proofs.Parts.{whole}
 use Rattle.pixel_segment.specs.Search.{tilePart}
-use Rattle.tile_row.specs.TileWork.{WorkArgs, WorkLent}
-use Rattle.row_driver.specs.Steps.{argsOf, lentOf}
+use Rattle.row_statements.specs.Lent.{columns, listColumns}
+use Rattle.row_statements.specs.TileWork.{WorkCall, WorkLent, workLent}
+use Rattle.row_driver.specs.InnerSteps.{argsOf}
 use Rattle.row_driver.proofs.tile.work_line.Statement.{statement}
 use Rattle.row_driver.proofs.tile.work_line.Tie as tie
 use Rattle.row_driver.proofs.Listed.{painter, accepted, few, walkable, line-done, line-refused}
 
 -- what the function is called with, and what it is lent
-called : tie.Start → WorkArgs
+called : tie.Start → WorkCall
 called s =
     let a = s .args in
-    argsOf (a .state) (a .tile) (a .row .now) (a .layers .now) (a .colors .now) (a .count) (record { ids = a .ids .now; covers = a .covers .now })
+    argsOf (a .state) (a .tile) (a .row .now) (a .layers .now) (a .colors .now) (a .count) (columns (a .ids .now) (a .covers .now))
 
 lentTo : tie.Start → WorkLent
 lentTo s =
     let a = s .args in
-    lentOf (record { ids = a .next-ids .now; covers = a .next-covers .now }) (record { ids = a .list-ids .now; covers = a .list-covers .now; segments = a .list-segments .now; shown = a .list-shown .now })
+    workLent (columns (a .next-ids .now) (a .next-covers .now)) (listColumns (a .list-ids .now) (a .list-covers .now) (a .list-segments .now) (a .list-unmasked .now))
 
 -- the tile is a number of 16 signed bits
 tile-fits : (s : tie.Start) → SFits w16 (s .args .tile)
 tile-fits s = let z = s .args .tile in sfits w16 z (omega (arith, s .pre .judged .tile-natural, s .pre .judged .tile-low, whole z))
 
 -- the part that the search finds
-part-is : (c : tie.After-in-tile) → c .in-tile .result .now ≡ tilePart (c .before .before .before .before .before .before .before .before .before .before .before .before .before .before .before .before .before .before .before .before .before .before .before .before .before .before .before .before .before .before .before .before .before .before .args .tile) (c .before .before .before .before .before .before .before .before .before .before .before .before .before .before .before .before .before .before .before .before .before .before .before .before .before .before .before .before .before .before .before .before .before .before .args .row .now)
-part-is c = rw (toZ-ofZ (c .before .before .before .before .before .before .before .before .before .before .before .before .before .before .before .before .before .before .before .before .before .before .before .before .before .before .before .before .before .before .before .before .before .before .fits .tile), toZ-ofZ (tile-fits (c .before .before .before .before .before .before .before .before .before .before .before .before .before .before .before .before .before .before .before .before .before .before .before .before .before .before .before .before .before .before .before .before .before .before))) at (c .in-tile .ensures)
+part-is : (c : tie.After-in-tile) → c .in-tile .result .now ≡ tilePart (c .before .before .before .before .before .before .before .before .before .before .before .before .before .before .before .before .before .before .before .before .before .before .before .before .before .before .before .before .before .before .before .before .before .args .tile) (c .before .before .before .before .before .before .before .before .before .before .before .before .before .before .before .before .before .before .before .before .before .before .before .before .before .before .before .before .before .before .before .before .before .args .row .now)
+part-is c = rw (toZ-ofZ (c .before .before .before .before .before .before .before .before .before .before .before .before .before .before .before .before .before .before .before .before .before .before .before .before .before .before .before .before .before .before .before .before .before .fits .tile), toZ-ofZ (tile-fits (c .before .before .before .before .before .before .before .before .before .before .before .before .before .before .before .before .before .before .before .before .before .before .before .before .before .before .before .before .before .before .before .before .before))) at (c .in-tile .ensures)
 
 absent-requires : tie.Need-absent-requires
 absent-requires c κs = search needs
@@ -39,11 +40,8 @@ absent-requires c κs = search needs
 clear-color-requires : tie.Need-clear-color-requires
 clear-color-requires c κs = search needs
 
-no-previous-requires : tie.Need-no-previous-requires
-no-previous-requires c κs = search needs
-
 work-judged-requires : tie.Need-work-judged-requires
-work-judged-requires c κs = rw (toZ-ofZ (c .before .before .before .before .before .before .before .before .before .before .before .before .before .before .before .before .before .fits .tile), c .before .before .before .before .before .before .before .before .absent .ensures, c .before .before .before .before .before .before .before .clear-color .ensures, c .before .before .before .before .before .before .no-previous .ensures) (c .before .before .before .before .before .before .before .before .before .before .before .before .before .before .before .before .before .pre .judged)
+work-judged-requires c κs = rw (toZ-ofZ (c .before .before .before .before .before .before .before .before .before .before .before .before .before .before .before .before .fits .tile), c .before .before .before .before .before .before .before .absent .ensures, c .before .before .before .before .before .before .clear-color .ensures) (c .before .before .before .before .before .before .before .before .before .before .before .before .before .before .before .before .pre .judged)
 
 enum-told : tie.Need-enum-told
 enum-told c = search needs
@@ -55,7 +53,7 @@ enum-known-answer : tie.Need-enum-known-answer
 enum-known-answer c = search needs
 
 cast-in-tile : tie.Need-cast-in-tile
-cast-in-tile c = rw (toZ-ofZ (c .before .before .before .before .before .before .before .before .before .before .before .before .before .before .before .before .before .before .before .before .before .before .before .before .before .before .before .before .before .before .before .before .before .fits .tile)) (tile-fits (c .before .before .before .before .before .before .before .before .before .before .before .before .before .before .before .before .before .before .before .before .before .before .before .before .before .before .before .before .before .before .before .before .before))
+cast-in-tile c = rw (toZ-ofZ (c .before .before .before .before .before .before .before .before .before .before .before .before .before .before .before .before .before .before .before .before .before .before .before .before .before .before .before .before .before .before .before .before .fits .tile)) (tile-fits (c .before .before .before .before .before .before .before .before .before .before .before .before .before .before .before .before .before .before .before .before .before .before .before .before .before .before .before .before .before .before .before .before))
 
 in-tile-requires : tie.Need-in-tile-requires
 in-tile-requires c κs = search needs
@@ -66,16 +64,16 @@ is-paint-requires c κs = search needs
 tally-shown-requires : tie.Need-tally-shown-requires
 unfolding called lentTo
 tally-shown-requires c κs =
-    let s = c .before .before .before .before .before .before .before .before .before .before .before .before .before .before .before .before .before .before .before .before .before .before .before .before .before .before .before .before .before .before .before .before .before .before .before .before .before in
-    let given = rw (toZ-ofZ (c .before .before .before .before .before .before .before .before .before .before .before .before .before .before .before .before .before .before .before .before .before .before .before .before .before .before .before .before .before .before .before .before .before .before .before .before .before .fits .tile), c .before .before .before .before .before .before .before .before .before .before .before .before .before .before .before .before .before .before .before .before .before .before .before .before .before .before .before .before .absent .ensures, c .before .before .before .before .before .before .before .before .before .before .before .before .before .before .before .before .before .before .before .before .before .before .before .before .before .before .before .clear-color .ensures, c .before .before .before .before .before .before .before .before .before .before .before .before .before .before .before .before .before .before .before .before .before .before .before .before .before .before .no-previous .ensures) at (c .before .before .before .before .before .before .before .before .before .before .before .before .before .before .before .before .before .before .before .work-judged .ensures) in
+    let s = c .before .before .before .before .before .before .before .before .before .before .before .before .before .before .before .before .before .before .before .before .before .before .before .before .before .before .before .before .before .before .before .before .before .before .before .before in
+    let given = rw (toZ-ofZ (c .before .before .before .before .before .before .before .before .before .before .before .before .before .before .before .before .before .before .before .before .before .before .before .before .before .before .before .before .before .before .before .before .before .before .before .before .fits .tile), c .before .before .before .before .before .before .before .before .before .before .before .before .before .before .before .before .before .before .before .before .before .before .before .before .before .before .before .absent .ensures, c .before .before .before .before .before .before .before .before .before .before .before .before .before .before .before .before .before .before .before .before .before .before .before .before .before .before .clear-color .ensures) at (c .before .before .before .before .before .before .before .before .before .before .before .before .before .before .before .before .before .before .before .work-judged .ensures) in
     let t = accepted (called s) (lentTo s) (s .pre) (c .before .before .before .before .before .before .before .answer .given .1) given in
     rw (part-is (c .before .before .before)) (painter (called s) (lentTo s) (s .pre), walkable (called s) (lentTo s) (s .pre) t)
 
 line-of-requires : tie.Need-line-of-requires
 unfolding called lentTo
 line-of-requires c κs =
-    let s = c .before .before .before .before .before .before .before .before .before .before .before .before .before .before .before .before .before .before .before .before .before .before .before .before .before .before .before .before .before .before .before .before .before .before .before .before .before .before in
-    let given = rw (toZ-ofZ (c .before .before .before .before .before .before .before .before .before .before .before .before .before .before .before .before .before .before .before .before .before .before .before .before .before .before .before .before .before .before .before .before .before .before .before .before .before .before .fits .tile), c .before .before .before .before .before .before .before .before .before .before .before .before .before .before .before .before .before .before .before .before .before .before .before .before .before .before .before .before .before .absent .ensures, c .before .before .before .before .before .before .before .before .before .before .before .before .before .before .before .before .before .before .before .before .before .before .before .before .before .before .before .before .clear-color .ensures, c .before .before .before .before .before .before .before .before .before .before .before .before .before .before .before .before .before .before .before .before .before .before .before .before .before .before .before .no-previous .ensures) at (c .before .before .before .before .before .before .before .before .before .before .before .before .before .before .before .before .before .before .before .before .work-judged .ensures) in
+    let s = c .before .before .before .before .before .before .before .before .before .before .before .before .before .before .before .before .before .before .before .before .before .before .before .before .before .before .before .before .before .before .before .before .before .before .before .before .before in
+    let given = rw (toZ-ofZ (c .before .before .before .before .before .before .before .before .before .before .before .before .before .before .before .before .before .before .before .before .before .before .before .before .before .before .before .before .before .before .before .before .before .before .before .before .before .fits .tile), c .before .before .before .before .before .before .before .before .before .before .before .before .before .before .before .before .before .before .before .before .before .before .before .before .before .before .before .before .absent .ensures, c .before .before .before .before .before .before .before .before .before .before .before .before .before .before .before .before .before .before .before .before .before .before .before .before .before .before .before .clear-color .ensures) at (c .before .before .before .before .before .before .before .before .before .before .before .before .before .before .before .before .before .before .before .before .work-judged .ensures) in
     few (called s) (lentTo s) (s .pre) (accepted (called s) (lentTo s) (s .pre) (c .before .before .before .before .before .before .before .before .answer .given .1) given)
 
 same-length : tie.Need-same-length
@@ -99,8 +97,8 @@ same-length-6 c = search needs
 returns : tie.Need-returns
 unfolding called lentTo
 returns c =
-    let s = c .before .before .before .before .before .before .before .before .before .before .before .before .before .before .before .before .before .before .before .before .before .before .before .before .before .before .before .before .before .before .before in
-    let given = rw (toZ-ofZ (c .before .before .before .before .before .before .before .before .before .before .before .before .before .before .before .before .before .before .before .before .before .before .before .before .before .before .before .before .before .before .before .fits .tile), c .before .before .before .before .before .before .before .before .before .before .before .before .before .before .before .before .before .before .before .before .before .before .absent .ensures, c .before .before .before .before .before .before .before .before .before .before .before .before .before .before .before .before .before .before .before .before .before .clear-color .ensures, c .before .before .before .before .before .before .before .before .before .before .before .before .before .before .before .before .before .before .before .before .no-previous .ensures) at (c .before .before .before .before .before .before .before .before .before .before .before .before .before .work-judged .ensures) in
+    let s = c .before .before .before .before .before .before .before .before .before .before .before .before .before .before .before .before .before .before .before .before .before .before .before .before .before .before .before .before .before .before in
+    let given = rw (toZ-ofZ (c .before .before .before .before .before .before .before .before .before .before .before .before .before .before .before .before .before .before .before .before .before .before .before .before .before .before .before .before .before .before .fits .tile), c .before .before .before .before .before .before .before .before .before .before .before .before .before .before .before .before .before .before .before .before .before .absent .ensures, c .before .before .before .before .before .before .before .before .before .before .before .before .before .before .before .before .before .before .before .before .clear-color .ensures) at (c .before .before .before .before .before .before .before .before .before .before .before .before .before .work-judged .ensures) in
     record { works = given; line-is = λ e. absurd (line-refused (called s) (lentTo s) (s .pre) (c .before .enum-told .given .1) given e) }
 
 same-length-7 : tie.Need-same-length-7
@@ -124,11 +122,11 @@ same-length-12 c = c .before .before .before .before .before .before .before .be
 returns-2 : tie.Need-returns-2
 unfolding called lentTo
 returns-2 c =
-    let s = c .before .before .before .before .before .before .before .before .before .before .before .before .before .before .before .before .before .before .before .before .before .before .before .before .before .before .before .before .before .before .before .before .before .before .before .before .before .before .before in
-    let given = rw (toZ-ofZ (c .before .before .before .before .before .before .before .before .before .before .before .before .before .before .before .before .before .before .before .before .before .before .before .before .before .before .before .before .before .before .before .before .before .before .before .before .before .before .before .fits .tile), c .before .before .before .before .before .before .before .before .before .before .before .before .before .before .before .before .before .before .before .before .before .before .before .before .before .before .before .before .before .before .absent .ensures, c .before .before .before .before .before .before .before .before .before .before .before .before .before .before .before .before .before .before .before .before .before .before .before .before .before .before .before .before .before .clear-color .ensures, c .before .before .before .before .before .before .before .before .before .before .before .before .before .before .before .before .before .before .before .before .before .before .before .before .before .before .before .before .no-previous .ensures) at (c .before .before .before .before .before .before .before .before .before .before .before .before .before .before .before .before .before .before .before .before .before .work-judged .ensures) in
+    let s = c .before .before .before .before .before .before .before .before .before .before .before .before .before .before .before .before .before .before .before .before .before .before .before .before .before .before .before .before .before .before .before .before .before .before .before .before .before .before in
+    let given = rw (toZ-ofZ (c .before .before .before .before .before .before .before .before .before .before .before .before .before .before .before .before .before .before .before .before .before .before .before .before .before .before .before .before .before .before .before .before .before .before .before .before .before .before .fits .tile), c .before .before .before .before .before .before .before .before .before .before .before .before .before .before .before .before .before .before .before .before .before .before .before .before .before .before .before .before .before .absent .ensures, c .before .before .before .before .before .before .before .before .before .before .before .before .before .before .before .before .before .before .before .before .before .before .before .before .before .before .before .before .clear-color .ensures) at (c .before .before .before .before .before .before .before .before .before .before .before .before .before .before .before .before .before .before .before .before .before .work-judged .ensures) in
     let t = accepted (called s) (lentTo s) (s .pre) (c .before .before .before .before .before .before .before .before .before .answer .given .1) given in
     let tallied = rw (part-is (c .before .before .before .before .before), c .before .before .before .before .is-paint .ensures) at (c .before .tally-shown .ensures) in
-    record { works = given; line-is = λ e. line-done (called s) (lentTo s) (s .pre) t tallied (c .line-of .ensures) }
+    record { works = given; line-is = λ e. line-done (called s) (lentTo s) (s .pre) t (c .before .tally-shown .result) tallied (c .line-of .ensures) }
 
 pub work-line-spec : {M : Type 1} → statement M
 work-line-spec =
@@ -136,7 +134,6 @@ work-line-spec =
     (tie.spec
     absent-requires
     clear-color-requires
-    no-previous-requires
     work-judged-requires
     enum-told
     blank-requires

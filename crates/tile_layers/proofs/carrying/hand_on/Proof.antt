@@ -9,8 +9,8 @@ use lib.IntN.{ℤ}
 use lib.ListN.{length}
 use Rattle.pixel_segment.specs.Field.{cpu}
 use Rattle.pixel_segment.specs.Search.{between}
-use Rattle.cover.specs.Carry.{carryOf}
-use Rattle.cover.specs.Cover.{isEmpty}
+use Rattle.cover_statements.specs.Carry.{carryOf}
+use Rattle.cover_statements.specs.Cover.{isEmpty}
 use Rattle.styling.specs.Table.{tableOf}
 use Rattle.tile_layers.proofs.Handing.{Handing, hand-start, hand-lengths, hand-room, hand-light, hand-next, hand-end}
 use Rattle.tile_layers.proofs.carrying.hand_on.Statement.{statement}

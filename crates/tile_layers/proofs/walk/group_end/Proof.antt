@@ -8,20 +8,11 @@ use borrow.Author.Needs.{needs}
 use lib.ListN.{length, getD, drop, length-drop}
 use lib.Seq.{getD-drop, take-all}
 use Rattle.pixel_segment.specs.Field.{cpu, layerIdOf}
-use Rattle.pixel_segment.specs.Search.{searchOf, orderAt}
-use Rattle.pixel_segment.specs.declared.search.Found.{Found}
-use Rattle.pixel_segment.specs.declared.search.Found.the-variants.{At, Absent}
+use Rattle.pixel_segment.specs.Search.{Place, found, absent, placeIn, searchOf, orderAt}
 use Rattle.pixel_segment.specs.declared.search.Key.the-variants.{LayerId}
 use Rattle.tile_layers.proofs.Runs.{Grouped, grouped, ordered-drop, ends-at}
 use Rattle.tile_layers.proofs.walk.group_end.Statement.{statement}
 use Rattle.tile_layers.proofs.walk.group_end.Tie as tie
-
-at-injective : {a b : ℕ} → At a ≡ At b → a ≡ b
-at-injective e = ap (λ f. indexOf f) e
-  where
-    indexOf : Found → ℕ
-    indexOf (At i) = i
-    indexOf (Absent i) = i
 
 -- what is known of the group, at the function's start
 known : (c : tie.Start) → Grouped (drop (c .args .j) (c .args .part .now))
@@ -31,7 +22,7 @@ known c =
     (ordered-drop (layerIdOf cpu) (c .args .part .now) (c .args .j) (c .pre .0))
 
 -- what the search answers
-answered : (c : tie.After-search-last-by-layer-id) → c .search-last-by-layer-id .result ≡ searchOf (orderAt (LayerId (layerIdOf cpu (getD (drop (c .before .before .before .before .args .j) (c .before .before .before .before .args .part .now)) 0 0)))) (drop (c .before .before .before .before .args .j) (c .before .before .before .before .args .part .now))
+answered : (c : tie.After-search-last-by-layer-id) → placeIn (c .search-last-by-layer-id .result) ≡ searchOf (orderAt (LayerId (layerIdOf cpu (getD (drop (c .before .before .before .before .args .j) (c .before .before .before .before .args .part .now)) 0 0)))) (drop (c .before .before .before .before .args .j) (c .before .before .before .before .args .part .now))
 answered c =
     let s = c .before .before .before .before in
     let part = s .args .part .now in
@@ -44,7 +35,8 @@ answered c =
 at-last : (c : tie.After-known-told) → c .before .d .given .0 .0 ≡ (known (c .before .before .before .before .before .before .before)) .b
 at-last c =
     let s = c .before .before .before .before .before .before .before in
-    at-injective (sym (c .before .d .given .1) ∙ answered (c .before .before .before) ∙ known s .found)
+    let e : found (c .before .d .given .0 .0) ≡ found (known s .b) = sym (ap placeIn (c .before .d .given .1)) ∙ answered (c .before .before .before) ∙ known s .searched in
+    cc
 
 layer-at-requires : tie.Need-layer-at-requires
 layer-at-requires c κs = search needs
@@ -88,7 +80,7 @@ returns c =
 returns-2 : tie.Need-returns-2
 returns-2 c =
     let s = c .before .before .before .before .before .before in
-    let p : At (known s .b) ≡ Absent (c .enum-told .given .0 .0) = sym (known s .found) ∙ sym (answered (c .before .before)) ∙ c .enum-told .given .1 in
+    let p : found (known s .b) ≡ absent (c .enum-told .given .0 .0) = sym (known s .searched) ∙ sym (answered (c .before .before)) ∙ ap placeIn (c .enum-told .given .1) in
     absurd (let z : _≡_ {A = ℕ} 0 1 = cc in omega arith)
 
 pub group-end-spec : {M : Type 1} → statement M

@@ -32,16 +32,18 @@ use lib.IntN.{ℤ}
 use lib.ListN.{length}
 use mir.Syntax.{named, w32, w64, tyArray}
 use mir.Val.{Val, vint, ofZ}
-use Rattle.tile_row.specs.declared.RowState.{RowState}
-use Rattle.tile_row.specs.declared.painting.Painted.{Painted}
-use Rattle.queue_records.specs.Records.{idsOf, coversOf}
+use Rattle.row_statements.specs.declared.RowState.{RowState}
+use Rattle.row_statements.specs.declared.Painted.{Painted}
 use Rattle.queue_records.specs.declared.CarryRecord.{CarryRecord}
-use Rattle.tile_row.specs.Painting.{PaintsLayer}
+use Rattle.row_statements.specs.Lent as lent
+use Rattle.row_statements.specs.State.{stateIn}
+use Rattle.row_statements.specs.Painting.{PaintCall, paintCall, paintOf, PaintsLayer}
+use Rattle.tile_row_records.specs.Lent.{columnsFor}
 use Rattle.queue_records.proofs.LentArray.{Lies, lends-shared, shared-back}
-use Rattle.tile_row.proofs.RowState as S
-use Rattle.tile_row.proofs.RowState.Laws as S′
-use Rattle.tile_row.proofs.painting.Painted as O
-use Rattle.tile_row.proofs.painting.Painted.Laws as O′
+use Rattle.row_statements.proofs.RowState as S
+use Rattle.row_statements.proofs.RowState.Laws as S′
+use Rattle.row_statements.proofs.Painted as O
+use Rattle.row_statements.proofs.Painted.Laws as O′
 use Rattle.queue_records.proofs.CarryRecord as Rec
 use Rattle.queue_records.proofs.CarryRecord.Laws as Rec′
 use Rattle.tile_row_records.proofs.painting.paint_layer as g
@@ -86,6 +88,10 @@ Callee 𝓤 H A at-mem run = tripleOf 𝓤 H A g.signature (g.spec 𝓤 H A at-m
 module _ {M : Type 1} (𝓤 : URA M) (H : Heap 𝓤) (A : Atoms 𝓤) (W : Given 𝓤 H A) (at-mem : Memory → SProp 𝓤) (run : Routine → Fun 𝓤) (κ₀ κ₁ κ₂ κ₃ : Lft) (q₀ q₁ q₂ q₃ : Share)
     (state : RowState) (tile : ℤ) (layer : ℕ) (row : RefT (List ℕ)) (layers : RefT (List ℕ)) (colors : RefT (List Float)) (count : ℕ) (queue : (List CarryRecord)) (plane : RefT (List Float))
     (is₀ : Is S.the-row state (LL.vals S.the-type S′.the-laws state)) (is₁ : Is i32 tile (sint-vals w32 tile)) (is₂ : Is u32 layer (uint-vals w32 layer)) (room₃ : Room u64 (length (row .now))) (room₄ : Room u32 (length (layers .now))) (room₅ : Room f32 (length (colors .now))) (is₆ : Is usize count (uint-vals w64 count)) (is₇ : Is QueueArray queue (array-vals rec-vals queue)) (room₈ : Room f32 (length (plane .now))) where
+  -- the call
+  abbrev call : PaintCall
+  call = paintCall (stateIn state) tile layer (row .now) (lent.lentTable (layers .now) (colors .now) count) (columnsFor queue)
+
   -- the machine values of the parameters
   abbrev v₀ : Val
   v₀ = LL.val S.the-type S′.the-laws state
@@ -154,9 +160,9 @@ module _ {M : Type 1} (𝓤 : URA M) (H : Heap 𝓤) (A : Atoms 𝓤) (W : Given
     Last = Lasts g.ended (κ₀, (κ₁, (κ₂, (ν ∷ [], (κ₃, tt))))) passed
 
     abbrev Said : Painted → Last → Type 0
-    Said r ws = PaintsLayer state tile layer (row .now) (layers .now) (colors .now) count (idsOf queue) (coversOf queue) (plane .now) r (ws .1 .1 .1 .1 .1 .1 .1 .1 .0)
+    Said r ws = PaintsLayer (paintOf call (plane .now)) r (ws .1 .1 .1 .1 .1 .1 .1 .1 .0)
 
-  exits : (r : Painted) (v : Val) (us₈ : List Float) → PaintsLayer state tile layer (row .now) (layers .now) (colors .now) count (idsOf queue) (coversOf queue) (plane .now) r us₈ → Is O.the-row r (v ∷ []) → length us₈ ≡ length (plane .now)
+  exits : (r : Painted) (v : Val) (us₈ : List Float) → PaintsLayer (paintOf call (plane .now)) r us₈ → Is O.the-row r (v ∷ []) → length us₈ ≡ length (plane .now)
       → ent 𝓤 (⋆ 𝓤 H A (‵ (flft κ₀ q₀) ∷ ‵ (flft κ₁ q₁) ∷ ‵ (flft κ₂ q₂) ∷ ‵ (flft κ₃ q₃) ∷ ‵ (finally f32 (plane .name) us₈) ∷ ‵ SRow ∷ ‵ SLayers ∷ ‵ SColors ∷ [])) (Post v)
   exits r v us₈ e is same₈ =
       qed W (‵ (flft κ₀ q₀) ∷ ‵ (flft κ₁ q₁) ∷ ‵ (flft κ₂ q₂) ∷ ‵ (flft κ₃ q₃) ∷ ‵ (finally f32 (plane .name) us₈) ∷ ‵ SRow ∷ ‵ SLayers ∷ ‵ SColors ∷ []) ∵

@@ -6,6 +6,10 @@ use native.Mathlib.Omega.{arith}
 use borrow.Author.Needs.{needs}
 use lib.Seq.{length-take-le}
 use mir.Facts.{toZ-ofZ}
+use Rattle.row_statements.specs.Lent.{lentTable}
+use Rattle.row_statements.specs.State.{stateIn}
+use Rattle.row_statements.specs.Painting.{paintCall}
+use Rattle.tile_row_records.specs.Lent.{lentColumns}
 use Rattle.tile_row_records.proofs.Lending.{painted-lent}
 use Rattle.tile_row_records.proofs.Wide.{ids-wide, covers-wide}
 use Rattle.tile_row_records.proofs.painting.paint_columns.Statement.{statement}
@@ -49,7 +53,14 @@ returns : tie.Need-returns
 returns c =
     let n = c .before .before .before .before .before .before .before .before .lesser in
     let b = c .before .before .before .before .before .before .before .before .before .before .before .before .before in
-    painted-lent _ _ _ _ _ _ _ (b .args .columns) _ _ _ (n .result) (n .ensures) (rw (toZ-ofZ (b .fits .tile)) at (c .before .before .paint-layer .ensures))
+    let a = b .args in
+    painted-lent
+    (paintCall (stateIn (a .state)) (a .tile) (a .layer) (a .row .now) (lentTable (a .layers .now) (a .colors .now) (a .count)) (lentColumns (a .columns)))
+    (a .plane .now)
+    (a .columns)
+    (n .result)
+    (n .ensures)
+    (rw (toZ-ofZ (b .fits .tile)) at (c .before .before .paint-layer .ensures))
 
 pub paint-columns-spec : {M : Type 1} → statement M
 paint-columns-spec =

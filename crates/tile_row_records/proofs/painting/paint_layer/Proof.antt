@@ -30,18 +30,20 @@ use lib.IntN.{ℤ}
 use lib.ListN.{length}
 use mir.Syntax.{named, w32, w64}
 use mir.Val.{Val, vint, ofZ}
-use Rattle.tile_row.specs.declared.RowState.{RowState}
-use Rattle.tile_row.specs.declared.painting.Painted.{Painted}
+use Rattle.row_statements.specs.declared.RowState.{RowState}
+use Rattle.row_statements.specs.declared.Painted.{Painted}
 use Rattle.queue_records.specs.declared.Columns.{Columns}
-use Rattle.queue_records.specs.Records.{idsOf, coversOf, columnsOf}
+use Rattle.queue_records.specs.Records.{columnsOf}
 use Rattle.queue_records.specs.declared.CarryRecord.{CarryRecord}
-use Rattle.tile_row.specs.Painting.{PaintsLayer}
-use Rattle.tile_row_records.specs.Lent.{idsLent, coversLent}
+use Rattle.row_statements.specs.Lent as lent
+use Rattle.row_statements.specs.State.{stateIn}
+use Rattle.row_statements.specs.Painting.{PaintCall, paintCall, paintOf, PaintsLayer}
+use Rattle.tile_row_records.specs.Lent.{columnsFor, lentColumns}
 use Rattle.tile_row_records.proofs.SameAnswers.{painted-records}
-use Rattle.tile_row.proofs.RowState as S
-use Rattle.tile_row.proofs.RowState.Laws as S′
-use Rattle.tile_row.proofs.painting.Painted as O
-use Rattle.tile_row.proofs.painting.Painted.Laws as O′
+use Rattle.row_statements.proofs.RowState as S
+use Rattle.row_statements.proofs.RowState.Laws as S′
+use Rattle.row_statements.proofs.Painted as O
+use Rattle.row_statements.proofs.Painted.Laws as O′
 use Rattle.queue_records.proofs.Columns as C
 use Rattle.queue_records.proofs.Columns.Laws as C′
 use Rattle.queue_records.proofs.CarryRecord as Rec
@@ -87,6 +89,10 @@ module _ {M : Type 1} (𝓤 : URA M) (H : Heap 𝓤) (A : Atoms 𝓤) (at-mem : 
 module _ {M : Type 1} (𝓤 : URA M) (H : Heap 𝓤) (A : Atoms 𝓤) (W : Given 𝓤 H A) (at-mem : Memory → SProp 𝓤) (run : Routine → Fun 𝓤) (κ₀ κ₁ κ₂ κ₃ κ₄ : Lft) (q₀ q₁ q₂ q₃ q₄ : Share)
     (state : RowState) (tile : ℤ) (layer : ℕ) (row : RefT (List ℕ)) (layers : RefT (List ℕ)) (colors : RefT (List Float)) (count : ℕ) (queue : RefT (List CarryRecord)) (plane : RefT (List Float))
     (is₀ : Is S.the-row state (LL.vals S.the-type S′.the-laws state)) (is₁ : Is i32 tile (sint-vals w32 tile)) (is₂ : Is u32 layer (uint-vals w32 layer)) (room₃ : Room u64 (length (row .now))) (room₄ : Room u32 (length (layers .now))) (room₅ : Room f32 (length (colors .now))) (is₆ : Is usize count (uint-vals w64 count)) (room₇ : Room Rec.the-row (length (queue .now))) (room₈ : Room f32 (length (plane .now))) where
+  -- the call, with a queue
+  abbrev call : lent.Columns → PaintCall
+  call k = paintCall (stateIn state) tile layer (row .now) (lent.lentTable (layers .now) (colors .now) count) k
+
   -- the machine values of the parameters
   abbrev v₀ : Val
   v₀ = LL.val S.the-type S′.the-laws state
@@ -167,9 +173,9 @@ module _ {M : Type 1} (𝓤 : URA M) (H : Heap 𝓤) (A : Atoms 𝓤) (W : Given
     Last = Lasts g.ended (κ₀, (κ₁, (κ₂, (κ₄, tt)))) passed
 
     abbrev Said : Painted → Last → Type 0
-    Said r ws = PaintsLayer state tile layer (row .now) (layers .now) (colors .now) count (idsLent c) (coversLent c) (plane .now) r (ws .1 .1 .1 .1 .1 .1 .1 .1 .0)
+    Said r ws = PaintsLayer (paintOf (call (lentColumns c)) (plane .now)) r (ws .1 .1 .1 .1 .1 .1 .1 .1 .0)
 
-  exits : (r : Painted) (v : Val) (us₈ : List Float) → PaintsLayer state tile layer (row .now) (layers .now) (colors .now) count (idsOf (queue .now)) (coversOf (queue .now)) (plane .now) r us₈ → Is O.the-row r (v ∷ []) → length us₈ ≡ length (plane .now)
+  exits : (r : Painted) (v : Val) (us₈ : List Float) → PaintsLayer (paintOf (call (columnsFor (queue .now))) (plane .now)) r us₈ → Is O.the-row r (v ∷ []) → length us₈ ≡ length (plane .now)
       → ent 𝓤 (⋆ 𝓤 H A ((‵ (flft κ₀ q₀) ⊛ ‵ (flft κ₁ q₁) ⊛ ‵ (flft κ₂ q₂) ⊛ ‵ (flft κ₄ q₄) ⊛ ‵ ftrue) ∷ (‵ (flft κ₃ q₃) ⊛ ‵ ftrue) ∷ ‵ (finally f32 (plane .name) us₈) ∷ ‵ SRow ∷ ‵ SLayers ∷ ‵ SColors ∷ ‵ SQueue ∷ [])) (Post v)
   exits r v us₈ e is same₈ =
       qed W ((‵ (flft κ₀ q₀) ⊛ ‵ (flft κ₁ q₁) ⊛ ‵ (flft κ₂ q₂) ⊛ ‵ (flft κ₄ q₄) ⊛ ‵ ftrue) ∷ (‵ (flft κ₃ q₃) ⊛ ‵ ftrue) ∷ ‵ (finally f32 (plane .name) us₈) ∷ ‵ SRow ∷ ‵ SLayers ∷ ‵ SColors ∷ ‵ SQueue ∷ []) ∵
@@ -220,7 +226,7 @@ module _ {M : Type 1} (𝓤 : URA M) (H : Heap 𝓤) (A : Atoms 𝓤) (W : Given
         forget ! 25 refl $ forget ! 27 refl $ forget ! 29 refl $ forget ! 31 refl $ move ! (31 ∷ 32 ∷ []) $ free1 ! $ move ! (29 ∷ 30 ∷ []) $ free1 ! $ move ! (27 ∷ 28 ∷ []) $ free1 ! $ move ! (25 ∷ 26 ∷ []) $
         free1 ! $ move ! (23 ∷ 24 ∷ []) $ free1 ! $ move ! (21 ∷ 22 ∷ []) $ free1 ! $ move ! (19 ∷ 20 ∷ []) $ free1 ! $ move ! (17 ∷ 18 ∷ []) $ free1 ! $ move ! (15 ∷ 16 ∷ []) $ free1 ! $
         move ! (13 ∷ 14 ∷ []) $ free1 ! $ move ! (11 ∷ 12 ∷ []) $ free1 ! $ move ! (9 ∷ 10 ∷ []) $ free1 ! $ move ! (7 ∷ 8 ∷ []) $ free1 ! $ free0 ! $ keep ! (0 ∷ 5 ∷ 1 ∷ 4 ∷ 3 ∷ 2 ∷ 6 ∷ []) $
-        by ! (exits r v (ws .1 .1 .1 .1 .1 .1 .1 .1 .0) (painted-records state tile layer (row .now) (layers .now) (colors .now) count (plane .now) r (ws .1 .1 .1 .1 .1 .1 .1 .1 .0) (queue .now) c e told) is same₈))))))))))))))))))))))))
+        by ! (exits r v (ws .1 .1 .1 .1 .1 .1 .1 .1 .0) (painted-records (call (columnsFor (queue .now))) (plane .now) (queue .now) c e told) is same₈))))))))))))))))))))))))
 
 module _ {M : Type 1} (𝓤 : URA M) (H : Heap 𝓤) (A : Atoms 𝓤) (W : Given 𝓤 H A) (at-mem : Memory → SProp 𝓤) (run : Routine → Fun 𝓤) where
   walks : (calls : Calls 𝓤 H) (Λ : Loops 𝓤 H) → FmC 𝓤 H (W .laws) calls → Known 𝓤 H A at-mem run calls → Walks 𝓤 H A f.ended stayed (WpFn 𝓤 H calls Λ code.function) (f.clauses 𝓤 H A at-mem run)

@@ -18,6 +18,7 @@ use denote.Ref.{RefT}
 use denote.Signature.{plain}
 use denote.Slice.{sliceVal, ShrSlice, MutSlice, Room, finally, slice-vals, shr-slice-tells, mut-slice-tells, shr-slice-copy}
 use denote.Steps.{only, owned, facts, heard, nothing}
+use denote.Enum.Laws as EL
 use denote.Struct.Laws as LL
 use denote.Triple.Entry.{Args, Vals, onEntry}
 use denote.Triple.Spec.{Meets, tripleOf}
@@ -33,26 +34,27 @@ use lib.IntN.{ℤ}
 use lib.ListN.{length}
 use mir.Syntax.{named, w32, w64, tyArray}
 use mir.Val.{Val, vint, ofZ}
-use Rattle.tile_row.specs.declared.RowState.{RowState}
+use Rattle.row_statements.specs.declared.RowState.{RowState}
 use Rattle.cached_tile.specs.declared.kept.Kept.{Kept}
 use Rattle.styling.specs.declared.Color.{Color}
 use Rattle.layer_workbench.specs.declared.PreviousClear.{PreviousClear}
-use Rattle.tile_row.specs.declared.working.TileWorked.{TileWorked}
-use Rattle.queue_records.specs.Records.{idsOf, coversOf}
+use Rattle.row_statements.specs.declared.TileWorked.{TileWorked}
 use Rattle.queue_records.specs.declared.CarryRecord.{CarryRecord}
-use Rattle.tile_row.specs.TileWork.{workOf, GivesWork}
-use Rattle.tile_row_records.proofs.Lending.{argsWith}
+use Rattle.row_statements.specs.Lent as lent
+use Rattle.row_statements.specs.State.{stateIn}
+use Rattle.row_statements.specs.TileWork.{WorkCall, WorkLent, workCall, workLent, workOf, GivesWork}
+use Rattle.tile_row_records.specs.Lent.{columnsFor}
 use Rattle.queue_records.proofs.LentArray.{Lies, lends-shared, shared-back}
-use Rattle.tile_row.proofs.RowState as S
-use Rattle.tile_row.proofs.RowState.Laws as S′
+use Rattle.row_statements.proofs.RowState as S
+use Rattle.row_statements.proofs.RowState.Laws as S′
 use Rattle.cached_tile.proofs.kept.Kept as K
 use Rattle.cached_tile.proofs.kept.Kept.Laws as K′
 use Rattle.styling.proofs.Color as Co
 use Rattle.styling.proofs.Color.Laws as Co′
 use Rattle.layer_workbench.proofs.PreviousClear as Pr
 use Rattle.layer_workbench.proofs.PreviousClear.Laws as Pr′
-use Rattle.tile_row.proofs.working.TileWorked as O
-use Rattle.tile_row.proofs.working.TileWorked.Laws as O′
+use Rattle.row_statements.proofs.TileWorked as O
+use Rattle.row_statements.proofs.TileWorked.Laws as O′
 use Rattle.queue_records.proofs.CarryRecord as Rec
 use Rattle.queue_records.proofs.CarryRecord.Laws as Rec′
 use Rattle.tile_row_records.proofs.working.work_tile as g
@@ -95,8 +97,19 @@ abbrev Callee : {M : Type 1} (𝓤 : URA M) (H : Heap 𝓤) (A : Atoms 𝓤) (at
 Callee 𝓤 H A at-mem run = tripleOf 𝓤 H A g.signature (g.spec 𝓤 H A at-mem run)
 
 module _ {M : Type 1} (𝓤 : URA M) (H : Heap 𝓤) (A : Atoms 𝓤) (W : Given 𝓤 H A) (at-mem : Memory → SProp 𝓤) (run : Routine → Fun 𝓤) (κ₀ κ₁ κ₂ κ₃ κ₄ κ₅ κ₆ κ₇ κ₈ : Lft) (q₀ q₁ q₂ q₃ q₄ q₅ q₆ q₇ q₈ : Share)
-    (state : RowState) (tile : ℤ) (row : RefT (List ℕ)) (layers : RefT (List ℕ)) (colors : RefT (List Float)) (count : ℕ) (kept : Kept) (clear : Color) (previous : PreviousClear) (queue : (List CarryRecord)) (next-ids : RefT (List ℕ)) (next-covers : RefT (List ℤ)) (list-ids : RefT (List ℕ)) (list-covers : RefT (List ℤ)) (list-segments : RefT (List Bool)) (list-shown : RefT (List Bool))
-    (is₀ : Is S.the-row state (LL.vals S.the-type S′.the-laws state)) (is₁ : Is i32 tile (sint-vals w32 tile)) (room₂ : Room u64 (length (row .now))) (room₃ : Room u32 (length (layers .now))) (room₄ : Room f32 (length (colors .now))) (is₅ : Is usize count (uint-vals w64 count)) (is₆ : Is K.the-row kept (LL.vals K.the-type K′.the-laws kept)) (is₇ : Is Co.the-row clear (LL.vals Co.the-type Co′.the-laws clear)) (is₈ : Is Pr.the-row previous (LL.vals Pr.the-type Pr′.the-laws previous)) (is₉ : Is QueueArray queue (array-vals rec-vals queue)) (room₁₀ : Room u32 (length (next-ids .now))) (room₁₁ : Room i8 (length (next-covers .now))) (room₁₂ : Room u32 (length (list-ids .now))) (room₁₃ : Room i8 (length (list-covers .now))) (room₁₄ : Room bool (length (list-segments .now))) (room₁₅ : Room bool (length (list-shown .now))) where
+    (state : RowState) (tile : ℤ) (row : RefT (List ℕ)) (layers : RefT (List ℕ)) (colors : RefT (List Float)) (count : ℕ) (kept : Kept) (clear : Color) (previous : PreviousClear) (queue : (List CarryRecord)) (next-ids : RefT (List ℕ)) (next-covers : RefT (List ℤ)) (list-ids : RefT (List ℕ)) (list-covers : RefT (List ℤ)) (list-segments : RefT (List Bool)) (list-unmasked : RefT (List Bool))
+    (is₀ : Is S.the-row state (LL.vals S.the-type S′.the-laws state)) (is₁ : Is i32 tile (sint-vals w32 tile)) (room₂ : Room u64 (length (row .now))) (room₃ : Room u32 (length (layers .now))) (room₄ : Room f32 (length (colors .now))) (is₅ : Is usize count (uint-vals w64 count)) (is₆ : Is K.the-row kept (LL.vals K.the-type K′.the-laws kept)) (is₇ : Is Co.the-row clear (LL.vals Co.the-type Co′.the-laws clear)) (is₈ : Is Pr.the-row previous (EL.vals Pr.the-type Pr′.the-laws previous)) (is₉ : Is QueueArray queue (array-vals rec-vals queue)) (room₁₀ : Room u32 (length (next-ids .now))) (room₁₁ : Room i8 (length (next-covers .now))) (room₁₂ : Room u32 (length (list-ids .now))) (room₁₃ : Room i8 (length (list-covers .now))) (room₁₄ : Room bool (length (list-segments .now))) (room₁₅ : Room bool (length (list-unmasked .now))) where
+  -- the call
+  abbrev call : WorkCall
+  call = workCall (stateIn state) tile (row .now) (lent.lentTable (layers .now) (colors .now) count) kept clear previous (columnsFor queue)
+
+  -- six lists as the memory that is lent
+  abbrev written : List ℕ → List ℤ → List ℕ → List ℤ → List Bool → List Bool → WorkLent
+  written ids covers l c s u = workLent (lent.columns ids covers) (lent.listColumns l c s u)
+
+  abbrev memory : WorkLent
+  memory = written (next-ids .now) (next-covers .now) (list-ids .now) (list-covers .now) (list-segments .now) (list-unmasked .now)
+
   -- the machine values of the parameters
   abbrev v₀ : Val
   v₀ = LL.val S.the-type S′.the-laws state
@@ -123,7 +136,7 @@ module _ {M : Type 1} (𝓤 : URA M) (H : Heap 𝓤) (A : Atoms 𝓤) (W : Given
   v₇ = LL.val Co.the-type Co′.the-laws clear
 
   abbrev v₈ : Val
-  v₈ = LL.val Pr.the-type Pr′.the-laws previous
+  v₈ = EL.val Pr.the-type Pr′.the-laws previous
 
   abbrev v₉ : Val
   v₉ = only (array-vals rec-vals queue)
@@ -144,10 +157,10 @@ module _ {M : Type 1} (𝓤 : URA M) (H : Heap 𝓤) (A : Atoms 𝓤) (W : Given
   v₁₄ = sliceVal (list-segments .ptr) (length (list-segments .now))
 
   abbrev v₁₅ : Val
-  v₁₅ = sliceVal (list-shown .ptr) (length (list-shown .now))
+  v₁₅ = sliceVal (list-unmasked .ptr) (length (list-unmasked .now))
 
   abbrev x : Args f.signature (κ₀, (κ₁, (κ₂, (κ₃, (κ₄, (κ₅, (κ₆, (κ₇, (κ₈, tt)))))))))
-  x = (state, (tile, (row, (layers, (colors, (count, (kept, (clear, (previous, (queue, (next-ids, (next-covers, (list-ids, (list-covers, (list-segments, (list-shown, tt))))))))))))))))
+  x = (state, (tile, (row, (layers, (colors, (count, (kept, (clear, (previous, (queue, (next-ids, (next-covers, (list-ids, (list-covers, (list-segments, (list-unmasked, tt))))))))))))))))
 
   abbrev at : Vals f.signature (κ₀, (κ₁, (κ₂, (κ₃, (κ₄, (κ₅, (κ₆, (κ₇, (κ₈, tt)))))))))
   at = (v₀ ∷ [], (v₁ ∷ [], (v₂ ∷ [], (v₃ ∷ [], (v₄ ∷ [], (v₅ ∷ [], (v₆ ∷ [], (v₇ ∷ [], (v₈ ∷ [], (v₉ ∷ [], (v₁₀ ∷ [], (v₁₁ ∷ [], (v₁₂ ∷ [], (v₁₃ ∷ [], (v₁₄ ∷ [], (v₁₅ ∷ [], tt))))))))))))))))
@@ -181,12 +194,12 @@ module _ {M : Type 1} (𝓤 : URA M) (H : Heap 𝓤) (A : Atoms 𝓤) (W : Given
   MListSegments = MutSlice (named 7) κ₇ bool .own list-segments (v₁₄ ∷ [])
 
   abbrev MListShown : Fml
-  MListShown = MutSlice (named 8) κ₈ bool .own list-shown (v₁₅ ∷ [])
+  MListShown = MutSlice (named 8) κ₈ bool .own list-unmasked (v₁₅ ∷ [])
 
   -- ---- the call: what its triple binds outside, the array at the block l lent for the lifetime ν under the name γ, and what it asks
   module _ (l ν : ℕ) (γ : GName) where
     abbrev passed : Args g.signature (κ₀, (κ₁, (κ₂, (ν ∷ [], (κ₃, (κ₄, (κ₅, (κ₆, (κ₇, (κ₈, tt))))))))))
-    passed = (state, (tile, (row, (layers, (colors, (count, (kept, (clear, (previous, (record { ptr = (l, 0); name = γ; now = queue }, (next-ids, (next-covers, (list-ids, (list-covers, (list-segments, (list-shown, tt))))))))))))))))
+    passed = (state, (tile, (row, (layers, (colors, (count, (kept, (clear, (previous, (record { ptr = (l, 0); name = γ; now = queue }, (next-ids, (next-covers, (list-ids, (list-covers, (list-segments, (list-unmasked, tt))))))))))))))))
 
     abbrev to-callee : Callee 𝓤 H A at-mem run .Ghost
     to-callee = (((κ₀, (κ₁, (κ₂, (ν ∷ [], (κ₃, (κ₄, (κ₅, (κ₆, (κ₇, (κ₈, tt)))))))))), (q₀, (q₁, (q₂, (fullShare, (q₃, (q₄, (q₅, (q₆, (q₇, (q₈, tt)))))))))), tt, passed, (v₀ ∷ [], (v₁ ∷ [], (v₂ ∷ [], (v₃ ∷ [], (v₄ ∷ [], (v₅ ∷ [], (v₆ ∷ [], (v₇ ∷ [], (v₈ ∷ [], (sliceVal (l, 0) 256 ∷ [], (v₁₀ ∷ [], (v₁₁ ∷ [], (v₁₂ ∷ [], (v₁₃ ∷ [], (v₁₄ ∷ [], (v₁₅ ∷ [], tt))))))))))))))))), tt)
@@ -201,18 +214,18 @@ module _ {M : Type 1} (𝓤 : URA M) (H : Heap 𝓤) (A : Atoms 𝓤) (W : Given
     Last = Lasts g.ended (κ₀, (κ₁, (κ₂, (ν ∷ [], (κ₃, (κ₄, (κ₅, (κ₆, (κ₇, (κ₈, tt)))))))))) passed
 
     abbrev Said : TileWorked → Last → Type 0
-    Said r ws = GivesWork (workOf (argsWith state tile (row .now) (layers .now) (colors .now) count kept clear previous (idsOf queue) (coversOf queue)) (record { queueIds = next-ids .now; queueCovers = next-covers .now; listIds = list-ids .now; listCovers = list-covers .now; listSegments = list-segments .now; listShown = list-shown .now })) r (record { queueIds = (ws .1 .1 .1 .1 .1 .1 .1 .1 .1 .1 .0); queueCovers = (ws .1 .1 .1 .1 .1 .1 .1 .1 .1 .1 .1 .0); listIds = (ws .1 .1 .1 .1 .1 .1 .1 .1 .1 .1 .1 .1 .0); listCovers = (ws .1 .1 .1 .1 .1 .1 .1 .1 .1 .1 .1 .1 .1 .0); listSegments = (ws .1 .1 .1 .1 .1 .1 .1 .1 .1 .1 .1 .1 .1 .1 .0); listShown = (ws .1 .1 .1 .1 .1 .1 .1 .1 .1 .1 .1 .1 .1 .1 .1 .0) })
+    Said r ws = GivesWork (workOf call memory) r (written (ws .1 .1 .1 .1 .1 .1 .1 .1 .1 .1 .0) (ws .1 .1 .1 .1 .1 .1 .1 .1 .1 .1 .1 .0) (ws .1 .1 .1 .1 .1 .1 .1 .1 .1 .1 .1 .1 .0) (ws .1 .1 .1 .1 .1 .1 .1 .1 .1 .1 .1 .1 .1 .0) (ws .1 .1 .1 .1 .1 .1 .1 .1 .1 .1 .1 .1 .1 .1 .0) (ws .1 .1 .1 .1 .1 .1 .1 .1 .1 .1 .1 .1 .1 .1 .1 .0))
 
-  exits : (r : TileWorked) (v : Val) (us₁₀ : List ℕ) (us₁₁ : List ℤ) (us₁₂ : List ℕ) (us₁₃ : List ℤ) (us₁₄ : List Bool) (us₁₅ : List Bool) → GivesWork (workOf (argsWith state tile (row .now) (layers .now) (colors .now) count kept clear previous (idsOf queue) (coversOf queue)) (record { queueIds = next-ids .now; queueCovers = next-covers .now; listIds = list-ids .now; listCovers = list-covers .now; listSegments = list-segments .now; listShown = list-shown .now })) r (record { queueIds = us₁₀; queueCovers = us₁₁; listIds = us₁₂; listCovers = us₁₃; listSegments = us₁₄; listShown = us₁₅ }) → Is O.the-row r (v ∷ []) → length us₁₀ ≡ length (next-ids .now) → length us₁₁ ≡ length (next-covers .now) → length us₁₂ ≡ length (list-ids .now) → length us₁₃ ≡ length (list-covers .now) → length us₁₄ ≡ length (list-segments .now) → length us₁₅ ≡ length (list-shown .now)
-      → ent 𝓤 (⋆ 𝓤 H A (‵ (flft κ₀ q₀) ∷ ‵ (flft κ₁ q₁) ∷ ‵ (flft κ₂ q₂) ∷ ‵ (flft κ₃ q₃) ∷ ‵ (flft κ₄ q₄) ∷ ‵ (flft κ₅ q₅) ∷ ‵ (flft κ₆ q₆) ∷ ‵ (flft κ₇ q₇) ∷ ‵ (flft κ₈ q₈) ∷ ‵ (finally u32 (next-ids .name) us₁₀) ∷ ‵ (finally i8 (next-covers .name) us₁₁) ∷ ‵ (finally u32 (list-ids .name) us₁₂) ∷ ‵ (finally i8 (list-covers .name) us₁₃) ∷ ‵ (finally bool (list-segments .name) us₁₄) ∷ ‵ (finally bool (list-shown .name) us₁₅) ∷ ‵ SRow ∷ ‵ SLayers ∷ ‵ SColors ∷ [])) (Post v)
+  exits : (r : TileWorked) (v : Val) (us₁₀ : List ℕ) (us₁₁ : List ℤ) (us₁₂ : List ℕ) (us₁₃ : List ℤ) (us₁₄ : List Bool) (us₁₅ : List Bool) → GivesWork (workOf call memory) r (written us₁₀ us₁₁ us₁₂ us₁₃ us₁₄ us₁₅) → Is O.the-row r (v ∷ []) → length us₁₀ ≡ length (next-ids .now) → length us₁₁ ≡ length (next-covers .now) → length us₁₂ ≡ length (list-ids .now) → length us₁₃ ≡ length (list-covers .now) → length us₁₄ ≡ length (list-segments .now) → length us₁₅ ≡ length (list-unmasked .now)
+      → ent 𝓤 (⋆ 𝓤 H A (‵ (flft κ₀ q₀) ∷ ‵ (flft κ₁ q₁) ∷ ‵ (flft κ₂ q₂) ∷ ‵ (flft κ₃ q₃) ∷ ‵ (flft κ₄ q₄) ∷ ‵ (flft κ₅ q₅) ∷ ‵ (flft κ₆ q₆) ∷ ‵ (flft κ₇ q₇) ∷ ‵ (flft κ₈ q₈) ∷ ‵ (finally u32 (next-ids .name) us₁₀) ∷ ‵ (finally i8 (next-covers .name) us₁₁) ∷ ‵ (finally u32 (list-ids .name) us₁₂) ∷ ‵ (finally i8 (list-covers .name) us₁₃) ∷ ‵ (finally bool (list-segments .name) us₁₄) ∷ ‵ (finally bool (list-unmasked .name) us₁₅) ∷ ‵ SRow ∷ ‵ SLayers ∷ ‵ SColors ∷ [])) (Post v)
   exits r v us₁₀ us₁₁ us₁₂ us₁₃ us₁₄ us₁₅ e is same₁₀ same₁₁ same₁₂ same₁₃ same₁₄ same₁₅ =
-      qed W (‵ (flft κ₀ q₀) ∷ ‵ (flft κ₁ q₁) ∷ ‵ (flft κ₂ q₂) ∷ ‵ (flft κ₃ q₃) ∷ ‵ (flft κ₄ q₄) ∷ ‵ (flft κ₅ q₅) ∷ ‵ (flft κ₆ q₆) ∷ ‵ (flft κ₇ q₇) ∷ ‵ (flft κ₈ q₈) ∷ ‵ (finally u32 (next-ids .name) us₁₀) ∷ ‵ (finally i8 (next-covers .name) us₁₁) ∷ ‵ (finally u32 (list-ids .name) us₁₂) ∷ ‵ (finally i8 (list-covers .name) us₁₃) ∷ ‵ (finally bool (list-segments .name) us₁₄) ∷ ‵ (finally bool (list-shown .name) us₁₅) ∷ ‵ SRow ∷ ‵ SLayers ∷ ‵ SColors ∷ []) ∵
+      qed W (‵ (flft κ₀ q₀) ∷ ‵ (flft κ₁ q₁) ∷ ‵ (flft κ₂ q₂) ∷ ‵ (flft κ₃ q₃) ∷ ‵ (flft κ₄ q₄) ∷ ‵ (flft κ₅ q₅) ∷ ‵ (flft κ₆ q₆) ∷ ‵ (flft κ₇ q₇) ∷ ‵ (flft κ₈ q₈) ∷ ‵ (finally u32 (next-ids .name) us₁₀) ∷ ‵ (finally i8 (next-covers .name) us₁₁) ∷ ‵ (finally u32 (list-ids .name) us₁₂) ∷ ‵ (finally i8 (list-covers .name) us₁₃) ∷ ‵ (finally bool (list-segments .name) us₁₄) ∷ ‵ (finally bool (list-unmasked .name) us₁₅) ∷ ‵ SRow ∷ ‵ SLayers ∷ ‵ SColors ∷ []) ∵
       suffices ! _ (ends-at 𝓤 H A f.ended stayed (f.clauses 𝓤 H A at-mem run) W (((κ₀, (κ₁, (κ₂, (κ₃, (κ₄, (κ₅, (κ₆, (κ₇, (κ₈, tt))))))))), (q₀, (q₁, (q₂, (q₃, (q₄, (q₅, (q₆, (q₇, (q₈, tt))))))))), tt, x, at), tt) v r (tt, (tt, (tt, (tt, (tt, (tt, (tt, (tt, (tt, (tt, (us₁₀, (us₁₁, (us₁₂, (us₁₃, (us₁₄, (us₁₅, tt)))))))))))))))) (tt, (tt, (tt, (tt, (tt, (tt, (tt, (tt, (tt, (tt, (same₁₀, (same₁₁, (same₁₂, (same₁₃, (same₁₄, (same₁₅, tt))))))))))))))))) $ says ! e $
       nothing ! $ move ! (9 ∷ 0 ∷ []) $ join ! $ move ! (8 ∷ 0 ∷ []) $ join ! $ move ! (7 ∷ 0 ∷ []) $ join ! $ move ! (6 ∷ 0 ∷ []) $ join ! $ move ! (5 ∷ 0 ∷ []) $ join ! $ move ! (4 ∷ 0 ∷ []) $
       join ! $ move ! (3 ∷ 0 ∷ []) $ join ! $ move ! (2 ∷ 0 ∷ []) $ join ! $ move ! (1 ∷ 0 ∷ []) $ join ! $ frame ! $ nothing ! $ move ! (6 ∷ 0 ∷ []) $ fjoin ! $ move ! (5 ∷ 0 ∷ []) $ fjoin ! $
       move ! (4 ∷ 0 ∷ []) $ fjoin ! $ move ! (3 ∷ 0 ∷ []) $ fjoin ! $ move ! (2 ∷ 0 ∷ []) $ fjoin ! $ move ! (1 ∷ 0 ∷ []) $ fjoin ! $
       owned ! QueueArray (Is QueueArray) (array-makes 𝓤 H A W Rec.the-row (LL.makes Rec.the-type Rec′.the-plain 𝓤 H A) 256) queue _ is₉ $ fjoin ! $
-      owned ! Pr.the-row (Is Pr.the-row) (LL.makes Pr.the-type Pr′.the-plain 𝓤 H A) previous _ is₈ $ fjoin ! $
+      owned ! Pr.the-row (Is Pr.the-row) (EL.makes Pr.the-type Pr′.the-plain 𝓤 H A) previous _ is₈ $ fjoin ! $
       owned ! Co.the-row (Is Co.the-row) (LL.makes Co.the-type Co′.the-plain 𝓤 H A) clear _ is₇ $ fjoin ! $
       owned ! K.the-row (Is K.the-row) (LL.makes K.the-type K′.the-plain 𝓤 H A) kept _ is₆ $ fjoin ! $ owned ! usize (Is usize) (uint-makes 𝓤 H A W w64) count _ is₅ $ fjoin ! $
       move ! (3 ∷ 0 ∷ []) $ fjoin ! $ move ! (2 ∷ 0 ∷ []) $ fjoin ! $ move ! (1 ∷ 0 ∷ []) $ fjoin ! $ owned ! i32 (Is i32) (sint-makes 𝓤 H A W w32) tile _ is₁ $ fjoin ! $
@@ -230,7 +243,7 @@ module _ {M : Type 1} (𝓤 : URA M) (H : Heap 𝓤) (A : Atoms 𝓤) (W : Given
         pass1 ! (init ! 56 refl (tt, (tt, (record { fits = room₂ .0 }, tt)))) $ pass1 ! (init ! 54 refl (tt, (tt, (record { fits = room₃ .0 }, tt)))) $
         pass1 ! (init ! 52 refl (tt, (tt, (record { fits = room₄ .0 }, tt)))) $ pass1 ! (init ! 50 refl (uint-lawful 𝓤 H A W w64 .typed count _ is₅ .0)) $
         pass1 ! (init ! 48 refl (LL.lawful K.the-type K′.the-laws 𝓤 H A W .typed kept _ is₆ .0)) $ pass1 ! (init ! 46 refl (LL.lawful Co.the-type Co′.the-laws 𝓤 H A W .typed clear _ is₇ .0)) $
-        pass1 ! (init ! 44 refl (LL.lawful Pr.the-type Pr′.the-laws 𝓤 H A W .typed previous _ is₈ .0)) $
+        pass1 ! (init ! 44 refl (EL.lawful Pr.the-type Pr′.the-laws 𝓤 H A W tt .typed previous _ is₈ .0)) $
         pass1 ! (init ! 42 refl (array-lawful 𝓤 H A W Rec.the-row (LL.lawful Rec.the-type Rec′.the-laws 𝓤 H A W) 256 .typed queue _ is₉ .0)) $
         pass1 ! (init ! 40 refl (tt, (tt, (record { fits = room₁₀ .0 }, tt)))) $ pass1 ! (init ! 38 refl (tt, (tt, (record { fits = room₁₁ .0 }, tt)))) $
         pass1 ! (init ! 36 refl (tt, (tt, (record { fits = room₁₂ .0 }, tt)))) $ pass1 ! (init ! 34 refl (tt, (tt, (record { fits = room₁₃ .0 }, tt)))) $
@@ -261,7 +274,7 @@ module _ {M : Type 1} (𝓤 : URA M) (H : Heap 𝓤) (A : Atoms 𝓤) (W : Given
         nothing ! $ move ! (16 ∷ 0 ∷ []) $ join ! $ move ! (16 ∷ 0 ∷ []) $ join ! $ move ! (16 ∷ 0 ∷ []) $ join ! $ move ! (16 ∷ 0 ∷ []) $ join ! $ move ! (16 ∷ 0 ∷ []) $ join ! $ move ! (16 ∷ 0 ∷ []) $
         join ! $ move ! (3 ∷ 0 ∷ []) $ join ! $ move ! (15 ∷ 0 ∷ []) $ join ! $ move ! (15 ∷ 0 ∷ []) $ join ! $ move ! (15 ∷ 0 ∷ []) $ join ! $ nothing ! $ move ! (10 ∷ 0 ∷ []) $ fjoin ! $
         move ! (10 ∷ 0 ∷ []) $ fjoin ! $ move ! (10 ∷ 0 ∷ []) $ fjoin ! $ move ! (10 ∷ 0 ∷ []) $ fjoin ! $ move ! (10 ∷ 0 ∷ []) $ fjoin ! $ move ! (10 ∷ 0 ∷ []) $ fjoin ! $ move ! (2 ∷ 0 ∷ []) $ fjoin ! $
-        owned ! Pr.the-row (Is Pr.the-row) (LL.makes Pr.the-type Pr′.the-plain 𝓤 H A) previous _ is₈ $ fjoin ! $
+        owned ! Pr.the-row (Is Pr.the-row) (EL.makes Pr.the-type Pr′.the-plain 𝓤 H A) previous _ is₈ $ fjoin ! $
         owned ! Co.the-row (Is Co.the-row) (LL.makes Co.the-type Co′.the-plain 𝓤 H A) clear _ is₇ $ fjoin ! $ owned ! K.the-row (Is K.the-row) (LL.makes K.the-type K′.the-plain 𝓤 H A) kept _ is₆ $ fjoin ! $
         owned ! usize (Is usize) (uint-makes 𝓤 H A W w64) count _ is₅ $ fjoin ! $ move ! (3 ∷ 0 ∷ []) $ fjoin ! $ move ! (4 ∷ 0 ∷ []) $ fjoin ! $ move ! (5 ∷ 0 ∷ []) $ fjoin ! $
         owned ! i32 (Is i32) (sint-makes 𝓤 H A W w32) tile _ is₁ $ fjoin ! $ owned ! S.the-row (Is S.the-row) (LL.makes S.the-type S′.the-plain 𝓤 H A) state _ is₀ $ fjoin ! $ move ! (1 ∷ 0 ∷ []) $
@@ -292,8 +305,8 @@ module _ {M : Type 1} (𝓤 : URA M) (H : Heap 𝓤) (A : Atoms 𝓤) (W : Given
 module _ {M : Type 1} (𝓤 : URA M) (H : Heap 𝓤) (A : Atoms 𝓤) (W : Given 𝓤 H A) (at-mem : Memory → SProp 𝓤) (run : Routine → Fun 𝓤) where
   walks : (calls : Calls 𝓤 H) (Λ : Loops 𝓤 H) → FmC 𝓤 H (W .laws) calls → Triple 𝓤 (calls #callee) (Callee 𝓤 H A at-mem run) → Walks 𝓤 H A f.ended stayed (WpFn 𝓤 H calls Λ code.function) (f.clauses 𝓤 H A at-mem run)
   walks calls Λ fm known =
-      walked 𝓤 H A f.ended stayed (f.clauses 𝓤 H A at-mem run) (WpFn 𝓤 H calls Λ code.function) (λ κs. (LL.vals S.the-type S′.the-laws, (sint-vals w32, (slice-vals, (slice-vals, (slice-vals, (uint-vals w64, (LL.vals K.the-type K′.the-laws, (LL.vals Co.the-type Co′.the-laws, (LL.vals Pr.the-type Pr′.the-laws, (array-vals rec-vals, (slice-vals, (slice-vals, (slice-vals, (slice-vals, (slice-vals, (slice-vals, tt)))))))))))))))))
-      (λ κs. (LL.tells S.the-type S′.the-laws, (sint-tells w32, (shr-slice-tells (named 0) (κs .0) u64, (shr-slice-tells (named 1) (κs .1 .0) u32, (shr-slice-tells (named 2) (κs .1 .1 .0) f32, (uint-tells w64, (LL.tells K.the-type K′.the-laws, (LL.tells Co.the-type Co′.the-laws, (LL.tells Pr.the-type Pr′.the-laws, (array-tells Rec.the-row rec-vals rec-tells 256, (mut-slice-tells (named 3) (κs .1 .1 .1 .0) u32, (mut-slice-tells (named 4) (κs .1 .1 .1 .1 .0) i8, (mut-slice-tells (named 5) (κs .1 .1 .1 .1 .1 .0) u32, (mut-slice-tells (named 6) (κs .1 .1 .1 .1 .1 .1 .0) i8, (mut-slice-tells (named 7) (κs .1 .1 .1 .1 .1 .1 .1 .0) bool, (mut-slice-tells (named 8) (κs .1 .1 .1 .1 .1 .1 .1 .1 .0) bool, tt)))))))))))))))))
+      walked 𝓤 H A f.ended stayed (f.clauses 𝓤 H A at-mem run) (WpFn 𝓤 H calls Λ code.function) (λ κs. (LL.vals S.the-type S′.the-laws, (sint-vals w32, (slice-vals, (slice-vals, (slice-vals, (uint-vals w64, (LL.vals K.the-type K′.the-laws, (LL.vals Co.the-type Co′.the-laws, (EL.vals Pr.the-type Pr′.the-laws, (array-vals rec-vals, (slice-vals, (slice-vals, (slice-vals, (slice-vals, (slice-vals, (slice-vals, tt)))))))))))))))))
+      (λ κs. (LL.tells S.the-type S′.the-laws, (sint-tells w32, (shr-slice-tells (named 0) (κs .0) u64, (shr-slice-tells (named 1) (κs .1 .0) u32, (shr-slice-tells (named 2) (κs .1 .1 .0) f32, (uint-tells w64, (LL.tells K.the-type K′.the-laws, (LL.tells Co.the-type Co′.the-laws, (EL.tells Pr.the-type Pr′.the-laws, (array-tells Rec.the-row rec-vals rec-tells 256, (mut-slice-tells (named 3) (κs .1 .1 .1 .0) u32, (mut-slice-tells (named 4) (κs .1 .1 .1 .1 .0) i8, (mut-slice-tells (named 5) (κs .1 .1 .1 .1 .1 .0) u32, (mut-slice-tells (named 6) (κs .1 .1 .1 .1 .1 .1 .0) i8, (mut-slice-tells (named 7) (κs .1 .1 .1 .1 .1 .1 .1 .0) bool, (mut-slice-tells (named 8) (κs .1 .1 .1 .1 .1 .1 .1 .1 .0) bool, tt)))))))))))))))))
       (λ κs qs bounds a _ are. via 𝓤 _ (fst∗ 𝓤 _ (emp 𝓤))
       (walk 𝓤 H A W at-mem run (κs .0) (κs .1 .0) (κs .1 .1 .0) (κs .1 .1 .1 .0) (κs .1 .1 .1 .1 .0) (κs .1 .1 .1 .1 .1 .0) (κs .1 .1 .1 .1 .1 .1 .0) (κs .1 .1 .1 .1 .1 .1 .1 .0) (κs .1 .1 .1 .1 .1 .1 .1 .1 .0) (qs .0) (qs .1 .0) (qs .1 .1 .0) (qs .1 .1 .1 .0) (qs .1 .1 .1 .1 .0) (qs .1 .1 .1 .1 .1 .0) (qs .1 .1 .1 .1 .1 .1 .0) (qs .1 .1 .1 .1 .1 .1 .1 .0) (qs .1 .1 .1 .1 .1 .1 .1 .1 .0)
       (a .0) (a .1 .0) (a .1 .1 .0) (a .1 .1 .1 .0) (a .1 .1 .1 .1 .0) (a .1 .1 .1 .1 .1 .0) (a .1 .1 .1 .1 .1 .1 .0) (a .1 .1 .1 .1 .1 .1 .1 .0) (a .1 .1 .1 .1 .1 .1 .1 .1 .0) (a .1 .1 .1 .1 .1 .1 .1 .1 .1 .0) (a .1 .1 .1 .1 .1 .1 .1 .1 .1 .1 .0) (a .1 .1 .1 .1 .1 .1 .1 .1 .1 .1 .1 .0) (a .1 .1 .1 .1 .1 .1 .1 .1 .1 .1 .1 .1 .0) (a .1 .1 .1 .1 .1 .1 .1 .1 .1 .1 .1 .1 .1 .0) (a .1 .1 .1 .1 .1 .1 .1 .1 .1 .1 .1 .1 .1 .1 .0) (a .1 .1 .1 .1 .1 .1 .1 .1 .1 .1 .1 .1 .1 .1 .1 .0)

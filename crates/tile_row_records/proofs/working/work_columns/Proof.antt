@@ -6,6 +6,10 @@ use native.Mathlib.Omega.{arith}
 use borrow.Author.Needs.{needs}
 use lib.Seq.{length-take-le}
 use mir.Facts.{toZ-ofZ}
+use Rattle.row_statements.specs.Lent.{columns, listColumns, lentTable}
+use Rattle.row_statements.specs.State.{stateIn}
+use Rattle.row_statements.specs.TileWork.{workCall, workLent}
+use Rattle.tile_row_records.specs.Lent.{lentColumns}
 use Rattle.tile_row_records.proofs.Lending.{worked-lent}
 use Rattle.tile_row_records.proofs.Wide.{ids-wide, covers-wide}
 use Rattle.tile_row_records.proofs.working.work_columns.Statement.{statement}
@@ -65,8 +69,13 @@ returns c =
     let n = c .before .before .before .before .before .before .before .before .before .before .before .before .before .before .before .before .before .before .before .before .before .lesser in
     let b = c .before .before .before .before .before .before .before .before .before .before .before .before .before .before .before .before .before .before .before .before .before .before .before .before .before .before .before .before .before in
     let a = b .args in
-    worked-lent (a .state) (a .tile) (a .row .now) (a .layers .now) (a .colors .now) (a .count) (a .kept) (a .clear) (a .previous) (a .columns)
-    (record { queueIds = a .next-ids .now; queueCovers = a .next-covers .now; listIds = a .list-ids .now; listCovers = a .list-covers .now; listSegments = a .list-segments .now; listShown = a .list-shown .now }) _ _ (n .result) (n .ensures) (rw (toZ-ofZ (b .fits .tile)) at (c .before .before .before .before .before .before .before .before .before .before .work-tile .ensures))
+    worked-lent
+    (workCall (stateIn (a .state)) (a .tile) (a .row .now) (lentTable (a .layers .now) (a .colors .now) (a .count)) (a .kept) (a .clear) (a .previous) (lentColumns (a .columns)))
+    (workLent (columns (a .next-ids .now) (a .next-covers .now)) (listColumns (a .list-ids .now) (a .list-covers .now) (a .list-segments .now) (a .list-unmasked .now)))
+    (a .columns)
+    (n .result)
+    (n .ensures)
+    (rw (toZ-ofZ (b .fits .tile)) at (c .before .before .before .before .before .before .before .before .before .before .work-tile .ensures))
 
 pub work-columns-spec : {M : Type 1} → statement M
 work-columns-spec =

@@ -17,6 +17,7 @@ use denote.Ref.{RefT}
 use denote.Signature.{plain}
 use denote.Slice.{sliceVal, ShrSlice, MutSlice, Room, finally, slice-vals, shr-slice-tells, mut-slice-tells, shr-slice-copy}
 use denote.Steps.{owned, facts, heard, nothing}
+use denote.Enum.Laws as EL
 use denote.Struct.Laws as LL
 use denote.Triple.Entry.{Args, Vals, onEntry}
 use denote.Triple.Spec.{Meets, tripleOf}
@@ -31,28 +32,29 @@ use lib.IntN.{ℤ}
 use lib.ListN.{length}
 use mir.Syntax.{named, w32, w64}
 use mir.Val.{Val, vint, ofZ}
-use Rattle.tile_row.specs.declared.RowState.{RowState}
+use Rattle.row_statements.specs.declared.RowState.{RowState}
 use Rattle.cached_tile.specs.declared.kept.Kept.{Kept}
 use Rattle.styling.specs.declared.Color.{Color}
 use Rattle.layer_workbench.specs.declared.PreviousClear.{PreviousClear}
-use Rattle.tile_row.specs.declared.working.TileWorked.{TileWorked}
+use Rattle.row_statements.specs.declared.TileWorked.{TileWorked}
 use Rattle.queue_records.specs.declared.Columns.{Columns}
-use Rattle.queue_records.specs.Records.{idsOf, coversOf, columnsOf}
+use Rattle.queue_records.specs.Records.{columnsOf}
 use Rattle.queue_records.specs.declared.CarryRecord.{CarryRecord}
-use Rattle.tile_row.specs.TileWork.{workOf, GivesWork}
-use Rattle.tile_row_records.proofs.Lending.{argsWith}
-use Rattle.tile_row_records.specs.Lent.{idsLent, coversLent}
+use Rattle.row_statements.specs.Lent as lent
+use Rattle.row_statements.specs.State.{stateIn}
+use Rattle.row_statements.specs.TileWork.{WorkCall, WorkLent, workCall, workLent, workOf, GivesWork}
+use Rattle.tile_row_records.specs.Lent.{columnsFor, lentColumns}
 use Rattle.tile_row_records.proofs.SameAnswers.{worked-records}
-use Rattle.tile_row.proofs.RowState as S
-use Rattle.tile_row.proofs.RowState.Laws as S′
+use Rattle.row_statements.proofs.RowState as S
+use Rattle.row_statements.proofs.RowState.Laws as S′
 use Rattle.cached_tile.proofs.kept.Kept as K
 use Rattle.cached_tile.proofs.kept.Kept.Laws as K′
 use Rattle.styling.proofs.Color as Co
 use Rattle.styling.proofs.Color.Laws as Co′
 use Rattle.layer_workbench.proofs.PreviousClear as Pr
 use Rattle.layer_workbench.proofs.PreviousClear.Laws as Pr′
-use Rattle.tile_row.proofs.working.TileWorked as O
-use Rattle.tile_row.proofs.working.TileWorked.Laws as O′
+use Rattle.row_statements.proofs.TileWorked as O
+use Rattle.row_statements.proofs.TileWorked.Laws as O′
 use Rattle.queue_records.proofs.Columns as C
 use Rattle.queue_records.proofs.Columns.Laws as C′
 use Rattle.queue_records.proofs.CarryRecord as Rec
@@ -96,8 +98,19 @@ module _ {M : Type 1} (𝓤 : URA M) (H : Heap 𝓤) (A : Atoms 𝓤) (at-mem : 
     pub of-callee : Triple 𝓤 (calls #callee) Callee
 
 module _ {M : Type 1} (𝓤 : URA M) (H : Heap 𝓤) (A : Atoms 𝓤) (W : Given 𝓤 H A) (at-mem : Memory → SProp 𝓤) (run : Routine → Fun 𝓤) (κ₀ κ₁ κ₂ κ₃ κ₄ κ₅ κ₆ κ₇ κ₈ κ₉ : Lft) (q₀ q₁ q₂ q₃ q₄ q₅ q₆ q₇ q₈ q₉ : Share)
-    (state : RowState) (tile : ℤ) (row : RefT (List ℕ)) (layers : RefT (List ℕ)) (colors : RefT (List Float)) (count : ℕ) (kept : Kept) (clear : Color) (previous : PreviousClear) (queue : RefT (List CarryRecord)) (next-ids : RefT (List ℕ)) (next-covers : RefT (List ℤ)) (list-ids : RefT (List ℕ)) (list-covers : RefT (List ℤ)) (list-segments : RefT (List Bool)) (list-shown : RefT (List Bool))
-    (is₀ : Is S.the-row state (LL.vals S.the-type S′.the-laws state)) (is₁ : Is i32 tile (sint-vals w32 tile)) (room₂ : Room u64 (length (row .now))) (room₃ : Room u32 (length (layers .now))) (room₄ : Room f32 (length (colors .now))) (is₅ : Is usize count (uint-vals w64 count)) (is₆ : Is K.the-row kept (LL.vals K.the-type K′.the-laws kept)) (is₇ : Is Co.the-row clear (LL.vals Co.the-type Co′.the-laws clear)) (is₈ : Is Pr.the-row previous (LL.vals Pr.the-type Pr′.the-laws previous)) (room₉ : Room Rec.the-row (length (queue .now))) (room₁₀ : Room u32 (length (next-ids .now))) (room₁₁ : Room i8 (length (next-covers .now))) (room₁₂ : Room u32 (length (list-ids .now))) (room₁₃ : Room i8 (length (list-covers .now))) (room₁₄ : Room bool (length (list-segments .now))) (room₁₅ : Room bool (length (list-shown .now))) where
+    (state : RowState) (tile : ℤ) (row : RefT (List ℕ)) (layers : RefT (List ℕ)) (colors : RefT (List Float)) (count : ℕ) (kept : Kept) (clear : Color) (previous : PreviousClear) (queue : RefT (List CarryRecord)) (next-ids : RefT (List ℕ)) (next-covers : RefT (List ℤ)) (list-ids : RefT (List ℕ)) (list-covers : RefT (List ℤ)) (list-segments : RefT (List Bool)) (list-unmasked : RefT (List Bool))
+    (is₀ : Is S.the-row state (LL.vals S.the-type S′.the-laws state)) (is₁ : Is i32 tile (sint-vals w32 tile)) (room₂ : Room u64 (length (row .now))) (room₃ : Room u32 (length (layers .now))) (room₄ : Room f32 (length (colors .now))) (is₅ : Is usize count (uint-vals w64 count)) (is₆ : Is K.the-row kept (LL.vals K.the-type K′.the-laws kept)) (is₇ : Is Co.the-row clear (LL.vals Co.the-type Co′.the-laws clear)) (is₈ : Is Pr.the-row previous (EL.vals Pr.the-type Pr′.the-laws previous)) (room₉ : Room Rec.the-row (length (queue .now))) (room₁₀ : Room u32 (length (next-ids .now))) (room₁₁ : Room i8 (length (next-covers .now))) (room₁₂ : Room u32 (length (list-ids .now))) (room₁₃ : Room i8 (length (list-covers .now))) (room₁₄ : Room bool (length (list-segments .now))) (room₁₅ : Room bool (length (list-unmasked .now))) where
+  -- the call, with a queue
+  abbrev call : lent.Columns → WorkCall
+  call k = workCall (stateIn state) tile (row .now) (lent.lentTable (layers .now) (colors .now) count) kept clear previous k
+
+  -- six lists as the memory that is lent
+  abbrev written : List ℕ → List ℤ → List ℕ → List ℤ → List Bool → List Bool → WorkLent
+  written ids covers l c s u = workLent (lent.columns ids covers) (lent.listColumns l c s u)
+
+  abbrev memory : WorkLent
+  memory = written (next-ids .now) (next-covers .now) (list-ids .now) (list-covers .now) (list-segments .now) (list-unmasked .now)
+
   -- the machine values of the parameters
   abbrev v₀ : Val
   v₀ = LL.val S.the-type S′.the-laws state
@@ -124,7 +137,7 @@ module _ {M : Type 1} (𝓤 : URA M) (H : Heap 𝓤) (A : Atoms 𝓤) (W : Given
   v₇ = LL.val Co.the-type Co′.the-laws clear
 
   abbrev v₈ : Val
-  v₈ = LL.val Pr.the-type Pr′.the-laws previous
+  v₈ = EL.val Pr.the-type Pr′.the-laws previous
 
   abbrev v₉ : Val
   v₉ = sliceVal (queue .ptr) (length (queue .now))
@@ -145,10 +158,10 @@ module _ {M : Type 1} (𝓤 : URA M) (H : Heap 𝓤) (A : Atoms 𝓤) (W : Given
   v₁₄ = sliceVal (list-segments .ptr) (length (list-segments .now))
 
   abbrev v₁₅ : Val
-  v₁₅ = sliceVal (list-shown .ptr) (length (list-shown .now))
+  v₁₅ = sliceVal (list-unmasked .ptr) (length (list-unmasked .now))
 
   abbrev x : Args f.signature (κ₀, (κ₁, (κ₂, (κ₃, (κ₄, (κ₅, (κ₆, (κ₇, (κ₈, (κ₉, tt))))))))))
-  x = (state, (tile, (row, (layers, (colors, (count, (kept, (clear, (previous, (queue, (next-ids, (next-covers, (list-ids, (list-covers, (list-segments, (list-shown, tt))))))))))))))))
+  x = (state, (tile, (row, (layers, (colors, (count, (kept, (clear, (previous, (queue, (next-ids, (next-covers, (list-ids, (list-covers, (list-segments, (list-unmasked, tt))))))))))))))))
 
   abbrev at : Vals f.signature (κ₀, (κ₁, (κ₂, (κ₃, (κ₄, (κ₅, (κ₆, (κ₇, (κ₈, (κ₉, tt))))))))))
   at = (v₀ ∷ [], (v₁ ∷ [], (v₂ ∷ [], (v₃ ∷ [], (v₄ ∷ [], (v₅ ∷ [], (v₆ ∷ [], (v₇ ∷ [], (v₈ ∷ [], (v₉ ∷ [], (v₁₀ ∷ [], (v₁₁ ∷ [], (v₁₂ ∷ [], (v₁₃ ∷ [], (v₁₄ ∷ [], (v₁₅ ∷ [], tt))))))))))))))))
@@ -185,7 +198,7 @@ module _ {M : Type 1} (𝓤 : URA M) (H : Heap 𝓤) (A : Atoms 𝓤) (W : Given
   MListSegments = MutSlice (named 8) κ₈ bool .own list-segments (v₁₄ ∷ [])
 
   abbrev MListShown : Fml
-  MListShown = MutSlice (named 9) κ₉ bool .own list-shown (v₁₅ ∷ [])
+  MListShown = MutSlice (named 9) κ₉ bool .own list-unmasked (v₁₅ ∷ [])
 
   -- ---- the calls: what each triple binds outside, and what it asks
   abbrev to-read : Read 𝓤 H A at-mem run .Ghost
@@ -202,7 +215,7 @@ module _ {M : Type 1} (𝓤 : URA M) (H : Heap 𝓤) (A : Atoms 𝓤) (W : Given
   -- the columns c, whose machine value is u
   module _ (c : Columns) (u : Val) where
     abbrev passed : Args g.signature (κ₀, (κ₁, (κ₂, (κ₄, (κ₅, (κ₆, (κ₇, (κ₈, (κ₉, tt)))))))))
-    passed = (state, (tile, (row, (layers, (colors, (count, (kept, (clear, (previous, (c, (next-ids, (next-covers, (list-ids, (list-covers, (list-segments, (list-shown, tt))))))))))))))))
+    passed = (state, (tile, (row, (layers, (colors, (count, (kept, (clear, (previous, (c, (next-ids, (next-covers, (list-ids, (list-covers, (list-segments, (list-unmasked, tt))))))))))))))))
 
     abbrev to-callee : Callee 𝓤 H A at-mem run .Ghost
     to-callee = (((κ₀, (κ₁, (κ₂, (κ₄, (κ₅, (κ₆, (κ₇, (κ₈, (κ₉, tt))))))))), (q₀, (q₁, (q₂, (q₄, (q₅, (q₆, (q₇, (q₈, (q₉, tt))))))))), tt, passed, (v₀ ∷ [], (v₁ ∷ [], (v₂ ∷ [], (v₃ ∷ [], (v₄ ∷ [], (v₅ ∷ [], (v₆ ∷ [], (v₇ ∷ [], (v₈ ∷ [], (u ∷ [], (v₁₀ ∷ [], (v₁₁ ∷ [], (v₁₂ ∷ [], (v₁₃ ∷ [], (v₁₄ ∷ [], (v₁₅ ∷ [], tt))))))))))))))))), tt)
@@ -214,19 +227,19 @@ module _ {M : Type 1} (𝓤 : URA M) (H : Heap 𝓤) (A : Atoms 𝓤) (W : Given
     Last = Lasts g.ended (κ₀, (κ₁, (κ₂, (κ₄, (κ₅, (κ₆, (κ₇, (κ₈, (κ₉, tt))))))))) passed
 
     abbrev Said : TileWorked → Last → Type 0
-    Said r ws = GivesWork (workOf (argsWith state tile (row .now) (layers .now) (colors .now) count kept clear previous (idsLent c) (coversLent c)) (record { queueIds = next-ids .now; queueCovers = next-covers .now; listIds = list-ids .now; listCovers = list-covers .now; listSegments = list-segments .now; listShown = list-shown .now })) r (record { queueIds = (ws .1 .1 .1 .1 .1 .1 .1 .1 .1 .1 .0); queueCovers = (ws .1 .1 .1 .1 .1 .1 .1 .1 .1 .1 .1 .0); listIds = (ws .1 .1 .1 .1 .1 .1 .1 .1 .1 .1 .1 .1 .0); listCovers = (ws .1 .1 .1 .1 .1 .1 .1 .1 .1 .1 .1 .1 .1 .0); listSegments = (ws .1 .1 .1 .1 .1 .1 .1 .1 .1 .1 .1 .1 .1 .1 .0); listShown = (ws .1 .1 .1 .1 .1 .1 .1 .1 .1 .1 .1 .1 .1 .1 .1 .0) })
+    Said r ws = GivesWork (workOf (call (lentColumns c)) memory) r (written (ws .1 .1 .1 .1 .1 .1 .1 .1 .1 .1 .0) (ws .1 .1 .1 .1 .1 .1 .1 .1 .1 .1 .1 .0) (ws .1 .1 .1 .1 .1 .1 .1 .1 .1 .1 .1 .1 .0) (ws .1 .1 .1 .1 .1 .1 .1 .1 .1 .1 .1 .1 .1 .0) (ws .1 .1 .1 .1 .1 .1 .1 .1 .1 .1 .1 .1 .1 .1 .0) (ws .1 .1 .1 .1 .1 .1 .1 .1 .1 .1 .1 .1 .1 .1 .1 .0))
 
-  exits : (r : TileWorked) (v : Val) (us₁₀ : List ℕ) (us₁₁ : List ℤ) (us₁₂ : List ℕ) (us₁₃ : List ℤ) (us₁₄ : List Bool) (us₁₅ : List Bool) → GivesWork (workOf (argsWith state tile (row .now) (layers .now) (colors .now) count kept clear previous (idsOf (queue .now)) (coversOf (queue .now))) (record { queueIds = next-ids .now; queueCovers = next-covers .now; listIds = list-ids .now; listCovers = list-covers .now; listSegments = list-segments .now; listShown = list-shown .now })) r (record { queueIds = us₁₀; queueCovers = us₁₁; listIds = us₁₂; listCovers = us₁₃; listSegments = us₁₄; listShown = us₁₅ }) → Is O.the-row r (v ∷ []) → length us₁₀ ≡ length (next-ids .now) → length us₁₁ ≡ length (next-covers .now) → length us₁₂ ≡ length (list-ids .now) → length us₁₃ ≡ length (list-covers .now) → length us₁₄ ≡ length (list-segments .now) → length us₁₅ ≡ length (list-shown .now)
-      → ent 𝓤 (⋆ 𝓤 H A ((‵ (flft κ₀ q₀) ⊛ ‵ (flft κ₁ q₁) ⊛ ‵ (flft κ₂ q₂) ⊛ ‵ (flft κ₄ q₄) ⊛ ‵ (flft κ₅ q₅) ⊛ ‵ (flft κ₆ q₆) ⊛ ‵ (flft κ₇ q₇) ⊛ ‵ (flft κ₈ q₈) ⊛ ‵ (flft κ₉ q₉) ⊛ ‵ ftrue) ∷ (‵ (flft κ₃ q₃) ⊛ ‵ ftrue) ∷ ‵ (finally u32 (next-ids .name) us₁₀) ∷ ‵ (finally i8 (next-covers .name) us₁₁) ∷ ‵ (finally u32 (list-ids .name) us₁₂) ∷ ‵ (finally i8 (list-covers .name) us₁₃) ∷ ‵ (finally bool (list-segments .name) us₁₄) ∷ ‵ (finally bool (list-shown .name) us₁₅) ∷ ‵ SRow ∷ ‵ SLayers ∷ ‵ SColors ∷ ‵ SQueue ∷ [])) (Post v)
+  exits : (r : TileWorked) (v : Val) (us₁₀ : List ℕ) (us₁₁ : List ℤ) (us₁₂ : List ℕ) (us₁₃ : List ℤ) (us₁₄ : List Bool) (us₁₅ : List Bool) → GivesWork (workOf (call (columnsFor (queue .now))) memory) r (written us₁₀ us₁₁ us₁₂ us₁₃ us₁₄ us₁₅) → Is O.the-row r (v ∷ []) → length us₁₀ ≡ length (next-ids .now) → length us₁₁ ≡ length (next-covers .now) → length us₁₂ ≡ length (list-ids .now) → length us₁₃ ≡ length (list-covers .now) → length us₁₄ ≡ length (list-segments .now) → length us₁₅ ≡ length (list-unmasked .now)
+      → ent 𝓤 (⋆ 𝓤 H A ((‵ (flft κ₀ q₀) ⊛ ‵ (flft κ₁ q₁) ⊛ ‵ (flft κ₂ q₂) ⊛ ‵ (flft κ₄ q₄) ⊛ ‵ (flft κ₅ q₅) ⊛ ‵ (flft κ₆ q₆) ⊛ ‵ (flft κ₇ q₇) ⊛ ‵ (flft κ₈ q₈) ⊛ ‵ (flft κ₉ q₉) ⊛ ‵ ftrue) ∷ (‵ (flft κ₃ q₃) ⊛ ‵ ftrue) ∷ ‵ (finally u32 (next-ids .name) us₁₀) ∷ ‵ (finally i8 (next-covers .name) us₁₁) ∷ ‵ (finally u32 (list-ids .name) us₁₂) ∷ ‵ (finally i8 (list-covers .name) us₁₃) ∷ ‵ (finally bool (list-segments .name) us₁₄) ∷ ‵ (finally bool (list-unmasked .name) us₁₅) ∷ ‵ SRow ∷ ‵ SLayers ∷ ‵ SColors ∷ ‵ SQueue ∷ [])) (Post v)
   exits r v us₁₀ us₁₁ us₁₂ us₁₃ us₁₄ us₁₅ e is same₁₀ same₁₁ same₁₂ same₁₃ same₁₄ same₁₅ =
-      qed W ((‵ (flft κ₀ q₀) ⊛ ‵ (flft κ₁ q₁) ⊛ ‵ (flft κ₂ q₂) ⊛ ‵ (flft κ₄ q₄) ⊛ ‵ (flft κ₅ q₅) ⊛ ‵ (flft κ₆ q₆) ⊛ ‵ (flft κ₇ q₇) ⊛ ‵ (flft κ₈ q₈) ⊛ ‵ (flft κ₉ q₉) ⊛ ‵ ftrue) ∷ (‵ (flft κ₃ q₃) ⊛ ‵ ftrue) ∷ ‵ (finally u32 (next-ids .name) us₁₀) ∷ ‵ (finally i8 (next-covers .name) us₁₁) ∷ ‵ (finally u32 (list-ids .name) us₁₂) ∷ ‵ (finally i8 (list-covers .name) us₁₃) ∷ ‵ (finally bool (list-segments .name) us₁₄) ∷ ‵ (finally bool (list-shown .name) us₁₅) ∷ ‵ SRow ∷ ‵ SLayers ∷ ‵ SColors ∷ ‵ SQueue ∷ []) ∵
+      qed W ((‵ (flft κ₀ q₀) ⊛ ‵ (flft κ₁ q₁) ⊛ ‵ (flft κ₂ q₂) ⊛ ‵ (flft κ₄ q₄) ⊛ ‵ (flft κ₅ q₅) ⊛ ‵ (flft κ₆ q₆) ⊛ ‵ (flft κ₇ q₇) ⊛ ‵ (flft κ₈ q₈) ⊛ ‵ (flft κ₉ q₉) ⊛ ‵ ftrue) ∷ (‵ (flft κ₃ q₃) ⊛ ‵ ftrue) ∷ ‵ (finally u32 (next-ids .name) us₁₀) ∷ ‵ (finally i8 (next-covers .name) us₁₁) ∷ ‵ (finally u32 (list-ids .name) us₁₂) ∷ ‵ (finally i8 (list-covers .name) us₁₃) ∷ ‵ (finally bool (list-segments .name) us₁₄) ∷ ‵ (finally bool (list-unmasked .name) us₁₅) ∷ ‵ SRow ∷ ‵ SLayers ∷ ‵ SColors ∷ ‵ SQueue ∷ []) ∵
       suffices ! _ (ends-at 𝓤 H A f.ended stayed (f.clauses 𝓤 H A at-mem run) W (((κ₀, (κ₁, (κ₂, (κ₃, (κ₄, (κ₅, (κ₆, (κ₇, (κ₈, (κ₉, tt)))))))))), (q₀, (q₁, (q₂, (q₃, (q₄, (q₅, (q₆, (q₇, (q₈, (q₉, tt)))))))))), tt, x, at), tt) v r (tt, (tt, (tt, (tt, (tt, (tt, (tt, (tt, (tt, (tt, (us₁₀, (us₁₁, (us₁₂, (us₁₃, (us₁₄, (us₁₅, tt)))))))))))))))) (tt, (tt, (tt, (tt, (tt, (tt, (tt, (tt, (tt, (tt, (same₁₀, (same₁₁, (same₁₂, (same₁₃, (same₁₄, (same₁₅, tt))))))))))))))))) $ says ! e $
       split ! $ move ! (1 ∷ []) $ split ! $ move ! (1 ∷ []) $ split ! $ move ! (1 ∷ []) $ split ! $ move ! (1 ∷ []) $ split ! $ move ! (1 ∷ []) $ split ! $ move ! (1 ∷ []) $ split ! $
       move ! (1 ∷ []) $ split ! $ move ! (1 ∷ []) $ split ! $ move ! (1 ∷ []) $ drop ! $ move ! (9 ∷ []) $ split ! $ move ! (1 ∷ []) $ drop ! $ nothing ! $ move ! (2 ∷ 0 ∷ []) $ join ! $
       move ! (2 ∷ 0 ∷ []) $ join ! $ move ! (2 ∷ 0 ∷ []) $ join ! $ move ! (2 ∷ 0 ∷ []) $ join ! $ move ! (2 ∷ 0 ∷ []) $ join ! $ move ! (2 ∷ 0 ∷ []) $ join ! $ move ! (1 ∷ 0 ∷ []) $ join ! $
       move ! (1 ∷ 0 ∷ []) $ join ! $ move ! (1 ∷ 0 ∷ []) $ join ! $ move ! (1 ∷ 0 ∷ []) $ join ! $ frame ! $ nothing ! $ move ! (6 ∷ 0 ∷ []) $ fjoin ! $ move ! (5 ∷ 0 ∷ []) $ fjoin ! $
       move ! (4 ∷ 0 ∷ []) $ fjoin ! $ move ! (3 ∷ 0 ∷ []) $ fjoin ! $ move ! (2 ∷ 0 ∷ []) $ fjoin ! $ move ! (1 ∷ 0 ∷ []) $ fjoin ! $ move ! (4 ∷ 0 ∷ []) $ fjoin ! $
-      owned ! Pr.the-row (Is Pr.the-row) (LL.makes Pr.the-type Pr′.the-plain 𝓤 H A) previous _ is₈ $ fjoin ! $
+      owned ! Pr.the-row (Is Pr.the-row) (EL.makes Pr.the-type Pr′.the-plain 𝓤 H A) previous _ is₈ $ fjoin ! $
       owned ! Co.the-row (Is Co.the-row) (LL.makes Co.the-type Co′.the-plain 𝓤 H A) clear _ is₇ $ fjoin ! $
       owned ! K.the-row (Is K.the-row) (LL.makes K.the-type K′.the-plain 𝓤 H A) kept _ is₆ $ fjoin ! $ owned ! usize (Is usize) (uint-makes 𝓤 H A W w64) count _ is₅ $ fjoin ! $
       move ! (3 ∷ 0 ∷ []) $ fjoin ! $ move ! (2 ∷ 0 ∷ []) $ fjoin ! $ move ! (1 ∷ 0 ∷ []) $ fjoin ! $ owned ! i32 (Is i32) (sint-makes 𝓤 H A W w32) tile _ is₁ $ fjoin ! $
@@ -244,7 +257,7 @@ module _ {M : Type 1} (𝓤 : URA M) (H : Heap 𝓤) (A : Atoms 𝓤) (W : Given
         pass1 ! (init ! 52 refl (tt, (tt, (record { fits = room₂ .0 }, tt)))) $ pass1 ! (init ! 50 refl (tt, (tt, (record { fits = room₃ .0 }, tt)))) $
         pass1 ! (init ! 48 refl (tt, (tt, (record { fits = room₄ .0 }, tt)))) $ pass1 ! (init ! 46 refl (uint-lawful 𝓤 H A W w64 .typed count _ is₅ .0)) $
         pass1 ! (init ! 44 refl (LL.lawful K.the-type K′.the-laws 𝓤 H A W .typed kept _ is₆ .0)) $ pass1 ! (init ! 42 refl (LL.lawful Co.the-type Co′.the-laws 𝓤 H A W .typed clear _ is₇ .0)) $
-        pass1 ! (init ! 40 refl (LL.lawful Pr.the-type Pr′.the-laws 𝓤 H A W .typed previous _ is₈ .0)) $ pass1 ! (init ! 38 refl (tt, (tt, (record { fits = room₉ .0 }, tt)))) $
+        pass1 ! (init ! 40 refl (EL.lawful Pr.the-type Pr′.the-laws 𝓤 H A W tt .typed previous _ is₈ .0)) $ pass1 ! (init ! 38 refl (tt, (tt, (record { fits = room₉ .0 }, tt)))) $
         pass1 ! (init ! 36 refl (tt, (tt, (record { fits = room₁₀ .0 }, tt)))) $ pass1 ! (init ! 34 refl (tt, (tt, (record { fits = room₁₁ .0 }, tt)))) $
         pass1 ! (init ! 32 refl (tt, (tt, (record { fits = room₁₂ .0 }, tt)))) $ pass1 ! (init ! 30 refl (tt, (tt, (record { fits = room₁₃ .0 }, tt)))) $
         pass1 ! (init ! 28 refl (tt, (tt, (record { fits = room₁₄ .0 }, tt)))) $ pass1 ! (init ! 26 refl (tt, (tt, (record { fits = room₁₅ .0 }, tt)))) $ pass0 ! $
@@ -276,7 +289,7 @@ module _ {M : Type 1} (𝓤 : URA M) (H : Heap 𝓤) (A : Atoms 𝓤) (W : Given
         move ! (15 ∷ 0 ∷ []) $ join ! $ move ! (15 ∷ 0 ∷ []) $ join ! $ move ! (15 ∷ 0 ∷ []) $ join ! $ move ! (15 ∷ 0 ∷ []) $ join ! $ move ! (15 ∷ 0 ∷ []) $ join ! $ move ! (15 ∷ 0 ∷ []) $ join ! $
         move ! (15 ∷ 0 ∷ []) $ join ! $ nothing ! $ move ! (10 ∷ 0 ∷ []) $ fjoin ! $ move ! (10 ∷ 0 ∷ []) $ fjoin ! $ move ! (10 ∷ 0 ∷ []) $ fjoin ! $ move ! (10 ∷ 0 ∷ []) $ fjoin ! $ move ! (10 ∷ 0 ∷ []) $
         fjoin ! $ move ! (10 ∷ 0 ∷ []) $ fjoin ! $ owned ! C.the-row (Is C.the-row) (LL.makes C.the-type C′.the-plain 𝓤 H A) c (u ∷ []) c-is $ fjoin ! $
-        owned ! Pr.the-row (Is Pr.the-row) (LL.makes Pr.the-type Pr′.the-plain 𝓤 H A) previous _ is₈ $ fjoin ! $
+        owned ! Pr.the-row (Is Pr.the-row) (EL.makes Pr.the-type Pr′.the-plain 𝓤 H A) previous _ is₈ $ fjoin ! $
         owned ! Co.the-row (Is Co.the-row) (LL.makes Co.the-type Co′.the-plain 𝓤 H A) clear _ is₇ $ fjoin ! $ owned ! K.the-row (Is K.the-row) (LL.makes K.the-type K′.the-plain 𝓤 H A) kept _ is₆ $ fjoin ! $
         owned ! usize (Is usize) (uint-makes 𝓤 H A W w64) count _ is₅ $ fjoin ! $ move ! (2 ∷ 0 ∷ []) $ fjoin ! $ move ! (3 ∷ 0 ∷ []) $ fjoin ! $ move ! (4 ∷ 0 ∷ []) $ fjoin ! $
         owned ! i32 (Is i32) (sint-makes 𝓤 H A W w32) tile _ is₁ $ fjoin ! $ owned ! S.the-row (Is S.the-row) (LL.makes S.the-type S′.the-plain 𝓤 H A) state _ is₀ $ fjoin ! $ move ! (1 ∷ 0 ∷ []) $
@@ -298,13 +311,13 @@ module _ {M : Type 1} (𝓤 : URA M) (H : Heap 𝓤) (A : Atoms 𝓤) (W : Given
         move ! (38 ∷ 39 ∷ []) $ free1 ! $ move ! (36 ∷ 37 ∷ []) $ free1 ! $ move ! (34 ∷ 35 ∷ []) $ free1 ! $ move ! (32 ∷ 33 ∷ []) $ free1 ! $ move ! (30 ∷ 31 ∷ []) $ free1 ! $ move ! (28 ∷ 29 ∷ []) $
         free1 ! $ move ! (26 ∷ 27 ∷ []) $ free1 ! $ move ! (24 ∷ 25 ∷ []) $ free1 ! $ move ! (22 ∷ 23 ∷ []) $ free1 ! $ move ! (20 ∷ 21 ∷ []) $ free1 ! $ move ! (18 ∷ 19 ∷ []) $ free1 ! $
         move ! (16 ∷ 17 ∷ []) $ free1 ! $ move ! (14 ∷ 15 ∷ []) $ free1 ! $ move ! (12 ∷ 13 ∷ []) $ free1 ! $ free0 ! $ keep ! (0 ∷ 10 ∷ 6 ∷ 5 ∷ 4 ∷ 3 ∷ 2 ∷ 1 ∷ 9 ∷ 8 ∷ 7 ∷ 11 ∷ []) $
-        by ! (exits r v (ws .1 .1 .1 .1 .1 .1 .1 .1 .1 .1 .0) (ws .1 .1 .1 .1 .1 .1 .1 .1 .1 .1 .1 .0) (ws .1 .1 .1 .1 .1 .1 .1 .1 .1 .1 .1 .1 .0) (ws .1 .1 .1 .1 .1 .1 .1 .1 .1 .1 .1 .1 .1 .0) (ws .1 .1 .1 .1 .1 .1 .1 .1 .1 .1 .1 .1 .1 .1 .0) (ws .1 .1 .1 .1 .1 .1 .1 .1 .1 .1 .1 .1 .1 .1 .1 .0) (worked-records state tile (row .now) (layers .now) (colors .now) count kept clear previous (record { queueIds = next-ids .now; queueCovers = next-covers .now; listIds = list-ids .now; listCovers = list-covers .now; listSegments = list-segments .now; listShown = list-shown .now }) (queue .now) c r (record { queueIds = (ws .1 .1 .1 .1 .1 .1 .1 .1 .1 .1 .0); queueCovers = (ws .1 .1 .1 .1 .1 .1 .1 .1 .1 .1 .1 .0); listIds = (ws .1 .1 .1 .1 .1 .1 .1 .1 .1 .1 .1 .1 .0); listCovers = (ws .1 .1 .1 .1 .1 .1 .1 .1 .1 .1 .1 .1 .1 .0); listSegments = (ws .1 .1 .1 .1 .1 .1 .1 .1 .1 .1 .1 .1 .1 .1 .0); listShown = (ws .1 .1 .1 .1 .1 .1 .1 .1 .1 .1 .1 .1 .1 .1 .1 .0) }) e told) is same₁₀ same₁₁ same₁₂ same₁₃ same₁₄ same₁₅))))))))))))))))))))))))))))))))))))))))))))))
+        by ! (exits r v (ws .1 .1 .1 .1 .1 .1 .1 .1 .1 .1 .0) (ws .1 .1 .1 .1 .1 .1 .1 .1 .1 .1 .1 .0) (ws .1 .1 .1 .1 .1 .1 .1 .1 .1 .1 .1 .1 .0) (ws .1 .1 .1 .1 .1 .1 .1 .1 .1 .1 .1 .1 .1 .0) (ws .1 .1 .1 .1 .1 .1 .1 .1 .1 .1 .1 .1 .1 .1 .0) (ws .1 .1 .1 .1 .1 .1 .1 .1 .1 .1 .1 .1 .1 .1 .1 .0) (worked-records (call (columnsFor (queue .now))) memory (queue .now) c e told) is same₁₀ same₁₁ same₁₂ same₁₃ same₁₄ same₁₅))))))))))))))))))))))))))))))))))))))))))))))
 
 module _ {M : Type 1} (𝓤 : URA M) (H : Heap 𝓤) (A : Atoms 𝓤) (W : Given 𝓤 H A) (at-mem : Memory → SProp 𝓤) (run : Routine → Fun 𝓤) where
   walks : (calls : Calls 𝓤 H) (Λ : Loops 𝓤 H) → FmC 𝓤 H (W .laws) calls → Known 𝓤 H A at-mem run calls → Walks 𝓤 H A f.ended stayed (WpFn 𝓤 H calls Λ code.function) (f.clauses 𝓤 H A at-mem run)
   walks calls Λ fm known =
-      walked 𝓤 H A f.ended stayed (f.clauses 𝓤 H A at-mem run) (WpFn 𝓤 H calls Λ code.function) (λ κs. (LL.vals S.the-type S′.the-laws, (sint-vals w32, (slice-vals, (slice-vals, (slice-vals, (uint-vals w64, (LL.vals K.the-type K′.the-laws, (LL.vals Co.the-type Co′.the-laws, (LL.vals Pr.the-type Pr′.the-laws, (slice-vals, (slice-vals, (slice-vals, (slice-vals, (slice-vals, (slice-vals, (slice-vals, tt)))))))))))))))))
-      (λ κs. (LL.tells S.the-type S′.the-laws, (sint-tells w32, (shr-slice-tells (named 0) (κs .0) u64, (shr-slice-tells (named 1) (κs .1 .0) u32, (shr-slice-tells (named 2) (κs .1 .1 .0) f32, (uint-tells w64, (LL.tells K.the-type K′.the-laws, (LL.tells Co.the-type Co′.the-laws, (LL.tells Pr.the-type Pr′.the-laws, (shr-slice-tells (named 3) (κs .1 .1 .1 .0) Rec.the-row, (mut-slice-tells (named 4) (κs .1 .1 .1 .1 .0) u32, (mut-slice-tells (named 5) (κs .1 .1 .1 .1 .1 .0) i8, (mut-slice-tells (named 6) (κs .1 .1 .1 .1 .1 .1 .0) u32, (mut-slice-tells (named 7) (κs .1 .1 .1 .1 .1 .1 .1 .0) i8, (mut-slice-tells (named 8) (κs .1 .1 .1 .1 .1 .1 .1 .1 .0) bool, (mut-slice-tells (named 9) (κs .1 .1 .1 .1 .1 .1 .1 .1 .1 .0) bool, tt)))))))))))))))))
+      walked 𝓤 H A f.ended stayed (f.clauses 𝓤 H A at-mem run) (WpFn 𝓤 H calls Λ code.function) (λ κs. (LL.vals S.the-type S′.the-laws, (sint-vals w32, (slice-vals, (slice-vals, (slice-vals, (uint-vals w64, (LL.vals K.the-type K′.the-laws, (LL.vals Co.the-type Co′.the-laws, (EL.vals Pr.the-type Pr′.the-laws, (slice-vals, (slice-vals, (slice-vals, (slice-vals, (slice-vals, (slice-vals, (slice-vals, tt)))))))))))))))))
+      (λ κs. (LL.tells S.the-type S′.the-laws, (sint-tells w32, (shr-slice-tells (named 0) (κs .0) u64, (shr-slice-tells (named 1) (κs .1 .0) u32, (shr-slice-tells (named 2) (κs .1 .1 .0) f32, (uint-tells w64, (LL.tells K.the-type K′.the-laws, (LL.tells Co.the-type Co′.the-laws, (EL.tells Pr.the-type Pr′.the-laws, (shr-slice-tells (named 3) (κs .1 .1 .1 .0) Rec.the-row, (mut-slice-tells (named 4) (κs .1 .1 .1 .1 .0) u32, (mut-slice-tells (named 5) (κs .1 .1 .1 .1 .1 .0) i8, (mut-slice-tells (named 6) (κs .1 .1 .1 .1 .1 .1 .0) u32, (mut-slice-tells (named 7) (κs .1 .1 .1 .1 .1 .1 .1 .0) i8, (mut-slice-tells (named 8) (κs .1 .1 .1 .1 .1 .1 .1 .1 .0) bool, (mut-slice-tells (named 9) (κs .1 .1 .1 .1 .1 .1 .1 .1 .1 .0) bool, tt)))))))))))))))))
       (λ κs qs bounds a _ are. via 𝓤 _ (fst∗ 𝓤 _ (emp 𝓤))
       (walk 𝓤 H A W at-mem run (κs .0) (κs .1 .0) (κs .1 .1 .0) (κs .1 .1 .1 .0) (κs .1 .1 .1 .1 .0) (κs .1 .1 .1 .1 .1 .0) (κs .1 .1 .1 .1 .1 .1 .0) (κs .1 .1 .1 .1 .1 .1 .1 .0) (κs .1 .1 .1 .1 .1 .1 .1 .1 .0) (κs .1 .1 .1 .1 .1 .1 .1 .1 .1 .0) (qs .0) (qs .1 .0) (qs .1 .1 .0) (qs .1 .1 .1 .0) (qs .1 .1 .1 .1 .0) (qs .1 .1 .1 .1 .1 .0) (qs .1 .1 .1 .1 .1 .1 .0) (qs .1 .1 .1 .1 .1 .1 .1 .0) (qs .1 .1 .1 .1 .1 .1 .1 .1 .0) (qs .1 .1 .1 .1 .1 .1 .1 .1 .1 .0)
       (a .0) (a .1 .0) (a .1 .1 .0) (a .1 .1 .1 .0) (a .1 .1 .1 .1 .0) (a .1 .1 .1 .1 .1 .0) (a .1 .1 .1 .1 .1 .1 .0) (a .1 .1 .1 .1 .1 .1 .1 .0) (a .1 .1 .1 .1 .1 .1 .1 .1 .0) (a .1 .1 .1 .1 .1 .1 .1 .1 .1 .0) (a .1 .1 .1 .1 .1 .1 .1 .1 .1 .1 .0) (a .1 .1 .1 .1 .1 .1 .1 .1 .1 .1 .1 .0) (a .1 .1 .1 .1 .1 .1 .1 .1 .1 .1 .1 .1 .0) (a .1 .1 .1 .1 .1 .1 .1 .1 .1 .1 .1 .1 .1 .0) (a .1 .1 .1 .1 .1 .1 .1 .1 .1 .1 .1 .1 .1 .1 .0) (a .1 .1 .1 .1 .1 .1 .1 .1 .1 .1 .1 .1 .1 .1 .1 .0)

@@ -1,0 +1,51 @@
+-- `clips::is_half` meets its contract. Assumes nothing.
+use mathlib.Core.Path.{refl}
+use Prim.Native.Nat.{_-_}
+use native.Mathlib.Omega.{arith}
+use lib.Ieee.{nan}
+use lib.ListN.{length}
+use Rattle.cover_statements.proofs.Testing.{Testing, test-start, test-next, test-end}
+use Rattle.cases.specs.Answers.{isHalf}
+use Rattle.cases.proofs.clips.is_half.Statement.{statement}
+use Rattle.cases.proofs.clips.is_half.Tie as tie
+
+abbrev Inv-loop : tie.InvT-loop
+Inv-loop plane ok₀ i₀ ok i = Testing isHalf plane (length plane) ok i
+
+abbrev μ-loop : tie.MeasureT-loop
+μ-loop plane ok₀ i₀ ok i = length plane - i
+
+loop-holds : tie.Need-loop-holds Inv-loop μ-loop
+loop-holds c = test-start refl
+
+mul-ok : tie.Need-mul-ok Inv-loop μ-loop
+mul-ok c = omega arith
+
+shared-slice-read-ok : tie.Need-shared-slice-read-ok Inv-loop μ-loop
+shared-slice-read-ok c = omega arith
+
+add-i : tie.Need-add-i Inv-loop μ-loop
+add-i c = omega arith
+
+loop-less : tie.Need-loop-less Inv-loop μ-loop
+loop-less c = omega arith
+
+loop-again : tie.Need-loop-again Inv-loop μ-loop
+loop-again c = test-next nan (c .before .before .loop .inv) (omega arith) refl
+
+returns : tie.Need-returns Inv-loop μ-loop
+returns c = test-end (c .before .loop .inv) (omega arith)
+
+pub is-half-spec : {M : Type 1} → statement M
+is-half-spec =
+    tie.close
+    (tie.spec
+    Inv-loop
+    μ-loop
+    loop-holds
+    mul-ok
+    shared-slice-read-ok
+    add-i
+    loop-less
+    loop-again
+    returns)

@@ -1,0 +1,32 @@
+-- Cases that the scope does not number: both sides of what packing and adding refuse, and what an update of a cached tile leaves. proofs/Table
+-- proves them.
+use mathlib.Core.Path.{_≡_}
+use mathlib.Core.Bool.{false}
+use mathlib.Core.List.{List, [], _∷_}
+use mathlib.Core.Option.{some, none}
+use Prim.Native.Nat.{ℕ}
+use lib.IntN.{pos}
+use lib.ListN.{replicate}
+use Rattle.laws.specs.Answer.{refused, given}
+use Rattle.cached_tile.specs.Tile.{layerCountOf, updateCount, updateColor}
+use Rattle.cover_statements.specs.Carry.{addOf}
+use Rattle.pixel_segment.specs.Field.{cpu}
+use Rattle.pixel_segment.specs.Pack.{packOf}
+use Rattle.cases.specs.Numbers.{neg, sixteen}
+use Rattle.cases.specs.Inputs.{inRow0, taggedTile}
+
+pub record Edges : Type 0 where
+  -- packing refuses tile 32,767 by 2, and gives the word of tile 32,766, of which the field keeps the low bits
+  pub tile-x-refused : packOf 5 (pos 32767) (pos 0) 3 4 32 (pos 16) ≡ refused 2
+  pub tile-y-refused : packOf 5 (pos 2) (pos 32767) 3 4 32 (pos 16) ≡ refused 2
+  pub tile-x-passes : packOf 5 (pos 32766) (pos 0) 3 4 32 (pos 16) ≡ given 0x003FFE0000534810
+  pub tile-y-passes : packOf 5 (pos 2) (pos 32766) 3 4 32 (pos 16) ≡ given 0xFFE0060000534810
+  -- number 9: 120 and -8 are refused, though their sum is 112; 119 and -8 pass
+  pub load-refused : addOf cpu 16 (sixteen (pos 120)) (inRow0 (neg 8) ∷ []) ≡ refused 9
+  pub load-passes : addOf cpu 16 (sixteen (pos 119)) (inRow0 (neg 8) ∷ []) ≡ given (pos 111 ∷ replicate 15 (pos 119))
+  -- a tile of tag 0 keeps no count; once it is counted its tag is 2
+  pub no-count : (count color : List ℕ) → layerCountOf (taggedTile 0 count color) ≡ none
+  pub counted-tag : (count color : List ℕ) (n : ℕ) → updateCount (taggedTile 0 count color) (some n) .tags ≡ 2
+  -- of a tile that keeps both, one is dropped: the other stays kept, and all bytes stay
+  pub count-dropped : (count color : List ℕ) → updateCount (taggedTile 3 count color) none ≡ taggedTile 1 count color
+  pub color-dropped : (count color bytes : List ℕ) → updateColor (taggedTile 3 count color) (record { given = false; bytes = bytes }) ≡ taggedTile 2 count color

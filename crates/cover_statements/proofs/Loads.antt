@@ -1,0 +1,135 @@
+-- Laws of the judging of number 9: the absolute covers of each row, capped at 128, one segment after another. Over any widths whose local y
+-- stays below the height n. Assumes nothing.
+use mathlib.Core.Path.{_≡_, refl, sym, ap, _∙_}
+use mathlib.Core.Bool.{cond}
+use mathlib.Core.List.{List, map}
+use mathlib.Core.Logic.{⊎-elim}
+use Prim.Native.Nat.{ℕ, _+_, _≤_, _<_, min}
+use native.Mathlib.Omega.{arith}
+use borrow.Author.Tests.{le-leb, lt-leb, eq-eqb, ne-eqb}
+use lib.Dec.{leb}
+use lib.IntN.{ℤ, pos, natAbs}
+use lib.ListN.{length, getD, drop, set, length-set, length-map, replicate, length-replicate, List·getD-map}
+use lib.Seq.{getD-set-same, getD-set-other}
+use Rattle.laws.proofs.Bools.{same}
+use Rattle.laws.proofs.Orders.{le-or-lt, eq-or-ne}
+use Rattle.laws.proofs.Rows.{filled, filled-more, is-tabulate, length-tabulate, getD-tabulate}
+use Rattle.laws.proofs.Sums.{sum-step, sum-end}
+use Rattle.pixel_segment.specs.Field.{localYOf}
+use Rattle.cover_statements.proofs.Filled.{filled-whole, getD-default}
+use Rattle.cover_statements.proofs.Testing.{all-every}
+use Rattle.cover_statements.specs.Carry.{inRow, absCover, loadIn, lightAt, isLight}
+use Rattle.cover_statements.specs.Cover.{coverAt}
+use Rattle.cover_statements.specs.Load.{Capped, Magnitudes, loadsOf, allLight}
+
+pub capped-set : {loads : List ℕ} {k v : ℕ} → Capped loads → k < length loads → v ≤ 128 → Capped (set loads k v)
+capped-set {loads} {k} {v} c h q =
+    record {
+      at =
+          λ y.
+          ⊎-elim
+          (λ (s : y ≡ k). rw (s, getD-set-same loads k v 0 h) q)
+          (λ (s : y ≡ k → ⊥). rw (getD-set-other loads k y v 0 s) (c .at y))
+          (eq-or-ne y k);
+    }
+
+-- ---- the loop over the incoming covers, at row y
+
+pub record Measuring (covers : List ℤ) (n : ℕ) (y : ℕ) (loads : List ℕ) : Type 0 where
+  pub reached : y ≤ n
+  pub wide : length covers ≡ n
+  pub long : length loads ≡ n
+  pub drawn : loads ≡ filled (replicate n 0) (map natAbs covers) y
+  pub capped : Capped loads
+
+module _ {covers : List ℤ} {n : ℕ} where
+  pub measure-start : length covers ≡ n → Measuring covers n 0 (replicate n 0)
+  measure-start e =
+      record {
+        reached = omega arith;
+        wide = e;
+        long = length-replicate n 0;
+        drawn = refl;
+        capped = record { at = λ y. rw (getD-default n y) (omega arith) };
+      }
+
+  pub measure-next : {y v : ℕ} {loads : List ℕ} → Measuring covers n y loads → y < n → v ≡ natAbs (coverAt covers y) → v ≤ 128 → Measuring covers n (y + 1) (set loads y v)
+  measure-next {y} {v} {loads} c h e q =
+      record {
+        reached = omega arith;
+        wide = c .wide;
+        long = length-set loads y v ∙ c .long;
+        drawn =
+            rw (e ∙ sym (List·getD-map natAbs covers y (pos 0)), c .drawn)
+            (filled-more (replicate n 0) (map natAbs covers) y 0 (omega (arith, length-replicate {A = ℕ} n 0)) (omega (arith, length-map covers natAbs, c .wide)));
+        capped = capped-set (c .capped) (omega (arith, c .long)) q;
+      }
+
+  pub measure-end : {y : ℕ} {loads : List ℕ} → Measuring covers n y loads → n ≤ y → Magnitudes covers loads
+  measure-end {y} {loads} c h =
+      let e : y ≡ n = omega (arith, c .reached) in
+      record {
+        same = c .drawn ∙ rw e (filled-whole (replicate n 0) (map natAbs covers) n (length-replicate n 0) (length-map covers natAbs ∙ c .wide));
+        capped = c .capped;
+      }
+
+-- ---- the loop over a part
+
+pub record Loading (ws : List ℕ) (n : ℕ) (part incoming : List ℕ) (i : ℕ) (loads : List ℕ) : Type 0 where
+  pub reached : i ≤ length part
+  pub long : length loads ≡ n
+  pub capped : Capped loads
+  pub same : (y : ℕ) → y < n → min (getD loads y 0 + loadIn ws y (drop i part)) 128 ≡ min (getD incoming y 0 + loadIn ws y part) 128
+
+module _ {ws : List ℕ} {n : ℕ} {part incoming : List ℕ} where
+  pub load-start : length incoming ≡ n → Capped incoming → Loading ws n part incoming 0 incoming
+  load-start e c = record { reached = omega arith; long = e; capped = c; same = λ y h. refl }
+
+  module _ {i : ℕ} {loads : List ℕ} (c : Loading ws n part incoming i loads) (h : i < length part) where
+    step : (y : ℕ) → loadIn ws y (drop i part) ≡ cond (inRow ws y (getD part i 0)) (absCover ws (getD part i 0)) 0 + loadIn ws y (drop (i + 1) part)
+    step y = sum-step _+_ 0 (inRow ws y) (absCover ws) part i h
+
+    -- the word's load added at its row k
+    pub load-next : {k v : ℕ} → k ≡ localYOf ws (getD part i 0) → k < n → v ≡ min (getD loads k 0 + absCover ws (getD part i 0)) 128 → Loading ws n part incoming (i + 1) (set loads k v)
+    load-next {k} {v} p q e =
+        record {
+          reached = omega arith;
+          long = length-set loads k v ∙ c .long;
+          capped = capped-set (c .capped) (omega (arith, c .long)) (omega (arith, e));
+          same =
+              λ y l.
+              ⊎-elim
+              (λ (s : y ≡ k).
+              rw (s, getD-set-same loads k v 0 (omega (arith, c .long)))
+              (omega (arith, e, rw s at (c .same y l), rw (eq-eqb (localYOf ws (getD part i 0)) k (sym p)) at (step k))))
+              (λ (s : y ≡ k → ⊥).
+              rw (getD-set-other loads k y v 0 s)
+              (omega (arith, c .same y l, rw (ne-eqb (localYOf ws (getD part i 0)) y (λ t. s (sym t ∙ sym p))) at (step y))))
+              (eq-or-ne y k);
+        }
+
+  pub load-end : {i : ℕ} {loads : List ℕ} → Loading ws n part incoming i loads → length part ≤ i → loads ≡ loadsOf ws n incoming part
+  unfolding loadsOf
+  load-end {i} {loads} c h =
+      is-tabulate n (λ y. min (getD incoming y 0 + loadIn ws y part) 128) 0 loads (c .long)
+      (λ y l. omega (arith, c .same y l, c .capped .at y, sum-end _+_ 0 (inRow ws y) (absCover ws) part i h))
+
+-- ---- what the loads say of number 9
+
+capped-test : (a : ℕ) → leb (min a 128) 127 ≡ leb a 127
+capped-test a =
+    ⊎-elim
+    (λ (h : a ≤ 127). le-leb (min a 128) 127 (omega arith) ∙ sym (le-leb a 127 h))
+    (λ (h : 127 < a). lt-leb (min a 128) 127 (omega arith) ∙ sym (lt-leb a 127 h))
+    (le-or-lt a 127)
+
+pub loads-judge : (ws : List ℕ) (n : ℕ) (covers : List ℤ) (part : List ℕ) → allLight (loadsOf ws n (map natAbs covers) part) ≡ isLight ws n covers part
+unfolding allLight loadsOf isLight
+loads-judge ws n covers part =
+    let loads = loadsOf ws n (map natAbs covers) part in
+    let f : ℕ → ℕ = λ y. min (getD (map natAbs covers) y 0 + loadIn ws y part) 128 in
+    all-every (λ load. leb load 127) loads 0 n (length-tabulate n f) (lightAt ws covers part)
+    (λ y h.
+    ap (λ (a : ℕ). leb a 127) (getD-tabulate n f 0 y h)
+    ∙ capped-test (getD (map natAbs covers) y 0 + loadIn ws y part)
+    ∙ ap (λ (a : ℕ). leb (a + loadIn ws y part) 127) (List·getD-map natAbs covers y (pos 0)))

@@ -1,0 +1,13 @@
+-- Covers, areas, coverage: what the contracts say.
+pub mod Cover
+pub mod Carry
+pub mod Load
+pub mod Area
+pub mod Cell
+pub mod Weight
+pub mod Coverage
+pub mod Plane
+pub mod Mark
+pub mod Paint
+pub mod Entry
+pub mod WholeRow

@@ -1,0 +1,1 @@
+-- The curve program has no definitions of its own.

@@ -1,0 +1,27 @@
+-- What the curve says of every d, and where it is greatest.
+-- Assumes nothing.
+use mathlib.Core.Path.{_≡_, refl, ap}
+use Prim.Native.Nat.{ℕ, _%_, _<_}
+use native.Mathlib.Omega.{arith}
+use lib.IntN.{ℤ, pos, negsuc}
+use Rattle.laws.specs.Integer.{modℤ}
+use Rattle.laws.proofs.Parts.{difference}
+use Rattle.styling.specs.declared.FillRule.the-variants.{EvenOdd}
+use Rattle.cover_statements.specs.Weight.{restWeight, weightOf}
+
+-- the weight of d is the one beside its remainder
+pub curve-of-d : (d : ℤ) → weightOf EvenOdd d ≡ weightOf EvenOdd (pos (modℤ 1024 d))
+curve-of-d d = ap restWeight (again d)
+  where
+    again : (d : ℤ) → modℤ 1024 d ≡ modℤ 1024 d % 1024
+    again (pos n) = omega arith
+    again (negsuc n) = omega arith
+
+-- the greatest weight is 512, at 512 alone
+pub at-512 : weightOf EvenOdd (pos 512) ≡ 512
+at-512 = refl
+
+pub greatest : (rest : ℕ) → rest < 1024 → (rest ≡ 512 → ⊥) → weightOf EvenOdd (pos rest) < 512
+greatest rest h n =
+    let same : rest % 1024 ≡ rest = omega arith in
+    omega (arith, difference (rest % 1024) 512)

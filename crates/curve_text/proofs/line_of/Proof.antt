@@ -1,0 +1,36 @@
+-- `line_of` meets its contract: both numbers are small enough for every width that they pass.
+-- Assumes nothing.
+use mathlib.Core.Path.{_≡_, ap, _∙_}
+use native.Mathlib.Omega.{arith}
+use borrow.Author.Needs.{needs}
+use lib.IntN.{pos}
+use mir.Syntax.{w16, w32}
+use mir.ValLaws.{toZ-pos}
+use Rattle.styling.specs.declared.FillRule.the-variants.{EvenOdd}
+use Rattle.cover_statements.specs.Weight.{weightOf}
+use Rattle.cover_statements.proofs.Weights.{weight-le}
+use Rattle.curve_text.specs.Curve.{curveLine}
+use Rattle.curve_text.proofs.line_of.Statement.{statement}
+use Rattle.curve_text.proofs.line_of.Tie as tie
+
+cast-weight : tie.Need-cast-weight
+cast-weight c = search needs
+
+weight-requires : tie.Need-weight-requires
+weight-requires c κs = search needs
+
+cast-t5 : tie.Need-cast-t5
+cast-t5 c = search needs
+
+cast-t6 : tie.Need-cast-t6
+cast-t6 c = search needs
+
+returns : tie.Need-returns
+unfolding curveLine
+returns c =
+    let rest = c .before .args .rest in
+    let weight : c .weight .result ≡ weightOf EvenOdd (pos rest) = c .weight .ensures ∙ ap (weightOf EvenOdd) (toZ-pos w16 rest (omega arith)) in
+    rw (toZ-pos w32 rest (omega arith), toZ-pos w32 (c .weight .result) (omega (arith, weight-le EvenOdd (pos rest))), weight)
+
+pub line-of-spec : {M : Type 1} → statement M
+line-of-spec = tie.close (tie.spec cast-weight weight-requires cast-t5 cast-t6 returns)

@@ -1,0 +1,2 @@
+-- The text of the even-odd curve.
+pub mod Curve

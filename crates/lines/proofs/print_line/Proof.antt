@@ -1,0 +1,80 @@
+-- `print_line` meets its contract. The invariant and its steps are those of `LinePrinting`; the measure is the fields left.
+-- Assumes nothing.
+use Prim.Native.Nat.{_-_}
+use native.Mathlib.Omega.{arith}
+use borrow.Author.Needs.{needs}
+use lib.ListN.{length}
+use mir.Syntax.{w32}
+use Rattle.laws.proofs.Machine.{kept}
+use Rattle.lines.proofs.LinePrinting.{LinePrinting, start, next-field, end}
+use Rattle.lines.proofs.print_line.Statement.{statement}
+use Rattle.lines.proofs.print_line.Tie as tie
+
+abbrev Inv-loop : tie.InvT-loop
+Inv-loop out₀ at numbers p₀ j₀ out p j = LinePrinting numbers out₀ at p j out
+
+abbrev μ-loop : tie.MeasureT-loop
+μ-loop out₀ at numbers p₀ j₀ out p j = length numbers - j
+
+loop-holds : tie.Need-loop-holds Inv-loop μ-loop
+loop-holds c = start (c .before .pre)
+
+mul-print-signed : tie.Need-mul-print-signed Inv-loop μ-loop
+mul-print-signed c = omega arith
+
+shared-slice-copy-out-print-signed : tie.Need-shared-slice-copy-out-print-signed Inv-loop μ-loop
+shared-slice-copy-out-print-signed c = omega arith
+
+print-signed-requires : tie.Need-print-signed-requires Inv-loop μ-loop
+print-signed-requires c κs = omega arith
+
+add-j : tie.Need-add-j Inv-loop μ-loop
+add-j c = omega arith
+
+sub-end-at : tie.Need-sub-end-at Inv-loop μ-loop
+sub-end-at c = omega arith
+
+end-at-requires : tie.Need-end-at-requires Inv-loop μ-loop
+end-at-requires c κs = search needs
+
+slice-write-out : tie.Need-slice-write-out Inv-loop μ-loop
+slice-write-out c = let p = c .before .before .before in omega (arith, p .print-signed .ensures .1, p .print-signed .kept .0)
+
+add-p : tie.Need-add-p Inv-loop μ-loop
+add-p c = let p = c .before .before .before in omega (arith, p .print-signed .ensures .1)
+
+loop-less : tie.Need-loop-less Inv-loop μ-loop
+loop-less c = omega arith
+
+loop-again : tie.Need-loop-again Inv-loop μ-loop
+loop-again c =
+    let p = c .before .before .before in
+    let n = p .before in
+    let q = rw (kept w32 _ (n .print-signed-arg2 .given)) at (p .print-signed .ensures) in
+    rw (c .end-at .ensures) (next-field (n .before .before .before .loop .inv) (omega arith) (q .0) (q .1))
+
+same-length : tie.Need-same-length Inv-loop μ-loop
+same-length c = c .before .loop .inv .long
+
+returns : tie.Need-returns Inv-loop μ-loop
+returns c = end (c .before .loop .inv) (omega arith)
+
+pub print-line-spec : {M : Type 1} → statement M
+print-line-spec =
+    tie.close
+    (tie.spec
+    Inv-loop
+    μ-loop
+    loop-holds
+    mul-print-signed
+    shared-slice-copy-out-print-signed
+    print-signed-requires
+    add-j
+    sub-end-at
+    end-at-requires
+    slice-write-out
+    add-p
+    loop-less
+    loop-again
+    same-length
+    returns)

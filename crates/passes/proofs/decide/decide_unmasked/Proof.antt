@@ -1,0 +1,33 @@
+-- `passes::decide::decide_unmasked` meets its contract. Assumes nothing.
+use borrow.Author.Needs.{needs}
+use Rattle.styling.specs.Table.{tableOf}
+use Rattle.passes.specs.Covered.{coveredOf}
+use Rattle.passes.specs.Entry.{entriesOf}
+use Rattle.passes.specs.Item.{itemsOf}
+use Rattle.passes.proofs.Deciding.{decided}
+use Rattle.passes.proofs.decide.decide_unmasked.Statement.{statement}
+use Rattle.passes.proofs.decide.decide_unmasked.Tie as tie
+
+skip-fully-covered-layers-pass-requires : tie.Need-skip-fully-covered-layers-pass-requires
+skip-fully-covered-layers-pass-requires c κs = search needs
+
+bottom-of-requires : tie.Need-bottom-of-requires
+bottom-of-requires c κs = search needs
+
+mix-requires : tie.Need-mix-requires
+mix-requires c κs = search needs
+
+returns : tie.Need-returns
+returns c =
+    let pass = c .before .before .before in
+    let a = pass .before .before .before .before .before .before .before .args in
+    let items = itemsOf (tableOf (a .layers .now) (a .colors .now) (a .count)) (entriesOf (a .n) (a .ids .now) (a .covers .now) (a .segments .now)) in
+    decided {whole = coveredOf items (a .unmasked .now) (a .unclipped .now) (a .removed)} (a .clear) items (a .unmasked .now)
+    (pass .skip-fully-covered-layers-pass .ensures)
+    (c .before .bottom-of .ensures)
+    (c .mix .ensures)
+
+pub decide-unmasked-spec : {M : Type 1} → statement M
+decide-unmasked-spec =
+    tie.close
+    (tie.spec skip-fully-covered-layers-pass-requires bottom-of-requires mix-requires returns)

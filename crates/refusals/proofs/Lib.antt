@@ -1,0 +1,3 @@
+-- Laws of judges.
+pub mod Judging
+pub mod Naming

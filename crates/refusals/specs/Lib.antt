@@ -1,0 +1,2 @@
+-- Refusals: their numbers, and what a judge says.
+pub mod Refusal

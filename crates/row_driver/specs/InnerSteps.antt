@@ -1,0 +1,151 @@
+-- What the inner functions of a driver ask and give: the walk over a tile's shown layers, a tile's line from what a work is called with, and two
+-- queues that take turns. proofs/ has that these are the lines of specs/Lines.
+use mathlib.Core.Path.{_≡_}
+use mathlib.Core.Bool.{Bool, true, false, not}
+use mathlib.Core.List.{List, [], _∷_}
+use mathlib.Core.Option.{Option, none}
+use Prim.Native.Nat.{ℕ, _+_, _*_, _≤_, _<_}
+use lib.Count.{ones}
+use lib.Ieee.{Float}
+use lib.IntN.{ℤ}
+use lib.ListN.{length, getD}
+use Rattle.laws.specs.Answer.{given}
+use Rattle.pixel_segment.specs.Search.{tilePart}
+use Rattle.styling.specs.Lookup.{lookup}
+use Rattle.styling.specs.Table.{Table}
+use Rattle.styling.specs.declared.Layer.{Layer}
+use Rattle.queue.specs.Queue.{Carry, idsIn, isQueue, Queued}
+use Rattle.cached_tile.specs.Kept.{noTile}
+use Rattle.tile_layers.specs.Listing.{incomingOf}
+use Rattle.tile_layers.specs.Walk.{Walks}
+use Rattle.passes.specs.Decision.{codeOf}
+use Rattle.layer_workbench.specs.declared.PreviousClear.the-variants.{Absent}
+use Rattle.refusals.specs.Refusal.{pass}
+use Rattle.painter.specs.Clip.{clipIn, clipAfter}
+use Rattle.painter.specs.Painting.{markIn, isLightIn}
+use Rattle.row_statements.specs.Lent.{Columns, ListColumns, lentTable, carriesIn, isQueueShort, isListShort, layersOf}
+use Rattle.row_statements.specs.State.{stateIn}
+use Rattle.row_statements.specs.Painting.{layerIn}
+use Rattle.row_statements.specs.TileWork.{WorkCall, WorkLent, workCall, workLent, listedFor, saysFor, layersVerdict, GivesWork}
+use Rattle.row_statements.specs.InnerWork.{workedBy, Judged}
+use Rattle.row_statements.specs.Due.{OpenRow, atFirst}
+use Rattle.row_statements.specs.InnerHolding.{IsOpen, Holds}
+use Rattle.row_statements.specs.Run.{Held}
+use Rattle.row_statements.specs.declared.RowState.{RowState}
+use Rattle.row_driver.specs.Shown.{shownIn}
+use Rattle.row_driver.specs.Lines.{clearColor, isPaint}
+use Rattle.row_driver.specs.declared.Line.{Line}
+use Rattle.row_driver.specs.declared.tally.Tally.{Tally}
+use Rattle.row_driver.specs.declared.tile.TileLine.{TileLine}
+
+-- ---- the shown layers of a tile, one after the other
+
+-- the painter's clip, how many layers were shown so far, and how many octets they used
+pub record Sum : Type 0 where
+  pub clip : Option ℕ
+  pub shown : ℕ
+  pub octets : ℕ
+
+abbrev pub sumIn : Tally → Sum
+sumIn t = record { clip = clipIn (t .clip); shown = t .shown; octets = t .octets }
+
+abbrev pub atStart : Sum
+atStart = record { clip = none; shown = 0; octets = 0 }
+
+-- once a shown layer is met: it counts, and where the tile is painted its mark and the clip after it count too
+abbrev pub tallyBy : Bool → ℕ → Option ℕ → Sum → Sum
+tallyBy true mark clip t = record { clip = clip; shown = t .shown + 1; octets = t .octets + ones mark }
+tallyBy false mark clip t = record { clip = t .clip; shown = t .shown + 1; octets = t .octets }
+
+module _ (paints : Bool) (table : List Layer) (queue : List Carry) (part : List ℕ) where
+  unfoldable pub tallyNext : Sum → ℕ → Sum
+  tallyNext t id = tallyBy paints (markIn table queue part id (layerIn table id) (t .clip)) (clipAfter (layerIn table id .props .func) id (t .clip)) t
+
+  unfoldable pub tallied : Sum → List ℕ → Sum
+  tallied t [] = t
+  tallied t (id ∷ ids) = tallied (tallyNext t id) ids
+
+-- what painting a layer of the tile asks: a judged queue of n carries, a part that ascends by layer, and a judged table
+pub record Painter (n : ℕ) (ids : List ℕ) (covers : List ℤ) (part : List ℕ) (words : List ℕ) (floats : List Float) (count : ℕ) : Type 0 where
+  pub queued : Queued n ids covers
+  pub walks : Walks n ids part
+  pub in-table : Table words floats count
+
+-- 8 and 9 don't apply to the layer
+pub record Paintable (table : List Layer) (queue : List Carry) (part : List ℕ) (id : ℕ) : Type 0 where
+  pub found : lookup table id ≡ given (layerIn table id)
+  pub light : isLightIn queue part id ≡ true
+
+-- what the walk asks of the lent list of n layers
+pub record Walkable (table : List Layer) (queue : List Carry) (part ids : List ℕ) (unmasked : List Bool) (n : ℕ) : Type 0 where
+  pub few : n ≤ 256
+  pub ids-long : n ≤ length ids
+  pub unmasked-long : n ≤ length unmasked
+  pub each : (i : ℕ) → i < n → Paintable table queue part (getD ids i 0)
+
+-- ---- the line of a tile
+
+-- the tile's shown layers, by what its work is called with
+abbrev pub tallyAt : WorkCall → Sum
+tallyAt a =
+    let out = saysFor a .outcome in
+    tallied (isPaint (out .decision)) (layersOf (a .table)) (carriesIn (a .state .left) (a .queue)) (tilePart (a .tile) (a .row)) atStart (shownIn (out .skipped) (out .unmasked) (idsIn (incomingOf (listedFor a))))
+
+unfoldable pub lineAt : WorkCall → Line
+lineAt a =
+    record {
+      decision = codeOf (saysFor a .outcome .decision);
+      listed = length (listedFor a);
+      shown = tallyAt a .shown;
+      octets = tallyAt a .octets;
+      carried = length (saysFor a .handed);
+    }
+
+-- what a driver calls a work with
+abbrev pub argsOf : RowState → ℤ → List ℕ → List ℕ → List Float → ℕ → Columns → WorkCall
+argsOf s tile row words floats count queue = workCall (stateIn s) tile row (lentTable words floats count) noTile clearColor Absent queue
+
+-- what the work of a tile asks
+pub record Workable (a : WorkCall) (lent : WorkLent) : Type 0 where
+  pub judged : Judged a lent
+  pub in-queue : isQueue (a .state .left) (a .queue .ids) ≡ true
+
+-- the work, and the tile's line where it is accepted
+pub record WorksLine (a : WorkCall) (lent : WorkLent) (r : TileLine) (back : WorkLent) : Type 0 where
+  pub works : GivesWork (workedBy a lent) (r .worked) back
+  pub line-is : layersVerdict a ≡ pass → r .line ≡ lineAt a
+
+-- ---- two queues that take turns
+
+abbrev pub side : Bool → Columns → Columns → Columns
+side true a b = a
+side false a b = b
+
+-- the work on the side whose turn it is, the other side written, and this one kept
+pub record Turns (in-a : Bool) (s : RowState) (tile : ℤ) (row words : List ℕ) (floats : List Float) (count : ℕ) (a b : Columns) (list : ListColumns) (r : TileLine) (a′ b′ : Columns) (list′ : ListColumns) : Type 0 where
+  pub works : WorksLine (argsOf s tile row words floats count (side in-a a b)) (workLent (side (not in-a) a b) list) r (workLent (side (not in-a) a′ b′) list′)
+  pub kept : side in-a a′ b′ ≡ side in-a a b
+
+-- what a driver holds: the queue of the side whose turn it is
+abbrev pub heldBy : Bool → RowState → Columns → Columns → Held
+heldBy in-a s a b = record { state = stateIn s; queue = side in-a a b; taken = side (not in-a) a b }
+
+-- the row that a state stands in
+abbrev pub rowBy : RowState → List ℕ → List ℕ → List Float → ℕ → OpenRow
+rowBy s row words floats count = record { tileY = s .«tile_y»; from = s .from; to = s .to; row = row; table = lentTable words floats count }
+
+-- what driving the k tiles of an open row asks: both queues and the list have room for 256 entries
+pub record Drivable (o : OpenRow) (s : RowState) (k : ℕ) (a b : Columns) (list : ListColumns) (lines : List ℕ) : Type 0 where
+  pub is-open : IsOpen o
+  pub holds : Holds o atFirst (heldBy true s a b)
+  pub other-long : isQueueShort b ≡ false
+  pub list-long : isListShort list ≡ false
+  pub inside : o .from + k ≤ o .to
+  pub room : k * 5 ≤ length lines
+
+-- what opens to it: the queue that the opening wrote
+pub record Opened (o : OpenRow) (s : RowState) (k : ℕ) (a : Columns) (lines : List ℕ) : Type 0 where
+  pub is-open : IsOpen o
+  pub holds : Holds o atFirst (record { state = stateIn s; queue = a; taken = a })
+  pub inside : o .from + k ≤ o .to
+  pub room : k * 5 ≤ length lines

@@ -1,0 +1,99 @@
+-- The run of specs/Example. Assumes nothing.
+use mathlib.Core.Path.{_≡_, refl, sym, _∙_}
+use mathlib.Core.Bool.{true}
+use mathlib.Core.List.{List, [], _∷_}
+use mathlib.Core.Option.{none}
+use Prim.Native.Nat.{ℕ, zero, suc, _^_, _<_}
+use native.Mathlib.Omega.{arith}
+use borrow.Author.Tests.{ltb-true}
+use lib.Dec.{ltb}
+use lib.Ieee.{eq, odd, ofBits}
+use lib.ListN.{getD}
+use Rattle.laws.specs.Answer.{given}
+use Rattle.laws.specs.Lists.{all, over}
+use Rattle.laws.proofs.Bools.{left, right}
+use Rattle.refusals.specs.Refusal.{pass, refuse}
+use Rattle.pixel_segment.specs.Field.{cpu, coverOf, tileOf}
+use Rattle.pixel_segment.specs.Order.{Words, ascendsFrom}
+use Rattle.pixel_segment.specs.Search.{halved, searchOf, leftPart, tilePart, layerPart}
+use Rattle.styling.specs.Ascending.{strictlyAscendsFrom}
+use Rattle.styling.specs.Lookup.{lookup}
+use Rattle.styling.specs.Table.{isShort, isValid, isTable, layerAt, tableOf}
+use Rattle.cover_statements.specs.Carry.{isLight, carryOf}
+use Rattle.cover_statements.specs.Cover.{isEmpty, isFull}
+use Rattle.queue.specs.Queue.{Carry, idsIn, heldIn}
+use Rattle.queue.specs.Opening.{addTo, addAll, openQueue, openAnswer, isLightOpening}
+use Rattle.cached_tile.specs.Kept.{noTile}
+use Rattle.tile_layers.specs.Groups.{groupsOf}
+use Rattle.tile_layers.specs.Listing.{listOf}
+use Rattle.tile_layers.specs.Carrying.{handedOn}
+use Rattle.passes.specs.Clips.{stepOf, clipsFrom}
+use Rattle.passes.specs.Covered.{coveredFrom}
+use Rattle.passes.specs.Decide.{shownFrom, outcomeOf}
+use Rattle.layer_workbench.specs.Work.{outcomeOn}
+use Rattle.row_carries.specs.Carries.{queueAfter}
+use Rattle.painter.specs.declared.Clip.the-variants.{Absent}
+use Rattle.row_statements.specs.Lent.{Columns, queueOver}
+use Rattle.row_statements.specs.Opening.{leftOf, openVerdict, countBy, openOf, OpensRow}
+use Rattle.row_statements.specs.TileWork.{listVerdict}
+use Rattle.row_statements.specs.Due.{atFirst, queueOn}
+use Rattle.row_statements.specs.Run.{openRow}
+use Rattle.row_statements.specs.Example.{row, call, room, choices, choicesDue, Ran}
+use Rattle.row_statements.specs.declared.RowState.{RowState}
+use Rattle.row_statements.specs.declared.Opened.the-variants as opened
+use Rattle.row_statements.proofs.Run.{accepted, is-open, held-first}
+use Rattle.row_statements.proofs.Runs.{exists}
+
+-- ---- the row has words of 64 bits
+
+small : (i : ℕ) (l : List ℕ) → all (λ w. ltb w (2 ^ 64)) l ≡ true → getD l i 0 < 2 ^ 64
+small i [] h = omega arith
+small zero (w ∷ l) h = ltb-true w (2 ^ 64) (left (ltb w (2 ^ 64)) (all (λ v. ltb v (2 ^ 64)) l) h)
+small (suc i) (w ∷ l) h = small i l (right (ltb w (2 ^ 64)) (all (λ v. ltb v (2 ^ 64)) l) h)
+
+in-words : Words row
+in-words = record { small = λ i. small i row refl }
+
+-- ---- the opening
+
+first : RowState
+first = record { «tile_y» = 0; from = 0; to = 2; next = 0; left = 4; taken = 0; clip = Absent }
+
+held : Columns
+held = queueOver (openQueue (leftOf call)) (room 256)
+
+counted : countBy (openVerdict call (room 256)) (leftOf call) ≡ given 4
+unfolding openVerdict isShort isValid isTable strictlyAscendsFrom ascendsFrom layerAt isLightOpening isLight addTo addAll coverOf leftPart searchOf halved tileOf
+counted = refl
+
+opens : OpensRow (openOf call (room 256)) (opened.Row first) held
+unfolding first held openOf
+opens = rw counted (record { answer = refl; lent-is = refl })
+
+-- ---- the calls
+
+due : choicesDue (openRow call) atFirst choices ≡ refuse 2 ∷ refuse 1 ∷ refuse 6 ∷ pass ∷ refuse 8 ∷ pass ∷ pass ∷ pass ∷ refuse 2 ∷ pass ∷ []
+unfolding choicesDue listVerdict listOf groupsOf handedOn queueAfter addTo addAll leftPart tilePart layerPart searchOf halved lookup tableOf layerAt isLight carryOf isEmpty heldIn coverOf tileOf
+due = refl
+
+lost : (idsIn (queueOn (openRow call) 0) ≡ 1 ∷ 2 ∷ 3 ∷ 4 ∷ []) × (idsIn (queueOn (openRow call) 1) ≡ 2 ∷ 3 ∷ 4 ∷ [])
+unfolding listOf groupsOf handedOn queueAfter addTo addAll leftPart tilePart searchOf halved lookup tableOf layerAt carryOf isEmpty coverOf tileOf
+lost = (refl, refl)
+
+pub ran : Ran
+unfolding outcomeOn outcomeOf clipsFrom stepOf coveredFrom shownFrom isFull eq ofBits odd listOf groupsOf queueAfter addTo addAll leftPart tilePart searchOf halved lookup tableOf layerAt coverOf tileOf
+ran =
+    let a = accepted call (room 256) held first opens in
+    let r = exists (is-open call (room 256) held first in-words a) (held-first call (room 256) held first in-words a) choices in
+    record {
+      back = held;
+      state = first;
+      events = r .events;
+      after = r .after;
+      words = in-words;
+      opens = opens;
+      runs = r .runs;
+      dues = r .dues ∙ due;
+      dropped = lost;
+      skipped = refl;
+    }

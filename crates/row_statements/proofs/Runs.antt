@@ -1,0 +1,160 @@
+-- The claim is not empty: after every accepted opening, every list of choices is the list of some run's calls. Assumes nothing.
+use mathlib.Core.Path.{_≡_, refl, ap, sym, subst, _∙_}
+use mathlib.Core.Bool.{not, _||_}
+use mathlib.Core.List.{List, [], _∷_}
+use mathlib.Core.Option.{Option, some, none}
+use Prim.Native.Nat.{ℕ, _+_, _-_}
+use lib.Dec.{ltb}
+use lib.Ieee.{Float}
+use lib.IntN.{pos}
+use lib.ListN.{length}
+use Rattle.laws.specs.Answer.{Answer, refused, given}
+use Rattle.refusals.specs.Refusal.{Judgement, pass, refuse, unless, numberOf}
+use Rattle.refusals.proofs.Naming.{refusalOf, Named, named}
+use Rattle.pixel_segment.specs.Search.{tilePart}
+use Rattle.styling.specs.Lookup.{lookup}
+use Rattle.styling.specs.declared.Layer.{Layer}
+use Rattle.cached_tile.specs.Kept.{tagOutOfRange}
+use Rattle.tile_layers.specs.Listing.{Listed, isTooMany, areKnown, areLight, isGiven}
+use Rattle.passes.specs.Decision as decision
+use Rattle.passes.specs.Decision.{TileDecision, solid, paint, decisionIn}
+use Rattle.passes.specs.declared.decide.Decision.{Decision}
+use Rattle.passes.specs.declared.decide.Decision.the-variants.{None, Solid, Paint}
+use Rattle.painter.specs.declared.Clip as painter
+use Rattle.painter.specs.declared.Clip.the-variants.{Absent, Until}
+use Rattle.painter.specs.Clip.{clipIn}
+use Rattle.painter.specs.Painting.{isLightIn}
+use Rattle.row_statements.specs.Lent.{isQueueShort, isListShort}
+use Rattle.row_statements.specs.State.{State, stateIn}
+use Rattle.row_statements.specs.TileWork.{WorkGiven, TileTold, TileSays, listVerdict, workOut, workOf, workAnswer, GivesWork}
+use Rattle.row_statements.specs.Painting.{PaintGiven, PaintSays, layerVerdict, paintOut, paintOf, paintAnswer, PaintsLayer}
+use Rattle.row_statements.specs.Due.{OpenRow, Past, tableOn, queueOn, layersOn, WorkChoice, isNotDue, workDueVerdict, saysOn, stateOn, workDue, PaintChoice, isNotLast, paintDueVerdict, paintOn, paintDue}
+use Rattle.row_statements.specs.Run.{Held, SameCarries, workOn, paintOnto, Event, Step, Run}
+use Rattle.row_statements.specs.Example.{Choice, duesOf, choicesDue}
+use Rattle.row_statements.specs.InnerHolding.{IsOpen, Holds}
+use Rattle.row_statements.specs.declared.RowState.{RowState}
+use Rattle.row_statements.specs.declared.TileDone.{TileDone}
+use Rattle.row_statements.specs.declared.TileWorked.{TileWorked}
+use Rattle.row_statements.specs.declared.WorkAnswer.{WorkAnswer}
+use Rattle.row_statements.specs.declared.WorkAnswer.the-variants as worked
+use Rattle.row_statements.specs.declared.Painted.{Painted}
+use Rattle.row_statements.specs.declared.PaintAnswer.{PaintAnswer}
+use Rattle.row_statements.specs.declared.PaintAnswer.the-variants as painted
+use Rattle.row_statements.proofs.WorkSteps.{work-due, right-work}
+use Rattle.row_statements.proofs.PaintSteps.{paint-due, right-paint}
+
+-- ---- an answer of the code for what is due
+
+abbrev clipOut : Option ℕ → painter.Clip
+clipOut none = Absent
+clipOut (some last) = Until last
+
+clip-back : (clip : Option ℕ) → clipIn (clipOut clip) ≡ clip
+clip-back none = refl
+clip-back (some last) = refl
+
+abbrev stateOut : State → RowState
+stateOut s = record { «tile_y» = s .tileY; from = s .from; to = s .to; next = s .next; left = s .left; taken = s .taken; clip = clipOut (s .clip) }
+
+state-back : (s : State) → stateIn (stateOut s) ≡ s
+state-back s = ap (λ (clip : Option ℕ). record { tileY = s .tileY; from = s .from; to = s .to; next = s .next; left = s .left; taken = s .taken; clip = clip }) (clip-back (s .clip))
+
+abbrev decisionOut : TileDecision → Decision
+decisionOut decision.none = None
+decisionOut (solid bottom before) = Solid bottom before
+decisionOut paint = Paint
+
+decision-back : (d : TileDecision) → decisionIn (decisionOut d) ≡ d
+decision-back decision.none = refl
+decision-back (solid bottom before) = refl
+decision-back paint = refl
+
+abbrev toldOut : TileTold → TileDone
+toldOut t = record { decision = decisionOut (t .decision); listed = t .listed; skipped = record { 0 = t .skipped } }
+
+abbrev workedOut : Answer TileTold → WorkAnswer
+workedOut (refused n) = worked.Refused (refusalOf n)
+workedOut (given t) = worked.Done (toldOut t)
+
+abbrev paintedOut : Answer ℕ → PaintAnswer
+paintedOut (refused n) = painted.Refused (refusalOf n)
+paintedOut (given mark) = painted.Mark mark
+
+-- ---- every number that is due is one of the table
+
+listed-named : (table : List Layer) (ls : List Listed) → Named (listVerdict table ls)
+unfolding listVerdict
+listed-named table ls =
+    named (isTooMany ls) 7 (unless (not (areKnown table ls)) 8 (unless (not (areLight ls)) 9 pass)) refl
+    (named (not (areKnown table ls)) 8 (unless (not (areLight ls)) 9 pass) refl
+    (named (not (areLight ls)) 9 pass refl tt))
+
+work-named : (o : OpenRow) (n : ℕ) (c : WorkChoice) → Named (workDueVerdict o n c)
+work-named o n c =
+    let seven = listVerdict (tableOn o) (layersOn o n) in
+    let six = unless (tagOutOfRange (c .kept)) 6 seven in
+    named (isQueueShort (c .lent .queue) || isListShort (c .lent .list)) 1 (unless (isNotDue o n (c .tile)) 2 six) refl
+    (named (isNotDue o n (c .tile)) 2 six refl
+    (named (tagOutOfRange (c .kept)) 6 seven refl (listed-named (tableOn o) (layersOn o n))))
+
+paint-named : (o : OpenRow) (n : ℕ) (c : PaintChoice) → Named (paintDueVerdict o n c)
+paint-named o n c =
+    let q = queueOn o (n - 1) in
+    let part = tilePart (pos (o .from + (n - 1))) (o .row) in
+    let nine = unless (not (isLightIn q part (c .layer))) 9 pass in
+    let eight = unless (not (isGiven (lookup (tableOn o) (c .layer)))) 8 nine in
+    named (ltb (length (c .plane)) 256) 1 (unless (isNotLast o n (c .tile)) 2 eight) refl
+    (named (isNotLast o n (c .tile)) 2 eight refl
+    (named (not (isGiven (lookup (tableOn o) (c .layer)))) 8 nine refl
+    (named (not (isLightIn q part (c .layer))) 9 pass refl tt)))
+
+-- ---- so there is an answer of the code that gives it
+
+abbrev workResult : WorkGiven → TileWorked
+workResult g = record { state = stateOut (g .state); kept = g .kept; answer = workedOut (g .answer) }
+
+work-gives : (v : Judgement) → Named v → (o : OpenRow) (p : Past) (c : WorkChoice) → let g = workOut v (saysOn o (p .tiles) c) (stateOn o p) (c .kept) (c .lent) in GivesWork g (workResult g) (g .lent)
+unfolding workOut
+work-gives (refuse n) named o p c = record { answer = ap refused named; state = state-back (stateOn o p); kept = refl; lent-is = refl }
+work-gives pass named o p c =
+    record {
+      answer = ap (λ (d : TileDecision). given (record { decision = d; listed = length (layersOn o (p .tiles)); skipped = saysOn o (p .tiles) c .outcome .skipped })) (decision-back (saysOn o (p .tiles) c .outcome .decision));
+      state = state-back (workOut pass (saysOn o (p .tiles) c) (stateOn o p) (c .kept) (c .lent) .state);
+      kept = refl;
+      lent-is = refl;
+    }
+
+abbrev paintResult : PaintGiven → Painted
+paintResult g = record { state = stateOut (g .state); answer = paintedOut (g .answer) }
+
+paint-gives : (v : Judgement) → Named v → (o : OpenRow) (p : Past) (c : PaintChoice) → let g = paintOut v (paintOn o (p .tiles - 1) (c .layer) (p .clip)) (stateOn o p) (c .plane) in PaintsLayer g (paintResult g) (g .plane)
+unfolding paintOut
+paint-gives (refuse n) named o p c = record { answer = ap refused named; state = state-back (stateOn o p); plane = refl }
+paint-gives pass named o p c = record { answer = refl; state = state-back (paintOut pass (paintOn o (p .tiles - 1) (c .layer) (p .clip)) (stateOn o p) (c .plane) .state); plane = refl }
+
+-- ---- for every list of choices there is a run, with the verdicts that are due
+
+module _ {o : OpenRow} (is-open : IsOpen o) where
+  pub record Goes (p : Past) (h : Held) (cs : List Choice) : Type 0 where
+    pub events : List Event
+    pub after : Held
+    pub runs : Run o h events after
+    pub dues : duesOf o p events ≡ choicesDue o p cs
+
+  pub exists : {p : Past} {h : Held} → Holds o p h → (cs : List Choice) → Goes p h cs
+  unfolding duesOf choicesDue
+  exists {p} {h} holds [] = record { events = []; after = h; runs = Run.none; dues = refl }
+  exists {p} {h} holds (Choice.work c ∷ cs) =
+      let held : WorkChoice = record { tile = c .tile; kept = c .kept; clear = c .clear; previous = c .previous; queue = h .queue; lent = c .lent } in
+      let same : SameCarries (h .state .left) (h .queue) (h .queue) = record { reads = refl; room = refl; order = refl } in
+      let g : GivesWork (workOf (workOn o h held) (c .lent)) (workResult (workDue o p held)) (workDue o p held .lent) =
+      subst (λ (out : WorkGiven). GivesWork out (workResult (workDue o p held)) (workDue o p held .lent)) (sym (work-due is-open holds held same)) (work-gives (workDueVerdict o (p .tiles) held) (work-named o (p .tiles) held) o p held) in
+      let rest = exists (right-work is-open holds held same g .1) cs in
+      record { events = _ ∷ rest .events; after = rest .after; runs = Run.next (Step.work {c = held} same g) (rest .runs); dues = ap (λ (vs : List Judgement). workDueVerdict o (p .tiles) c ∷ vs) (rest .dues) }
+  exists {p} {h} holds (Choice.paint c ∷ cs) =
+      let held : PaintChoice = record { tile = c .tile; layer = c .layer; queue = h .taken; plane = c .plane } in
+      let same : SameCarries (h .state .taken) (h .taken) (h .taken) = record { reads = refl; room = refl; order = refl } in
+      let g : PaintsLayer (paintOf (paintOnto o h held) (c .plane)) (paintResult (paintDue o p held)) (paintDue o p held .plane) =
+      subst (λ (out : PaintGiven). PaintsLayer out (paintResult (paintDue o p held)) (paintDue o p held .plane)) (sym (paint-due is-open holds held same)) (paint-gives (paintDueVerdict o (p .tiles) held) (paint-named o (p .tiles) held) o p held) in
+      let rest = exists (right-paint is-open holds held same g .1) cs in
+      record { events = _ ∷ rest .events; after = rest .after; runs = Run.next (Step.paint {c = held} same g) (rest .runs); dues = ap (λ (vs : List Judgement). paintDueVerdict o (p .tiles) c ∷ vs) (rest .dues) }

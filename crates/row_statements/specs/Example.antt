@@ -1,0 +1,111 @@
+-- The claim is not empty: an accepted opening and a run after it that meet the claim's premises, in which an EvenOdd carry is dropped, a clip is
+-- painted, a layer is passed over as covered, and calls are refused by 1, 2, 6 and 8 between accepted ones. proofs/Example has it.
+use mathlib.Core.Path.{_≡_}
+use mathlib.Core.Bool.{Bool, true, false}
+use mathlib.Core.List.{List, [], _∷_, _++_, map}
+use Prim.Native.Nat.{ℕ, suc}
+use lib.Ieee.{Float, binary32, ofBits}
+use lib.IntN.{ℤ, pos, negsuc}
+use lib.ListN.{length, replicate}
+use Rattle.laws.specs.Lists.{tabulate}
+use Rattle.refusals.specs.Refusal.{Judgement, pass, refuse}
+use Rattle.pixel_segment.specs.Field.{cpu}
+use Rattle.pixel_segment.specs.Order.{Words}
+use Rattle.pixel_segment.specs.Pack.{wordOf}
+use Rattle.styling.specs.declared.Color.{Color}
+use Rattle.queue.specs.Queue.{idsIn}
+use Rattle.cached_tile.specs.Kept.{noTile}
+use Rattle.cached_tile.specs.declared.kept.Kept as kept
+use Rattle.layer_workbench.specs.declared.PreviousClear.the-variants.{Absent}
+use Rattle.row_statements.specs.Lent.{Columns, ListColumns, LentTable}
+use Rattle.row_statements.specs.Opening.{OpenCall, openOf, OpensRow}
+use Rattle.row_statements.specs.TileWork.{WorkLent}
+use Rattle.row_statements.specs.Due.{OpenRow, Past, atFirst, WorkChoice, workDueVerdict, PaintChoice, paintDueVerdict, pastWork, pastPaint, queueOn, layersOn, outcomeOn}
+use Rattle.row_statements.specs.Run.{openRow, Held, heldFirst, Event, Run}
+use Rattle.row_statements.specs.Claim.{pastAfter}
+use Rattle.row_statements.specs.declared.RowState.{RowState}
+use Rattle.row_statements.specs.declared.Opened.the-variants as opened
+
+-- ---- what is due of a list of calls
+
+-- a call that a caller chooses
+pub data Choice : Type 0 where
+  work : (c : WorkChoice) → Choice
+  paint : (c : PaintChoice) → Choice
+
+unfoldable pub choicesDue : OpenRow → Past → List Choice → List Judgement
+choicesDue o p [] = []
+choicesDue o p (Choice.work c ∷ cs) = workDueVerdict o (p .tiles) c ∷ choicesDue o (pastWork (workDueVerdict o (p .tiles) c) p) cs
+choicesDue o p (Choice.paint c ∷ cs) = paintDueVerdict o (p .tiles) c ∷ choicesDue o (pastPaint (paintDueVerdict o (p .tiles) c) o (c .layer) p) cs
+
+-- the verdicts that are due of works and paintings
+unfoldable pub duesOf : OpenRow → Past → List Event → List Judgement
+duesOf o p [] = []
+duesOf o p (Event.work c r back ∷ es) = workDueVerdict o (p .tiles) c ∷ duesOf o (pastAfter o (Event.work c r back) p) es
+duesOf o p (Event.paint c r back ∷ es) = paintDueVerdict o (p .tiles) c ∷ duesOf o (pastAfter o (Event.paint c r back) p) es
+duesOf o p (Event.otherWork a lent r back ∷ es) = duesOf o p es
+duesOf o p (Event.otherPaint a plane r back ∷ es) = duesOf o p es
+
+-- ---- the row: layers 1 (EvenOdd), 2, 3 and 4 come in from tile -1, layer 4 with a full cover; layer 1 has one segment more in tile 0
+
+abbrev segment : ℤ → ℕ → ℕ → ℕ
+segment tile layer y = wordOf cpu layer tile (pos 0) 3 y 32 (pos 16)
+
+abbrev pub row : List ℕ
+row = segment (negsuc 0) 1 0 ∷ segment (negsuc 0) 2 0 ∷ segment (negsuc 0) 3 0 ∷ (tabulate 16 (segment (negsuc 0) 4) ++ (segment (pos 0) 1 0 ∷ []))
+
+-- layer 2 is a clip that reaches layer 3, a clipped draw; layer 4 is an opaque draw
+abbrev pub table : LentTable
+table =
+    record {
+      words = 1 ∷ 1 ∷ 0 ∷ 0 ∷ 0 ∷ 0 ∷ 0 ∷ 0 ∷ 2 ∷ 0 ∷ 1 ∷ 1 ∷ 0 ∷ 0 ∷ 0 ∷ 0 ∷ 3 ∷ 0 ∷ 0 ∷ 0 ∷ 1 ∷ 0 ∷ 0 ∷ 0 ∷ 4 ∷ 0 ∷ 0 ∷ 0 ∷ 0 ∷ 0 ∷ 0 ∷ 0 ∷ [];
+      floats = replicate 16 (ofBits binary32 0x3F800000);
+      count = 4;
+    }
+
+abbrev pub call : OpenCall
+call = record { tileY = pos 0; from = pos 0; to = pos 2; row = row; table = table }
+
+-- ---- the calls
+
+abbrev black : Color
+black = record { r = ofBits binary32 0; g = ofBits binary32 0; b = ofBits binary32 0; a = ofBits binary32 0 }
+
+abbrev pub room : ℕ → Columns
+room n = record { ids = replicate n 0; covers = replicate 4096 (pos 0) }
+
+abbrev list : ListColumns
+list = record { ids = replicate 256 0; covers = replicate 4096 (pos 0); segments = replicate 256 false; unmasked = replicate 256 false }
+
+abbrev tagged : ℕ → kept.Kept
+tagged tag = record { given = true; tile = record { tags = tag; «layer_count» = 0 ∷ 0 ∷ 0 ∷ []; «solid_color» = 0 ∷ 0 ∷ 0 ∷ 0 ∷ [] } }
+
+abbrev working : ℤ → kept.Kept → ℕ → Choice
+working tile k n =
+    Choice.work (record { tile = tile; kept = k; clear = black; previous = Absent; queue = room 256; lent = record { queue = room n; list = list } })
+
+abbrev painting : ℤ → ℕ → Choice
+painting tile layer = Choice.paint (record { tile = tile; layer = layer; queue = room 256; plane = replicate 256 (ofBits binary32 0) })
+
+-- a painting before the first work; tile 0 with a queue of 255 entries, with tag 4, and then rightly; layer 9, which the table lacks; the clip and
+-- the draw that it cuts; tile 1, tile 1 again, and the opaque layer
+abbrev pub choices : List Choice
+choices =
+    painting (pos 0) 2 ∷ working (pos 0) noTile 255 ∷ working (pos 0) (tagged 4) 256 ∷ working (pos 0) (tagged 0) 256 ∷ painting (pos 0) 9 ∷ painting (pos 0) 2
+    ∷ painting (pos 0) 3 ∷ working (pos 1) noTile 256 ∷ working (pos 1) noTile 256 ∷ painting (pos 1) 4 ∷ []
+
+pub record Ran : Type 0 where
+  pub back : Columns
+  pub state : RowState
+  pub events : List Event
+  pub after : Held
+  -- the claim's premises
+  pub words : Words row
+  pub opens : OpensRow (openOf call (room 256)) (opened.Row state) back
+  pub runs : Run (openRow call) (heldFirst state back) events after
+  -- which calls are refused, and by which number
+  pub dues : duesOf (openRow call) atFirst events ≡ refuse 2 ∷ refuse 1 ∷ refuse 6 ∷ pass ∷ refuse 8 ∷ pass ∷ pass ∷ pass ∷ refuse 2 ∷ pass ∷ []
+  -- layer 1's carry is dropped past tile 0
+  pub dropped : (idsIn (queueOn (openRow call) 0) ≡ 1 ∷ 2 ∷ 3 ∷ 4 ∷ []) × (idsIn (queueOn (openRow call) 1) ≡ 2 ∷ 3 ∷ 4 ∷ [])
+  -- the three layers below layer 4 are passed over as covered
+  pub skipped : outcomeOn (openRow call) 0 noTile black Absent .skipped ≡ 3

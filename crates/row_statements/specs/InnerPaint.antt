@@ -1,0 +1,24 @@
+-- What the functions below the painting of a layer give.
+use mathlib.Core.Bool.{Bool, _||_}
+use mathlib.Core.List.{List}
+use Prim.Native.Nat.{ℕ}
+use lib.Dec.{ltb}
+use lib.Ieee.{Float}
+use lib.ListN.{length}
+use Rattle.painter.specs.declared.Clip as painter
+use Rattle.row_statements.specs.Lent.{Columns, LentTable, isQueueShort, isTableShort}
+use Rattle.row_statements.specs.declared.PaintAnswer.the-variants.{Mark}
+use Rattle.row_statements.specs.declared.Painted.{Painted}
+use Rattle.row_statements.specs.declared.RowState.{RowState}
+
+-- 1, by what is lent
+abbrev pub isShortWith : LentTable → Columns → List Float → Bool
+isShortWith table queue plane = isQueueShort queue || isTableShort table || ltb (length plane) 256
+
+-- the state with the clip that painting left, and the mark
+abbrev pub paintedLayer : RowState → painter.Clip → ℕ → Painted
+paintedLayer s clip mark =
+    record {
+      state = record { «tile_y» = s .«tile_y»; from = s .from; to = s .to; next = s .next; left = s .left; taken = s .taken; clip = clip };
+      answer = Mark mark;
+    }

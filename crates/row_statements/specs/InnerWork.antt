@@ -1,0 +1,70 @@
+-- What the functions below the work on a tile ask and give.
+use mathlib.Core.Path.{_≡_}
+use mathlib.Core.Bool.{Bool, not, _||_}
+use mathlib.Core.List.{List}
+use Prim.Native.Nat.{ℕ, suc, _*_, _≤_, _+_}
+use lib.IntN.{ℤ}
+use lib.ListN.{length}
+use Rattle.laws.specs.Integer.{plus, minus}
+use Rattle.refusals.specs.Refusal.{Judgement, pass, unless, judgementIn}
+use Rattle.refusals.specs.declared.Refusal.{Refusal}
+use Rattle.pixel_segment.specs.Field.{cpu}
+use Rattle.pixel_segment.specs.Order.{isRow}
+use Rattle.pixel_segment.specs.Search.{tilePart}
+use Rattle.styling.specs.Table.{Table}
+use Rattle.styling.specs.declared.Layer.{Layer}
+use Rattle.queue.specs.Queue.{isQueue}
+use Rattle.cached_tile.specs.Kept.{tagOutOfRange}
+use Rattle.cached_tile.specs.declared.kept.Kept as kept
+use Rattle.tile_layers.specs.Listing.{Listed}
+use Rattle.tile_layers.specs.Walk.{Walks}
+use Rattle.layer_workbench.specs.Work.{Rooms}
+use Rattle.layer_workbench.specs.declared.Worked.{Worked}
+use Rattle.painter.specs.declared.Clip.the-variants.{Absent}
+use Rattle.row_statements.specs.Lent.{LentTable, isTable}
+use Rattle.row_statements.specs.State.{State, isWrongNext}
+use Rattle.row_statements.specs.TileWork.{WorkCall, WorkLent, WorkGiven, listVerdict, layersVerdict, saysFor, workOut}
+use Rattle.row_statements.specs.declared.ListJudged.{ListJudged}
+use Rattle.row_statements.specs.declared.RowState.{RowState}
+use Rattle.row_statements.specs.declared.TileWorked.{TileWorked}
+use Rattle.row_statements.specs.declared.WorkAnswer.the-variants.{Refused, Done}
+
+-- 1 to 6, `short` being the condition of 1
+unfoldable pub judgedBy : Bool → State → ℤ → List ℕ → LentTable → kept.Kept → List ℕ → Judgement
+judgedBy short s tile row table k ids =
+    unless short 1
+    (unless (isWrongNext s tile) 2
+    (unless (not (isRow cpu (suc (s .tileY)) row)) 3
+    (unless (not (isTable table)) 4
+    (unless (not (isQueue (s .left) ids)) 5
+    (unless (tagOutOfRange k) 6
+    pass)))))
+
+-- what is left of a work once 1 to 6 pass: judged by 7 to 9, and then done
+abbrev pub workedBy : WorkCall → WorkLent → WorkGiven
+workedBy c lent = workOut (layersVerdict c) (saysFor c) (c .state) (c .kept) lent
+
+pub record JudgesList (layers : List Layer) (ls : List Listed) (r : ListJudged) : Type 0 where
+  pub verdict : judgementIn (r .verdict) ≡ listVerdict layers ls
+  pub listed : r .listed ≡ length ls
+
+abbrev pub refusedWork : RowState → kept.Kept → Refusal → TileWorked
+refusedWork s k r = record { state = s; kept = k; answer = Refused r }
+
+abbrev pub doneWork : RowState → Worked → TileWorked
+doneWork s w =
+    record {
+      state = record { «tile_y» = s .«tile_y»; from = s .from; to = s .to; next = s .next + 1; left = w .left; taken = s .left; clip = Absent };
+      kept = w .kept;
+      answer = Done (record { decision = w .decision; listed = w .listed; skipped = w .skipped });
+    }
+
+-- what 1 to 6 leave: the tile is one of a row's, the queue and the tile's part ascend, the table is in order, and there is room
+pub record Judged (c : WorkCall) (lent : WorkLent) : Type 0 where
+  pub tile-natural : minus (c .tile) ≡ 0
+  pub tile-low : plus (c .tile) ≤ 4094
+  pub next-low : c .state .next ≤ 4094
+  pub walks : Walks (c .state .left) (c .queue .ids) (tilePart (c .tile) (c .row))
+  pub covers-long : 16 * c .state .left ≤ length (c .queue .covers)
+  pub in-table : Table (c .table .words) (c .table .floats) (c .table .count)
+  pub rooms : Rooms (lent .list .ids) (lent .list .covers) (lent .list .segments) (lent .list .unmasked) (lent .queue .ids) (lent .queue .covers)

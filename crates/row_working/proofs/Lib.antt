@@ -1,0 +1,1 @@
+-- The proofs of a row's operations. The laws are of row_statements.

@@ -1,0 +1,1 @@
+-- What the contracts of the operations say is of row_statements.

@@ -1,0 +1,106 @@
+// The judges of tile work: refusals 1 to 6 by the arguments, and 7 to 9 by the tile's layers.
+use cached_tile::kept::Kept;
+use pixel_segment::order;
+use refusals::Refusal;
+use refusals::Verdict;
+use row_statements::ListJudged;
+use row_statements::RowState;
+use styling::table;
+use tile_layers::listing;
+ghost use mathlib.Core.Path.{_≡_};
+ghost use mathlib.Core.Bool.{Bool};
+ghost use Prim.Native.Nat.{_*_, _≤_};
+ghost use lib.ListN.{length};
+ghost use Rattle.refusals.specs.Refusal.{judgementIn};
+ghost use Rattle.styling.specs.Table.{Table, tableOf};
+ghost use Rattle.queue.specs.Queue.{queueOf};
+ghost use Rattle.tile_layers.specs.Listing.{layersIn};
+ghost use Rattle.tile_layers.specs.Walk.{Walks};
+ghost use Rattle.row_statements.specs.Lent.{lentTable, listColumns, isListShort};
+ghost use Rattle.row_statements.specs.State.{stateIn};
+ghost use Rattle.row_statements.specs.InnerWork.{judgedBy, JudgesList};
+
+// Refusal 1: whether a lent list has fewer than 256 entries.
+pub fn is_list_short(ids: &[u32], covers: &[i8], segments: &[bool], unmasked: &[bool]) -> bool
+    ensures { λ r. ⌜ r ≡ isListShort
+        (listColumns (now (ids .entry)) (now (covers .entry)) (now (segments .entry)) (now (unmasked .entry))) ⌝ }
+{
+    (ids.len() < 256) | (covers.len() / 16 < 256) | (segments.len() < 256) | (unmasked.len() < 256)
+}
+
+// Refusals 1 to 6, the lowest that applies. `short` says whether 1 does.
+pub fn judge_work(
+    short: bool,
+    state: RowState,
+    tile: i32,
+    row: &[u64],
+    layers: &[u32],
+    colors: &[f32],
+    count: usize,
+    kept: Kept,
+    ids: &[u32],
+) -> Verdict
+    ensures { λ r. ⌜ judgementIn r ≡ judgedBy short (stateIn state) tile (now (row .entry))
+        (lentTable (now (layers .entry)) (now (colors .entry)) count) kept (now (ids .entry)) ⌝ }
+{
+    if short {
+        return Verdict::Refuse(Refusal::Room);
+    }
+    if row_state::is_wrong_next(state, tile) {
+        return Verdict::Refuse(Refusal::Tile);
+    }
+    if !order::is_row(row, state.tile_y as u64 + 1) {
+        return Verdict::Refuse(Refusal::Row);
+    }
+    if !table::is_table(layers, colors, count) {
+        return Verdict::Refuse(Refusal::Table);
+    }
+    if !queue::is_queue(ids, state.left) {
+        return Verdict::Refuse(Refusal::Queue);
+    }
+    if kept.is_tag_out_of_range() {
+        return Verdict::Refuse(Refusal::Tag);
+    }
+    Verdict::Pass
+}
+
+// Refusals 7 to 9, the lowest that applies to the layers of a tile.
+pub fn judge_list(
+    ids: &[u32],
+    covers: &[i8],
+    n: usize,
+    part: &[u64],
+    layers: &[u32],
+    colors: &[f32],
+    count: usize,
+) -> ListJudged
+    requires { ⌜ Walks n (now ids) (now part) × (16 * n ≤ length (now covers))
+        × Table (now layers) (now colors) count ⌝ }
+    ensures { λ r. ⌜ JudgesList (tableOf (now (layers .entry)) (now (colors .entry)) count)
+        (layersIn (queueOf n (now (ids .entry)) (now (covers .entry))) (now (part .entry))) r ⌝ }
+{
+    let found = listing::survey_layers(ids, covers, n, part, layers, colors, count);
+    let listed = found.count;
+    if 256 < listed {
+        return ListJudged {
+            verdict: Verdict::Refuse(Refusal::Layers),
+            listed: listed,
+        };
+    }
+    if !found.known {
+        return ListJudged {
+            verdict: Verdict::Refuse(Refusal::Missing),
+            listed: listed,
+        };
+    }
+    if !found.light {
+        return ListJudged {
+            verdict: Verdict::Refuse(Refusal::Covers),
+            listed: listed,
+        };
+    }
+    ListJudged {
+        verdict: Verdict::Pass,
+        listed: listed,
+    }
+}

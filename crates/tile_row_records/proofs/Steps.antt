@@ -1,0 +1,35 @@
+-- The claims of specs/Steps: records that hold the caller's carries are memory that holds the same carries. Assumes nothing.
+use mathlib.Core.Path.{_≡_, sym, ap, _∙_}
+use mathlib.Core.Bool.{false, _&&_}
+use mathlib.Core.List.{List}
+use Prim.Native.Nat.{ℕ, _≤_}
+use native.Mathlib.Omega.{arith}
+use lib.Dec.{leb}
+use lib.ListN.{length, take}
+use Rattle.styling.specs.Ascending.{strictlyAscends}
+use Rattle.queue.specs.Queue.{isQueue, idsIn}
+use Rattle.queue.proofs.Judging.{room}
+use Rattle.queue.proofs.Queues.{ids-queue}
+use Rattle.queue_records.specs.Records.{idsOf, coversOf}
+use Rattle.queue_records.specs.declared.CarryRecord.{CarryRecord}
+use Rattle.queue_records.proofs.Reading.{ids-length}
+use Rattle.row_statements.specs.Lent.{Columns, carriesIn, isQueueShort}
+use Rattle.row_statements.specs.Run.{SameCarries, Step}
+use Rattle.tile_row_records.specs.Lent.{columnsFor}
+use Rattle.tile_row_records.specs.Steps.{HoldsCarries, WorkStep, PaintStep}
+use Rattle.tile_row_records.proofs.SameQueue.{records-long, records-read}
+
+pub same-carries : {n : ℕ} {k : Columns} (q : List CarryRecord) → isQueueShort k ≡ false → HoldsCarries n k q → SameCarries n k (columnsFor q)
+unfolding isQueue
+same-carries {n} {k} q short holds =
+    let reads : carriesIn n (columnsFor q) ≡ carriesIn n k = records-read q n (holds .few) (holds .long) ∙ holds .reads in
+    let here : n ≤ length (idsOf q) = omega (arith, ids-length q, holds .few, holds .long) in
+    let there : n ≤ length (k .ids) = omega (arith, room {ids = k .ids} {covers = k .covers} short .ids-long, holds .few) in
+    let ids : take n (idsOf q) ≡ take n (k .ids) = sym (ids-queue n (idsOf q) (coversOf q) here) ∙ ap idsIn reads ∙ ids-queue n (k .ids) (k .covers) there in
+    record { reads = reads; room = records-long q (holds .long) ∙ sym short; order = ap (λ (l : List ℕ). leb n 256 && strictlyAscends l) ids }
+
+pub work-step : WorkStep
+work-step o p h holds c q r back records g = Step.work (same-carries q (holds .queue .long) records) g
+
+pub paint-step : PaintStep
+paint-step o p h holds c q r back records g = Step.paint (same-carries q (holds .taken-long) records) g

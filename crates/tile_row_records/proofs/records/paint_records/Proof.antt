@@ -1,0 +1,28 @@
+-- `records::paint_records` meets its contract: the records have the columns. Assumes nothing.
+use borrow.Author.Needs.{needs}
+use mir.Facts.{toZ-ofZ}
+use Rattle.tile_row_records.proofs.records.paint_records.Statement.{statement}
+use Rattle.tile_row_records.proofs.records.paint_records.Tie as tie
+
+records-of-requires : tie.Need-records-of-requires
+records-of-requires c κs = search needs
+
+paint-array-requires : tie.Need-paint-array-requires
+paint-array-requires c κs = search needs
+
+same-length : tie.Need-same-length
+same-length c = search needs
+
+returns : tie.Need-returns
+returns c =
+    let made = c .before .before .before .before .records-of .ensures in
+    rw (toZ-ofZ (c .before .before .before .before .before .before .before .before .before .fits .tile), made .0, made .1) at (c .before .before .paint-array .ensures)
+
+pub paint-records-spec : {M : Type 1} → statement M
+paint-records-spec =
+    tie.close
+    (tie.spec
+    records-of-requires
+    paint-array-requires
+    same-length
+    returns)

@@ -1,0 +1,32 @@
+//! Times of the library beside the Rust: the tables that `oracle/bench` prints.
+
+use std::hint::black_box;
+
+use crate::{
+    tally::caught,
+    timed_parts, timed_rows, timed_words,
+    timing::{Bench, ROUNDS},
+};
+
+/// With a word, only the lines whose name has it.
+pub fn print(only: String) {
+    if caught(|| black_box(i8::MAX) + black_box(1)).is_none() {
+        println!("Overflow checks are on: these times say nothing. The profile `timing` has none.");
+    }
+    println!("Nanoseconds: best / median of {ROUNDS} rounds, with both sides in turn.");
+    println!("Ratio, here by the Rust: of the best / median of the rounds' own. README.md says what is comparable.");
+    let bench = &mut Bench::new(only);
+    bench.title("One layer in one tile, alone");
+    timed_parts::print_alone(bench);
+    bench.title("One layer in one tile, of a table");
+    timed_parts::print_of_table(bench);
+    bench.title("Searches");
+    timed_words::print_searches(bench);
+    bench.title("Packing, and the order of a row");
+    timed_words::print_packing(bench);
+    timed_words::print_order(bench);
+    bench.title("Opening a row");
+    timed_rows::print_openings(bench);
+    bench.title("Whole rows");
+    timed_rows::print(bench);
+}

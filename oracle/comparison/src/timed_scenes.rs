@@ -1,0 +1,106 @@
+//! The rows that are timed.
+
+use reference::plain::Record;
+
+use crate::{given::Fields, random::Random, scene::word};
+
+/// A row of tiles from 0 on, with its layers.
+pub struct Row {
+    pub tiles: usize,
+    pub words: Vec<u64>,
+    pub records: Vec<Record>,
+}
+
+fn draw(id: u32, rule: u32, alpha: f32) -> Record {
+    let color = [0.5, 0.25, 0.75, alpha];
+    Record { id, rule, func: 0, span: 0, clipped: 0, fill: 0, mode: 0, unchanged: 0, color }
+}
+
+/// Draws of one colour, the odd ones EvenOdd.
+pub fn draws(layers: u32, alpha: f32) -> Vec<Record> {
+    (0..layers).map(|id| draw(id, id % 2, alpha)).collect()
+}
+
+/// Every fourth layer clips the three above it.
+pub fn clips(layers: u32) -> Vec<Record> {
+    let record = |id| match id % 4 {
+        0 => Record { func: 1, span: 3, ..draw(id, 0, 0.0) },
+        _ => Record { clipped: 1, ..draw(id, id % 2, 0.5) },
+    };
+    (0..layers).map(record).collect()
+}
+
+/// Eight opaque layers and so many segments, made from a seed: segment k lies in slot k x 8 x tiles / segments, of which
+/// each tile has eight, one a layer. Four draws of a linear congruential generator give its place, area and cover.
+pub fn made(seed: u32, tiles: usize, segments: usize, rule: u32) -> Row {
+    let mut state = seed;
+    let mut draw_below = |n: u32| {
+        state = state.wrapping_mul(1_664_525).wrapping_add(1_013_904_223);
+        (state >> 16) % n
+    };
+    let one = |k| {
+        let slot = k * 8 * tiles / segments;
+        let (local_x, local_y) = (draw_below(16) as u8, draw_below(16) as u8);
+        let double_area_multiplier = draw_below(33) as u8;
+        let cover = draw_below(33) as i8 - 16;
+        let (layer_id, tile_x) = (slot as u32 % 8, (slot / 8) as i16);
+        word(Fields { layer_id, tile_x, tile_y: 0, local_x, local_y, double_area_multiplier, cover })
+    };
+    let words = (0..segments).map(one).collect();
+    Row { tiles, words, records: (0..8).map(|id| draw(id, rule, 1.0)).collect() }
+}
+
+/// Eight tiles and eight opaque layers, each with so many segments in each tile. What one tile adds, the next takes off.
+pub fn dense(each: usize) -> Row {
+    let mut random = Random::new(5);
+    let mut words = Vec::new();
+    for (tile_x, layer_id) in (0..8).flat_map(|tile| (0..8).map(move |layer| (tile, layer))) {
+        for i in 0..each {
+            let sign = if (i / 16 + tile_x as usize).is_multiple_of(2) { 1 } else { -1 };
+            let (local_x, local_y, cover) = (random.below(16) as u8, i as u8 % 16, sign * (1 + random.below(4) as i8));
+            let double_area_multiplier = random.below(33) as u8;
+            words.push(word(Fields { layer_id, tile_x, tile_y: 0, local_x, local_y, double_area_multiplier, cover }));
+        }
+    }
+    Row { tiles: 8, words, records: (0..8).map(|id| draw(id, 0, 1.0)).collect() }
+}
+
+/// 32 tiles with a band of each layer: a slanted edge in one tile, at times left of the row, and one in a later tile, at
+/// times right of it.
+pub fn bands(random: &mut Random, records: Vec<Record>) -> Row {
+    const TILES: i16 = 32;
+    let mut words = Vec::new();
+    for record in &records {
+        let start = random.within(-1..=i64::from(TILES) - 2) as i16;
+        let end = random.within(i64::from(start) + 1..=i64::from(TILES)) as i16;
+        for (tile_x, cover) in [(start, 16), (end, -16)] {
+            for y in 0..16 {
+                let (layer_id, double_area_multiplier) = (record.id, random.below(33) as u8);
+                let (local_x, local_y) = (y, y);
+                words.push(word(Fields {
+                    layer_id,
+                    tile_x,
+                    tile_y: 0,
+                    local_x,
+                    local_y,
+                    double_area_multiplier,
+                    cover,
+                }));
+            }
+        }
+    }
+    words.sort();
+    Row { tiles: TILES as usize, words, records }
+}
+
+/// No tile, and so many segments of each layer left of it.
+pub fn left_of(layers: u32, each: usize) -> Row {
+    let mut random = Random::new(9);
+    let mut one = |layer_id, i| {
+        let cover = random.pick(&[-4, 5, 7]);
+        let (local_y, double_area_multiplier) = (i as u8 % 16, 0);
+        word(Fields { layer_id, tile_x: -1, tile_y: 0, local_x: 0, local_y, double_area_multiplier, cover })
+    };
+    let words = (0..layers).flat_map(|layer_id| (0..each).map(|i| one(layer_id, i)).collect::<Vec<_>>()).collect();
+    Row { tiles: 0, words, records: draws(layers, 1.0) }
+}
