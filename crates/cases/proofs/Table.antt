@@ -26,8 +26,8 @@ use Rattle.styling.specs.Lookup.{lookup}
 use Rattle.queue.specs.Queue.{heldIn}
 use Rattle.tile_layers.specs.Groups.{groupsOf}
 use Rattle.tile_layers.specs.Listing.{listOf}
-use Rattle.passes.specs.Clips.{clipsFrom, stepOf}
-use Rattle.passes.specs.Rules.{latestClip}
+use Rattle.pass_statements.specs.Clips.{clipsFrom, stepOf}
+use Rattle.pass_statements.specs.Rules.{latestClip}
 use Rattle.cases.specs.Numbers.{neg}
 use Rattle.cases.specs.Inputs.{tileX, tileY, readOf, givenTile}
 use Rattle.cases.specs.Cases.{Cases}

@@ -23,7 +23,7 @@ use Rattle.pixel_segment.specs.declared.search.Key.the-variants.{LayerId}
 use Rattle.styling.specs.declared.FillRule.the-variants.{NonZero, EvenOdd}
 use Rattle.styling.specs.declared.Func.the-variants.{Clip}
 use Rattle.tile_layers.specs.Listing.{layersIn}
-use Rattle.passes.specs.Clips.{marksOf}
+use Rattle.pass_statements.specs.Clips.{marksOf}
 use Rattle.painter.specs.Clip.{aliveAt, clipAfter}
 use Rattle.painter.specs.Painting.{itemsIn, needsIn, markIn, planeIn}
 use Rattle.cases.specs.Numbers.{neg, uncovered, half, of324, whole, halfPlane, sixteen}

@@ -20,10 +20,10 @@ use Rattle.queue.specs.Opening.{openQueue, isLightOpening}
 use Rattle.painter.specs.Clip.{clipIn}
 use Rattle.painter.specs.declared.Clip as painter
 use Rattle.painter.specs.declared.Clip.the-variants.{Absent, Until}
-use Rattle.passes.specs.Decision as decision
-use Rattle.passes.specs.Decision.{TileDecision, solid, paint, decisionIn}
-use Rattle.passes.specs.declared.decide.Decision.{Decision}
-use Rattle.passes.specs.declared.decide.Decision.the-variants.{None, Solid, Paint}
+use Rattle.pass_statements.specs.Decision as decision
+use Rattle.pass_statements.specs.Decision.{TileDecision, solid, paint, decisionIn}
+use Rattle.pass_statements.specs.declared.decide.Decision.{Decision}
+use Rattle.pass_statements.specs.declared.decide.Decision.the-variants.{None, Solid, Paint}
 use Rattle.row_statements.specs.Lent.{Columns, isQueueShort, isListShort, isTableShort, isTable}
 use Rattle.row_statements.specs.State.{State, stateIn}
 use Rattle.row_statements.specs.Opening.{OpenCall, leftOf, hasBadEnds, openVerdict, countBy, stateBy, openOf, OpensRow}

@@ -6,7 +6,7 @@ use Prim.Native.Nat.{ℕ}
 use lib.Ieee.{Float}
 use Rattle.laws.specs.Answer.{Answer, refused, given}
 use Rattle.cached_tile.specs.declared.kept.Kept.{Kept}
-use Rattle.passes.specs.Decision.{TileDecision, none, solid, paint, codeOf}
+use Rattle.pass_statements.specs.Decision.{TileDecision, none, solid, paint, codeOf}
 use Rattle.row_statements.specs.State.{State}
 use Rattle.row_statements.specs.TileWork.{TileTold, WorkLent, WorkGiven}
 use Rattle.ffi.specs.Numbers.{numberOf}

@@ -19,9 +19,9 @@ use Rattle.styling.specs.Lookup.{lookup}
 use Rattle.queue.specs.Queue.{idsIn}
 use Rattle.tile_layers.specs.Listing.{Listed}
 use Rattle.tile_layers.specs.Carrying.{handedOn}
-use Rattle.passes.specs.Clips.{stepOf, clipsFrom}
-use Rattle.passes.specs.Covered.{coveredFrom}
-use Rattle.passes.specs.Decide.{Outcome, outcomeOf}
+use Rattle.pass_statements.specs.Clips.{stepOf, clipsFrom}
+use Rattle.pass_statements.specs.Covered.{coveredFrom}
+use Rattle.pass_statements.specs.Decide.{Outcome, outcomeOf}
 use Rattle.cached_tile.specs.Kept.{noTile}
 use Rattle.layer_workbench.specs.Work.{outcomeOn, outcomeIn, carriesAfter}
 use Rattle.layer_workbench.specs.declared.PreviousClear.the-variants.{Absent}

@@ -12,12 +12,12 @@ use Rattle.queue.specs.Queue.{idsIn}
 use Rattle.queue.proofs.Columns.{areWide}
 use Rattle.tile_layers.specs.Listing.{Listed, incomingOf, Lists}
 use Rattle.tile_layers.specs.Carrying.{handedOn, Hands}
-use Rattle.passes.specs.Entry.{Entry, entriesOf}
-use Rattle.passes.specs.Item.{itemsOf}
-use Rattle.passes.specs.Decide.{outcomeOf, Deciding}
-use Rattle.passes.specs.declared.decide.Decided.{Decided}
-use Rattle.passes.specs.Decision.{decisionIn}
-use Rattle.passes.specs.declared.unchanged.PreviousCount.{PreviousCount}
+use Rattle.pass_statements.specs.Entry.{Entry, entriesOf}
+use Rattle.pass_statements.specs.Item.{itemsOf}
+use Rattle.pass_statements.specs.Decide.{outcomeOf, Deciding}
+use Rattle.pass_statements.specs.declared.decide.Decided.{Decided}
+use Rattle.pass_statements.specs.Decision.{decisionIn}
+use Rattle.pass_statements.specs.declared.unchanged.PreviousCount.{PreviousCount}
 use Rattle.cached_tile.specs.Kept.{KeptCounted}
 use Rattle.cached_tile.specs.Tile.{countOf}
 use Rattle.cached_tile.specs.declared.kept.Kept as kept

@@ -12,8 +12,8 @@ use Rattle.cover_statements.specs.Entry.{entryOf}
 use Rattle.queue.specs.Queue.{Carry, carryAt, queueOf, idsIn, coversIn}
 use Rattle.queue.proofs.Columns.{areWide, length-covers, reads-back}
 use Rattle.tile_layers.specs.Listing.{Listed, noListed, hasAny, incomingOf, segmentsOf}
-use Rattle.passes.specs.Entry.{entryAt, entriesOf}
-use Rattle.passes.proofs.Listing.{cover-entry}
+use Rattle.pass_statements.specs.Entry.{entryAt, entriesOf}
+use Rattle.pass_statements.proofs.Listing.{cover-entry}
 use Rattle.layer_workbench.specs.Work as Work
 
 -- what is written is there

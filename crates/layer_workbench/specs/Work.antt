@@ -14,13 +14,13 @@ use Rattle.styling.specs.declared.Layer.{Layer}
 use Rattle.queue.specs.Queue.{Carry, idsIn, coversIn}
 use Rattle.tile_layers.specs.Listing.{Listed, hasAny, incomingOf, segmentsOf}
 use Rattle.tile_layers.specs.Carrying.{handedOn}
-use Rattle.passes.specs.Entry.{Entry}
-use Rattle.passes.specs.Item.{itemsOf}
-use Rattle.passes.specs.Decide.{Outcome, outcomeOf}
-use Rattle.passes.specs.Decision as decision
-use Rattle.passes.specs.Decision.{TileDecision, solid, paint, decisionIn}
-use Rattle.passes.specs.declared.unchanged.PreviousCount.{PreviousCount}
-use Rattle.passes.specs.declared.unchanged.PreviousCount.the-variants as counts
+use Rattle.pass_statements.specs.Entry.{Entry}
+use Rattle.pass_statements.specs.Item.{itemsOf}
+use Rattle.pass_statements.specs.Decide.{Outcome, outcomeOf}
+use Rattle.pass_statements.specs.Decision as decision
+use Rattle.pass_statements.specs.Decision.{TileDecision, solid, paint, decisionIn}
+use Rattle.pass_statements.specs.declared.unchanged.PreviousCount.{PreviousCount}
+use Rattle.pass_statements.specs.declared.unchanged.PreviousCount.the-variants as counts
 use Rattle.cached_tile.specs.Kept.{previousCount, counted, cleared}
 use Rattle.cached_tile.specs.declared.kept.Kept as kept
 use Rattle.layer_workbench.specs.declared.PreviousClear.{PreviousClear}

@@ -1,10 +1,10 @@
 // The work on one tile (`drive_tile_painting` of painter/layer_workbench/mod.rs, without painting): list, decide, keep, hand on.
 use cached_tile::LayerCount;
 use cached_tile::kept::Kept;
-use passes::Index;
+use pass_statements::Index;
+use pass_statements::decide::Decision;
+use pass_statements::unchanged::PreviousCount;
 use passes::decide;
-use passes::decide::Decision;
-use passes::unchanged::PreviousCount;
 use styling::Color;
 use tile_layers::carrying;
 use tile_layers::listing;
@@ -17,9 +17,9 @@ ghost use Rattle.queue.specs.Queue.{queueOf};
 ghost use Rattle.tile_layers.specs.Listing.{layersIn, areLight};
 ghost use Rattle.tile_layers.specs.Walk.{Walks};
 ghost use Rattle.cached_tile.specs.Tile.{countOf};
-ghost use Rattle.passes.specs.Entry.{entriesOf};
-ghost use Rattle.passes.specs.Decision.{decisionIn};
-ghost use Rattle.passes.specs.Item.{Columns};
+ghost use Rattle.pass_statements.specs.Entry.{entriesOf};
+ghost use Rattle.pass_statements.specs.Decision.{decisionIn};
+ghost use Rattle.pass_statements.specs.Item.{Columns};
 ghost use Rattle.layer_workbench.specs.Work.{clearUnchanged, countFrom, keptBy, outcomeOn, outcomeIn, carriesAfter, Decides, Works, ListWritten, QueueWritten, Rooms};
 
 // The clear colour of the frame before, where one is given.

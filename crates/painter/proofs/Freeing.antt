@@ -19,11 +19,11 @@ use Rattle.tile_layers.specs.Walk.{listedAt, leftOf, Stepped, Moved}
 use Rattle.tile_layers.specs.declared.walk.Next.{Next}
 use Rattle.tile_layers.proofs.Walking.{Walking, walk-start, walk-here, walk-next, walk-end}
 use Rattle.tile_layers.proofs.Filling.{has-between}
-use Rattle.passes.specs.Clips.{isClip}
-use Rattle.passes.specs.Entry.{Entry}
-use Rattle.passes.specs.Item.{itemFor, itemFrom, itemOf, itemsOf}
-use Rattle.passes.specs.Rules.{lastOf, latestClip, isFreed}
-use Rattle.passes.specs.declared.item.Item.{Item}
+use Rattle.pass_statements.specs.Clips.{isClip}
+use Rattle.pass_statements.specs.Entry.{Entry}
+use Rattle.pass_statements.specs.Item.{itemFor, itemFrom, itemOf, itemsOf}
+use Rattle.pass_statements.specs.Rules.{lastOf, latestClip, isFreed}
+use Rattle.pass_statements.specs.declared.item.Item.{Item}
 use Rattle.layer_workbench.specs.Work.{entryOf}
 use Rattle.painter.specs.Freed.{freedAfter, freedBy}
 use Rattle.painter.specs.Painting.{itemsIn}

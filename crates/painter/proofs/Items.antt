@@ -7,7 +7,7 @@ use Rattle.laws.proofs.Filtered.{filter-all}
 use Rattle.styling.specs.Lookup.{lookup}
 use Rattle.styling.specs.declared.Layer.{Layer}
 use Rattle.tile_layers.specs.Listing.{Listed, isGiven, areKnown}
-use Rattle.passes.specs.Item.{itemsOf}
+use Rattle.pass_statements.specs.Item.{itemsOf}
 use Rattle.layer_workbench.specs.Work.{entryOf}
 use Rattle.painter.specs.Painting.{itemsIn}
 

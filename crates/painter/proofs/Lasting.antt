@@ -21,7 +21,7 @@ use Rattle.styling.proofs.Ranges.{id-le, span-le}
 use Rattle.styling.specs.declared.Func.{Func}
 use Rattle.styling.specs.declared.Func.the-variants.{Draw, Clip}
 use Rattle.styling.specs.declared.Layer.{Layer}
-use Rattle.passes.specs.Rules.{lastOf}
+use Rattle.pass_statements.specs.Rules.{lastOf}
 
 -- where a function is a clip, its last layer id is a sum
 pub last-sum : (id span : ℕ) (func : Func) → func ≡ Clip span → lastOf id func ≤ 4294967295 → id + span ≤ 4294967295

@@ -4,11 +4,11 @@ use Prim.Native.Nat.{ℕ}
 use lib.Dec.{ltb, leb}
 use Rattle.laws.specs.Answer.{Answer, refused, given}
 use Rattle.styling.specs.declared.Layer.{Layer}
-use Rattle.passes.specs.Clips.{isClip}
-use Rattle.passes.specs.Entry.{Entry}
-use Rattle.passes.specs.Item.{itemFor}
-use Rattle.passes.specs.Rules.{lastOf}
-use Rattle.passes.specs.declared.item.Item.{Item}
+use Rattle.pass_statements.specs.Clips.{isClip}
+use Rattle.pass_statements.specs.Entry.{Entry}
+use Rattle.pass_statements.specs.Item.{itemFor}
+use Rattle.pass_statements.specs.Rules.{lastOf}
+use Rattle.pass_statements.specs.declared.item.Item.{Item}
 
 -- once the listed layer x is met: a clip below the layer id decides anew
 abbrev pub freedAfter : Item → ℕ → Bool → Bool

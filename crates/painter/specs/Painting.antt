@@ -23,9 +23,9 @@ use Rattle.cover_statements.specs.Paint.{partPlane}
 use Rattle.queue.specs.Queue.{Carry, heldIn, Queued}
 use Rattle.tile_layers.specs.Listing.{Listed, layersIn, isGiven}
 use Rattle.tile_layers.specs.Walk.{Walks}
-use Rattle.passes.specs.Item.{itemsOf}
-use Rattle.passes.specs.Rules.{needsClip}
-use Rattle.passes.specs.declared.item.Item.{Item}
+use Rattle.pass_statements.specs.Item.{itemsOf}
+use Rattle.pass_statements.specs.Rules.{needsClip}
+use Rattle.pass_statements.specs.declared.item.Item.{Item}
 use Rattle.layer_workbench.specs.Work.{entryOf}
 use Rattle.painter.specs.Clip.{clipIn, aliveAt, clipAfter, lacksClip}
 use Rattle.painter.specs.declared.painting.Painting as painting

@@ -3,7 +3,7 @@ use crate::Clip;
 use styling::Func;
 ghost use mathlib.Core.Path.{_≡_};
 ghost use Prim.Native.Nat.{_≤_};
-ghost use Rattle.passes.specs.Rules.{lastOf};
+ghost use Rattle.pass_statements.specs.Rules.{lastOf};
 ghost use Rattle.painter.specs.Clip.{clipIn, aliveAt, keptOr, clipAfter, lacksClip};
 
 // A clip that ended below the painted layer is dropped.

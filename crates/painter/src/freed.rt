@@ -15,8 +15,8 @@ ghost use Rattle.styling.specs.Table.{Table, tableOf};
 ghost use Rattle.queue.specs.Queue.{queueOf};
 ghost use Rattle.tile_layers.specs.Listing.{layersIn};
 ghost use Rattle.tile_layers.specs.Walk.{Walks};
-ghost use Rattle.passes.specs.Item.{itemFor};
-ghost use Rattle.passes.specs.Rules.{latestClip, isFreed, needsClip};
+ghost use Rattle.pass_statements.specs.Item.{itemFor};
+ghost use Rattle.pass_statements.specs.Rules.{latestClip, isFreed, needsClip};
 ghost use Rattle.painter.specs.Painting.{itemsIn};
 ghost use Rattle.painter.specs.Freed.{freedAfter, freedBy};
 

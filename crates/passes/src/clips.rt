@@ -1,52 +1,21 @@
 // The second pass, `skip_trivial_clips_pass`. The three `if let`s of the Rust's loop are `open_clip`, `draw` and `close_clip`.
-use crate::Index;
 use crate::item;
-use crate::item::Item;
+use pass_statements::Index;
+use pass_statements::clips::ActiveClip;
+use pass_statements::clips::Closed;
+use pass_statements::clips::Current;
+use pass_statements::clips::Drawn;
+use pass_statements::clips::Step;
+use pass_statements::item::Item;
 use styling::Func;
 ghost use mathlib.Core.Path.{_≡_};
 ghost use Prim.Native.Nat.{_≤_, _<_};
 ghost use lib.ListN.{length, set, replicate};
 ghost use Rattle.laws.specs.Lists.{over};
 ghost use Rattle.styling.specs.Table.{Table, tableOf};
-ghost use Rattle.passes.specs.Entry.{entriesOf};
-ghost use Rattle.passes.specs.Item.{itemsOf, Columns};
-ghost use Rattle.passes.specs.Clips.{openedOf, clippedOf, drawnOf, closedOf, isClip, stepOf, maskOff, unmaskedAfter, lastClip, Marking};
-
-// The clip that was met last. `last` is wider than an id, so that id + span always fits.
-pub struct ActiveClip {
-    pub full: bool,
-    pub last: u64,
-    pub at: Index,
-    pub used: bool,
-}
-
-pub enum Current {
-    Nothing,
-    Active(ActiveClip),
-}
-
-// A draw: the clip, now perhaps used; whether the draw is masked off; whether it is drawn unclipped.
-pub struct Drawn {
-    pub cur: Current,
-    pub masked: bool,
-    pub unclipped: bool,
-}
-
-// The clip after a layer that may lie past its end: whether it ended unused, and where it stands.
-pub struct Closed {
-    pub cur: Current,
-    pub unused: bool,
-    pub at: Index,
-}
-
-// One turn of the pass.
-pub struct Step {
-    pub cur: Current,
-    pub masked: bool,
-    pub unclipped: bool,
-    pub unused: bool,
-    pub at: Index,
-}
+ghost use Rattle.pass_statements.specs.Entry.{entriesOf};
+ghost use Rattle.pass_statements.specs.Item.{itemsOf, Columns};
+ghost use Rattle.pass_statements.specs.Clips.{openedOf, clippedOf, drawnOf, closedOf, isClip, stepOf, maskOff, unmaskedAfter, lastClip, Marking};
 
 fn open_clip(func: Func, cur: Current, id: u32, full: bool, i: Index) -> Current
     ensures { λ r. ⌜ r ≡ openedOf func cur id full (i .0) ⌝ }

@@ -1,31 +1,18 @@
 // The third pass, `skip_fully_covered_layers_pass`.
-use crate::Index;
 use crate::item;
-use crate::item::Item;
-use styling::Color;
+use pass_statements::Index;
+use pass_statements::covered::Covered;
+use pass_statements::covered::InterestingCover;
+use pass_statements::item::Item;
 use styling::Paint;
 ghost use mathlib.Core.Path.{_≡_};
 ghost use Prim.Native.Nat.{_≤_};
 ghost use lib.ListN.{length};
 ghost use Rattle.styling.specs.Style.{paintOf};
 ghost use Rattle.styling.specs.Table.{Table, tableOf};
-ghost use Rattle.passes.specs.Entry.{entriesOf};
-ghost use Rattle.passes.specs.Item.{itemsOf, Columns};
-ghost use Rattle.passes.specs.Covered.{firstOf, opaqueOf, isPartial, hides as hidesOf, tells as tellsOf, skipTo, lookAt, coveredOf};
-
-// The first cover that tells whether the tile can be solid.
-pub enum InterestingCover {
-    Absent,
-    Opaque(Color),
-    Incomplete,
-}
-
-// What the pass has found so far.
-pub struct Covered {
-    pub first: InterestingCover,
-    pub unchanged: bool,
-    pub skipped: Index,
-}
+ghost use Rattle.pass_statements.specs.Entry.{entriesOf};
+ghost use Rattle.pass_statements.specs.Item.{itemsOf, Columns};
+ghost use Rattle.pass_statements.specs.Covered.{firstOf, opaqueOf, isPartial, hides as hidesOf, tells as tellsOf, skipTo, lookAt, coveredOf};
 
 fn first_of(first: InterestingCover, next: InterestingCover) -> InterestingCover
     ensures { λ r. ⌜ r ≡ firstOf first next ⌝ }

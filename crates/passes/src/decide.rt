@@ -1,11 +1,14 @@
 // The decision about a tile, from its list.
-use crate::Index;
 use crate::clips;
 use crate::covered;
-use crate::covered::InterestingCover;
 use crate::item;
 use crate::unchanged;
-use crate::unchanged::PreviousCount;
+use pass_statements::Index;
+use pass_statements::covered::InterestingCover;
+use pass_statements::decide::Bottom;
+use pass_statements::decide::Decided;
+use pass_statements::decide::Decision;
+use pass_statements::unchanged::PreviousCount;
 use styling::Color;
 use styling::Paint;
 ghost use mathlib.Core.Path.{_≡_};
@@ -13,29 +16,11 @@ ghost use Prim.Native.Nat.{_≤_};
 ghost use lib.ListN.{length};
 ghost use Rattle.styling.specs.Style.{paintOf};
 ghost use Rattle.styling.specs.Table.{Table, tableOf};
-ghost use Rattle.passes.specs.Entry.{entriesOf};
-ghost use Rattle.passes.specs.Item.{itemsOf, Columns};
-ghost use Rattle.passes.specs.Covered.{coveredOf};
-ghost use Rattle.passes.specs.Decision.{codeOf, decisionIn};
-ghost use Rattle.passes.specs.Decide.{hasColor, shownOf, areSolid, bottomOf, mixedOf, DecidedBy, passedOf, outcomeOf, Deciding};
-
-// Nothing is drawn; the tile has one colour, mixed over the bottom colour from the shown layers after the first so many; or it is painted.
-pub enum Decision {
-    None,
-    Solid(Color, usize),
-    Paint,
-}
-
-pub struct Decided {
-    pub decision: Decision,
-    pub skipped: Index,
-}
-
-// Settled with no look at the colours, or a bottom colour and how many shown layers are not mixed above it.
-pub enum Bottom {
-    Settled(Decision),
-    Under(Color, usize),
-}
+ghost use Rattle.pass_statements.specs.Entry.{entriesOf};
+ghost use Rattle.pass_statements.specs.Item.{itemsOf, Columns};
+ghost use Rattle.pass_statements.specs.Covered.{coveredOf};
+ghost use Rattle.pass_statements.specs.Decision.{codeOf, decisionIn};
+ghost use Rattle.pass_statements.specs.Decide.{hasColor, shownOf, areSolid, bottomOf, mixedOf, DecidedBy, passedOf, outcomeOf, Deciding};
 
 pub fn code_of(decision: Decision) -> u32
     ensures { λ r. ⌜ r ≡ codeOf (decisionIn decision) ⌝ }

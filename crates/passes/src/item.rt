@@ -1,8 +1,9 @@
 // What the passes read of a listed layer: its entry and its record in one value. A list is lent as three columns, the first n entries of which
 // count: layer ids, incoming covers (16 bytes an entry), and whether the layer has segments in the tile.
-use crate::Index;
 use cover::Cover;
 use cover::entry;
+use pass_statements::Index;
+use pass_statements::item::Item;
 use styling::Func;
 use styling::Layer;
 use styling::table;
@@ -10,16 +11,8 @@ use styling::table::Found;
 ghost use mathlib.Core.Path.{_≡_};
 ghost use Prim.Native.Nat.{_<_};
 ghost use Rattle.styling.specs.Table.{Table, tableOf};
-ghost use Rattle.passes.specs.Entry.{entryAt};
-ghost use Rattle.passes.specs.Item.{itemFor, itemOf, Columns};
-
-pub struct Item {
-    pub id: u32,
-    // Full by its rule, and no segment in the tile.
-    pub full: bool,
-    pub func: Func,
-    pub unchanged: bool,
-}
+ghost use Rattle.pass_statements.specs.Entry.{entryAt};
+ghost use Rattle.pass_statements.specs.Item.{itemFor, itemOf, Columns};
 
 fn item_for(layer: Layer, id: u32, cover: Cover, has_segments: bool) -> Item
     ensures { λ r. ⌜ r ≡ itemFor layer (record { id = id; cover = cover .covers; segments = «has_segments» }) ⌝ }

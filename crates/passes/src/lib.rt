@@ -5,6 +5,3 @@ pub mod covered;
 pub mod decide;
 pub mod item;
 pub mod unchanged;
-
-// A position in the list. It is not a layer id.
-pub struct Index(pub usize);

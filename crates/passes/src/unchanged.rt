@@ -1,19 +1,14 @@
 // The first pass, `tile_unchanged_pass`.
-use crate::Index;
 use crate::item;
+use pass_statements::Index;
+use pass_statements::unchanged::PreviousCount;
 ghost use mathlib.Core.Path.{_≡_};
 ghost use Prim.Native.Nat.{_≤_};
 ghost use Rattle.laws.specs.Lists.{all};
 ghost use Rattle.styling.specs.Table.{Table, tableOf};
-ghost use Rattle.passes.specs.Entry.{entriesOf};
-ghost use Rattle.passes.specs.Item.{itemsOf, Columns};
-ghost use Rattle.passes.specs.Unchanged.{allUnchanged, isKept, wereRemoved};
-
-// How many layers were listed at the last accepted work on the tile, where that was kept.
-pub enum PreviousCount {
-    Kept(u32),
-    Absent,
-}
+ghost use Rattle.pass_statements.specs.Entry.{entriesOf};
+ghost use Rattle.pass_statements.specs.Item.{itemsOf, Columns};
+ghost use Rattle.pass_statements.specs.Unchanged.{allUnchanged, isKept, wereRemoved};
 
 // Whether every listed layer is unchanged.
 pub fn are_unchanged(

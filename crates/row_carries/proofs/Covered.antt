@@ -14,14 +14,14 @@ use Rattle.styling.specs.declared.Func.the-variants.{Draw, Clip}
 use Rattle.styling.specs.declared.Layer.{Layer}
 use Rattle.tile_layers.specs.Listing.{noListed, Listed}
 use Rattle.tile_layers.proofs.Ordering.{listedIds}
-use Rattle.passes.specs.Clips.{isClip}
-use Rattle.passes.specs.Covered.{itemAt}
-use Rattle.passes.specs.Decide.{Outcome}
-use Rattle.passes.specs.Entry.{Entry}
-use Rattle.passes.specs.Item.{itemFrom, itemOf, itemsOf}
-use Rattle.passes.specs.Rules.{needsClip, isAscending, Over}
-use Rattle.passes.specs.declared.item.Item.{Item}
-use Rattle.passes.proofs.Words.{covered}
+use Rattle.pass_statements.specs.Clips.{isClip}
+use Rattle.pass_statements.specs.Covered.{itemAt}
+use Rattle.pass_statements.specs.Decide.{Outcome}
+use Rattle.pass_statements.specs.Entry.{Entry}
+use Rattle.pass_statements.specs.Item.{itemFrom, itemOf, itemsOf}
+use Rattle.pass_statements.specs.Rules.{needsClip, isAscending, Over}
+use Rattle.pass_statements.specs.declared.item.Item.{Item}
+use Rattle.pass_statements.proofs.Words.{covered}
 use Rattle.cached_tile.specs.Kept.{previousCount}
 use Rattle.cached_tile.specs.declared.kept.Kept as kept
 use Rattle.layer_workbench.specs.Work.{entryOf, clearUnchanged, countFrom, outcomeOn, outcomeIn}

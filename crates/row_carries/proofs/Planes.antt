@@ -32,9 +32,9 @@ use Rattle.queue.specs.Queue.{zeros}
 use Rattle.queue.proofs.Openings.{held-wide}
 use Rattle.tile_layers.specs.Listing.{noListed, Listed, hasAny}
 use Rattle.tile_layers.specs.Carrying.{ruleFrom, ruleIn}
-use Rattle.passes.specs.Covered.{itemAt}
-use Rattle.passes.specs.Entry.{Entry}
-use Rattle.passes.specs.Item.{itemFrom, itemOf, itemsOf}
+use Rattle.pass_statements.specs.Covered.{itemAt}
+use Rattle.pass_statements.specs.Entry.{Entry}
+use Rattle.pass_statements.specs.Item.{itemFrom, itemOf, itemsOf}
 use Rattle.layer_workbench.specs.Work.{entryOf}
 use Rattle.row_carries.specs.Carries.{InOrder, queueAfter, layersAt, isUnlisted}
 use Rattle.row_carries.specs.Covering.{itemsAt, idAt}

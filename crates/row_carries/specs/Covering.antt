@@ -12,12 +12,12 @@ use Rattle.cover_statements.specs.Coverage.{coverageOf}
 use Rattle.cover_statements.specs.WholeRow.{rowPlane}
 use Rattle.tile_layers.specs.Listing.{noListed}
 use Rattle.tile_layers.specs.Carrying.{ruleIn}
-use Rattle.passes.specs.Clips.{isClip}
-use Rattle.passes.specs.Covered.{itemAt}
-use Rattle.passes.specs.Decide.{Outcome}
-use Rattle.passes.specs.Item.{itemsOf}
-use Rattle.passes.specs.Rules.{needsClip}
-use Rattle.passes.specs.declared.item.Item.{Item}
+use Rattle.pass_statements.specs.Clips.{isClip}
+use Rattle.pass_statements.specs.Covered.{itemAt}
+use Rattle.pass_statements.specs.Decide.{Outcome}
+use Rattle.pass_statements.specs.Item.{itemsOf}
+use Rattle.pass_statements.specs.Rules.{needsClip}
+use Rattle.pass_statements.specs.declared.item.Item.{Item}
 use Rattle.layer_workbench.specs.Work.{entryOf}
 use Rattle.row_carries.specs.Carries.{layersAt}
 

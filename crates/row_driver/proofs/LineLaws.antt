@@ -14,7 +14,7 @@ use Rattle.queue.specs.Queue.{Carry, idsIn}
 use Rattle.cached_tile.specs.Kept.{noTile}
 use Rattle.tile_layers.specs.Listing.{Listed, incomingOf, areKnown}
 use Rattle.tile_layers.specs.Carrying.{handedOn}
-use Rattle.passes.specs.Decision.{codeOf}
+use Rattle.pass_statements.specs.Decision.{codeOf}
 use Rattle.layer_workbench.specs.Work.{outcomeIn}
 use Rattle.row_carries.proofs.Carried.{queue-next}
 use Rattle.painter.specs.Clip.{clipAfter}

@@ -25,9 +25,9 @@ use Rattle.queue.proofs.Judging as queue-judging
 use Rattle.queue.proofs.Queues.{ids-queue}
 use Rattle.tile_layers.specs.Listing.{Listed, noListed, layersIn, incomingOf, isGiven}
 use Rattle.tile_layers.proofs.Handing.{handed-few}
-use Rattle.passes.specs.Item.{itemOf}
-use Rattle.passes.proofs.Words.{outcome-long}
-use Rattle.passes.specs.Decision.{codeOf, decisionIn}
+use Rattle.pass_statements.specs.Item.{itemOf}
+use Rattle.pass_statements.proofs.Words.{outcome-long}
+use Rattle.pass_statements.specs.Decision.{codeOf, decisionIn}
 use Rattle.layer_workbench.specs.Work.{entryOf, outcomeOn, clearUnchanged, countFrom}
 use Rattle.cached_tile.specs.Kept.{previousCount}
 use Rattle.row_carries.proofs.Merged.{listed-cover, listed-own}

@@ -12,10 +12,10 @@ use Rattle.styling.specs.Lookup.{lookup}
 use Rattle.styling.specs.declared.Layer.{Layer}
 use Rattle.queue.specs.Queue.{idsIn}
 use Rattle.tile_layers.specs.Listing.{Listed, incomingOf}
-use Rattle.passes.specs.Decide.{shownFrom, shownOf}
-use Rattle.passes.specs.Entry.{Entry}
-use Rattle.passes.specs.Item.{itemFrom, itemsOf}
-use Rattle.passes.specs.declared.item.Item.{Item}
+use Rattle.pass_statements.specs.Decide.{shownFrom, shownOf}
+use Rattle.pass_statements.specs.Entry.{Entry}
+use Rattle.pass_statements.specs.Item.{itemFrom, itemsOf}
+use Rattle.pass_statements.specs.declared.item.Item.{Item}
 use Rattle.layer_workbench.specs.Work.{entryOf}
 use Rattle.row_driver.specs.Shown.{flagged, shownIn}
 

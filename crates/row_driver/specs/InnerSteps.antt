@@ -18,7 +18,7 @@ use Rattle.queue.specs.Queue.{Carry, idsIn, isQueue, Queued}
 use Rattle.cached_tile.specs.Kept.{noTile}
 use Rattle.tile_layers.specs.Listing.{incomingOf}
 use Rattle.tile_layers.specs.Walk.{Walks}
-use Rattle.passes.specs.Decision.{codeOf}
+use Rattle.pass_statements.specs.Decision.{codeOf}
 use Rattle.layer_workbench.specs.declared.PreviousClear.the-variants.{Absent}
 use Rattle.refusals.specs.Refusal.{pass}
 use Rattle.painter.specs.Clip.{clipIn, clipAfter}

@@ -14,8 +14,8 @@ use Rattle.queue.specs.Queue.{idsIn}
 use Rattle.cached_tile.specs.Kept.{noTile}
 use Rattle.tile_layers.specs.Listing.{incomingOf}
 use Rattle.refusals.specs.Refusal.{Judgement, pass, refuse}
-use Rattle.passes.specs.Decision.{TileDecision, none, solid, paint, codeOf}
-use Rattle.passes.specs.Decide.{Outcome}
+use Rattle.pass_statements.specs.Decision.{TileDecision, none, solid, paint, codeOf}
+use Rattle.pass_statements.specs.Decide.{Outcome}
 use Rattle.layer_workbench.specs.declared.PreviousClear.the-variants.{Absent}
 use Rattle.painter.specs.Clip.{clipAfter}
 use Rattle.row_statements.specs.TileWork.{listVerdict}

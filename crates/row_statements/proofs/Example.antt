@@ -27,9 +27,9 @@ use Rattle.cached_tile.specs.Kept.{noTile}
 use Rattle.tile_layers.specs.Groups.{groupsOf}
 use Rattle.tile_layers.specs.Listing.{listOf}
 use Rattle.tile_layers.specs.Carrying.{handedOn}
-use Rattle.passes.specs.Clips.{stepOf, clipsFrom}
-use Rattle.passes.specs.Covered.{coveredFrom}
-use Rattle.passes.specs.Decide.{shownFrom, outcomeOf}
+use Rattle.pass_statements.specs.Clips.{stepOf, clipsFrom}
+use Rattle.pass_statements.specs.Covered.{coveredFrom}
+use Rattle.pass_statements.specs.Decide.{shownFrom, outcomeOf}
 use Rattle.layer_workbench.specs.Work.{outcomeOn}
 use Rattle.row_carries.specs.Carries.{queueAfter}
 use Rattle.painter.specs.declared.Clip.the-variants.{Absent}

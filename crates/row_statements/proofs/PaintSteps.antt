@@ -26,8 +26,8 @@ use Rattle.cover_statements.specs.Plane.{planeOf}
 use Rattle.queue.specs.Queue.{Carry, heldIn, isQueue}
 use Rattle.tile_layers.specs.Carrying.{ruleFrom, ruleIn}
 use Rattle.tile_layers.specs.Listing.{areKnown}
-use Rattle.passes.specs.Rules.{needsClip}
-use Rattle.passes.specs.declared.item.Item.{Item}
+use Rattle.pass_statements.specs.Rules.{needsClip}
+use Rattle.pass_statements.specs.declared.item.Item.{Item}
 use Rattle.row_carries.proofs.Carried.{plane-is}
 use Rattle.painter.specs.Clip.{aliveAt, clipAfter}
 use Rattle.painter.specs.Painting.{markFor, planeIn, markIn}

@@ -16,10 +16,10 @@ use Rattle.styling.specs.Lookup.{lookup}
 use Rattle.styling.specs.declared.Layer.{Layer}
 use Rattle.cached_tile.specs.Kept.{tagOutOfRange}
 use Rattle.tile_layers.specs.Listing.{Listed, isTooMany, areKnown, areLight, isGiven}
-use Rattle.passes.specs.Decision as decision
-use Rattle.passes.specs.Decision.{TileDecision, solid, paint, decisionIn}
-use Rattle.passes.specs.declared.decide.Decision.{Decision}
-use Rattle.passes.specs.declared.decide.Decision.the-variants.{None, Solid, Paint}
+use Rattle.pass_statements.specs.Decision as decision
+use Rattle.pass_statements.specs.Decision.{TileDecision, solid, paint, decisionIn}
+use Rattle.pass_statements.specs.declared.decide.Decision.{Decision}
+use Rattle.pass_statements.specs.declared.decide.Decision.the-variants.{None, Solid, Paint}
 use Rattle.painter.specs.declared.Clip as painter
 use Rattle.painter.specs.declared.Clip.the-variants.{Absent, Until}
 use Rattle.painter.specs.Clip.{clipIn}

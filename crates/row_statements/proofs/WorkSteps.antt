@@ -25,8 +25,8 @@ use Rattle.tile_layers.specs.Listing.{Listed, layersIn, incomingOf}
 use Rattle.tile_layers.specs.Carrying.{handedOn}
 use Rattle.tile_layers.proofs.Handing.{handed-few}
 use Rattle.tile_layers.proofs.Wide.{list-wide}
-use Rattle.passes.specs.Item.{itemOf}
-use Rattle.passes.proofs.Words.{outcome-long}
+use Rattle.pass_statements.specs.Item.{itemOf}
+use Rattle.pass_statements.proofs.Words.{outcome-long}
 use Rattle.layer_workbench.specs.Work.{entryOf, outcomeOn, outcomeIn, clearUnchanged, countFrom}
 use Rattle.layer_workbench.proofs.Entries.{entries-are}
 use Rattle.row_carries.proofs.Carried.{queue-next, queue-ascends, queue-wide}

@@ -23,8 +23,8 @@ use Rattle.cached_tile.specs.Kept.{tagOutOfRange}
 use Rattle.cached_tile.specs.declared.kept.Kept as kept
 use Rattle.tile_layers.specs.Carrying.{ruleIn}
 use Rattle.tile_layers.specs.Listing.{Listed}
-use Rattle.passes.specs.Decide.{Outcome}
-use Rattle.passes.specs.Rules.{needsClip}
+use Rattle.pass_statements.specs.Decide.{Outcome}
+use Rattle.pass_statements.specs.Rules.{needsClip}
 use Rattle.layer_workbench.specs.Work.{outcomeIn}
 use Rattle.layer_workbench.specs.declared.PreviousClear.{PreviousClear}
 use Rattle.row_carries.specs.Carries.{queueAfter, layersAt}

@@ -13,7 +13,7 @@ use Rattle.styling.specs.declared.Layer.{Layer}
 use Rattle.queue.specs.Queue as queue
 use Rattle.queue.specs.Queue.{Carry, queueOf, idsIn, coversIn}
 use Rattle.tile_layers.specs.Listing.{Listed, incomingOf, segmentsOf}
-use Rattle.passes.specs.Entry.{Entry, entriesOf}
+use Rattle.pass_statements.specs.Entry.{Entry, entriesOf}
 
 -- ---- a queue: layer ids, and 16 covers for each
 

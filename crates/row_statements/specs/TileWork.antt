@@ -19,8 +19,8 @@ use Rattle.cached_tile.specs.Kept.{tagOutOfRange}
 use Rattle.cached_tile.specs.declared.kept.Kept as kept
 use Rattle.tile_layers.specs.Listing.{Listed, layersIn, isTooMany, areKnown, areLight}
 use Rattle.tile_layers.specs.Carrying.{handedOn}
-use Rattle.passes.specs.Decision.{TileDecision, decisionIn}
-use Rattle.passes.specs.Decide.{Outcome}
+use Rattle.pass_statements.specs.Decision.{TileDecision, decisionIn}
+use Rattle.pass_statements.specs.Decide.{Outcome}
 use Rattle.layer_workbench.specs.Work.{outcomeIn, keptAfter}
 use Rattle.layer_workbench.specs.declared.PreviousClear.{PreviousClear}
 use Rattle.row_statements.specs.Lent.{Columns, ListColumns, LentTable, carriesIn, isQueueShort, queueOver, isListShort, listOver, layersOf, isTableShort, isTable}

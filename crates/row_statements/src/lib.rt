@@ -2,8 +2,8 @@
 // what they promise, proofs/ the laws and the theorem over any list of them. The functions are of row_state, row_opening, row_working and row_painting.
 use cached_tile::kept::Kept;
 use painter::Clip;
-use passes::Index;
-use passes::decide::Decision;
+use pass_statements::Index;
+use pass_statements::decide::Decision;
 use refusals::Refusal;
 use refusals::Verdict;
 

@@ -2,7 +2,7 @@
 use native.Mathlib.Omega.{arith}
 use borrow.Author.Needs.{needs}
 use Rattle.styling.specs.Table.{tableOf}
-use Rattle.passes.specs.Entry.{entriesOf}
+use Rattle.pass_statements.specs.Entry.{entriesOf}
 use Rattle.layer_workbench.proofs.Decided.{decided}
 use Rattle.layer_workbench.proofs.decide_tile.Statement.{statement}
 use Rattle.layer_workbench.proofs.decide_tile.Tie as tie

@@ -1,6 +1,6 @@
 -- `passes::clips::clip_step` meets its contract. Assumes nothing.
 use borrow.Author.Needs.{needs}
-use Rattle.passes.proofs.Steps.{composed}
+use Rattle.pass_statements.proofs.Steps.{composed}
 use Rattle.passes.proofs.clips.clip_step.Statement.{statement}
 use Rattle.passes.proofs.clips.clip_step.Tie as tie
 

@@ -1,6 +1,6 @@
 -- `passes::clips::close_clip` meets its contract. Assumes nothing.
 use borrow.Author.Needs.{needs}
-use Rattle.passes.proofs.Steps.{stays-none, ends, goes-on}
+use Rattle.pass_statements.proofs.Steps.{stays-none, ends, goes-on}
 use Rattle.passes.proofs.clips.close_clip.Statement.{statement}
 use Rattle.passes.proofs.clips.close_clip.Tie as tie
 

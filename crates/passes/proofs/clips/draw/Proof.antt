@@ -1,6 +1,6 @@
 -- `passes::clips::draw` meets its contract. Assumes nothing.
 use borrow.Author.Needs.{needs}
-use Rattle.passes.proofs.Steps.{draws-clipped, draws-unclipped}
+use Rattle.pass_statements.proofs.Steps.{draws-clipped, draws-unclipped}
 use Rattle.passes.proofs.clips.draw.Statement.{statement}
 use Rattle.passes.proofs.clips.draw.Tie as tie
 

@@ -1,6 +1,6 @@
 -- `passes::clips::draw_clipped` meets its contract. Assumes nothing.
 use borrow.Author.Needs.{needs}
-use Rattle.passes.proofs.Steps.{no-clip, outside, inside}
+use Rattle.pass_statements.proofs.Steps.{no-clip, outside, inside}
 use Rattle.passes.proofs.clips.draw_clipped.Statement.{statement}
 use Rattle.passes.proofs.clips.draw_clipped.Tie as tie
 

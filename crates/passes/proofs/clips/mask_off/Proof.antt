@@ -1,6 +1,6 @@
 -- `passes::clips::mask_off` meets its contract. Assumes nothing.
 use borrow.Author.Needs.{needs}
-use Rattle.passes.proofs.Steps.{off-within, off-past}
+use Rattle.pass_statements.proofs.Steps.{off-within, off-past}
 use Rattle.passes.proofs.clips.mask_off.Statement.{statement}
 use Rattle.passes.proofs.clips.mask_off.Tie as tie
 

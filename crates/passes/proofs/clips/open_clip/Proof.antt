@@ -1,6 +1,6 @@
 -- `passes::clips::open_clip` meets its contract. Assumes nothing.
 use borrow.Author.Needs.{needs}
-use Rattle.passes.proofs.Steps.{opens}
+use Rattle.pass_statements.proofs.Steps.{opens}
 use Rattle.passes.proofs.clips.open_clip.Statement.{statement}
 use Rattle.passes.proofs.clips.open_clip.Tie as tie
 

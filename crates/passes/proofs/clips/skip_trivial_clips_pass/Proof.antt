@@ -3,10 +3,10 @@ use mathlib.Core.Path.{_∙_}
 use Prim.Native.Nat.{_-_}
 use native.Mathlib.Omega.{arith}
 use Rattle.styling.specs.Table.{tableOf}
-use Rattle.passes.specs.Entry.{entriesOf}
-use Rattle.passes.specs.Item.{itemsOf}
-use Rattle.passes.proofs.Clipping.{Passing, pass-start, pass-next, pass-end, passed}
-use Rattle.passes.proofs.Listing.{length-items, drop-items}
+use Rattle.pass_statements.specs.Entry.{entriesOf}
+use Rattle.pass_statements.specs.Item.{itemsOf}
+use Rattle.pass_statements.proofs.Clipping.{Passing, pass-start, pass-next, pass-end, passed}
+use Rattle.pass_statements.proofs.Listing.{length-items, drop-items}
 use Rattle.passes.proofs.clips.skip_trivial_clips_pass.Statement.{statement}
 use Rattle.passes.proofs.clips.skip_trivial_clips_pass.Tie as tie
 

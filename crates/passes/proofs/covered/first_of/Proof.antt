@@ -1,8 +1,8 @@
 -- `passes::covered::first_of` meets its contract. Assumes nothing.
 use mathlib.Core.Path.{sym, ap}
 use borrow.Author.Needs.{needs}
-use Rattle.passes.specs.Covered.{firstOf}
-use Rattle.passes.specs.declared.covered.InterestingCover.{InterestingCover}
+use Rattle.pass_statements.specs.Covered.{firstOf}
+use Rattle.pass_statements.specs.declared.covered.InterestingCover.{InterestingCover}
 use Rattle.passes.proofs.covered.first_of.Statement.{statement}
 use Rattle.passes.proofs.covered.first_of.Tie as tie
 

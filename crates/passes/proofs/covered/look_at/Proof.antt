@@ -1,6 +1,6 @@
 -- `passes::covered::look_at` meets its contract. Assumes nothing.
 use borrow.Author.Needs.{needs}
-use Rattle.passes.proofs.Looks.{looked}
+use Rattle.pass_statements.proofs.Looks.{looked}
 use Rattle.passes.proofs.covered.look_at.Statement.{statement}
 use Rattle.passes.proofs.covered.look_at.Tie as tie
 

@@ -2,10 +2,10 @@
 use Prim.Native.Nat.{_-_}
 use native.Mathlib.Omega.{arith}
 use Rattle.styling.specs.Table.{tableOf}
-use Rattle.passes.specs.Entry.{entriesOf}
-use Rattle.passes.specs.Item.{itemsOf}
-use Rattle.passes.proofs.Covering.{Looking, look-start, look-masked, look-next, look-found, look-end}
-use Rattle.passes.proofs.Listing.{length-items, item-read}
+use Rattle.pass_statements.specs.Entry.{entriesOf}
+use Rattle.pass_statements.specs.Item.{itemsOf}
+use Rattle.pass_statements.proofs.Covering.{Looking, look-start, look-masked, look-next, look-found, look-end}
+use Rattle.pass_statements.proofs.Listing.{length-items, item-read}
 use Rattle.passes.proofs.covered.skip_fully_covered_layers_pass.Statement.{statement}
 use Rattle.passes.proofs.covered.skip_fully_covered_layers_pass.Tie as tie
 

@@ -1,6 +1,6 @@
 -- `passes::covered::tells` meets its contract. Assumes nothing.
 use borrow.Author.Needs.{needs}
-use Rattle.passes.proofs.Looks.{tells-partial, tells-opaque, tells-nothing}
+use Rattle.pass_statements.proofs.Looks.{tells-partial, tells-opaque, tells-nothing}
 use Rattle.passes.proofs.covered.tells.Statement.{statement}
 use Rattle.passes.proofs.covered.tells.Tie as tie
 

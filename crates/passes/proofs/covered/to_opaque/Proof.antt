@@ -3,7 +3,7 @@ use mathlib.Core.Path.{sym, ap}
 use borrow.Author.Needs.{needs}
 use Rattle.styling.specs.declared.Paint.{Paint}
 use Rattle.styling.specs.Style.{paintOf}
-use Rattle.passes.specs.Covered.{opaqueOf}
+use Rattle.pass_statements.specs.Covered.{opaqueOf}
 use Rattle.passes.proofs.covered.to_opaque.Statement.{statement}
 use Rattle.passes.proofs.covered.to_opaque.Tie as tie
 

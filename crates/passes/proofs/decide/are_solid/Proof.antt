@@ -4,12 +4,12 @@ use Prim.Native.Nat.{_-_}
 use native.Mathlib.Omega.{arith}
 use Rattle.styling.specs.Style.{solidColor}
 use Rattle.styling.specs.Table.{tableOf}
-use Rattle.passes.specs.declared.item.Item.{Item}
-use Rattle.passes.specs.Decide.{hasColor}
-use Rattle.passes.specs.Entry.{entriesOf}
-use Rattle.passes.specs.Item.{itemsOf}
-use Rattle.passes.proofs.Mixing.{Mixing, mix-start, mix-masked, mix-below, mix-look, mix-end}
-use Rattle.passes.proofs.Listing.{length-items, item-read}
+use Rattle.pass_statements.specs.declared.item.Item.{Item}
+use Rattle.pass_statements.specs.Decide.{hasColor}
+use Rattle.pass_statements.specs.Entry.{entriesOf}
+use Rattle.pass_statements.specs.Item.{itemsOf}
+use Rattle.pass_statements.proofs.Mixing.{Mixing, mix-start, mix-masked, mix-below, mix-look, mix-end}
+use Rattle.pass_statements.proofs.Listing.{length-items, item-read}
 use Rattle.passes.proofs.decide.are_solid.Statement.{statement}
 use Rattle.passes.proofs.decide.are_solid.Tie as tie
 

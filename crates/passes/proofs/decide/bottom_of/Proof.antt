@@ -1,6 +1,6 @@
 -- `passes::decide::bottom_of` meets its contract. Assumes nothing.
 use borrow.Author.Needs.{needs}
-use Rattle.passes.proofs.Deciding.{bottom-kept, bottom-opaque, bottom-clear, bottom-paint}
+use Rattle.pass_statements.proofs.Deciding.{bottom-kept, bottom-opaque, bottom-clear, bottom-paint}
 use Rattle.passes.proofs.decide.bottom_of.Statement.{statement}
 use Rattle.passes.proofs.decide.bottom_of.Tie as tie
 

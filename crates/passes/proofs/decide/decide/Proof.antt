@@ -1,10 +1,10 @@
 -- `passes::decide::decide` meets its contract. Assumes nothing.
 use borrow.Author.Needs.{needs}
 use Rattle.styling.specs.Table.{tableOf}
-use Rattle.passes.specs.Entry.{entriesOf}
-use Rattle.passes.specs.Item.{itemsOf}
-use Rattle.passes.proofs.Deciding.{decided-kept, decided-all}
-use Rattle.passes.proofs.Listing.{length-items}
+use Rattle.pass_statements.specs.Entry.{entriesOf}
+use Rattle.pass_statements.specs.Item.{itemsOf}
+use Rattle.pass_statements.proofs.Deciding.{decided-kept, decided-all}
+use Rattle.pass_statements.proofs.Listing.{length-items}
 use Rattle.passes.proofs.decide.decide.Statement.{statement}
 use Rattle.passes.proofs.decide.decide.Tie as tie
 

@@ -1,10 +1,10 @@
 -- `passes::decide::decide_unmasked` meets its contract. Assumes nothing.
 use borrow.Author.Needs.{needs}
 use Rattle.styling.specs.Table.{tableOf}
-use Rattle.passes.specs.Covered.{coveredOf}
-use Rattle.passes.specs.Entry.{entriesOf}
-use Rattle.passes.specs.Item.{itemsOf}
-use Rattle.passes.proofs.Deciding.{decided}
+use Rattle.pass_statements.specs.Covered.{coveredOf}
+use Rattle.pass_statements.specs.Entry.{entriesOf}
+use Rattle.pass_statements.specs.Item.{itemsOf}
+use Rattle.pass_statements.proofs.Deciding.{decided}
 use Rattle.passes.proofs.decide.decide_unmasked.Statement.{statement}
 use Rattle.passes.proofs.decide.decide_unmasked.Tie as tie
 

@@ -1,10 +1,10 @@
 -- `passes::decide::mix` meets its contract. Assumes nothing.
 use borrow.Author.Needs.{needs}
 use Rattle.styling.specs.Table.{tableOf}
-use Rattle.passes.specs.Entry.{entriesOf}
-use Rattle.passes.specs.Item.{itemsOf}
-use Rattle.passes.specs.Decide.{shownOf}
-use Rattle.passes.proofs.Deciding.{mixed-settled, mixed-solid, mixed-paint}
+use Rattle.pass_statements.specs.Entry.{entriesOf}
+use Rattle.pass_statements.specs.Item.{itemsOf}
+use Rattle.pass_statements.specs.Decide.{shownOf}
+use Rattle.pass_statements.proofs.Deciding.{mixed-settled, mixed-solid, mixed-paint}
 use Rattle.passes.proofs.decide.mix.Statement.{statement}
 use Rattle.passes.proofs.decide.mix.Tie as tie
 

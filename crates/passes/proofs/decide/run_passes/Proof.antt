@@ -1,9 +1,9 @@
 -- `passes::decide::run_passes`  meets its contract. Assumes nothing.
 use borrow.Author.Needs.{needs}
 use Rattle.styling.specs.Table.{tableOf}
-use Rattle.passes.specs.Entry.{entriesOf}
-use Rattle.passes.specs.Item.{itemsOf}
-use Rattle.passes.proofs.Deciding.{decided-passed}
+use Rattle.pass_statements.specs.Entry.{entriesOf}
+use Rattle.pass_statements.specs.Item.{itemsOf}
+use Rattle.pass_statements.proofs.Deciding.{decided-passed}
 use Rattle.passes.proofs.decide.run_passes.Statement.{statement}
 use Rattle.passes.proofs.decide.run_passes.Tie as tie
 

@@ -4,8 +4,8 @@ use native.Mathlib.Omega.{arith}
 use borrow.Author.Needs.{needs}
 use Rattle.styling.specs.Table.{tableOf}
 use Rattle.styling.proofs.Looking.{at-place, at-none}
-use Rattle.passes.specs.Entry.{entryAt}
-use Rattle.passes.proofs.Listing.{cover-entry, item-found, item-missing}
+use Rattle.pass_statements.specs.Entry.{entryAt}
+use Rattle.pass_statements.proofs.Listing.{cover-entry, item-found, item-missing}
 use Rattle.passes.proofs.item.item_at.Statement.{statement}
 use Rattle.passes.proofs.item.item_at.Tie as tie
 

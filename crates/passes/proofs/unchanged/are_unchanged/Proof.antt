@@ -5,10 +5,10 @@ use Prim.Native.Nat.{_-_}
 use native.Mathlib.Omega.{arith}
 use Rattle.styling.specs.Table.{tableOf}
 use Rattle.cover_statements.proofs.Testing.{Testing, test-start, test-next, test-end}
-use Rattle.passes.specs.declared.item.Item.{Item}
-use Rattle.passes.specs.Entry.{entriesOf}
-use Rattle.passes.specs.Item.{itemsOf}
-use Rattle.passes.proofs.Listing.{length-items, item-read}
+use Rattle.pass_statements.specs.declared.item.Item.{Item}
+use Rattle.pass_statements.specs.Entry.{entriesOf}
+use Rattle.pass_statements.specs.Item.{itemsOf}
+use Rattle.pass_statements.proofs.Listing.{length-items, item-read}
 use Rattle.passes.proofs.unchanged.are_unchanged.Statement.{statement}
 use Rattle.passes.proofs.unchanged.are_unchanged.Tie as tie
 

@@ -1,7 +1,7 @@
 -- `passes::unchanged::is_kept` meets its contract. Assumes nothing.
 use borrow.Author.Needs.{needs}
-use Rattle.passes.proofs.Keeping.{kept-all, kept-not}
-use Rattle.passes.proofs.Listing.{length-items}
+use Rattle.pass_statements.proofs.Keeping.{kept-all, kept-not}
+use Rattle.pass_statements.proofs.Listing.{length-items}
 use Rattle.passes.proofs.unchanged.is_kept.Statement.{statement}
 use Rattle.passes.proofs.unchanged.is_kept.Tie as tie
 

@@ -1,8 +1,8 @@
 -- `passes::unchanged::were_removed` meets its contract. Assumes nothing.
 use mathlib.Core.Path.{sym, ap}
 use borrow.Author.Needs.{needs}
-use Rattle.passes.specs.declared.unchanged.PreviousCount.{PreviousCount}
-use Rattle.passes.specs.Unchanged.{wereRemoved}
+use Rattle.pass_statements.specs.declared.unchanged.PreviousCount.{PreviousCount}
+use Rattle.pass_statements.specs.Unchanged.{wereRemoved}
 use Rattle.passes.proofs.unchanged.were_removed.Statement.{statement}
 use Rattle.passes.proofs.unchanged.were_removed.Tie as tie
 

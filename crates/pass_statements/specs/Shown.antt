@@ -6,8 +6,8 @@ use Prim.Native.Nat.{ℕ}
 use lib.Dec.{ltb}
 use lib.ListN.{length, getD}
 use Rattle.laws.specs.Lists.{tabulate, filter}
-use Rattle.passes.specs.declared.item.Item.{Item}
-use Rattle.passes.specs.Covered.{itemAt}
+use Rattle.pass_statements.specs.declared.item.Item.{Item}
+use Rattle.pass_statements.specs.Covered.{itemAt}
 
 -- the layer in place i is masked off
 abbrev pub isMaskedOff : List Bool → ℕ → Bool

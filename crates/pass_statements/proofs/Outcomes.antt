@@ -13,19 +13,19 @@ use Rattle.styling.specs.declared.Func.{Func}
 use Rattle.styling.specs.declared.Func.the-variants.{Draw, Clip}
 use Rattle.styling.specs.Style.{isClipped, isOpaque}
 use Rattle.styling.proofs.Ascents.{ascends-lt}
-use Rattle.passes.specs.declared.item.Item.{Item}
-use Rattle.passes.specs.declared.clips.Current.the-variants.{Nothing}
-use Rattle.passes.specs.Decision as decision
-use Rattle.passes.specs.declared.unchanged.PreviousCount.{PreviousCount}
-use Rattle.passes.specs.Unchanged.{isKept, wereRemoved}
-use Rattle.passes.specs.Clips.{isClip, marksOf}
-use Rattle.passes.specs.Covered.{isPartial, itemAt}
-use Rattle.passes.specs.Decide.{passedOf, outcomeOf}
-use Rattle.passes.specs.Rules.{needsClip, isAscending, isUnmasked, isFree, latestBelow, isFreed, DrawAt, ClipAt, isFollowed, isUsed, Hides, Over}
-use Rattle.passes.proofs.Covering.{Hiding}
-use Rattle.passes.proofs.Judged.{judgedBy, judged}
-use Rattle.passes.proofs.Users.{used-at}
-use Rattle.passes.proofs.Under.{Ruled, ruled}
+use Rattle.pass_statements.specs.declared.item.Item.{Item}
+use Rattle.pass_statements.specs.declared.clips.Current.the-variants.{Nothing}
+use Rattle.pass_statements.specs.Decision as decision
+use Rattle.pass_statements.specs.declared.unchanged.PreviousCount.{PreviousCount}
+use Rattle.pass_statements.specs.Unchanged.{isKept, wereRemoved}
+use Rattle.pass_statements.specs.Clips.{isClip, marksOf}
+use Rattle.pass_statements.specs.Covered.{isPartial, itemAt}
+use Rattle.pass_statements.specs.Decide.{passedOf, outcomeOf}
+use Rattle.pass_statements.specs.Rules.{needsClip, isAscending, isUnmasked, isFree, latestBelow, isFreed, DrawAt, ClipAt, isFollowed, isUsed, Hides, Over}
+use Rattle.pass_statements.proofs.Covering.{Hiding}
+use Rattle.pass_statements.proofs.Judged.{judgedBy, judged}
+use Rattle.pass_statements.proofs.Users.{used-at}
+use Rattle.pass_statements.proofs.Under.{Ruled, ruled}
 
 -- ---- an outcome
 

@@ -11,12 +11,12 @@ use Rattle.styling.specs.declared.Func.{Func}
 use Rattle.styling.specs.declared.Func.the-variants.{Draw, Clip}
 use Rattle.styling.specs.declared.Style.{Style}
 use Rattle.styling.specs.Style.{isClipped}
-use Rattle.passes.specs.declared.item.Item.{Item}
-use Rattle.passes.specs.declared.clips.ActiveClip.{ActiveClip}
-use Rattle.passes.specs.declared.clips.Current.{Current}
-use Rattle.passes.specs.declared.clips.Current.the-variants.{Nothing, Active}
-use Rattle.passes.specs.declared.clips.Step.{Step}
-use Rattle.passes.specs.Clips.{place, usedOf, drawnOf, closedOf, isClip, stepOf}
+use Rattle.pass_statements.specs.declared.item.Item.{Item}
+use Rattle.pass_statements.specs.declared.clips.ActiveClip.{ActiveClip}
+use Rattle.pass_statements.specs.declared.clips.Current.{Current}
+use Rattle.pass_statements.specs.declared.clips.Current.the-variants.{Nothing, Active}
+use Rattle.pass_statements.specs.declared.clips.Step.{Step}
+use Rattle.pass_statements.specs.Clips.{place, usedOf, drawnOf, closedOf, isClip, stepOf}
 
 -- the clip that a clip layer opens
 abbrev pub opened : Item → ℕ → ℕ → ActiveClip

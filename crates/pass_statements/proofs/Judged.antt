@@ -11,18 +11,18 @@ use lib.Dec.{leb}
 use lib.ListN.{length, getD, set, drop}
 use lib.Seq.{getD-set-same}
 use Rattle.styling.specs.Style.{isClipped}
-use Rattle.passes.specs.declared.Index.{Index}
-use Rattle.passes.specs.declared.item.Item.{Item}
-use Rattle.passes.specs.declared.clips.ActiveClip.{ActiveClip}
-use Rattle.passes.specs.declared.clips.Current.{Current}
-use Rattle.passes.specs.declared.clips.Current.the-variants.{Active}
-use Rattle.passes.specs.declared.clips.Step.{Step}
-use Rattle.passes.specs.Clips.{place, isClip, stepOf, maskOff, unmaskedAfter, clipsFrom}
-use Rattle.passes.specs.Covered.{itemAt}
-use Rattle.passes.specs.Rules.{lastOf, meetsClip}
-use Rattle.passes.proofs.Turns.{opened, kept, Turn, opens, bare, past, within, turn}
-use Rattle.passes.proofs.Clipping.{Below, below-up, behind, at-kept, length-off, length-after}
-use Rattle.passes.proofs.Marks.{below-apart, after-other, off-other, off-own, unmasked-before}
+use Rattle.pass_statements.specs.declared.Index.{Index}
+use Rattle.pass_statements.specs.declared.item.Item.{Item}
+use Rattle.pass_statements.specs.declared.clips.ActiveClip.{ActiveClip}
+use Rattle.pass_statements.specs.declared.clips.Current.{Current}
+use Rattle.pass_statements.specs.declared.clips.Current.the-variants.{Active}
+use Rattle.pass_statements.specs.declared.clips.Step.{Step}
+use Rattle.pass_statements.specs.Clips.{place, isClip, stepOf, maskOff, unmaskedAfter, clipsFrom}
+use Rattle.pass_statements.specs.Covered.{itemAt}
+use Rattle.pass_statements.specs.Rules.{lastOf, meetsClip}
+use Rattle.pass_statements.proofs.Turns.{opened, kept, Turn, opens, bare, past, within, turn}
+use Rattle.pass_statements.proofs.Clipping.{Below, below-up, behind, at-kept, length-off, length-after}
+use Rattle.pass_statements.proofs.Marks.{below-apart, after-other, off-other, off-own, unmasked-before}
 
 -- going up from the lowest of these layers, a clipped draw comes before any clip and before any layer past the id `last`
 unfoldable pub meetsUser : ℕ → List Item → Bool

@@ -10,8 +10,8 @@ use Rattle.cover_statements.specs.Cover.{isFull}
 use Rattle.styling.specs.Lookup.{lookup}
 use Rattle.styling.specs.declared.Layer.{Layer}
 use Rattle.styling.specs.declared.Func.the-variants.{Clip}
-use Rattle.passes.specs.Entry.{Entry}
-use Rattle.passes.specs.declared.item.Item.{Item}
+use Rattle.pass_statements.specs.Entry.{Entry}
+use Rattle.pass_statements.specs.declared.item.Item.{Item}
 
 -- the layer l as it is listed in the entry e
 abbrev pub itemFor : Layer → Entry → Item

@@ -9,14 +9,14 @@ use Rattle.laws.specs.Lists.{over}
 use Rattle.styling.specs.declared.Func.{Func}
 use Rattle.styling.specs.declared.Func.the-variants.{Draw, Clip}
 use Rattle.styling.specs.Style.{isClipped}
-use Rattle.passes.specs.declared.Index.{Index}
-use Rattle.passes.specs.declared.item.Item.{Item}
-use Rattle.passes.specs.declared.clips.ActiveClip.{ActiveClip}
-use Rattle.passes.specs.declared.clips.Current.{Current}
-use Rattle.passes.specs.declared.clips.Current.the-variants.{Nothing, Active}
-use Rattle.passes.specs.declared.clips.Drawn.{Drawn}
-use Rattle.passes.specs.declared.clips.Closed.{Closed}
-use Rattle.passes.specs.declared.clips.Step.{Step}
+use Rattle.pass_statements.specs.declared.Index.{Index}
+use Rattle.pass_statements.specs.declared.item.Item.{Item}
+use Rattle.pass_statements.specs.declared.clips.ActiveClip.{ActiveClip}
+use Rattle.pass_statements.specs.declared.clips.Current.{Current}
+use Rattle.pass_statements.specs.declared.clips.Current.the-variants.{Nothing, Active}
+use Rattle.pass_statements.specs.declared.clips.Drawn.{Drawn}
+use Rattle.pass_statements.specs.declared.clips.Closed.{Closed}
+use Rattle.pass_statements.specs.declared.clips.Step.{Step}
 
 -- a position in the list
 abbrev pub place : ℕ → Index

@@ -9,14 +9,14 @@ use lib.Seq.{set-out}
 use Rattle.styling.specs.declared.Func.{Func}
 use Rattle.styling.specs.declared.Func.the-variants.{Clip}
 use Rattle.styling.specs.Style.{isClipped}
-use Rattle.passes.specs.declared.item.Item.{Item}
-use Rattle.passes.specs.declared.clips.ActiveClip.{ActiveClip}
-use Rattle.passes.specs.declared.clips.Current.{Current}
-use Rattle.passes.specs.declared.clips.Current.the-variants.{Nothing, Active}
-use Rattle.passes.specs.declared.clips.Drawn.{Drawn}
-use Rattle.passes.specs.declared.clips.Closed.{Closed}
-use Rattle.passes.specs.declared.clips.Step.{Step}
-use Rattle.passes.specs.Clips.{place, openedOf, usedOf, clippedOf, drawnOf, closedOf, isClip, stepOf, maskOff, unmaskedAfter, lastClip}
+use Rattle.pass_statements.specs.declared.item.Item.{Item}
+use Rattle.pass_statements.specs.declared.clips.ActiveClip.{ActiveClip}
+use Rattle.pass_statements.specs.declared.clips.Current.{Current}
+use Rattle.pass_statements.specs.declared.clips.Current.the-variants.{Nothing, Active}
+use Rattle.pass_statements.specs.declared.clips.Drawn.{Drawn}
+use Rattle.pass_statements.specs.declared.clips.Closed.{Closed}
+use Rattle.pass_statements.specs.declared.clips.Step.{Step}
+use Rattle.pass_statements.specs.Clips.{place, openedOf, usedOf, clippedOf, drawnOf, closedOf, isClip, stepOf, maskOff, unmaskedAfter, lastClip}
 
 pub opens : {f : Func} {span : ℕ} (cur : Current) (id : ℕ) (full : Bool) (i : ℕ) → f ≡ Clip span → Active (record { full = full; last = id + span; at = place i; used = false }) ≡ openedOf f cur id full i
 opens cur id full i e = rw e

@@ -11,20 +11,20 @@ use lib.ListN.{length, length-replicate}
 use Rattle.laws.proofs.Bools.{either}
 use Rattle.styling.specs.declared.Color.{Color}
 use Rattle.styling.specs.Style.{isClipped}
-use Rattle.passes.specs.declared.item.Item.{Item}
-use Rattle.passes.specs.declared.covered.Covered.{Covered}
-use Rattle.passes.specs.Decision.{solid}
-use Rattle.passes.specs.declared.unchanged.PreviousCount.{PreviousCount}
-use Rattle.passes.specs.declared.unchanged.PreviousCount.the-variants.{Kept, Absent}
-use Rattle.passes.specs.Unchanged.{isKept, wereRemoved}
-use Rattle.passes.specs.Clips.{Marks, marksOf}
-use Rattle.passes.specs.Covered.{itemAt, coveredFrom, coveredOf}
-use Rattle.passes.specs.Decide.{shownFrom, shownOf, decisionBy, passedOf, Outcome, outcomeOf}
-use Rattle.passes.specs.Rules.{isUnder, needsClip, isAscending, latestBelow, isUnmasked, isFree, DrawAt, ClipAt, isFollowed, isUsed, Hides, Over, Alike}
-use Rattle.passes.proofs.Covering.{skipped-by, hidden-skipped, unseen}
-use Rattle.passes.proofs.Deciding.{unmasked-long, unclipped-long}
-use Rattle.passes.proofs.Seen.{shown-alike}
-use Rattle.passes.proofs.Outcomes.{outcome-kept, outcome-passed, judged-at, clip-rule, ruled-at, free-rule, words-hide, over}
+use Rattle.pass_statements.specs.declared.item.Item.{Item}
+use Rattle.pass_statements.specs.declared.covered.Covered.{Covered}
+use Rattle.pass_statements.specs.Decision.{solid}
+use Rattle.pass_statements.specs.declared.unchanged.PreviousCount.{PreviousCount}
+use Rattle.pass_statements.specs.declared.unchanged.PreviousCount.the-variants.{Kept, Absent}
+use Rattle.pass_statements.specs.Unchanged.{isKept, wereRemoved}
+use Rattle.pass_statements.specs.Clips.{Marks, marksOf}
+use Rattle.pass_statements.specs.Covered.{itemAt, coveredFrom, coveredOf}
+use Rattle.pass_statements.specs.Decide.{shownFrom, shownOf, decisionBy, passedOf, Outcome, outcomeOf}
+use Rattle.pass_statements.specs.Rules.{isUnder, needsClip, isAscending, latestBelow, isUnmasked, isFree, DrawAt, ClipAt, isFollowed, isUsed, Hides, Over, Alike}
+use Rattle.pass_statements.proofs.Covering.{skipped-by, hidden-skipped, unseen}
+use Rattle.pass_statements.proofs.Deciding.{unmasked-long, unclipped-long}
+use Rattle.pass_statements.proofs.Seen.{shown-alike}
+use Rattle.pass_statements.proofs.Outcomes.{outcome-kept, outcome-passed, judged-at, clip-rule, ruled-at, free-rule, words-hide, over}
 
 -- ---- the second pass
 

@@ -15,9 +15,9 @@ use Rattle.styling.specs.Ascending.{strictlyAscends}
 use Rattle.styling.specs.declared.Func.{Func}
 use Rattle.styling.specs.declared.Func.the-variants.{Draw, Clip}
 use Rattle.styling.specs.Style.{isClipped, isOpaque}
-use Rattle.passes.specs.Clips.{isClip, marksOf}
-use Rattle.passes.specs.Covered.{itemAt}
-use Rattle.passes.specs.declared.item.Item.{Item}
+use Rattle.pass_statements.specs.Clips.{isClip, marksOf}
+use Rattle.pass_statements.specs.Covered.{itemAt}
+use Rattle.pass_statements.specs.declared.item.Item.{Item}
 
 -- the latest listed clip below a layer id
 unfoldable pub latestClip : List Item → ℕ → Option Item → Option Item

@@ -13,9 +13,9 @@ use lib.ListN.{length, getD, drop, drop-of-length-le}
 use lib.Seq.{drop-cons, drop-nil}
 use Rattle.laws.specs.Lists.{all}
 use Rattle.styling.specs.Style.{solidColor}
-use Rattle.passes.specs.declared.item.Item.{Item}
-use Rattle.passes.specs.Covered.{itemAt}
-use Rattle.passes.specs.Decide.{shownFrom, shownOf, hasColor, areSolid}
+use Rattle.pass_statements.specs.declared.item.Item.{Item}
+use Rattle.pass_statements.specs.Covered.{itemAt}
+use Rattle.pass_statements.specs.Decide.{shownFrom, shownOf, hasColor, areSolid}
 
 -- ---- the shown layers, from a place on
 

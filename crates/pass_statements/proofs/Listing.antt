@@ -15,10 +15,10 @@ use Rattle.styling.specs.declared.Layer.{Layer}
 use Rattle.styling.specs.declared.Func.the-variants.{Clip}
 use Rattle.styling.specs.Lookup.{lookup}
 use Rattle.styling.proofs.Listed.{map-tabulate, drop-tabulate}
-use Rattle.passes.specs.Entry.{Entry, coverFrom, entryAt, entriesOf}
-use Rattle.passes.specs.Covered.{itemAt}
-use Rattle.passes.specs.Item.{itemFor, itemOf, itemsOf}
-use Rattle.passes.specs.declared.item.Item.{Item}
+use Rattle.pass_statements.specs.Entry.{Entry, coverFrom, entryAt, entriesOf}
+use Rattle.pass_statements.specs.Covered.{itemAt}
+use Rattle.pass_statements.specs.Item.{itemFor, itemOf, itemsOf}
+use Rattle.pass_statements.specs.declared.item.Item.{Item}
 
 -- the cover of an entry, as `read_cover` gives it
 pub cover-entry : (covers : List ℤ) (i : ℕ) → i * 16 + 16 ≤ length covers → coverFrom covers i ≡ entryOf 16 i covers

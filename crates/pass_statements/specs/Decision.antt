@@ -2,8 +2,8 @@
 -- mix above it; 2 paint. Promises about a decision are promises about this type.
 use Prim.Native.Nat.{ℕ}
 use Rattle.styling.specs.declared.Color.{Color}
-use Rattle.passes.specs.declared.decide.Decision.{Decision}
-use Rattle.passes.specs.declared.decide.Decision.the-variants.{None, Solid, Paint}
+use Rattle.pass_statements.specs.declared.decide.Decision.{Decision}
+use Rattle.pass_statements.specs.declared.decide.Decision.the-variants.{None, Solid, Paint}
 
 pub data TileDecision : Type 0 where
   none : TileDecision

@@ -6,9 +6,9 @@ use Prim.Native.Nat.{ℕ}
 use lib.Dec.{ltb, eqb}
 use lib.ListN.{length}
 use Rattle.laws.specs.Lists.{all}
-use Rattle.passes.specs.declared.item.Item.{Item}
-use Rattle.passes.specs.declared.unchanged.PreviousCount.{PreviousCount}
-use Rattle.passes.specs.declared.unchanged.PreviousCount.the-variants.{Kept, Absent}
+use Rattle.pass_statements.specs.declared.item.Item.{Item}
+use Rattle.pass_statements.specs.declared.unchanged.PreviousCount.{PreviousCount}
+use Rattle.pass_statements.specs.declared.unchanged.PreviousCount.the-variants.{Kept, Absent}
 
 -- every layer is unchanged: the one place that says what the first pass takes for unchanged
 abbrev pub allUnchanged : List Item → Bool

@@ -4,12 +4,12 @@ use mathlib.Core.Bool.{Bool, true, false, _&&_}
 use Prim.Native.Nat.{ℕ}
 use Rattle.styling.specs.declared.Paint.{Paint}
 use Rattle.styling.specs.Style.{paintOf, isOpaque, solidColor}
-use Rattle.passes.specs.declared.Index.{Index}
-use Rattle.passes.specs.declared.item.Item.{Item}
-use Rattle.passes.specs.declared.covered.InterestingCover.{InterestingCover}
-use Rattle.passes.specs.declared.covered.InterestingCover.the-variants.{Absent, Incomplete}
-use Rattle.passes.specs.declared.covered.Covered.{Covered}
-use Rattle.passes.specs.Covered.{firstOf, opaqueOf, isPartial, hides, tells, skipTo, lookAt}
+use Rattle.pass_statements.specs.declared.Index.{Index}
+use Rattle.pass_statements.specs.declared.item.Item.{Item}
+use Rattle.pass_statements.specs.declared.covered.InterestingCover.{InterestingCover}
+use Rattle.pass_statements.specs.declared.covered.InterestingCover.the-variants.{Absent, Incomplete}
+use Rattle.pass_statements.specs.declared.covered.Covered.{Covered}
+use Rattle.pass_statements.specs.Covered.{firstOf, opaqueOf, isPartial, hides, tells, skipTo, lookAt}
 
 module _ (x : Item) (unclipped : Bool) where
   pub tells-partial : {p : Bool} → p ≡ isPartial x unclipped → p ≡ true → Incomplete ≡ tells x unclipped

@@ -5,10 +5,10 @@ use mathlib.Core.List.{List}
 use Prim.Native.Nat.{ℕ}
 use lib.Dec.{eqb}
 use lib.ListN.{length}
-use Rattle.passes.specs.declared.item.Item.{Item}
-use Rattle.passes.specs.declared.unchanged.PreviousCount.{PreviousCount}
-use Rattle.passes.specs.declared.unchanged.PreviousCount.the-variants.{Kept}
-use Rattle.passes.specs.Unchanged.{allUnchanged, isKept}
+use Rattle.pass_statements.specs.declared.item.Item.{Item}
+use Rattle.pass_statements.specs.declared.unchanged.PreviousCount.{PreviousCount}
+use Rattle.pass_statements.specs.declared.unchanged.PreviousCount.the-variants.{Kept}
+use Rattle.pass_statements.specs.Unchanged.{allUnchanged, isKept}
 
 passed : (a b t : Bool) → (a && b) ≡ true → t ≡ (a && (b && t))
 passed true true t e = refl

@@ -9,11 +9,11 @@ use lib.ListN.{length, getD}
 use Rattle.styling.specs.declared.Color.{Color}
 use Rattle.styling.specs.declared.Func.the-variants.{Clip}
 use Rattle.styling.specs.Style.{isClipped, isOpaque, solidColor}
-use Rattle.passes.specs.declared.Index.{Index}
-use Rattle.passes.specs.declared.item.Item.{Item}
-use Rattle.passes.specs.declared.covered.InterestingCover.{InterestingCover}
-use Rattle.passes.specs.declared.covered.InterestingCover.the-variants.{Absent, Opaque, Incomplete}
-use Rattle.passes.specs.declared.covered.Covered.{Covered}
+use Rattle.pass_statements.specs.declared.Index.{Index}
+use Rattle.pass_statements.specs.declared.item.Item.{Item}
+use Rattle.pass_statements.specs.declared.covered.InterestingCover.{InterestingCover}
+use Rattle.pass_statements.specs.declared.covered.InterestingCover.the-variants.{Absent, Opaque, Incomplete}
+use Rattle.pass_statements.specs.declared.covered.Covered.{Covered}
 
 -- the first one stands
 abbrev pub firstOf : InterestingCover → InterestingCover → InterestingCover

@@ -9,24 +9,24 @@ use lib.Dec.{leb}
 use lib.ListN.{length, getD, drop, set, replicate, length-set, length-replicate, List·getD-append}
 use Rattle.laws.specs.Lists.{over}
 use Rattle.styling.specs.declared.Color.{Color}
-use Rattle.passes.specs.declared.item.Item.{Item}
-use Rattle.passes.specs.declared.clips.Current.{Current}
-use Rattle.passes.specs.declared.covered.Covered.{Covered}
-use Rattle.passes.specs.declared.covered.InterestingCover.{InterestingCover}
-use Rattle.passes.specs.declared.covered.InterestingCover.the-variants.{Absent, Opaque, Incomplete}
-use Rattle.passes.specs.declared.decide.Decision.{Decision}
-use Rattle.passes.specs.declared.decide.Decision.the-variants.{None, Paint}
-use Rattle.passes.specs.declared.decide.Decided.{Decided}
-use Rattle.passes.specs.declared.decide.Bottom.{Bottom}
-use Rattle.passes.specs.declared.decide.Bottom.the-variants.{Settled, Under}
-use Rattle.passes.specs.declared.unchanged.PreviousCount.{PreviousCount}
-use Rattle.passes.specs.Unchanged.{isKept, wereRemoved}
-use Rattle.passes.specs.Clips.{stepOf, unmaskedAfter, clipsFrom, marksOf, Marking}
-use Rattle.passes.specs.Covered.{hides, lookAt, itemAt, coveredFrom, coveredOf}
-use Rattle.passes.specs.Decide.{shownFrom, shownOf, areSolid, decisionBy, bottomOf, mixedOf, DecidedBy, passedOf, outcomeOf, Deciding}
-use Rattle.passes.specs.Decision.{solid, paint, decisionIn}
-use Rattle.passes.specs.declared.Index.{Index}
-use Rattle.passes.proofs.Clipping.{length-after, length-last}
+use Rattle.pass_statements.specs.declared.item.Item.{Item}
+use Rattle.pass_statements.specs.declared.clips.Current.{Current}
+use Rattle.pass_statements.specs.declared.covered.Covered.{Covered}
+use Rattle.pass_statements.specs.declared.covered.InterestingCover.{InterestingCover}
+use Rattle.pass_statements.specs.declared.covered.InterestingCover.the-variants.{Absent, Opaque, Incomplete}
+use Rattle.pass_statements.specs.declared.decide.Decision.{Decision}
+use Rattle.pass_statements.specs.declared.decide.Decision.the-variants.{None, Paint}
+use Rattle.pass_statements.specs.declared.decide.Decided.{Decided}
+use Rattle.pass_statements.specs.declared.decide.Bottom.{Bottom}
+use Rattle.pass_statements.specs.declared.decide.Bottom.the-variants.{Settled, Under}
+use Rattle.pass_statements.specs.declared.unchanged.PreviousCount.{PreviousCount}
+use Rattle.pass_statements.specs.Unchanged.{isKept, wereRemoved}
+use Rattle.pass_statements.specs.Clips.{stepOf, unmaskedAfter, clipsFrom, marksOf, Marking}
+use Rattle.pass_statements.specs.Covered.{hides, lookAt, itemAt, coveredFrom, coveredOf}
+use Rattle.pass_statements.specs.Decide.{shownFrom, shownOf, areSolid, decisionBy, bottomOf, mixedOf, DecidedBy, passedOf, outcomeOf, Deciding}
+use Rattle.pass_statements.specs.Decision.{solid, paint, decisionIn}
+use Rattle.pass_statements.specs.declared.Index.{Index}
+use Rattle.pass_statements.proofs.Clipping.{length-after, length-last}
 
 -- ---- by the first cover that tells
 

@@ -12,19 +12,19 @@ use lib.ListN.{length, drop, replicate}
 use Rattle.laws.specs.Lists.{all, over}
 use Rattle.styling.specs.declared.Color.{Color}
 use Rattle.styling.specs.Style.{solidColor}
-use Rattle.passes.specs.declared.item.Item.{Item}
-use Rattle.passes.specs.declared.covered.InterestingCover.{InterestingCover}
-use Rattle.passes.specs.declared.covered.InterestingCover.the-variants.{Absent, Opaque, Incomplete}
-use Rattle.passes.specs.declared.covered.Covered.{Covered}
-use Rattle.passes.specs.declared.decide.Decision.the-variants.{None, Paint}
-use Rattle.passes.specs.declared.decide.Decided.{Decided}
-use Rattle.passes.specs.declared.decide.Bottom.{Bottom}
-use Rattle.passes.specs.declared.decide.Bottom.the-variants.{Settled, Under}
-use Rattle.passes.specs.declared.unchanged.PreviousCount.{PreviousCount}
-use Rattle.passes.specs.Decision.{TileDecision, none, solid, paint, decisionIn}
-use Rattle.passes.specs.Unchanged.{isKept, wereRemoved}
-use Rattle.passes.specs.Clips.{marksOf}
-use Rattle.passes.specs.Covered.{coveredOf}
+use Rattle.pass_statements.specs.declared.item.Item.{Item}
+use Rattle.pass_statements.specs.declared.covered.InterestingCover.{InterestingCover}
+use Rattle.pass_statements.specs.declared.covered.InterestingCover.the-variants.{Absent, Opaque, Incomplete}
+use Rattle.pass_statements.specs.declared.covered.Covered.{Covered}
+use Rattle.pass_statements.specs.declared.decide.Decision.the-variants.{None, Paint}
+use Rattle.pass_statements.specs.declared.decide.Decided.{Decided}
+use Rattle.pass_statements.specs.declared.decide.Bottom.{Bottom}
+use Rattle.pass_statements.specs.declared.decide.Bottom.the-variants.{Settled, Under}
+use Rattle.pass_statements.specs.declared.unchanged.PreviousCount.{PreviousCount}
+use Rattle.pass_statements.specs.Decision.{TileDecision, none, solid, paint, decisionIn}
+use Rattle.pass_statements.specs.Unchanged.{isKept, wereRemoved}
+use Rattle.pass_statements.specs.Clips.{marksOf}
+use Rattle.pass_statements.specs.Covered.{coveredOf}
 
 -- the layers that are shown: neither skipped nor masked off, ascending. i is the place of the first
 unfoldable pub shownFrom : ℕ → ℕ → List Item → List Bool → List Item

@@ -8,10 +8,10 @@ use native.Mathlib.Nat.{not-suc-le-zero}
 use native.Mathlib.Omega.{arith}
 use lib.ListN.{length, getD}
 use Rattle.laws.proofs.Bools.{clash}
-use Rattle.passes.specs.declared.item.Item.{Item}
-use Rattle.passes.specs.declared.covered.Covered.{Covered}
-use Rattle.passes.specs.declared.covered.InterestingCover.the-variants.{Absent}
-use Rattle.passes.specs.Covered.{hides, lookAt, itemAt, coveredFrom, coveredOf}
+use Rattle.pass_statements.specs.declared.item.Item.{Item}
+use Rattle.pass_statements.specs.declared.covered.Covered.{Covered}
+use Rattle.pass_statements.specs.declared.covered.InterestingCover.the-variants.{Absent}
+use Rattle.pass_statements.specs.Covered.{hides, lookAt, itemAt, coveredFrom, coveredOf}
 
 -- ---- one layer, by its tests
 

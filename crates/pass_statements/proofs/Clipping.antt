@@ -10,13 +10,13 @@ use lib.ListN.{length, set, drop, replicate, length-set, length-replicate, drop-
 use lib.Seq.{set-append-left}
 use Rattle.laws.specs.Lists.{over}
 use Rattle.styling.specs.Style.{isClipped}
-use Rattle.passes.specs.declared.item.Item.{Item}
-use Rattle.passes.specs.declared.clips.ActiveClip.{ActiveClip}
-use Rattle.passes.specs.declared.clips.Current.{Current}
-use Rattle.passes.specs.declared.clips.Current.the-variants.{Nothing, Active}
-use Rattle.passes.specs.declared.clips.Step.{Step}
-use Rattle.passes.specs.Clips.{stepOf, maskOff, unmaskedAfter, lastClip, Marks, clipsFrom, marksOf, Marking}
-use Rattle.passes.proofs.Turns.{kept, Turn, opens, bare, past, within, turn}
+use Rattle.pass_statements.specs.declared.item.Item.{Item}
+use Rattle.pass_statements.specs.declared.clips.ActiveClip.{ActiveClip}
+use Rattle.pass_statements.specs.declared.clips.Current.{Current}
+use Rattle.pass_statements.specs.declared.clips.Current.the-variants.{Nothing, Active}
+use Rattle.pass_statements.specs.declared.clips.Step.{Step}
+use Rattle.pass_statements.specs.Clips.{stepOf, maskOff, unmaskedAfter, lastClip, Marks, clipsFrom, marksOf, Marking}
+use Rattle.pass_statements.proofs.Turns.{kept, Turn, opens, bare, past, within, turn}
 
 pub length-off : (unmasked : List Bool) (i : ℕ) (off : Bool) → length (maskOff unmasked i off) ≡ length unmasked
 length-off unmasked i true = length-set unmasked i false

@@ -7,13 +7,13 @@ use native.Mathlib.Omega.{arith}
 use lib.ListN.{length, getD, set}
 use lib.Seq.{getD-set-same, getD-set-other}
 use Rattle.styling.specs.Style.{isClipped}
-use Rattle.passes.specs.declared.item.Item.{Item}
-use Rattle.passes.specs.declared.clips.Current.{Current}
-use Rattle.passes.specs.declared.clips.Current.the-variants.{Nothing, Active}
-use Rattle.passes.specs.declared.clips.Step.{Step}
-use Rattle.passes.specs.Clips.{isClip, stepOf, maskOff, unmaskedAfter, clipsFrom}
-use Rattle.passes.proofs.Turns.{Turn, opens, bare, past, within, turn}
-use Rattle.passes.proofs.Clipping.{Below, at-kept}
+use Rattle.pass_statements.specs.declared.item.Item.{Item}
+use Rattle.pass_statements.specs.declared.clips.Current.{Current}
+use Rattle.pass_statements.specs.declared.clips.Current.the-variants.{Nothing, Active}
+use Rattle.pass_statements.specs.declared.clips.Step.{Step}
+use Rattle.pass_statements.specs.Clips.{isClip, stepOf, maskOff, unmaskedAfter, clipsFrom}
+use Rattle.pass_statements.proofs.Turns.{Turn, opens, bare, past, within, turn}
+use Rattle.pass_statements.proofs.Clipping.{Below, at-kept}
 
 -- the current clip does not stand in place j
 abbrev pub Apart : Current → ℕ → Type 0

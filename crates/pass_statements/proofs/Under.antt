@@ -13,16 +13,16 @@ use lib.ListN.{length, getD, set, length-set, length-map, List·getD-map}
 use Rattle.styling.specs.Ascending.{strictlyAscendsFrom}
 use Rattle.styling.specs.Style.{isClipped}
 use Rattle.styling.proofs.Ascents.{ascends-head, ascends-tail, ascends-low}
-use Rattle.passes.specs.declared.item.Item.{Item}
-use Rattle.passes.specs.declared.clips.ActiveClip.{ActiveClip}
-use Rattle.passes.specs.declared.clips.Current.{Current}
-use Rattle.passes.specs.declared.clips.Current.the-variants.{Nothing, Active}
-use Rattle.passes.specs.Clips.{isClip, stepOf, unmaskedAfter, clipsFrom}
-use Rattle.passes.specs.Covered.{itemAt}
-use Rattle.passes.specs.Rules.{latestClip, lastOf, isUnder, isFreed}
-use Rattle.passes.proofs.Turns.{kept, Turn, opens, bare, past, within, turn}
-use Rattle.passes.proofs.Clipping.{Below, below-up, behind, length-after}
-use Rattle.passes.proofs.Marks.{below-apart, after-other, unmasked-draw, unclipped-own}
+use Rattle.pass_statements.specs.declared.item.Item.{Item}
+use Rattle.pass_statements.specs.declared.clips.ActiveClip.{ActiveClip}
+use Rattle.pass_statements.specs.declared.clips.Current.{Current}
+use Rattle.pass_statements.specs.declared.clips.Current.the-variants.{Nothing, Active}
+use Rattle.pass_statements.specs.Clips.{isClip, stepOf, unmaskedAfter, clipsFrom}
+use Rattle.pass_statements.specs.Covered.{itemAt}
+use Rattle.pass_statements.specs.Rules.{latestClip, lastOf, isUnder, isFreed}
+use Rattle.pass_statements.proofs.Turns.{kept, Turn, opens, bare, past, within, turn}
+use Rattle.pass_statements.proofs.Clipping.{Below, below-up, behind, length-after}
+use Rattle.pass_statements.proofs.Marks.{below-apart, after-other, unmasked-draw, unclipped-own}
 
 -- ---- the latest clip
 

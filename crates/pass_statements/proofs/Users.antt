@@ -17,12 +17,12 @@ use Rattle.styling.specs.declared.Func.{Func}
 use Rattle.styling.specs.declared.Func.the-variants.{Draw, Clip}
 use Rattle.styling.specs.Style.{isClipped}
 use Rattle.styling.proofs.Ascents.{ascends-head, ascends-tail}
-use Rattle.passes.specs.declared.item.Item.{Item}
-use Rattle.passes.specs.Clips.{isClip}
-use Rattle.passes.specs.Covered.{itemAt}
-use Rattle.passes.specs.Rules.{latestClip, lastOf, isLatest, uses}
-use Rattle.passes.proofs.Under.{idOf, low-at, latest-past, latest-own}
-use Rattle.passes.proofs.Judged.{meetsUser}
+use Rattle.pass_statements.specs.declared.item.Item.{Item}
+use Rattle.pass_statements.specs.Clips.{isClip}
+use Rattle.pass_statements.specs.Covered.{itemAt}
+use Rattle.pass_statements.specs.Rules.{latestClip, lastOf, isLatest, uses}
+use Rattle.pass_statements.proofs.Under.{idOf, low-at, latest-past, latest-own}
+use Rattle.pass_statements.proofs.Judged.{meetsUser}
 
 -- a clip is no clipped draw
 pub clip-draws-not : (f : Func) → isClip f ≡ true → isClipped f ≡ false

@@ -10,11 +10,11 @@ use lib.Dec.{ltb, leb}
 use lib.ListN.{length, getD}
 use Rattle.laws.specs.Lists.{tabulate, filter}
 use Rattle.laws.proofs.Filtered.{filter-ext}
-use Rattle.passes.specs.declared.item.Item.{Item}
-use Rattle.passes.specs.Covered.{itemAt}
-use Rattle.passes.specs.Decide.{shownFrom, shownOf}
-use Rattle.passes.specs.Shown.{isShown, shownLayers}
-use Rattle.passes.specs.Rules.{Alike}
+use Rattle.pass_statements.specs.declared.item.Item.{Item}
+use Rattle.pass_statements.specs.Covered.{itemAt}
+use Rattle.pass_statements.specs.Decide.{shownFrom, shownOf}
+use Rattle.pass_statements.specs.Shown.{isShown, shownLayers}
+use Rattle.pass_statements.specs.Rules.{Alike}
 
 -- ---- the shown layers
 
