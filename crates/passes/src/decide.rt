@@ -1,16 +1,14 @@
 // The decision about a tile, from its list.
 use crate::clips;
 use crate::covered;
-use crate::item;
-use crate::unchanged;
 use pass_statements::Index;
-use pass_statements::covered::InterestingCover;
 use pass_statements::decide::Bottom;
 use pass_statements::decide::Decided;
 use pass_statements::decide::Decision;
 use pass_statements::unchanged::PreviousCount;
 use styling::Color;
 use styling::Paint;
+use tile_unchanged::item;
 ghost use mathlib.Core.Path.{_≡_};
 ghost use Prim.Native.Nat.{_≤_};
 ghost use lib.ListN.{length};
@@ -20,7 +18,7 @@ ghost use Rattle.pass_statements.specs.Entry.{entriesOf};
 ghost use Rattle.pass_statements.specs.Item.{itemsOf, Columns};
 ghost use Rattle.pass_statements.specs.Covered.{coveredOf};
 ghost use Rattle.pass_statements.specs.Decision.{codeOf, decisionIn};
-ghost use Rattle.pass_statements.specs.Decide.{hasColor, shownOf, areSolid, bottomOf, mixedOf, DecidedBy, passedOf, outcomeOf, Deciding};
+ghost use Rattle.pass_statements.specs.Decide.{hasColor, shownOf, areSolid, mixedOf, DecidedBy, passedOf, outcomeOf, Deciding};
 
 pub fn code_of(decision: Decision) -> u32
     ensures { λ r. ⌜ r ≡ codeOf (decisionIn decision) ⌝ }
@@ -74,24 +72,6 @@ fn are_solid(
         }
     }
     ok
-}
-
-// What lies below the layers to mix, by the first cover that tells.
-fn bottom_of(first: InterestingCover, is_unchanged: bool, clear: Color) -> Bottom
-    ensures { λ r. ⌜ r ≡ bottomOf first «is_unchanged» clear ⌝ }
-{
-    match first {
-        // The first opaque layer is not mixed.
-        InterestingCover::Opaque(color) => {
-            if is_unchanged {
-                Bottom::Settled(Decision::None)
-            } else {
-                Bottom::Under(color, 1)
-            }
-        }
-        InterestingCover::Absent => Bottom::Under(clear, 0),
-        InterestingCover::Incomplete => Bottom::Settled(Decision::Paint),
-    }
 }
 
 fn mix(
@@ -163,7 +143,7 @@ fn decide_unmasked(
     );
     let first = found.first;
     let skipped = found.skipped;
-    let bottom = bottom_of(first, found.unchanged, clear);
+    let bottom = full_cover_steps::bottom_of(first, found.unchanged, clear);
     let decision = mix(
         bottom,
         ids,
@@ -242,7 +222,7 @@ pub fn decide(
     requires { ⌜ Columns n (now ids) (now covers) (now segments) × Table (now layers) (now colors) count × (n ≤ length (now unmasked)) ⌝ }
     ensures { λ r. ⌜ Deciding (outcomeOf clear «clear_unchanged» previous (itemsOf (tableOf (now (layers .entry)) (now (colors .entry)) count) (entriesOf n (now (ids .entry)) (now (covers .entry)) (now (segments .entry))))) (now (unmasked .entry)) r (now (unmasked .exit)) ⌝ }
 {
-    if unchanged::is_kept(
+    if tile_unchanged::is_kept(
         clear_unchanged,
         previous,
         ids,
@@ -259,7 +239,7 @@ pub fn decide(
             skipped: Index(0),
         };
     }
-    let removed = unchanged::were_removed(previous, n);
+    let removed = tile_unchanged::were_removed(previous, n);
     run_passes(
         clear,
         removed,

@@ -3,5 +3,3 @@
 pub mod clips;
 pub mod covered;
 pub mod decide;
-pub mod item;
-pub mod unchanged;

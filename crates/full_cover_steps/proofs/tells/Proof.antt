@@ -1,0 +1,46 @@
+-- `full_cover_steps::tells` meets its contract. Assumes nothing.
+use borrow.Author.Needs.{needs}
+use Rattle.pass_statements.proofs.Looks.{tells-partial, tells-opaque, tells-nothing}
+use Rattle.full_cover_steps.proofs.tells.Statement.{statement}
+use Rattle.full_cover_steps.proofs.tells.Tie as tie
+
+is-partial-requires : tie.Need-is-partial-requires
+is-partial-requires c κs = search needs
+
+returns : tie.Need-returns
+returns c = let a = c .before .before .args in tells-partial (a .x) (a .unclipped) (c .before .is-partial .ensures) (c .if1 .taken)
+
+is-opaque-requires : tie.Need-is-opaque-requires
+is-opaque-requires c κs = search needs
+
+solid-color-requires : tie.Need-solid-color-requires
+solid-color-requires c κs = search needs
+
+to-opaque-requires : tie.Need-to-opaque-requires
+to-opaque-requires c κs = search needs
+
+returns-2 : tie.Need-returns-2
+returns-2 c =
+    let opaque = c .before .before .before in
+    let partial = opaque .before .before in
+    let a = partial .before .args in
+    tells-opaque (a .x) (a .unclipped) (c .before .solid-color .result) (partial .is-partial .ensures) (opaque .before .if1 .left) (opaque .is-opaque .ensures) (c .before .before .if2 .taken)
+    (c .before .solid-color .ensures)
+    (c .to-opaque .ensures)
+
+returns-3 : tie.Need-returns-3
+returns-3 c =
+    let a = c .before .before .before .before .args in
+    tells-nothing (a .x) (a .unclipped) (c .before .before .before .is-partial .ensures) (c .before .before .if1 .left) (c .before .is-opaque .ensures) (c .if2 .left)
+
+pub tells-spec : {M : Type 1} → statement M
+tells-spec =
+    tie.close
+    (tie.spec
+    is-partial-requires
+    returns
+    is-opaque-requires
+    solid-color-requires
+    to-opaque-requires
+    returns-2
+    returns-3)

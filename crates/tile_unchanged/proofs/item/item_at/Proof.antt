@@ -1,0 +1,75 @@
+-- `tile_unchanged::item::item_at` meets its contract. Assumes nothing.
+use mathlib.Core.Path.{sym, _∙_}
+use native.Mathlib.Omega.{arith}
+use borrow.Author.Needs.{needs}
+use Rattle.styling.specs.Table.{tableOf}
+use Rattle.styling.proofs.Looking.{at-place, at-none}
+use Rattle.pass_statements.specs.Entry.{entryAt}
+use Rattle.pass_statements.proofs.Listing.{cover-entry, item-found, item-missing}
+use Rattle.tile_unchanged.proofs.item.item_at.Statement.{statement}
+use Rattle.tile_unchanged.proofs.item.item_at.Tie as tie
+
+mul-id : tie.Need-mul-id
+mul-id c = search needs
+
+shared-slice-read-id : tie.Need-shared-slice-read-id
+shared-slice-read-id c = search needs
+
+find-requires : tie.Need-find-requires
+find-requires c κs = search needs
+
+enum-known-p : tie.Need-enum-known-p
+enum-known-p c = search needs
+
+layer-at-requires : tie.Need-layer-at-requires
+layer-at-requires c κs =
+    let a = c .before .before .before .before .before .before .before .before .before in
+    let found = at-place {floats = a .args .colors .now} (c .before .p .given .1) (c .before .before .before .find .ensures) (a .pre .1 .ascending) in
+    omega (arith, found .within, a .pre .1 .words-long, a .pre .1 .floats-long)
+
+read-cover-requires : tie.Need-read-cover-requires
+read-cover-requires c κs = search needs
+
+shared-slice-read-item-for : tie.Need-shared-slice-read-item-for
+shared-slice-read-item-for c = search needs
+
+item-for-requires : tie.Need-item-for-requires
+item-for-requires c κs = search needs
+
+enum-told : tie.Need-enum-told
+enum-told c = search needs
+
+returns : tie.Need-returns
+returns c =
+    let a = c .before .before .before .before .before .before .before .before .before .before .before .before .before in
+    let found = at-place {floats = a .args .colors .now} (c .before .before .before .before .before .p .given .1) (c .before .before .before .before .before .before .before .find .ensures) (a .pre .1 .ascending) in
+    item-found (tableOf (a .args .layers .now) (a .args .colors .now) (a .args .count))
+    (entryAt (a .args .ids .now) (a .args .covers .now) (a .args .segments .now) (a .args .i .0))
+    (c .item-for .ensures)
+    (c .before .before .before .layer-at .ensures)
+    (c .before .before .read-cover .ensures ∙ sym (cover-entry (a .args .covers .now) (a .args .i .0) (omega (arith, a .pre .0 .covers-long, a .pre .2))))
+    (found .looked)
+
+returns-2 : tie.Need-returns-2
+returns-2 c =
+    let a = c .before .before .before .before .before .before .before .before in
+    let found = at-none {floats = a .args .colors .now} (c .enum-told .given .1) (c .before .before .find .ensures) in
+    item-missing (tableOf (a .args .layers .now) (a .args .colors .now) (a .args .count))
+    (entryAt (a .args .ids .now) (a .args .covers .now) (a .args .segments .now) (a .args .i .0))
+    (found .looked)
+
+pub item-at-spec : {M : Type 1} → statement M
+item-at-spec =
+    tie.close
+    (tie.spec
+    mul-id
+    shared-slice-read-id
+    find-requires
+    enum-known-p
+    layer-at-requires
+    read-cover-requires
+    shared-slice-read-item-for
+    item-for-requires
+    enum-told
+    returns
+    returns-2)

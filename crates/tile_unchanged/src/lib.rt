@@ -1,0 +1,73 @@
+// The first pass, `tile_unchanged_pass`; and what all passes read of a listed layer.
+pub mod item;
+
+use pass_statements::Index;
+use pass_statements::unchanged::PreviousCount;
+ghost use mathlib.Core.Path.{_≡_};
+ghost use Prim.Native.Nat.{_≤_};
+ghost use Rattle.laws.specs.Lists.{all};
+ghost use Rattle.styling.specs.Table.{Table, tableOf};
+ghost use Rattle.pass_statements.specs.Entry.{entriesOf};
+ghost use Rattle.pass_statements.specs.Item.{itemsOf, Columns};
+ghost use Rattle.pass_statements.specs.Unchanged.{allUnchanged, isKept, wereRemoved};
+
+// Whether every listed layer is unchanged.
+pub fn are_unchanged(
+    ids: &[u32],
+    covers: &[i8],
+    segments: &[bool],
+    n: usize,
+    layers: &[u32],
+    colors: &[f32],
+    count: usize,
+) -> bool
+    requires { ⌜ Columns n (now ids) (now covers) (now segments) × Table (now layers) (now colors) count ⌝ }
+    ensures { λ r. ⌜ r ≡ allUnchanged (itemsOf (tableOf (now (layers .entry)) (now (colors .entry)) count) (entriesOf n (now (ids .entry)) (now (covers .entry)) (now (segments .entry)))) ⌝ }
+{
+    let mut ok = true;
+    let mut i = 0;
+    while i < n {
+        let x = item::item_at(ids, covers, segments, n, layers, colors, count, Index(i));
+        ok = ok & x.unchanged;
+        i += 1;
+    }
+    ok
+}
+
+// Whether the tile is kept as it is.
+pub fn is_kept(
+    clear_unchanged: bool,
+    previous: PreviousCount,
+    ids: &[u32],
+    covers: &[i8],
+    segments: &[bool],
+    n: usize,
+    layers: &[u32],
+    colors: &[f32],
+    count: usize,
+) -> bool
+    requires { ⌜ Columns n (now ids) (now covers) (now segments) × Table (now layers) (now colors) count ⌝ }
+    ensures { λ r. ⌜ r ≡ isKept «clear_unchanged» previous (itemsOf (tableOf (now (layers .entry)) (now (colors .entry)) count) (entriesOf n (now (ids .entry)) (now (covers .entry)) (now (segments .entry)))) ⌝ }
+{
+    match previous {
+        PreviousCount::Absent => false,
+        PreviousCount::Kept(k) => {
+            let kept = k as usize;
+            if clear_unchanged & (kept == n) {
+                are_unchanged(ids, covers, segments, n, layers, colors, count)
+            } else {
+                false
+            }
+        }
+    }
+}
+
+// Whether a layer may have been removed since the last accepted work on the tile.
+pub fn were_removed(previous: PreviousCount, n: usize) -> bool
+    ensures { λ r. ⌜ r ≡ wereRemoved previous n ⌝ }
+{
+    match previous {
+        PreviousCount::Absent => true,
+        PreviousCount::Kept(k) => n < k as usize,
+    }
+}

@@ -1,0 +1,1 @@
+-- The proofs of the functions. The laws are of pass_statements.

@@ -1,0 +1,23 @@
+-- `trivial_clip_steps::close_clip` meets its contract. Assumes nothing.
+use borrow.Author.Needs.{needs}
+use Rattle.pass_statements.proofs.Steps.{stays-none, ends, goes-on}
+use Rattle.trivial_clip_steps.proofs.close_clip.Statement.{statement}
+use Rattle.trivial_clip_steps.proofs.close_clip.Tie as tie
+
+enum-told : tie.Need-enum-told
+enum-told c = search needs
+
+enum-known-cur : tie.Need-enum-known-cur
+enum-known-cur c = search needs
+
+returns : tie.Need-returns
+returns c = ends (c .before .before .before .before .before .cur .given .1) (c .before .before .if1 .taken)
+
+returns-2 : tie.Need-returns-2
+returns-2 c = stays-none _ (c .enum-told .given .1)
+
+returns-3 : tie.Need-returns-3
+returns-3 c = goes-on (c .before .before .before .cur .given .1) (c .if1 .left)
+
+pub close-clip-spec : {M : Type 1} → statement M
+close-clip-spec = tie.close (tie.spec enum-told enum-known-cur returns returns-2 returns-3)
