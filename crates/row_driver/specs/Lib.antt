@@ -1,5 +1,4 @@
 -- A whole row driven: what the contracts say.
-pub mod Shown
 pub mod Lines
 pub mod Driven
 pub mod InnerSteps

@@ -20,7 +20,7 @@ use Rattle.layer_workbench.specs.declared.PreviousClear.the-variants.{Absent}
 use Rattle.painter.specs.Clip.{clipAfter}
 use Rattle.row_statements.specs.TileWork.{listVerdict}
 use Rattle.row_statements.specs.Due.{OpenRow, tableOn, queueOn, layersOn, outcomeOn, funcOn, markOn}
-use Rattle.row_driver.specs.Shown.{shownIn}
+use Rattle.shown_layers.specs.Shown.{shownIn}
 use Rattle.row_driver.specs.declared.Line.{Line}
 
 -- ---- what a driver chooses: no cached tile, the clear colour 0, 0, 0, 1, and none before

@@ -1,6 +1,5 @@
 // A whole tile row driven: opened, each of its tiles worked, the shown layers of a painted tile painted, and a line written for each tile. The row
 // and the table are judged once, at the opening; the tiles are worked by the inner functions, and two queues take turns.
-pub mod tally;
 pub mod tile;
 
 use refusals::Refusal;

@@ -1,7 +1,5 @@
 // One tile of a driven row: its work, its shown layers, and its line.
 use crate::Line;
-use crate::tally;
-use crate::tally::Tally;
 use cached_tile::kept::Kept;
 use layer_workbench::PreviousClear;
 use passes::decide;
@@ -11,6 +9,7 @@ use row_statements::RowState;
 use row_statements::TileDone;
 use row_statements::TileWorked;
 use row_statements::WorkAnswer;
+use shown_layers::Tally;
 use styling::Color;
 ghost use mathlib.Core.Path.{_≡_};
 ghost use mathlib.Core.Bool.{not};
@@ -141,7 +140,7 @@ fn work_line(
             let decision = done.decision;
             let skipped = done.skipped;
             let part = parts::in_tile(row, tile as i16);
-            let tally = tally::tally_shown(
+            let tally = shown_layers::tally_shown(
                 is_paint(decision),
                 ids,
                 covers,

@@ -1,4 +1,4 @@
--- `tally::tally_shown` meets its contract: the invariant and its steps are those of `Tallying`. Assumes nothing.
+-- `tally_shown` meets its contract: the invariant and its steps are those of `Tallying`. Assumes nothing.
 use mathlib.Core.Path.{_≡_, refl, _∙_}
 use Prim.Native.Nat.{_-_}
 use native.Mathlib.Omega.{arith}
@@ -6,10 +6,10 @@ use borrow.Author.Needs.{needs}
 use lib.ListN.{length}
 use Rattle.styling.specs.Table.{tableOf}
 use Rattle.queue.specs.Queue.{queueOf}
-use Rattle.row_driver.specs.InnerSteps.{sumIn}
-use Rattle.row_driver.proofs.tally.tally_shown.Statement.{statement}
-use Rattle.row_driver.proofs.tally.tally_shown.Tie as tie
-use Rattle.row_driver.proofs.Tallying.{Tallying, start, next, end}
+use Rattle.shown_layers.specs.Counting.{sumIn}
+use Rattle.shown_layers.proofs.tally_shown.Statement.{statement}
+use Rattle.shown_layers.proofs.tally_shown.Tie as tie
+use Rattle.shown_layers.proofs.Tallying.{Tallying, start, next, end}
 
 abbrev Inv-loop : tie.InvT-loop
 Inv-loop paints ids covers n part layers colors count list-ids list-unmasked skipped listed plane₀ tally₀ i₀ plane tally i =

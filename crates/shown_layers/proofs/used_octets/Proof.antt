@@ -1,9 +1,9 @@
--- `tally::used_octets` meets its contract. Assumes nothing.
+-- `used_octets` meets its contract. Assumes nothing.
 use native.Mathlib.Omega.{arith}
 use borrow.Author.Needs.{needs}
 use lib.Count.{ones-le}
-use Rattle.row_driver.proofs.tally.used_octets.Statement.{statement}
-use Rattle.row_driver.proofs.tally.used_octets.Tie as tie
+use Rattle.shown_layers.proofs.used_octets.Statement.{statement}
+use Rattle.shown_layers.proofs.used_octets.Tie as tie
 
 octets-requires : tie.Need-octets-requires
 octets-requires c κs = search needs

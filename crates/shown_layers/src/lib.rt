@@ -9,9 +9,9 @@ ghost use lib.Count.{ones};
 ghost use lib.ListN.{length, take};
 ghost use Rattle.styling.specs.Table.{tableOf};
 ghost use Rattle.queue.specs.Queue.{queueOf};
-ghost use Rattle.row_driver.specs.Shown.{shownIn};
-ghost use Rattle.row_driver.specs.InnerSteps.{sumIn, atStart, tallyNext, tallied};
-ghost use Rattle.row_driver.specs.InnerSteps.{Painter, Paintable, Walkable};
+ghost use Rattle.shown_layers.specs.Shown.{shownIn};
+ghost use Rattle.shown_layers.specs.Counting.{sumIn, atStart, tallyNext, tallied};
+ghost use Rattle.shown_layers.specs.Counting.{Painter, Paintable, Walkable};
 
 // The painter's clip, how many layers were shown so far, and how many octets they used.
 pub struct Tally {

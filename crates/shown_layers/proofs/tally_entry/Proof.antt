@@ -1,9 +1,9 @@
--- `tally::tally_entry` meets its contract. Assumes nothing.
+-- `tally_entry` meets its contract. Assumes nothing.
 use mathlib.Core.Path.{refl}
 use native.Mathlib.Omega.{arith}
 use borrow.Author.Needs.{needs}
-use Rattle.row_driver.proofs.tally.tally_entry.Statement.{statement}
-use Rattle.row_driver.proofs.tally.tally_entry.Tie as tie
+use Rattle.shown_layers.proofs.tally_entry.Statement.{statement}
+use Rattle.shown_layers.proofs.tally_entry.Tie as tie
 
 tally-layer-requires : tie.Need-tally-layer-requires
 tally-layer-requires c κs = c .before .before .before .before .before .before .before .pre

@@ -1,11 +1,11 @@
--- `tally::tally_layer` meets its contract. Assumes nothing.
+-- `tally_layer` meets its contract. Assumes nothing.
 use native.Mathlib.Omega.{arith}
 use borrow.Author.Tests.{not-true, not-false}
 use borrow.Author.Needs.{needs}
-use Rattle.row_driver.specs.InnerSteps.{sumIn}
-use Rattle.row_driver.proofs.tally.tally_layer.Statement.{statement}
-use Rattle.row_driver.proofs.tally.tally_layer.Tie as tie
-use Rattle.row_driver.proofs.Tallying.{unpainted, painted}
+use Rattle.shown_layers.specs.Counting.{sumIn}
+use Rattle.shown_layers.proofs.tally_layer.Statement.{statement}
+use Rattle.shown_layers.proofs.tally_layer.Tie as tie
+use Rattle.shown_layers.proofs.Tallying.{unpainted, painted}
 
 add-t17 : tie.Need-add-t17
 add-t17 c = search needs

@@ -1,0 +1,3 @@
+-- The shown layers of a tile: what the contracts say.
+pub mod Shown
+pub mod Counting
