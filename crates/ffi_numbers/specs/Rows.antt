@@ -10,7 +10,7 @@ use Rattle.laws.specs.Answer.{Answer, refused, given}
 use Rattle.row_statements.specs.Lent.{Columns}
 use Rattle.row_statements.specs.State.{State}
 use Rattle.row_statements.specs.Opening.{OpenGiven}
-use Rattle.ffi.specs.Numbers.{numberOf}
+use Rattle.ffi_numbers.specs.Numbers.{numberOf}
 
 -- ---- a state
 

@@ -1,8 +1,8 @@
 -- `cached::put_settlement` meets its contract. Assumes nothing.
 use mathlib.Core.Path.{refl}
 use borrow.Author.Needs.{needs}
-use Rattle.ffi.proofs.cached.put_settlement.Statement.{statement}
-use Rattle.ffi.proofs.cached.put_settlement.Tie as tie
+use Rattle.ffi_numbers.proofs.cached.put_settlement.Statement.{statement}
+use Rattle.ffi_numbers.proofs.cached.put_settlement.Tie as tie
 
 enum-told : tie.Need-enum-told
 enum-told c = search needs

@@ -1,8 +1,8 @@
 -- `rows::to_state` meets its contract. Assumes nothing.
 use mathlib.Core.Path.{refl}
 use borrow.Author.Needs.{needs}
-use Rattle.ffi.proofs.rows.to_state.Statement.{statement}
-use Rattle.ffi.proofs.rows.to_state.Tie as tie
+use Rattle.ffi_numbers.proofs.rows.to_state.Statement.{statement}
+use Rattle.ffi_numbers.proofs.rows.to_state.Tie as tie
 
 array-read-t7 : tie.Need-array-read-t7
 array-read-t7 c = search needs

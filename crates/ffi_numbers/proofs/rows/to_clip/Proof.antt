@@ -1,8 +1,8 @@
 -- `rows::to_clip` meets its contract. Assumes nothing.
 use mathlib.Core.Path.{refl}
 use borrow.Author.Tests.{eq-eqb, ne-eqb}
-use Rattle.ffi.proofs.rows.to_clip.Statement.{statement}
-use Rattle.ffi.proofs.rows.to_clip.Tie as tie
+use Rattle.ffi_numbers.proofs.rows.to_clip.Statement.{statement}
+use Rattle.ffi_numbers.proofs.rows.to_clip.Tie as tie
 
 returns : tie.Need-returns
 returns c = rw (eq-eqb _ _ (c .if1 .taken)) refl

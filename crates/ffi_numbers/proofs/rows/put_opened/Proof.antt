@@ -1,8 +1,8 @@
 -- `rows::put_opened` meets its contract.  Assumes nothing.
 use mathlib.Core.Path.{refl}
 use borrow.Author.Needs.{needs}
-use Rattle.ffi.proofs.rows.put_opened.Statement.{statement}
-use Rattle.ffi.proofs.rows.put_opened.Tie as tie
+use Rattle.ffi_numbers.proofs.rows.put_opened.Statement.{statement}
+use Rattle.ffi_numbers.proofs.rows.put_opened.Tie as tie
 
 enum-known-opened : tie.Need-enum-known-opened
 enum-known-opened c = search needs

@@ -1,7 +1,7 @@
 -- `cached::put_kept` meets its contract. Assumes nothing.
 use borrow.Author.Needs.{needs}
-use Rattle.ffi.proofs.cached.put_kept.Statement.{statement}
-use Rattle.ffi.proofs.cached.put_kept.Tie as tie
+use Rattle.ffi_numbers.proofs.cached.put_kept.Statement.{statement}
+use Rattle.ffi_numbers.proofs.cached.put_kept.Tie as tie
 
 to-bytes-requires : tie.Need-to-bytes-requires
 to-bytes-requires c κs = search needs

@@ -1,8 +1,8 @@
 -- `rows::put_state` meets its contract.  Assumes nothing.
 use mathlib.Core.Path.{refl}
 use borrow.Author.Needs.{needs}
-use Rattle.ffi.proofs.rows.put_state.Statement.{statement}
-use Rattle.ffi.proofs.rows.put_state.Tie as tie
+use Rattle.ffi_numbers.proofs.rows.put_state.Statement.{statement}
+use Rattle.ffi_numbers.proofs.rows.put_state.Tie as tie
 
 clip-flag-requires : tie.Need-clip-flag-requires
 clip-flag-requires c κs = search needs
