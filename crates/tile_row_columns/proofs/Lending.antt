@@ -9,7 +9,7 @@ use Rattle.row_statements.specs.TileWork.{WorkCall, WorkLent, workOf, GivesWork
 use Rattle.row_statements.specs.Painting.{PaintCall, paintOf, PaintsLayer}
 use Rattle.row_statements.specs.declared.Painted.{Painted}
 use Rattle.row_statements.specs.declared.TileWorked.{TileWorked}
-use Rattle.tile_row_records.specs.Lent.{entriesLent, lentColumns}
+use Rattle.tile_row_columns.specs.Lent.{entriesLent, lentColumns}
 
 -- a call with another queue
 abbrev pub workFrom : WorkCall → Columns → WorkCall

@@ -1,10 +1,10 @@
--- `records::records_of` meets its contract. Assumes nothing.
+-- `records_of` meets its contract. Assumes nothing.
 use mathlib.Core.Path.{refl}
 use Prim.Native.Nat.{_-_}
 use native.Mathlib.Omega.{arith}
-use Rattle.tile_row_records.proofs.Making.{Making, make-start, make-next, make-end}
-use Rattle.tile_row_records.proofs.records.records_of.Statement.{statement}
-use Rattle.tile_row_records.proofs.records.records_of.Tie as tie
+use Rattle.records_from_columns.proofs.Making.{Making, make-start, make-next, make-end}
+use Rattle.records_from_columns.proofs.records_of.Statement.{statement}
+use Rattle.records_from_columns.proofs.records_of.Tie as tie
 
 abbrev Inv-loop : tie.InvT-loop
 Inv-loop ids covers queue₀ i₀ queue i = Making ids covers i queue

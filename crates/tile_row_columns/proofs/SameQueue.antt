@@ -20,7 +20,7 @@ use Rattle.queue_records.specs.Records.{carryOf, carriesOf, idsOf, coversOf, re
 use Rattle.queue_records.specs.declared.CarryRecord.{CarryRecord}
 use Rattle.queue_records.specs.declared.Columns as read
 use Rattle.queue_records.proofs.Reading.{ids-append, covers-append, ids-length, covers-length}
-use Rattle.tile_row_records.specs.Lent.{lentColumns}
+use Rattle.tile_row_columns.specs.Lent.{lentColumns}
 
 -- records have 16 covers each
 wide : (q : List CarryRecord) → areWide (carriesOf q) ≡ true

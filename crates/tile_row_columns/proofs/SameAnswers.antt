@@ -27,9 +27,9 @@ use Rattle.row_statements.proofs.Paintings.{call-passed}
 use Rattle.queue_records.specs.Records.{columnsOf}
 use Rattle.queue_records.specs.declared.CarryRecord.{CarryRecord}
 use Rattle.queue_records.specs.declared.Columns as read
-use Rattle.tile_row_records.specs.Lent.{columnsFor, lentColumns}
-use Rattle.tile_row_records.proofs.Lending.{workFrom, paintFrom}
-use Rattle.tile_row_records.proofs.SameQueue.{same-short, same-order, same-queue}
+use Rattle.tile_row_columns.specs.Lent.{columnsFor, lentColumns}
+use Rattle.tile_row_columns.proofs.Lending.{workFrom, paintFrom}
+use Rattle.tile_row_columns.proofs.SameQueue.{same-short, same-order, same-queue}
 
 -- two queues that are judged alike, and where no refusal applies have the same n carries
 record Alike (n : ℕ) (a b : Columns) : Type 0 where

@@ -1,4 +1,4 @@
--- `tile_row_records::painting::paint_columns` meets its contract: the columns are lent as far as they count.
+-- `painting::paint_columns` meets its contract: the columns are lent as far as they count.
 -- Assumes nothing.
 use mathlib.Core.Path.{sym}
 use Prim.Native.Nat.{_*_}
@@ -9,11 +9,11 @@ use mir.Facts.{toZ-ofZ}
 use Rattle.row_statements.specs.Lent.{lentTable}
 use Rattle.row_statements.specs.State.{stateIn}
 use Rattle.row_statements.specs.Painting.{paintCall}
-use Rattle.tile_row_records.specs.Lent.{lentColumns}
-use Rattle.tile_row_records.proofs.Lending.{painted-lent}
-use Rattle.tile_row_records.proofs.Wide.{ids-wide, covers-wide}
-use Rattle.tile_row_records.proofs.painting.paint_columns.Statement.{statement}
-use Rattle.tile_row_records.proofs.painting.paint_columns.Tie as tie
+use Rattle.tile_row_columns.specs.Lent.{lentColumns}
+use Rattle.tile_row_columns.proofs.Lending.{painted-lent}
+use Rattle.tile_row_columns.proofs.Wide.{ids-wide, covers-wide}
+use Rattle.tile_row_columns.proofs.painting.paint_columns.Statement.{statement}
+use Rattle.tile_row_columns.proofs.painting.paint_columns.Tie as tie
 
 lesser-requires : tie.Need-lesser-requires
 lesser-requires c κs = search needs
