@@ -17,7 +17,7 @@ use Rattle.passes.specs.Entry.{Entry}
 use Rattle.passes.specs.Item.{itemFrom, itemsOf}
 use Rattle.passes.specs.declared.item.Item.{Item}
 use Rattle.layer_workbench.specs.Work.{entryOf}
-use Rattle.shown_layers.specs.Shown.{flagged, shownIn}
+use Rattle.row_lines.specs.Shown.{flagged, shownIn}
 
 abbrev idOf : Item → ℕ
 idOf x = x .id

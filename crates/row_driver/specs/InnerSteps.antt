@@ -1,5 +1,5 @@
 -- What the inner functions of a driver ask and give: a tile's line from what a work is called with, and two queues that take turns. proofs/ has
--- that these are the lines of specs/Lines.
+-- that these are the lines of row_lines/specs/Lines.
 use mathlib.Core.Path.{_≡_}
 use mathlib.Core.Bool.{Bool, true, false, not}
 use mathlib.Core.List.{List}
@@ -22,10 +22,10 @@ use Rattle.row_statements.specs.Due.{OpenRow, atFirst}
 use Rattle.row_statements.specs.InnerHolding.{IsOpen, Holds}
 use Rattle.row_statements.specs.Run.{Held}
 use Rattle.row_statements.specs.declared.RowState.{RowState}
-use Rattle.shown_layers.specs.Shown.{shownIn}
+use Rattle.row_lines.specs.Shown.{shownIn}
 use Rattle.shown_layers.specs.Counting.{Sum, atStart, tallied}
-use Rattle.row_driver.specs.Lines.{clearColor, isPaint}
-use Rattle.row_driver.specs.declared.Line.{Line}
+use Rattle.row_lines.specs.Lines.{clearColor, isPaint}
+use Rattle.row_lines.specs.declared.Line.{Line}
 use Rattle.row_driver.specs.declared.tile.TileLine.{TileLine}
 
 -- ---- the line of a tile

@@ -1,10 +1,10 @@
 // One tile of a driven row: its work, its shown layers, and its line.
-use crate::Line;
 use cached_tile::kept::Kept;
 use layer_workbench::PreviousClear;
 use passes::decide;
 use passes::decide::Decision;
 use pixel_segment::parts;
+use row_lines::Line;
 use row_statements::RowState;
 use row_statements::TileDone;
 use row_statements::TileWorked;
@@ -17,7 +17,7 @@ ghost use Prim.Native.Nat.{_≤_};
 ghost use Rattle.passes.specs.Decision.{codeOf, decisionIn};
 ghost use Rattle.row_statements.specs.Lent.{columns, listColumns};
 ghost use Rattle.row_statements.specs.TileWork.{workLent};
-ghost use Rattle.row_driver.specs.Lines.{clearColor, isPaint};
+ghost use Rattle.row_lines.specs.Lines.{clearColor, isPaint};
 ghost use Rattle.row_driver.specs.InnerSteps.{argsOf, side, Workable, WorksLine, Turns};
 
 // The work on a tile, and its line; the line of a refused tile says nothing.

@@ -14,7 +14,7 @@ use Rattle.queue.specs.Queue.{Carry}
 use Rattle.painter.specs.Clip.{clipAfter}
 use Rattle.painter.specs.Painting.{markIn}
 use Rattle.row_statements.specs.Painting.{layerIn}
-use Rattle.shown_layers.specs.Shown.{flagged, shownIn}
+use Rattle.row_lines.specs.Shown.{flagged, shownIn}
 use Rattle.shown_layers.specs.Counting.{Sum, atStart, tallyNext, tallied}
 
 -- ---- the shown layers, from a place on
