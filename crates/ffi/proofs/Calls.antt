@@ -40,8 +40,8 @@ use Rattle.row_statements.specs.declared.Opened.the-variants as opened
 use Rattle.row_statements.proofs.WorkSteps.{work-due, right-work}
 use Rattle.row_statements.proofs.PaintSteps.{paint-due}
 use Rattle.row_statements.proofs.Run.{accepted, is-open, held-first}
-use Rattle.ffi.specs.Numbers.{numberOf}
-use Rattle.ffi.specs.Rows.{clipFlag, clipLast, clipOf, wordsOf, countsOf, stateFrom, StateNumbers, openNumbers, OpenTold}
+use Rattle.ffi_numbers.specs.Numbers.{numberOf}
+use Rattle.ffi_numbers.specs.Rows.{clipFlag, clipLast, clipOf, wordsOf, countsOf, stateFrom, StateNumbers, openNumbers, OpenTold}
 use Rattle.ffi.specs.Work.{WorkNumbers, workedNumbers, WorkTold}
 use Rattle.ffi.specs.Painting.{PaintNumbers, paintedNumbers, PaintTold}
 use Rattle.ffi.specs.Calls.{HeldNumbers, heldIn, heldOpened, heldWorked, Told, Call, Calls, RightTold, pastTold, AllTold, CallsClaim}

@@ -17,9 +17,9 @@ use Rattle.row_statements.specs.TileWork.{WorkCall, WorkLent, workOf, workAnswe
 use Rattle.row_statements.specs.Painting.{PaintCall, paintOf, paintAnswer, PaintsLayer}
 use Rattle.row_statements.specs.declared.TileWorked.{TileWorked}
 use Rattle.row_statements.specs.declared.Painted.{Painted}
-use Rattle.ffi.specs.Numbers.{numberOf, valueOr, isFound, placeOf}
-use Rattle.ffi.specs.Cached.{isGiven, givenOr, colorOr, writtenOr, settledBytes}
-use Rattle.ffi.specs.Rows.{StateNumbers, openNumbers, OpenTold}
+use Rattle.ffi_numbers.specs.Numbers.{numberOf, valueOr, isFound, placeOf}
+use Rattle.ffi_numbers.specs.Cached.{isGiven, givenOr, colorOr, writtenOr, settledBytes}
+use Rattle.ffi_numbers.specs.Rows.{StateNumbers, openNumbers, OpenTold}
 use Rattle.ffi.specs.Work.{WorkNumbers, workedNumbers, WorkTold}
 use Rattle.ffi.specs.Painting.{PaintNumbers, paintedNumbers, PaintTold}
 

@@ -11,7 +11,7 @@ use Rattle.row_statements.specs.TileWork.{WorkLent, workOf}
 use Rattle.row_statements.specs.Painting.{paintOf}
 use Rattle.row_statements.specs.Due.{OpenRow, Past, atFirst, WorkChoice, workDueVerdict, workDue, pastWork, PaintChoice, paintDueVerdict, paintDue, pastPaint}
 use Rattle.row_statements.specs.Run.{openRow, Held, SameCarries, workOn, paintOnto}
-use Rattle.ffi.specs.Rows.{StateNumbers, stateFrom, OpenTold}
+use Rattle.ffi_numbers.specs.Rows.{StateNumbers, stateFrom, OpenTold}
 use Rattle.ffi.specs.Work.{WorkNumbers, WorkTold}
 use Rattle.ffi.specs.Painting.{PaintNumbers, PaintTold}
 

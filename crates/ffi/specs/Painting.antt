@@ -6,8 +6,8 @@ use lib.Ieee.{Float}
 use Rattle.laws.specs.Answer.{Answer, refused, given}
 use Rattle.row_statements.specs.State.{State}
 use Rattle.row_statements.specs.Painting.{PaintGiven}
-use Rattle.ffi.specs.Numbers.{numberOf}
-use Rattle.ffi.specs.Rows.{wordsOf, countsOf}
+use Rattle.ffi_numbers.specs.Numbers.{numberOf}
+use Rattle.ffi_numbers.specs.Rows.{wordsOf, countsOf}
 
 -- the numbers that are lent: the state's, and the mark
 pub record PaintNumbers : Type 0 where

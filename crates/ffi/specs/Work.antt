@@ -9,9 +9,9 @@ use Rattle.cached_tile.specs.declared.kept.Kept.{Kept}
 use Rattle.pass_statements.specs.Decision.{TileDecision, none, solid, paint, codeOf}
 use Rattle.row_statements.specs.State.{State}
 use Rattle.row_statements.specs.TileWork.{TileTold, WorkLent, WorkGiven}
-use Rattle.ffi.specs.Numbers.{numberOf}
-use Rattle.ffi.specs.Cached.{bytesBy}
-use Rattle.ffi.specs.Rows.{wordsOf, countsOf}
+use Rattle.ffi_numbers.specs.Numbers.{numberOf}
+use Rattle.ffi_numbers.specs.Cached.{bytesBy}
+use Rattle.ffi_numbers.specs.Rows.{wordsOf, countsOf}
 
 abbrev pub beforeOf : TileDecision → ℕ
 beforeOf none = 0

@@ -17,7 +17,7 @@ ghost use Rattle.cover.specs.Adding.{carriedAnswer};
 ghost use Rattle.cover_statements.specs.Coverage.{areaCoverage};
 ghost use Rattle.cover_statements.specs.Mark.{marked, markedAnswer, Counted};
 ghost use Rattle.cover_statements.specs.Paint.{paintOf, paintedAnswer};
-ghost use Rattle.ffi.specs.Numbers.{numberOf, valueOr};
+ghost use Rattle.ffi_numbers.specs.Numbers.{numberOf, valueOr};
 ghost use Rattle.ffi.specs.Covers.{planeAfter};
 
 #[no_mangle]

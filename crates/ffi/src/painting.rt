@@ -1,13 +1,13 @@
 // Painting a layer of the tile just worked.
-use crate::rows;
+use ffi_numbers::rows;
 use row_statements::PaintAnswer;
 use row_statements::RowState;
 ghost use mathlib.Core.Path.{_≡_};
 ghost use Rattle.row_statements.specs.Lent.{columns, lentTable};
 ghost use Rattle.row_statements.specs.State.{stateIn};
 ghost use Rattle.row_statements.specs.Painting.{paintCall, paintOf, paintAnswer};
-ghost use Rattle.ffi.specs.Numbers.{numberOf};
-ghost use Rattle.ffi.specs.Rows.{stateFrom};
+ghost use Rattle.ffi_numbers.specs.Numbers.{numberOf};
+ghost use Rattle.ffi_numbers.specs.Rows.{stateFrom};
 ghost use Rattle.ffi.specs.Painting.{paintNumbers, paintedNumbers, PaintTold};
 
 fn put_painted(

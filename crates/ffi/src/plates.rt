@@ -1,4 +1,5 @@
 // Rows of a plate: where they stand in all segments, and crops.
+use ffi_numbers::plates;
 use plate::Crop;
 ghost use mathlib.Core.Path.{_≡_};
 ghost use Rattle.plate.specs.Rows.{castOf, startOf, placeOf};
@@ -19,9 +20,7 @@ pub extern "C" fn ffi_find_row(segments: &[u64], j: usize, end: &mut usize) -> u
     ensures { λ r. ⌜ r ≡ (placeOf (castOf j) (now (segments .entry))) .start ⌝ }
     ensures { λ _. ⌜ now (end .exit) ≡ (placeOf (castOf j) (now (segments .entry))) .end ⌝ }
 {
-    let part = plate::find_row(segments, j);
-    *end = part.end;
-    part.start
+    plates::put_part(plate::find_row(segments, j), end)
 }
 
 // A crop from its first row up to its end, or none.

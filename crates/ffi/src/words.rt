@@ -1,32 +1,17 @@
 // Packing, fields, order and searches of packed words.
-use pixel_segment::Packed;
+use ffi_numbers::words;
 use pixel_segment::PixelSegment;
 use pixel_segment::order;
 use pixel_segment::order::Ordering;
 use pixel_segment::search;
-use pixel_segment::search::Found;
 ghost use mathlib.Core.Path.{_≡_};
 ghost use Rattle.pixel_segment.specs.Field.{cpu, layerIdOf, tileXOf, tileYOf, tileOf};
 ghost use Rattle.pixel_segment.specs.Field.{localXOf, localYOf, multiplierOf, doubleAreaOf, coverOf};
-ghost use Rattle.pixel_segment.specs.Pack.{packOf, answerOf};
+ghost use Rattle.pixel_segment.specs.Pack.{packOf};
 ghost use Rattle.pixel_segment.specs.Order.{rank, orderKey, compareOf, ascends, isRow};
-ghost use Rattle.pixel_segment.specs.Search.{placeIn, searchOf, orderAt};
+ghost use Rattle.pixel_segment.specs.Search.{searchOf, orderAt};
 ghost use Rattle.pixel_segment.specs.declared.search.Key.{Key};
-ghost use Rattle.ffi.specs.Numbers.{numberOf, valueOr, isFound, placeOf};
-
-// 0 and the word in `word`, or the number of the refusal.
-fn put_packed(packed: Packed, word: &mut u64) -> u32
-    ensures { λ r. ⌜ r ≡ numberOf (answerOf packed) ⌝ }
-    ensures { λ _. ⌜ now (word .exit) ≡ valueOr (answerOf packed) (now (word .entry)) ⌝ }
-{
-    match packed {
-        Packed::Segment(s) => {
-            *word = s.0;
-            0
-        },
-        Packed::TileOutOfRange => 2,
-    }
-}
+ghost use Rattle.ffi_numbers.specs.Numbers.{numberOf, valueOr, isFound, placeOf};
 
 #[no_mangle]
 pub extern "C" fn ffi_pack(
@@ -54,7 +39,7 @@ pub extern "C" fn ffi_pack(
         double_area_multiplier,
         cover,
     );
-    put_packed(packed, word)
+    words::put_packed(packed, word)
 }
 
 #[no_mangle]
@@ -146,23 +131,6 @@ pub extern "C" fn ffi_is_row(row: &[u64], stored_tile_y: u64) -> bool
     order::is_row(row, stored_tile_y)
 }
 
-// Whether a search found the key; its place, or where it would stand, in `place`.
-fn put_found(found: Found, place: &mut usize) -> bool
-    ensures { λ r. ⌜ r ≡ isFound (placeIn found) ⌝ }
-    ensures { λ _. ⌜ now (place .exit) ≡ placeOf (placeIn found) ⌝ }
-{
-    match found {
-        Found::At(i) => {
-            *place = i;
-            true
-        },
-        Found::Absent(i) => {
-            *place = i;
-            false
-        },
-    }
-}
-
 #[no_mangle]
 pub extern "C" fn ffi_search_last_by_tile_y(
     segments: &[u64],
@@ -172,7 +140,7 @@ pub extern "C" fn ffi_search_last_by_tile_y(
     ensures { λ r. ⌜ r ≡ isFound (searchOf (orderAt (Key.TileY «tile_y»)) (now (segments .entry))) ⌝ }
     ensures { λ _. ⌜ now (place .exit) ≡ placeOf (searchOf (orderAt (Key.TileY «tile_y»)) (now (segments .entry))) ⌝ }
 {
-    put_found(search::search_last_by_tile_y(segments, tile_y), place)
+    words::put_found(search::search_last_by_tile_y(segments, tile_y), place)
 }
 
 #[no_mangle]
@@ -184,7 +152,7 @@ pub extern "C" fn ffi_search_last_by_tile_x(
     ensures { λ r. ⌜ r ≡ isFound (searchOf (orderAt (Key.TileX «tile_x»)) (now (segments .entry))) ⌝ }
     ensures { λ _. ⌜ now (place .exit) ≡ placeOf (searchOf (orderAt (Key.TileX «tile_x»)) (now (segments .entry))) ⌝ }
 {
-    put_found(search::search_last_by_tile_x(segments, tile_x), place)
+    words::put_found(search::search_last_by_tile_x(segments, tile_x), place)
 }
 
 #[no_mangle]
@@ -197,7 +165,7 @@ pub extern "C" fn ffi_search_last_by_layer_id(
     ensures { λ _. ⌜ now (place .exit)
         ≡ placeOf (searchOf (orderAt (Key.LayerId «layer_id»)) (now (segments .entry))) ⌝ }
 {
-    put_found(search::search_last_by_layer_id(segments, layer_id), place)
+    words::put_found(search::search_last_by_layer_id(segments, layer_id), place)
 }
 
 #[no_mangle]
@@ -211,7 +179,7 @@ pub extern "C" fn ffi_search_last_by_tile_x_at_least(
     ensures { λ _. ⌜ now (place .exit)
         ≡ placeOf (searchOf (orderAt (Key.TileXAtLeast start wanted)) (now (segments .entry))) ⌝ }
 {
-    put_found(
+    words::put_found(
         search::search_last_by_tile_x_at_least(segments, start, wanted),
         place,
     )
@@ -227,7 +195,7 @@ pub extern "C" fn ffi_search_last_by_tile_y_not_negative(
     ensures { λ _. ⌜ now (place .exit)
         ≡ placeOf (searchOf (orderAt (Key.TileYNotNegative wanted)) (now (segments .entry))) ⌝ }
 {
-    put_found(
+    words::put_found(
         search::search_last_by_tile_y_not_negative(segments, wanted),
         place,
     )

@@ -1,10 +1,10 @@
 // The work on a tile. Its answer is lent as numbers: the decision (0 none, 1 solid, 2 paint), of a solid tile how many
 // shown layers lie before those to mix, how many layers are listed, how many are skipped; and of a solid tile the
 // bottom colour.
-use crate::cached;
 use crate::layers;
-use crate::rows;
 use cached_tile::kept::Kept;
+use ffi_numbers::cached;
+use ffi_numbers::rows;
 use pass_statements::decide::Decision;
 use passes::decide;
 use row_statements::RowState;
@@ -15,10 +15,10 @@ ghost use Rattle.pass_statements.specs.Decision.{codeOf, decisionIn};
 ghost use Rattle.row_statements.specs.Lent.{columns, listColumns, lentTable};
 ghost use Rattle.row_statements.specs.State.{stateIn};
 ghost use Rattle.row_statements.specs.TileWork.{workCall, workLent, workOf, toldIn, workAnswer};
-ghost use Rattle.ffi.specs.Numbers.{numberOf};
-ghost use Rattle.ffi.specs.Cached.{keptOf};
+ghost use Rattle.ffi_numbers.specs.Numbers.{numberOf};
+ghost use Rattle.ffi_numbers.specs.Cached.{keptOf};
 ghost use Rattle.ffi.specs.Layers.{colorOf, previousOf};
-ghost use Rattle.ffi.specs.Rows.{stateFrom};
+ghost use Rattle.ffi_numbers.specs.Rows.{stateFrom};
 ghost use Rattle.ffi.specs.Work.{beforeOf, bottomBy, toldOf, workNumbers, workedNumbers, WorkTold};
 
 fn code_of(decision: Decision) -> usize

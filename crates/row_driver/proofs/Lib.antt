@@ -1,5 +1,4 @@
 -- Laws of a driven row.
-pub mod Tallying
 pub mod Listed
 pub mod ShownIds
 pub mod LineLaws

@@ -22,11 +22,11 @@ use Rattle.layer_workbench.specs.declared.PreviousClear.the-variants.{Absent}
 use Rattle.row_statements.specs.Due.{OpenRow, tableOn, queueOn, layersOn, funcOn, markOn}
 use Rattle.row_statements.specs.InnerHolding.{IsOpen}
 use Rattle.row_statements.proofs.PaintSteps.{row-mark}
-use Rattle.row_driver.specs.Shown.{shownIn}
-use Rattle.row_driver.specs.Lines.{clearColor, isPaint, decidedOn, shownOn, octetsOn, lineOn}
-use Rattle.row_driver.specs.InnerSteps.{Sum, atStart, tallyNext, tallied}
-use Rattle.row_driver.specs.declared.Line.{Line}
-use Rattle.row_driver.proofs.Tallying.{next-shown}
+use Rattle.row_lines.specs.Shown.{shownIn}
+use Rattle.row_lines.specs.Lines.{clearColor, isPaint, decidedOn, shownOn, octetsOn, lineOn}
+use Rattle.shown_layers.specs.Counting.{Sum, atStart, tallyNext, tallied}
+use Rattle.row_lines.specs.declared.Line.{Line}
+use Rattle.shown_layers.proofs.Tallying.{next-shown}
 
 -- ---- what a walk tallies
 

@@ -44,11 +44,12 @@ use Rattle.row_statements.specs.declared.TileWorked.{TileWorked}
 use Rattle.row_statements.specs.declared.WorkAnswer.the-variants as worked
 use Rattle.row_statements.proofs.Works.{Listable, list-passed}
 use Rattle.row_statements.proofs.Paintings.{layer-passed}
-use Rattle.row_driver.specs.Shown.{shownIn}
-use Rattle.row_driver.specs.Lines.{isPaint}
-use Rattle.row_driver.specs.InnerSteps.{sumIn, atStart, tallied, tallyAt, lineAt, Painter, Paintable, Walkable, Workable}
-use Rattle.row_driver.specs.declared.Line.{Line}
-use Rattle.row_driver.specs.declared.tally.Tally.{Tally}
+use Rattle.row_lines.specs.Shown.{shownIn}
+use Rattle.row_lines.specs.Lines.{isPaint}
+use Rattle.shown_layers.specs.Counting.{sumIn, atStart, tallied, Painter, Paintable, Walkable}
+use Rattle.row_driver.specs.InnerSteps.{tallyAt, lineAt, Workable}
+use Rattle.row_lines.specs.declared.Line.{Line}
+use Rattle.shown_layers.specs.declared.Tally.{Tally}
 
 -- ---- the layers of a list
 

@@ -1,5 +1,2 @@
--- A whole row driven: what the contracts say.
-pub mod Shown
-pub mod Lines
-pub mod Driven
+-- A whole row driven: what the inner functions ask and give.
 pub mod InnerSteps

@@ -1,9 +1,9 @@
 // A whole tile row driven: opened, each of its tiles worked, the shown layers of a painted tile painted, and a line written for each tile. The row
 // and the table are judged once, at the opening; the tiles are worked by the inner functions, and two queues take turns.
-pub mod tally;
 pub mod tile;
 
-use refusals::Refusal;
+use row_lines::Driven;
+use row_lines::Line;
 use row_statements::Opened;
 use row_statements::RowState;
 use row_statements::WorkAnswer;
@@ -13,24 +13,9 @@ ghost use lib.ListN.{length};
 ghost use lib.Seq.{sets};
 ghost use Rattle.row_statements.specs.Lent.{columns, listColumns, lentTable};
 ghost use Rattle.row_statements.specs.Opening.{openCall};
-ghost use Rattle.row_driver.specs.Lines.{linesFrom, lineWords};
-ghost use Rattle.row_driver.specs.Driven.{dueTiles, drivingOf, rowDriving, Drives};
+ghost use Rattle.row_lines.specs.Lines.{linesFrom, lineWords};
+ghost use Rattle.row_lines.specs.Driven.{dueTiles, drivingOf, rowDriving, Drives};
 ghost use Rattle.row_driver.specs.InnerSteps as steps;
-
-// The line of a tile: the decision (0 none, 1 solid, 2 paint), layers listed, layers shown, used octets, carries handed on.
-pub struct Line {
-    pub decision: u32,
-    pub listed: u32,
-    pub shown: u32,
-    pub octets: u32,
-    pub carried: u32,
-}
-
-// How many lines are written: one for each tile that is due, or those before a refusal.
-pub enum Driven {
-    Done(usize),
-    Refused(Refusal, usize),
-}
 
 fn least(a: u32, b: u32) -> u32
     ensures { λ r. ⌜ r ≡ min a b ⌝ }

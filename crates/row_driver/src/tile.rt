@@ -1,16 +1,15 @@
 // One tile of a driven row: its work, its shown layers, and its line.
-use crate::Line;
-use crate::tally;
-use crate::tally::Tally;
 use cached_tile::kept::Kept;
 use layer_workbench::PreviousClear;
 use pass_statements::decide::Decision;
 use passes::decide;
 use pixel_segment::parts;
+use row_lines::Line;
 use row_statements::RowState;
 use row_statements::TileDone;
 use row_statements::TileWorked;
 use row_statements::WorkAnswer;
+use shown_layers::Tally;
 use styling::Color;
 ghost use mathlib.Core.Path.{_≡_};
 ghost use mathlib.Core.Bool.{not};
@@ -18,7 +17,7 @@ ghost use Prim.Native.Nat.{_≤_};
 ghost use Rattle.pass_statements.specs.Decision.{codeOf, decisionIn};
 ghost use Rattle.row_statements.specs.Lent.{columns, listColumns};
 ghost use Rattle.row_statements.specs.TileWork.{workLent};
-ghost use Rattle.row_driver.specs.Lines.{clearColor, isPaint};
+ghost use Rattle.row_lines.specs.Lines.{clearColor, isPaint};
 ghost use Rattle.row_driver.specs.InnerSteps.{argsOf, side, Workable, WorksLine, Turns};
 
 // The work on a tile, and its line; the line of a refused tile says nothing.
@@ -141,7 +140,7 @@ fn work_line(
             let decision = done.decision;
             let skipped = done.skipped;
             let part = parts::in_tile(row, tile as i16);
-            let tally = tally::tally_shown(
+            let tally = shown_layers::tally_shown(
                 is_paint(decision),
                 ids,
                 covers,

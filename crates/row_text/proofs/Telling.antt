@@ -9,16 +9,16 @@ use lib.Ieee.{Float}
 use lib.ListN.{length, drop, getD, length-append}
 use Rattle.laws.specs.Integer.{plus}
 use Rattle.laws.specs.Lists.{over}
-use Rattle.row_driver.specs.Lines.{lineWords, wordsOf}
-use Rattle.row_driver.specs.Driven.{Driving, Told, toldBy, Drives}
-use Rattle.row_driver.specs.declared.Driven.{Driven}
-use Rattle.row_driver.specs.declared.Line.{Line}
+use Rattle.row_lines.specs.Lines.{lineWords, wordsOf}
+use Rattle.row_lines.specs.Driven.{Driving, Told, toldBy, Drives}
+use Rattle.row_lines.specs.declared.Driven.{Driven}
+use Rattle.row_lines.specs.declared.Line.{Line}
 use Rattle.job_text.specs.declared.Head.{Head}
 use Rattle.job.proofs.Records.{length-parts}
 use Rattle.report.specs.Text.{names}
 use Rattle.report.specs.Put.{LineWritten}
-use Rattle.row_text.specs.Answer.{lineText, linesText, lastText, drivingText, headDriving, answerRoom}
-use Rattle.row_text.specs.Told.{lineIn, toldLines, toldText, Tells}
+use Rattle.row_answer.specs.Answer.{lineText, linesText, lastText, drivingText, headDriving, answerRoom}
+use Rattle.row_printing.specs.Told.{lineIn, toldLines, toldText, Tells}
 
 -- ---- the lines that the words say
 

@@ -1,9 +1,42 @@
-// The answer of the row program to a job text, as the bytes that it prints. `printing` prints the lines of a driven row.
-pub mod printing;
-
+// The answer of the row program to a job text, as the bytes that it prints.
 use job::Reading;
+use job_text::Head;
+ghost use Prim.Native.Nat.{_≤_};
+ghost use lib.ListN.{length};
+ghost use Rattle.laws.specs.Integer.{plus};
 ghost use Rattle.report.specs.Put.{LineWritten};
-ghost use Rattle.row_text.specs.Answer.{answerText};
+ghost use Rattle.row_answer.specs.Answer.{drivingText, headDriving, answerText, answerRoom};
+
+// Drives a row, with room for the lines of every row, and prints what it tells.
+fn drive(
+    head: Head,
+    row: &[u64],
+    layers: &[u32],
+    colors: &[f32],
+    count: usize,
+    out: &mut [u8],
+) -> usize
+    requires { ⌜ answerRoom ≤ length (now out) ⌝ }
+    ensures { λ r. ⌜ LineWritten
+        (drivingText (plus (head .from))
+        (headDriving head (now (row .entry)) (now (layers .entry)) (now (colors .entry)) count))
+        (now (out .entry)) r (now (out .exit)) ⌝ }
+{
+    let mut told = [0u32; 20475];
+    let first = head.from;
+    let driven = row_driver::drive_row(
+        head.row,
+        first,
+        head.to,
+        head.tiles,
+        row,
+        layers,
+        colors,
+        count,
+        &mut told,
+    );
+    row_printing::print_driven(driven, &told, row_state::natural(first), out)
+}
 
 // Writes the answer at the front of `out`, which has room for every answer, and answers its length. The arrays hold every job.
 pub fn answer(text: &[u8], out: &mut [u8; 249850]) -> usize
@@ -16,7 +49,7 @@ pub fn answer(text: &[u8], out: &mut [u8; 249850]) -> usize
         Reading::Accepted(head, count, segments) => {
             let words = count * 8;
             let floats = count * 4;
-            printing::drive(
+            drive(
                 head,
                 &row[..segments],
                 &layers[..words],
@@ -26,6 +59,6 @@ pub fn answer(text: &[u8], out: &mut [u8; 249850]) -> usize
             )
         }
         Reading::NoRoom => 0,
-        Reading::Malformed => printing::print_refusal(out, 0, 10),
+        Reading::Malformed => row_printing::print_refusal(out, 0, 10),
     }
 }

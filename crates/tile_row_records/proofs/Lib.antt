@@ -1,7 +1,2 @@
--- The walks over lent records, by hand, and their laws.
-pub mod Wide
-pub mod Lending
-pub mod SameQueue
-pub mod SameAnswers
+-- Laws of calls with records.
 pub mod Steps
-pub mod Making

@@ -15,9 +15,9 @@ use Rattle.queue_records.specs.declared.CarryRecord.{CarryRecord}
 use Rattle.queue_records.proofs.Reading.{ids-length}
 use Rattle.row_statements.specs.Lent.{Columns, carriesIn, isQueueShort}
 use Rattle.row_statements.specs.Run.{SameCarries, Step}
-use Rattle.tile_row_records.specs.Lent.{columnsFor}
+use Rattle.tile_row_columns.specs.Lent.{columnsFor}
 use Rattle.tile_row_records.specs.Steps.{HoldsCarries, WorkStep, PaintStep}
-use Rattle.tile_row_records.proofs.SameQueue.{records-long, records-read}
+use Rattle.tile_row_columns.proofs.SameQueue.{records-long, records-read}
 
 pub same-carries : {n : ℕ} {k : Columns} (q : List CarryRecord) → isQueueShort k ≡ false → HoldsCarries n k q → SameCarries n k (columnsFor q)
 unfolding isQueue

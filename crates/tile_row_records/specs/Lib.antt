@@ -1,3 +1,2 @@
--- A row whose queue is lent as carry records: what the contracts of the inner functions say, and calls with records as steps of a run.
-pub mod Lent
+-- Calls with a queue lent as carry records, as steps of a run.
 pub mod Steps

@@ -15,7 +15,7 @@ use Rattle.row_statements.specs.Run.{Held, workOn, paintOnto, heldAfter, Event,
 use Rattle.row_statements.specs.InnerHolding.{Holds}
 use Rattle.row_statements.specs.declared.TileWorked.{TileWorked}
 use Rattle.row_statements.specs.declared.Painted.{Painted}
-use Rattle.tile_row_records.specs.Lent.{columnsFor}
+use Rattle.tile_row_columns.specs.Lent.{columnsFor}
 
 -- 256 records or more, of which the first n are the first n carries of the columns
 pub record HoldsCarries (n : ℕ) (k : Columns) (q : List CarryRecord) : Type 0 where

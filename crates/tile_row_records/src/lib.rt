@@ -1,6 +1,4 @@
-// The work on a tile and the painting of a layer with a queue that is lent as a slice of carry records.
-// `working::work_tile` and `painting::paint_layer` read the records and call a covered function; they are walked by
-// hand.
-pub mod painting;
+// The work on a tile with a queue that is lent as a slice of carry records, and both operations with an array of them.
+// `working::work_tile` reads the records and calls a covered function; it is walked by hand.
 pub mod records;
 pub mod working;

@@ -1,54 +1,17 @@
-// The columns of a queue as an array of carry records, and the two operations with such an array. Nothing here is walked: a
-// caller that the checker covers has the records' form by these functions.
-use crate::painting;
+// The two operations with the columns of a queue as an array of carry records. Nothing here is walked: a caller that the
+// checker covers has the records' form by these functions.
 use crate::working;
 use cached_tile::kept::Kept;
-use cover::entry;
 use layer_workbench::PreviousClear;
-use queue_records::CarryRecord;
 use row_statements::Painted;
 use row_statements::RowState;
 use row_statements::TileWorked;
 use styling::Color;
 ghost use mathlib.Core.Path.{_≡_};
-ghost use Prim.Native.Nat.{_<_};
-ghost use lib.ListN.{getD};
-ghost use Rattle.cover_statements.specs.Entry.{entryOf};
-ghost use Rattle.queue_records.specs.Records.{idsOf, coversOf};
 ghost use Rattle.row_statements.specs.Lent.{columns, listColumns, lentTable};
 ghost use Rattle.row_statements.specs.State.{stateIn};
 ghost use Rattle.row_statements.specs.TileWork.{workCall, workLent, workOf, GivesWork};
 ghost use Rattle.row_statements.specs.Painting.{paintCall, paintOf, PaintsLayer};
-
-// Entry `i` of the columns.
-fn record_from(ids: &[u32; 256], covers: &[i8; 4096], i: usize) -> CarryRecord
-    requires { ⌜ i < 256 ⌝ }
-    ensures { λ r. ⌜ (r .id ≡ getD (now (ids .entry)) i 0) × (r .covers ≡ entryOf 16 i (now (covers .entry))) ⌝ }
-{
-    let cover = entry::read_cover(covers, i);
-    let bytes = cover.covers;
-    CarryRecord {
-        id: ids[i],
-        covers: bytes,
-    }
-}
-
-// The records that have these columns.
-pub fn records_of(ids: [u32; 256], covers: [i8; 4096]) -> [CarryRecord; 256]
-    ensures { λ r. ⌜ (idsOf r ≡ ids) × (coversOf r ≡ covers) ⌝ }
-{
-    let none = CarryRecord {
-        id: 0,
-        covers: [0; 16],
-    };
-    let mut queue = [none; 256];
-    let mut i = 0;
-    while i < 256 {
-        queue[i] = record_from(&ids, &covers, i);
-        i += 1;
-    }
-    queue
-}
 
 // The work from the records of these columns.
 pub fn work_records(
@@ -82,7 +45,7 @@ pub fn work_records(
         (listColumns (now («list_ids» .exit)) (now («list_covers» .exit))
         (now («list_segments» .exit)) (now («list_unmasked» .exit)))) ⌝ }
 {
-    let queue = records_of(ids, covers);
+    let queue = records_from_columns::records_of(ids, covers);
     working::work_array(
         state,
         tile,
@@ -124,6 +87,6 @@ pub fn paint_records(
         r
         (now (plane .exit)) ⌝ }
 {
-    let queue = records_of(ids, covers);
-    painting::paint_array(state, tile, layer, row, layers, colors, count, queue, plane)
+    let queue = records_from_columns::records_of(ids, covers);
+    painting_records::paint_array(state, tile, layer, row, layers, colors, count, queue, plane)
 }

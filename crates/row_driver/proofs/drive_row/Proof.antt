@@ -5,7 +5,7 @@ use borrow.Author.Needs.{needs}
 use mir.Facts.{toZ-ofZ}
 use Rattle.row_statements.specs.Lent.{lentTable}
 use Rattle.row_statements.specs.Opening.{OpenCall, openCall}
-use Rattle.row_driver.specs.Driven.{dueTiles}
+use Rattle.row_lines.specs.Driven.{dueTiles}
 use Rattle.row_driver.proofs.drive_row.Statement.{statement}
 use Rattle.row_driver.proofs.drive_row.Tie as tie
 use Rattle.row_driver.proofs.Opening.{not-opened, opens, driven}

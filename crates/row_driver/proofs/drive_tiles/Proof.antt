@@ -14,9 +14,9 @@ use Rattle.laws.proofs.Machine.{small}
 use mathlib.Core.Option.{none}
 use Rattle.row_statements.specs.InnerHolding.{Holds}
 use Rattle.row_statements.specs.Lent.{Columns, ListColumns}
-use Rattle.row_driver.specs.Lines.{lineWords}
+use Rattle.row_lines.specs.Lines.{lineWords}
 use Rattle.row_driver.specs.InnerSteps.{heldBy, rowBy}
-use Rattle.row_driver.specs.declared.Line.{Line}
+use Rattle.row_lines.specs.declared.Line.{Line}
 use Rattle.row_driver.proofs.drive_tiles.Statement.{statement}
 use Rattle.row_driver.proofs.drive_tiles.Tie as tie
 use Rattle.row_driver.proofs.Turning as turning

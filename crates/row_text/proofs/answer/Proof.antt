@@ -5,7 +5,7 @@ use native.Mathlib.Omega.{arith}
 use borrow.Author.Needs.{needs}
 use lib.Seq.{length-take-le}
 use Rattle.report.proofs.Lines.{at-front}
-use Rattle.row_text.proofs.Reading.{accepts, has-room, refuses, same-text}
+use Rattle.row_answer.proofs.Reading.{accepts, has-room, refuses, same-text}
 use Rattle.row_text.proofs.answer.Statement.{statement}
 use Rattle.row_text.proofs.answer.Tie as tie
 

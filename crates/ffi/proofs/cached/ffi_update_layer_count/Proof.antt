@@ -2,7 +2,7 @@
 use mathlib.Core.Path.{ap, _∙_}
 use borrow.Author.Needs.{needs}
 use Rattle.cached_tile.specs.Tile.{layerCountOf}
-use Rattle.ffi.specs.Cached.{bytesOf}
+use Rattle.ffi_numbers.specs.Cached.{bytesOf}
 use Rattle.ffi.proofs.Told.{optional}
 use Rattle.ffi.proofs.cached.ffi_update_layer_count.Statement.{statement}
 use Rattle.ffi.proofs.cached.ffi_update_layer_count.Tie as tie

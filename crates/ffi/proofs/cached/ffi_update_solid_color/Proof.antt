@@ -2,7 +2,7 @@
 use mathlib.Core.Path.{ap, _∙_}
 use borrow.Author.Needs.{needs}
 use Rattle.cached_tile.specs.Tile.{solidColorOf}
-use Rattle.ffi.specs.Cached.{bytesOf}
+use Rattle.ffi_numbers.specs.Cached.{bytesOf}
 use Rattle.ffi.proofs.Told.{colored}
 use Rattle.ffi.proofs.cached.ffi_update_solid_color.Statement.{statement}
 use Rattle.ffi.proofs.cached.ffi_update_solid_color.Tie as tie

@@ -4,7 +4,7 @@ use mir.Facts.{toZ-ofZ}
 use Rattle.row_statements.specs.Lent.{columns, listColumns, lentTable}
 use Rattle.row_statements.specs.State.{State}
 use Rattle.row_statements.specs.TileWork.{workCall, workLent}
-use Rattle.ffi.specs.Cached.{keptOf}
+use Rattle.ffi_numbers.specs.Cached.{keptOf}
 use Rattle.ffi.specs.Layers.{colorOf, previousOf}
 use Rattle.ffi.proofs.Told.{worked}
 use Rattle.ffi.proofs.working.ffi_work_tile.Statement.{statement}

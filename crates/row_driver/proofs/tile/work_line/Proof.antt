@@ -9,7 +9,8 @@ use Rattle.laws.proofs.Machine.{sfits}
 use Rattle.laws.proofs.Parts.{whole}
 use Rattle.pixel_segment.specs.Search.{tilePart}
 use Rattle.row_statements.specs.Lent.{columns, listColumns}
-use Rattle.row_statements.specs.TileWork.{WorkCall, WorkLent, workLent}
+use Rattle.row_statements.specs.TileWork.{WorkCall, WorkLent, workLent, GivesWork}
+use Rattle.row_statements.specs.InnerWork.{workedBy}
 use Rattle.row_driver.specs.InnerSteps.{argsOf}
 use Rattle.row_driver.proofs.tile.work_line.Statement.{statement}
 use Rattle.row_driver.proofs.tile.work_line.Tie as tie
@@ -33,6 +34,17 @@ tile-fits s = let z = s .args .tile in sfits w16 z (omega (arith, s .pre .judged
 -- the part that the search finds
 part-is : (c : tie.After-in-tile) → c .in-tile .result .now ≡ tilePart (c .before .before .before .before .before .before .before .before .before .before .before .before .before .before .before .before .before .before .before .before .before .before .before .before .before .before .before .before .before .before .before .before .before .args .tile) (c .before .before .before .before .before .before .before .before .before .before .before .before .before .before .before .before .before .before .before .before .before .before .before .before .before .before .before .before .before .before .before .before .before .args .row .now)
 part-is c = rw (toZ-ofZ (c .before .before .before .before .before .before .before .before .before .before .before .before .before .before .before .before .before .before .before .before .before .before .before .before .before .before .before .before .before .before .before .before .before .fits .tile), toZ-ofZ (tile-fits (c .before .before .before .before .before .before .before .before .before .before .before .before .before .before .before .before .before .before .before .before .before .before .before .before .before .before .before .before .before .before .before .before .before))) at (c .in-tile .ensures)
+
+-- what the work leaves in the lent memory
+backOf : tie.After-work-judged → WorkLent
+backOf c =
+    let l = c .work-judged .last in
+    workLent (columns (l .1 .1 .1 .1 .1 .1 .1 .1 .1 .1 .1 .0) (l .1 .1 .1 .1 .1 .1 .1 .1 .1 .1 .1 .1 .0)) (listColumns (l .1 .1 .1 .1 .1 .1 .1 .1 .1 .1 .1 .1 .1 .0) (l .1 .1 .1 .1 .1 .1 .1 .1 .1 .1 .1 .1 .1 .1 .0) (l .1 .1 .1 .1 .1 .1 .1 .1 .1 .1 .1 .1 .1 .1 .1 .0) (l .1 .1 .1 .1 .1 .1 .1 .1 .1 .1 .1 .1 .1 .1 .1 .1 .0))
+
+-- what it says, once
+given-is : (c : tie.After-work-judged) → GivesWork (workedBy (called (c .before .before .before .before .before .before .before .before .before .before .before .before .before .before .before .before .before)) (lentTo (c .before .before .before .before .before .before .before .before .before .before .before .before .before .before .before .before .before))) (c .work-judged .result) (backOf c)
+unfolding called lentTo backOf
+given-is c = rw (toZ-ofZ (c .before .before .before .before .before .before .before .before .before .before .before .before .before .before .before .before .before .fits .tile), c .before .before .before .before .before .before .before .before .absent .ensures, c .before .before .before .before .before .before .before .clear-color .ensures) at (c .work-judged .ensures)
 
 absent-requires : tie.Need-absent-requires
 absent-requires c κs = search needs
@@ -62,10 +74,10 @@ is-paint-requires : tie.Need-is-paint-requires
 is-paint-requires c κs = search needs
 
 tally-shown-requires : tie.Need-tally-shown-requires
-unfolding called lentTo
+unfolding called lentTo backOf
 tally-shown-requires c κs =
     let s = c .before .before .before .before .before .before .before .before .before .before .before .before .before .before .before .before .before .before .before .before .before .before .before .before .before .before .before .before .before .before .before .before .before .before .before .before in
-    let given = rw (toZ-ofZ (c .before .before .before .before .before .before .before .before .before .before .before .before .before .before .before .before .before .before .before .before .before .before .before .before .before .before .before .before .before .before .before .before .before .before .before .before .fits .tile), c .before .before .before .before .before .before .before .before .before .before .before .before .before .before .before .before .before .before .before .before .before .before .before .before .before .before .before .absent .ensures, c .before .before .before .before .before .before .before .before .before .before .before .before .before .before .before .before .before .before .before .before .before .before .before .before .before .before .clear-color .ensures) at (c .before .before .before .before .before .before .before .before .before .before .before .before .before .before .before .before .before .before .before .work-judged .ensures) in
+    let given = given-is (c .before .before .before .before .before .before .before .before .before .before .before .before .before .before .before .before .before .before .before) in
     let t = accepted (called s) (lentTo s) (s .pre) (c .before .before .before .before .before .before .before .answer .given .1) given in
     rw (part-is (c .before .before .before)) (painter (called s) (lentTo s) (s .pre), walkable (called s) (lentTo s) (s .pre) t)
 
@@ -73,7 +85,7 @@ line-of-requires : tie.Need-line-of-requires
 unfolding called lentTo
 line-of-requires c κs =
     let s = c .before .before .before .before .before .before .before .before .before .before .before .before .before .before .before .before .before .before .before .before .before .before .before .before .before .before .before .before .before .before .before .before .before .before .before .before .before in
-    let given = rw (toZ-ofZ (c .before .before .before .before .before .before .before .before .before .before .before .before .before .before .before .before .before .before .before .before .before .before .before .before .before .before .before .before .before .before .before .before .before .before .before .before .before .fits .tile), c .before .before .before .before .before .before .before .before .before .before .before .before .before .before .before .before .before .before .before .before .before .before .before .before .before .before .before .before .absent .ensures, c .before .before .before .before .before .before .before .before .before .before .before .before .before .before .before .before .before .before .before .before .before .before .before .before .before .before .before .clear-color .ensures) at (c .before .before .before .before .before .before .before .before .before .before .before .before .before .before .before .before .before .before .before .before .work-judged .ensures) in
+    let given = given-is (c .before .before .before .before .before .before .before .before .before .before .before .before .before .before .before .before .before .before .before .before) in
     few (called s) (lentTo s) (s .pre) (accepted (called s) (lentTo s) (s .pre) (c .before .before .before .before .before .before .before .before .answer .given .1) given)
 
 same-length : tie.Need-same-length
@@ -95,10 +107,10 @@ same-length-6 : tie.Need-same-length-6
 same-length-6 c = search needs
 
 returns : tie.Need-returns
-unfolding called lentTo
+unfolding called lentTo backOf
 returns c =
     let s = c .before .before .before .before .before .before .before .before .before .before .before .before .before .before .before .before .before .before .before .before .before .before .before .before .before .before .before .before .before .before in
-    let given = rw (toZ-ofZ (c .before .before .before .before .before .before .before .before .before .before .before .before .before .before .before .before .before .before .before .before .before .before .before .before .before .before .before .before .before .before .fits .tile), c .before .before .before .before .before .before .before .before .before .before .before .before .before .before .before .before .before .before .before .before .before .absent .ensures, c .before .before .before .before .before .before .before .before .before .before .before .before .before .before .before .before .before .before .before .before .clear-color .ensures) at (c .before .before .before .before .before .before .before .before .before .before .before .before .before .work-judged .ensures) in
+    let given = given-is (c .before .before .before .before .before .before .before .before .before .before .before .before .before) in
     record { works = given; line-is = λ e. absurd (line-refused (called s) (lentTo s) (s .pre) (c .before .enum-told .given .1) given e) }
 
 same-length-7 : tie.Need-same-length-7
@@ -120,10 +132,10 @@ same-length-12 : tie.Need-same-length-12
 same-length-12 c = c .before .before .before .before .before .before .before .before .before .before .before .before .before .before .before .before .before .before .before .before .before .work-judged .kept .1 .1 .1 .1 .1 .1 .1 .1 .1 .1 .1 .1 .1 .1 .1 .1 .0
 
 returns-2 : tie.Need-returns-2
-unfolding called lentTo
+unfolding called lentTo backOf
 returns-2 c =
     let s = c .before .before .before .before .before .before .before .before .before .before .before .before .before .before .before .before .before .before .before .before .before .before .before .before .before .before .before .before .before .before .before .before .before .before .before .before .before .before in
-    let given = rw (toZ-ofZ (c .before .before .before .before .before .before .before .before .before .before .before .before .before .before .before .before .before .before .before .before .before .before .before .before .before .before .before .before .before .before .before .before .before .before .before .before .before .before .fits .tile), c .before .before .before .before .before .before .before .before .before .before .before .before .before .before .before .before .before .before .before .before .before .before .before .before .before .before .before .before .before .absent .ensures, c .before .before .before .before .before .before .before .before .before .before .before .before .before .before .before .before .before .before .before .before .before .before .before .before .before .before .before .before .clear-color .ensures) at (c .before .before .before .before .before .before .before .before .before .before .before .before .before .before .before .before .before .before .before .before .before .work-judged .ensures) in
+    let given = given-is (c .before .before .before .before .before .before .before .before .before .before .before .before .before .before .before .before .before .before .before .before .before) in
     let t = accepted (called s) (lentTo s) (s .pre) (c .before .before .before .before .before .before .before .before .before .answer .given .1) given in
     let tallied = rw (part-is (c .before .before .before .before .before), c .before .before .before .before .is-paint .ensures) at (c .before .tally-shown .ensures) in
     record { works = given; line-is = λ e. line-done (called s) (lentTo s) (s .pre) t (c .before .tally-shown .result) tallied (c .line-of .ensures) }

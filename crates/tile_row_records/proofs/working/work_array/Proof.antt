@@ -43,7 +43,7 @@ use Rattle.queue_records.specs.declared.CarryRecord.{CarryRecord}
 use Rattle.row_statements.specs.Lent as lent
 use Rattle.row_statements.specs.State.{stateIn}
 use Rattle.row_statements.specs.TileWork.{WorkCall, WorkLent, workCall, workLent, workOf, GivesWork}
-use Rattle.tile_row_records.specs.Lent.{columnsFor}
+use Rattle.tile_row_columns.specs.Lent.{columnsFor}
 use Rattle.queue_records.proofs.LentArray.{Lies, lends-shared, shared-back}
 use Rattle.row_statements.proofs.RowState as S
 use Rattle.row_statements.proofs.RowState.Laws as S′

@@ -43,8 +43,8 @@ use Rattle.queue_records.specs.declared.CarryRecord.{CarryRecord}
 use Rattle.row_statements.specs.Lent as lent
 use Rattle.row_statements.specs.State.{stateIn}
 use Rattle.row_statements.specs.TileWork.{WorkCall, WorkLent, workCall, workLent, workOf, GivesWork}
-use Rattle.tile_row_records.specs.Lent.{columnsFor, lentColumns}
-use Rattle.tile_row_records.proofs.SameAnswers.{worked-records}
+use Rattle.tile_row_columns.specs.Lent.{columnsFor, lentColumns}
+use Rattle.tile_row_columns.proofs.SameAnswers.{worked-records}
 use Rattle.row_statements.proofs.RowState as S
 use Rattle.row_statements.proofs.RowState.Laws as S′
 use Rattle.cached_tile.proofs.kept.Kept as K
@@ -62,10 +62,10 @@ use Rattle.queue_records.proofs.read_columns as read
 use Rattle.queue_records.proofs.read_columns.Symbol as read-def
 use Rattle.queue_records.proofs.read_columns.Symbol.{name as #read}
 use Rattle.queue_records.proofs.read_columns.Met as read-thm
-use Rattle.tile_row_records.proofs.working.work_columns as g
-use Rattle.tile_row_records.proofs.working.work_columns.Symbol as g-def
-use Rattle.tile_row_records.proofs.working.work_columns.Symbol.{name as #callee}
-use Rattle.tile_row_records.proofs.working.work_columns.Met as g-thm
+use Rattle.tile_row_columns.proofs.working.work_columns as g
+use Rattle.tile_row_columns.proofs.working.work_columns.Symbol as g-def
+use Rattle.tile_row_columns.proofs.working.work_columns.Symbol.{name as #callee}
+use Rattle.tile_row_columns.proofs.working.work_columns.Met as g-thm
 use Rattle.tile_row_records.proofs.working.work_tile.Key.{name as #this}
 use Rattle.tile_row_records.proofs.working.work_tile as f
 use Rattle.tile_row_records.proofs.working.work_tile.Statement as stated
@@ -337,5 +337,5 @@ work-tile-spec 𝓤 H 𝓜 𝓖 𝓡 =
     (tables 𝓤 H 𝓜 𝓡 code.env .C) (tables 𝓤 H 𝓜 𝓡 code.env .Λ) #this code.function (code.unfolded 𝓤 H 𝓜 𝓡)
     (meets 𝓤 H (𝓖 .A) (givenOf 𝓤 H 𝓜 𝓖) (𝓜 .mem) (𝓡 .run) (tablesOf 𝓤 H 𝓜 (tables 𝓤 H 𝓜 𝓡 code.env)) (record {
       of-read = cited 𝓤 H (Read 𝓤 H (𝓖 .A) (𝓜 .mem) (𝓡 .run)) 𝓜 𝓡 code.env #read read-def.routine code.calls-queue-records·read-columns (read-thm.met 𝓤 H 𝓜 𝓖 𝓡);
-      of-callee = cited 𝓤 H (Callee 𝓤 H (𝓖 .A) (𝓜 .mem) (𝓡 .run)) 𝓜 𝓡 code.env #callee g-def.routine code.calls-tile-row-records·working·work-columns (g-thm.met 𝓤 H 𝓜 𝓖 𝓡);
+      of-callee = cited 𝓤 H (Callee 𝓤 H (𝓖 .A) (𝓜 .mem) (𝓡 .run)) 𝓜 𝓡 code.env #callee g-def.routine code.calls-tile-row-columns·working·work-columns (g-thm.met 𝓤 H 𝓜 𝓖 𝓡);
     }))

@@ -1,0 +1,36 @@
+-- `rows::put_opened` meets its contract.  Assumes nothing.
+use mathlib.Core.Path.{refl}
+use borrow.Author.Needs.{needs}
+use Rattle.ffi_numbers.proofs.rows.put_opened.Statement.{statement}
+use Rattle.ffi_numbers.proofs.rows.put_opened.Tie as tie
+
+enum-known-opened : tie.Need-enum-known-opened
+enum-known-opened c = search needs
+
+put-state-requires : tie.Need-put-state-requires
+put-state-requires c κs = search needs
+
+enum-known-opened-2 : tie.Need-enum-known-opened-2
+enum-known-opened-2 c = search needs
+
+number-of-requires : tie.Need-number-of-requires
+number-of-requires c κs = search needs
+
+returns : tie.Need-returns
+returns c =
+    let put = c .put-state .ensures in
+    rw (c .before .before .before .before .opened .given .1) (refl, λ i. record { words = put .0 i; counts = put .1 i })
+
+returns-2 : tie.Need-returns-2
+returns-2 c = rw (c .before .before .opened2 .given .1) (c .number-of .ensures, refl)
+
+pub put-opened-spec : {M : Type 1} → statement M
+put-opened-spec =
+    tie.close
+    (tie.spec
+    enum-known-opened
+    put-state-requires
+    enum-known-opened-2
+    number-of-requires
+    returns
+    returns-2)

@@ -1,0 +1,2 @@
+-- Laws of the answer to a job text.
+pub mod Reading

@@ -1,0 +1,2 @@
+-- What the row program prints for a job text.
+pub mod Answer

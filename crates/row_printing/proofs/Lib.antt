@@ -1,0 +1,3 @@
+-- Laws of printed lines.
+pub mod Placing
+pub mod Lining

@@ -1,0 +1,27 @@
+-- `print_names` meets its contract: there is room. Assumes nothing.
+use Prim.Native.Nat.{_+_, _≤_}
+use native.Mathlib.Omega.{arith}
+use borrow.Author.Needs.{needs}
+use lib.ListN.{length}
+use Rattle.report.specs.Text.{names}
+use Rattle.row_printing.proofs.Placing.{placed}
+use Rattle.row_printing.proofs.print_names.Statement.{statement}
+use Rattle.row_printing.proofs.print_names.Tie as tie
+
+print-names-requires : tie.Need-print-names-requires
+print-names-requires c κs = search needs
+
+place-or-requires : tie.Need-place-or-requires
+place-or-requires c κs = search needs
+
+same-length : tie.Need-same-length
+same-length c = search needs
+
+returns : tie.Need-returns
+returns c =
+    let s = c .before .before .before .before .before .before in
+    let room : s .args .at + length names ≤ length (s .args .out .now) = omega (arith, s .pre) in
+    placed (c .before .before .before .print-names .ensures) (c .place-or .ensures) room
+
+pub print-names-spec : {M : Type 1} → statement M
+print-names-spec = tie.close (tie.spec print-names-requires place-or-requires same-length returns)

@@ -1,3 +1,0 @@
--- What the row program prints for a job text.
-pub mod Answer
-pub mod Told

@@ -1,0 +1,2 @@
+-- Laws of the walk over a tile's shown layers.
+pub mod Tallying

@@ -1,0 +1,2 @@
+-- The shown layers of a tile: what the contracts say.
+pub mod Counting
