@@ -2,7 +2,6 @@
 use cover::Cover;
 use cover::carry;
 use cover::carry::Carried;
-use cover::weight;
 use styling::FillRule;
 ghost use mathlib.Core.Path.{_≡_};
 ghost use mathlib.Core.Bool.{true};

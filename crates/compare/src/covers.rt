@@ -1,10 +1,10 @@
 // Covers, carries and painted parts.
-use crate::lists;
-use crate::numbers;
-use crate::rooms;
-use crate::text;
-use crate::text::Cursor;
 use ffi::covers;
+use stored_answers::lists;
+use stored_answers::numbers;
+use stored_answers::rooms;
+use stored_answers::text;
+use stored_answers::text::Cursor;
 
 // COVER of 16 bytes: whether it is empty by each rule, and full.
 pub fn cover(text: &[u8], at: usize) -> Cursor {

@@ -1,18 +1,15 @@
 // Replays the stored answers of the Rust (the file stdin, whose form is told at each kind): the same input to the exported operations, and every
 // number of the answer held to the stored one. Says how many cases of each kind were compared and how many differ.
 mod covers;
-mod lists;
-mod numbers;
 mod paints;
-mod rooms;
 mod rows;
-mod stand;
-mod text;
 mod tiles;
 mod words;
 mod works;
 
-use text::Cursor;
+use stored_answers::rooms;
+use stored_answers::text;
+use stored_answers::text::Cursor;
 
 // One case of a kind.
 fn replay(

@@ -1,12 +1,12 @@
 // Painting layers of the tile just worked.
-use crate::lists;
-use crate::numbers;
-use crate::rooms;
-use crate::stand;
-use crate::stand::Stand;
-use crate::text;
-use crate::text::Cursor;
 use ffi::painting;
+use stored_answers::lists;
+use stored_answers::numbers;
+use stored_answers::rooms;
+use stored_answers::stand;
+use stored_answers::stand::Stand;
+use stored_answers::text;
+use stored_answers::text::Cursor;
 
 // How many paintings, and each: the layer; then the refusal, the state, the mark, which was 5, and the 256 coverages, which were 2.
 pub fn layers(

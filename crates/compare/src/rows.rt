@@ -1,13 +1,13 @@
 // Rows of tiles.
-use crate::lists;
-use crate::numbers;
-use crate::rooms;
-use crate::stand;
-use crate::stand::Stand;
-use crate::text;
-use crate::text::Cursor;
 use crate::works;
 use ffi::rows;
+use stored_answers::lists;
+use stored_answers::numbers;
+use stored_answers::rooms;
+use stored_answers::stand;
+use stored_answers::stand::Stand;
+use stored_answers::text;
+use stored_answers::text::Cursor;
 
 // OPEN or ROW of tile y, from, to, how many layers, how many words; the layers' words, the layers' colours, the row: the refusal, the state's 6
 // words and 2 counts, which were 5 each, and the carries: ids, then covers; then how many tiles, and each tile. The lent queue was 7 each, and

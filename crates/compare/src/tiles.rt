@@ -1,9 +1,9 @@
 // Cached tiles, as eight bytes: the tag, the count's three, the colour's four.
-use crate::lists;
-use crate::numbers;
-use crate::text;
-use crate::text::Cursor;
 use ffi::cached;
+use stored_answers::lists;
+use stored_answers::numbers;
+use stored_answers::text;
+use stored_answers::text::Cursor;
 
 // COUNT of a tile's 8 bytes, whether one is given, the count: whether one was kept, which (5 where none), and the bytes then.
 pub fn count(text: &[u8], at: usize) -> Cursor {

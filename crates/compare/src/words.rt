@@ -1,9 +1,9 @@
 // Packed words: packing, fields, order, rows in order, searches.
-use crate::lists;
-use crate::numbers;
-use crate::text;
-use crate::text::Cursor;
 use ffi::words;
+use stored_answers::lists;
+use stored_answers::numbers;
+use stored_answers::text;
+use stored_answers::text::Cursor;
 
 // PACK layer, tile x, tile y, local x, local y, multiplier, cover: the refusal, and what the lent word then is, which was 5.
 pub fn pack(text: &[u8], at: usize) -> Cursor {

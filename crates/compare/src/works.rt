@@ -1,13 +1,13 @@
 // The work on a tile, and its paintings.
-use crate::lists;
-use crate::numbers;
 use crate::paints;
-use crate::rooms;
-use crate::stand;
-use crate::stand::Stand;
-use crate::text;
-use crate::text::Cursor;
 use ffi::working;
+use stored_answers::lists;
+use stored_answers::numbers;
+use stored_answers::rooms;
+use stored_answers::stand;
+use stored_answers::stand::Stand;
+use stored_answers::text;
+use stored_answers::text::Cursor;
 ghost use Prim.Native.Nat.{_≤_};
 
 // What a tile is given: its number, whether a cached tile is given and its 8 bytes, the clear colour, whether one of the frame before is given and it.

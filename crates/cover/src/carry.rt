@@ -1,6 +1,5 @@
 // The covers of a part of a row added to an incoming cover: what a tile hands on. Refused by 9 where a pixel row's absolute covers exceed 127.
 use crate::Cover;
-use crate::weight;
 use pixel_segment::PixelSegment;
 ghost use mathlib.Core.Path.{_≡_};
 ghost use mathlib.Core.Bool.{true};

@@ -1,10 +1,6 @@
-// The arithmetic of the painter (painter/mod.rs): covers, doubled areas, weights, coverages, planes, marks.
-pub mod area;
+// The covers of the painter (painter/mod.rs): empty, full, carried past a part, and stored.
 pub mod carry;
 pub mod entry;
-pub mod mark;
-pub mod plane;
-pub mod weight;
 
 use styling::FillRule;
 ghost use mathlib.Core.Path.{_≡_};

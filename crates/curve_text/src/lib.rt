@@ -1,5 +1,4 @@
 // The even-odd curve as text: each remainder of d by 1,024 beside its EvenOdd weight.
-use cover::weight;
 use report::Printed;
 use report::fields;
 use styling::FillRule;

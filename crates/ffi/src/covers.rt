@@ -2,9 +2,6 @@
 use cover::Cover;
 use cover::carry;
 use cover::carry::Carried;
-use cover::mark;
-use cover::plane;
-use cover::weight;
 use cover_statements::mark::Marked;
 use cover_statements::plane::Painted;
 use styling::codes;

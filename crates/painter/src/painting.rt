@@ -2,8 +2,6 @@
 use crate::Clip;
 use crate::clips;
 use crate::freed;
-use cover::mark;
-use cover::plane;
 use pixel_segment::parts;
 use styling::Func;
 use styling::Layer;

@@ -1,6 +1,5 @@
 // The covers of an opening, once its layers are known: sums and loads (absolute covers), 16 numbers a layer.
 use crate::search;
-use cover::weight;
 use pixel_segment::PixelSegment;
 ghost use mathlib.Core.Path.{_≡_};
 ghost use mathlib.Core.Bool.{true};

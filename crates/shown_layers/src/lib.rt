@@ -1,5 +1,4 @@
 // The shown layers of a tile, counted and, where the tile is painted, painted one after the other.
-use cover::mark;
 use painter::Clip;
 use painter::painting;
 ghost use mathlib.Core.Path.{_≡_};

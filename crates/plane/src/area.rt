@@ -1,0 +1,69 @@
+// The doubled areas of a tile's 256 pixels, at column × 16 + row: one pass over the segments and one over the pixels.
+use cover::Cover;
+use pixel_segment::PixelSegment;
+ghost use mathlib.Core.Path.{_≡_};
+ghost use mathlib.Core.Bool.{true};
+ghost use Rattle.pixel_segment.specs.Field.{cpu};
+ghost use Rattle.cover_statements.specs.Area.{areasOf};
+ghost use Rattle.cover_statements.specs.Carry.{isLight};
+ghost use Rattle.cover_statements.specs.Cell.{cellOf, noCells, Bounded, Accumulated, Shadable, Shaded};
+ghost use Rattle.cover_statements.specs.Cover.{coverAt};
+
+// The cell of a segment: its pixel, at column × 16 + row.
+fn cell(segment: PixelSegment) -> usize
+    ensures { λ r. ⌜ r ≡ cellOf cpu 16 (segment .0) ⌝ }
+{
+    segment.local_x() as usize * 16 + segment.local_y() as usize
+}
+
+// The double areas and the covers of each cell, summed.
+fn acc_segments(part: &[u64], areas: &mut [i16; 256], covers: &mut [i8; 256])
+    requires { ⌜ Bounded cpu 16 (now part) × (now areas ≡ noCells) × (now covers ≡ noCells) ⌝ }
+    ensures { λ _. ⌜ Accumulated (now (part .entry)) cpu (now (areas .exit)) (now (covers .exit)) ⌝ }
+{
+    let mut i = 0;
+    while i < part.len() {
+        let segment = PixelSegment(part[i]);
+        let k = cell(segment);
+        areas[k] = areas[k] + segment.double_area();
+        covers[k] = covers[k] + segment.cover();
+        i += 1;
+    }
+}
+
+// A column's own double areas become its doubled areas; the sums of the rows come back with the column's covers added.
+fn compute_doubled_areas(
+    areas: &mut [i16; 256],
+    covers: &[i8; 256],
+    column: usize,
+    sums: [i8; 16],
+) -> [i8; 16]
+    requires { ⌜ Shadable column (now areas) (now covers) sums ⌝ }
+    ensures { λ r. ⌜ Shaded column 16 (now (areas .entry)) (now (covers .entry)) sums (now (areas .exit)) r ⌝ }
+{
+    let mut next = sums;
+    let mut y = 0;
+    while y < 16 {
+        let k = column * 16 + y;
+        next[y] = sums[y] + covers[k];
+        areas[k] = 32 * (sums[y] as i16) + areas[k];
+        y += 1;
+    }
+    next
+}
+
+// The doubled areas of a part that number 9 does not refuse, from an incoming cover.
+pub fn doubled_areas(part: &[u64], cover: Cover, areas: &mut [i16; 256])
+    requires { ⌜ (isLight cpu 16 (cover .covers) (now part) ≡ true) × (now areas ≡ noCells) ⌝ }
+    ensures { λ _. ⌜ now (areas .exit) ≡ areasOf cpu 16 (coverAt (cover .covers)) (now (part .entry)) ⌝ }
+{
+    let mut covers = [0i8; 256];
+    acc_segments(part, areas, &mut covers);
+    let mut sums = cover.covers;
+    let mut column = 0;
+    while column < 16 {
+        let next = compute_doubled_areas(areas, &covers, column, sums);
+        sums = next;
+        column += 1;
+    }
+}

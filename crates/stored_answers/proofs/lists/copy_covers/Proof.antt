@@ -1,0 +1,68 @@
+-- `lists::copy_covers` is safe and ends. Assumes nothing.
+use mathlib.Core.Path.{_≡_, refl, _∙_}
+use Prim.Native.Nat.{_-_}
+use native.Mathlib.Omega.{arith}
+use lib.ListN.{length, length-set}
+use Rattle.stored_answers.proofs.lists.copy_covers.Statement.{statement}
+use Rattle.stored_answers.proofs.lists.copy_covers.Tie as tie
+
+abbrev Inv-loop : tie.InvT-loop
+Inv-loop from to₀ n i₀ to i = length to ≡ length to₀
+
+abbrev μ-loop : tie.MeasureT-loop
+μ-loop from to₀ n i₀ to i = length to₀ - i
+
+loop-holds : tie.Need-loop-holds Inv-loop μ-loop
+loop-holds c = refl
+
+same-length : tie.Need-same-length Inv-loop μ-loop
+same-length c = c .before .before .loop .inv
+
+returns : tie.Need-returns Inv-loop μ-loop
+returns c = tt
+
+same-length-2 : tie.Need-same-length-2 Inv-loop μ-loop
+same-length-2 c = c .before .before .before .loop .inv
+
+returns-2 : tie.Need-returns-2 Inv-loop μ-loop
+returns-2 c = tt
+
+shared-slice-copy-out-to : tie.Need-shared-slice-copy-out-to Inv-loop μ-loop
+shared-slice-copy-out-to c = omega arith
+
+slice-set-from-to : tie.Need-slice-set-from-to Inv-loop μ-loop
+slice-set-from-to c = omega arith
+
+add-i : tie.Need-add-i Inv-loop μ-loop
+add-i c = omega arith
+
+loop-less : tie.Need-loop-less Inv-loop μ-loop
+loop-less c = omega arith
+
+loop-again : tie.Need-loop-again Inv-loop μ-loop
+loop-again c = length-set (c .before .before .before .before .loop .to) (c .before .before .before .before .loop .i) _ ∙ c .before .before .before .before .loop .inv
+
+same-length-3 : tie.Need-same-length-3 Inv-loop μ-loop
+same-length-3 c = c .before .loop .inv
+
+returns-3 : tie.Need-returns-3 Inv-loop μ-loop
+returns-3 c = tt
+
+pub copy-covers-spec : {M : Type 1} → statement M
+copy-covers-spec =
+    tie.close
+    (tie.spec
+    Inv-loop
+    μ-loop
+    loop-holds
+    same-length
+    returns
+    same-length-2
+    returns-2
+    shared-slice-copy-out-to
+    slice-set-from-to
+    add-i
+    loop-less
+    loop-again
+    same-length-3
+    returns-3)

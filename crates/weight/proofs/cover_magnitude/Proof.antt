@@ -1,0 +1,31 @@
+-- `weight::cover_magnitude` meets its contract. Assumes nothing.
+use mathlib.Core.Path.{_≡_}
+use native.Mathlib.Omega.{arith}
+use borrow.Author.Needs.{needs}
+use lib.IntN.{natAbs}
+use mir.Facts.{toZ-ofZ, sfits-widen}
+use mir.Syntax.{w8, w16}
+use mir.Val.{SFits}
+use Rattle.laws.proofs.Machine.{within}
+use Rattle.laws.proofs.Parts.{whole}
+use Rattle.weight.proofs.cover_magnitude.Statement.{statement}
+use Rattle.weight.proofs.cover_magnitude.Tie as tie
+
+wide : (s : tie.Start) → SFits w16 (s .args .cover)
+wide s = sfits-widen tt (s .fits .cover)
+
+cast-magnitude : tie.Need-cast-magnitude
+cast-magnitude c = rw (toZ-ofZ (c .fits .cover)) (wide c)
+
+magnitude-requires : tie.Need-magnitude-requires
+magnitude-requires c κs = search needs
+
+returns : tie.Need-returns
+returns c =
+    let s = c .before in
+    let z = s .args .cover in
+    let e : c .magnitude .result ≡ natAbs z = rw (toZ-ofZ (s .fits .cover), toZ-ofZ (wide s)) at (c .magnitude .ensures) in
+    (e, omega (arith, within w8 z (s .fits .cover), whole z))
+
+pub cover-magnitude-spec : {M : Type 1} → statement M
+cover-magnitude-spec = tie.close (tie.spec cast-magnitude magnitude-requires returns)

@@ -1,0 +1,22 @@
+-- `weight::non_zero` meets its contract. Assumes nothing.
+use native.Mathlib.Omega.{arith}
+use borrow.Author.Needs.{needs}
+use mir.Facts.{toZ-ofZ}
+use Rattle.weight.proofs.non_zero.Statement.{statement}
+use Rattle.weight.proofs.non_zero.Tie as tie
+
+magnitude-requires : tie.Need-magnitude-requires
+magnitude-requires c κs = search needs
+
+returns : tie.Need-returns
+returns c =
+    let s = c .before in
+    omega (arith, rw (toZ-ofZ (s .before .fits .d)) at (s .magnitude .ensures))
+
+returns-2 : tie.Need-returns-2
+returns-2 c =
+    let s = c .before in
+    omega (arith, rw (toZ-ofZ (s .before .fits .d)) at (s .magnitude .ensures))
+
+pub non-zero-spec : {M : Type 1} → statement M
+non-zero-spec = tie.close (tie.spec magnitude-requires returns returns-2)
