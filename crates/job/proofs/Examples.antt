@@ -5,8 +5,8 @@ use mathlib.Core.Path.{_≡_, refl}
 use mathlib.Core.List.{List, [], _∷_, flatten}
 use lib.Ieee.{odd, ofBits, binary32}
 use lib.IntN.{pos, negsuc}
-use Rattle.job_text.specs.declared.segment.SegmentLine.{SegmentLine}
-use Rattle.job_text.specs.Parse.{layerOf, segmentOf}
+use Rattle.job_lines.specs.declared.segment.SegmentLine.{SegmentLine}
+use Rattle.job_text_statements.specs.Parse.{layerOf, segmentOf}
 use Rattle.job.specs.Table.{alphaOf, tableWords}
 use Rattle.job.specs.Row.{segmentWord, rowWords}
 

@@ -15,13 +15,13 @@ use Rattle.laws.specs.Lists.{over, all}
 use Rattle.laws.proofs.Bools.{left, right}
 use Rattle.laws.proofs.Rows.{length-tabulate}
 use Rattle.decimal.proofs.Steps.{cases}
-use Rattle.job_text.specs.declared.Head.{Head}
-use Rattle.job_text.specs.Job.{Job, isAllowed}
-use Rattle.job_text.specs.Rules.{layerRule, segmentRule, segmentCount}
-use Rattle.job_text.specs.Parse.{headOf, parse}
-use Rattle.job_text.specs.Numbers.{layerAt, layersIn, segmentsIn, jobIn}
-use Rattle.job_text.specs.Read.{NumbersStored}
-use Rattle.job_text.proofs.Laws.{sound, refused}
+use Rattle.job_text_statements.specs.declared.Head.{Head}
+use Rattle.job_text_statements.specs.Job.{Job, isAllowed}
+use Rattle.job_lines.specs.Rules.{layerRule, segmentRule, segmentCount}
+use Rattle.job_text_statements.specs.Parse.{headOf, parse}
+use Rattle.job_text_statements.specs.Numbers.{layerAt, layersIn, segmentsIn, jobIn}
+use Rattle.job_text_statements.specs.Read.{NumbersStored}
+use Rattle.job_text_statements.proofs.Laws.{sound, refused}
 use Rattle.job.specs.declared.Reading.{Reading}
 use Rattle.job.specs.declared.Reading.the-variants.{Accepted, NoRoom, Malformed}
 use Rattle.job.specs.Table.{tableWords, tableColors}

@@ -15,9 +15,9 @@ use Rattle.laws.proofs.Parts.{added}
 use Rattle.pixel_segment.specs.Field.{cpu}
 use Rattle.pixel_segment.specs.Pack.{join, storedOf, wordOf, packOf, ReadsBack}
 use Rattle.pixel_segment.proofs.ReadBack.{reads-back}
-use Rattle.job_text.specs.Rules.{segmentRule}
-use Rattle.job_text.proofs.Ranges.{in-tile}
-use Rattle.job_text.specs.declared.segment.SegmentLine.{SegmentLine}
+use Rattle.job_lines.specs.Rules.{segmentRule}
+use Rattle.job_lines.proofs.Ranges.{in-tile}
+use Rattle.job_lines.specs.declared.segment.SegmentLine.{SegmentLine}
 use Rattle.job.specs.declared.row.Fields.{Fields}
 use Rattle.job.specs.Row.{segmentWord}
 use Rattle.job.specs.Entries.{fieldsOf, packed, Packs}

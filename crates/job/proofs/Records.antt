@@ -13,7 +13,7 @@ use Rattle.laws.proofs.Rows.{is-tabulate}
 use Rattle.styling.specs.declared.Layer.{Layer}
 use Rattle.styling.specs.Record.{layerOf}
 use Rattle.styling.specs.Table.{wordsAt, colorAt, layerAt, tableOf}
-use Rattle.job_text.specs.declared.layer.LayerLine.{LayerLine}
+use Rattle.job_lines.specs.declared.layer.LayerLine.{LayerLine}
 use Rattle.job.specs.Table.{layerWords, layerColors, tableWords, tableColors, wordsOf, colorOf}
 
 -- parts of one width, one after another

@@ -11,8 +11,8 @@ use lib.Ieee.{Float}
 use lib.ListN.{length, length-map}
 use Rattle.laws.specs.Lists.{all}
 use Rattle.laws.proofs.Bools.{both, right}
-use Rattle.job_text.specs.Rules.{layerRule, segmentRule, segmentCount}
-use Rattle.job_text.specs.Job.{Job, layerValues, isAllowed, WellFormed}
+use Rattle.job_lines.specs.Rules.{layerRule, segmentRule, segmentCount}
+use Rattle.job_text_statements.specs.Job.{Job, layerValues, isAllowed, WellFormed}
 use Rattle.job.specs.Read.{hasRoom}
 
 pub always-room : (j : Job) (layers : List ℕ) (colors : List Float) (row : List ℕ) → WellFormed j → 512 ≤ length layers → 256 ≤ length colors → 2048 ≤ length row → hasRoom layers colors row j ≡ true

@@ -15,11 +15,11 @@ use Rattle.laws.specs.Lists.{tabulate, over}
 use Rattle.laws.proofs.Rows.{length-tabulate, getD-tabulate}
 use Rattle.decimal.proofs.Print.{sets-append}
 use Rattle.pixel_segment.specs.Pack.{storedOf}
-use Rattle.job_text.specs.declared.segment.SegmentLine.{SegmentLine}
-use Rattle.job_text.specs.Rules.{segmentRule, segmentCount}
-use Rattle.job_text.specs.Numbers.{segmentAt, segmentsIn}
-use Rattle.job_text.proofs.Ranges.{in-tile}
-use Rattle.job_text.proofs.Counting.{count-step}
+use Rattle.job_lines.specs.declared.segment.SegmentLine.{SegmentLine}
+use Rattle.job_lines.specs.Rules.{segmentRule, segmentCount}
+use Rattle.job_text_statements.specs.Numbers.{segmentAt, segmentsIn}
+use Rattle.job_lines.proofs.Ranges.{in-tile}
+use Rattle.job_text_statements.proofs.Counting.{count-step}
 use Rattle.job.specs.declared.row.Fields.{Fields}
 use Rattle.job.specs.Row.{segmentWord, segmentWords, rowWords}
 use Rattle.job.specs.Entries.{fieldsOf, packed, Packs, SegmentWritten}

@@ -11,9 +11,9 @@ use Rattle.laws.specs.Integer.{plus, minus}
 use Rattle.laws.specs.Lists.{tabulate, all}
 use Rattle.laws.proofs.Every.{all-at}
 use Rattle.laws.proofs.Rows.{length-tabulate, getD-tabulate}
-use Rattle.job_text.specs.Rules.{layerRule}
-use Rattle.job_text.specs.Numbers.{numberAt, layerAt, layersIn}
-use Rattle.job_text.proofs.Ranges.{alpha-range}
+use Rattle.job_lines.specs.Rules.{layerRule}
+use Rattle.job_text_statements.specs.Numbers.{numberAt, layerAt, layersIn}
+use Rattle.job_lines.proofs.Ranges.{alpha-range}
 use Rattle.job.specs.Table.{layerWords, layerColors, tableWords, tableColors}
 use Rattle.job.specs.Entries.{wordAt, colorAt}
 use Rattle.job.proofs.Strides.{strides, map-tabulate}

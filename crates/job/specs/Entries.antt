@@ -11,8 +11,8 @@ use lib.Seq.{sets}
 use Rattle.laws.specs.Integer.{plus}
 use Rattle.pixel_segment.specs.Field.{cpu}
 use Rattle.pixel_segment.specs.Pack.{storedOf, wordOf}
-use Rattle.job_text.specs.declared.segment.SegmentLine.{SegmentLine}
-use Rattle.job_text.specs.Numbers.{numberAt}
+use Rattle.job_lines.specs.declared.segment.SegmentLine.{SegmentLine}
+use Rattle.job_text_statements.specs.Numbers.{numberAt}
 use Rattle.job.specs.declared.row.Fields.{Fields}
 use Rattle.job.specs.Table.{pattern, alphaOf, zeroFloat}
 use Rattle.job.specs.Row.{segmentWords}

@@ -10,13 +10,13 @@ use lib.IntN.{ℤ}
 use lib.ListN.{length}
 use Rattle.laws.specs.Answer.{Answer, refused, given}
 use Rattle.laws.specs.Lists.{over, all}
-use Rattle.job_text.specs.declared.Head.{Head}
+use Rattle.job_text_statements.specs.declared.Head.{Head}
 use Rattle.job.specs.declared.Reading.{Reading}
 use Rattle.job.specs.declared.Reading.the-variants.{Accepted, NoRoom, Malformed}
-use Rattle.job_text.specs.Rules.{layerRule, segmentRule, segmentCount}
-use Rattle.job_text.specs.Job.{Job, render, WellFormed, Prints}
-use Rattle.job_text.specs.Parse.{parse}
-use Rattle.job_text.specs.Numbers.{layersIn, segmentsIn}
+use Rattle.job_lines.specs.Rules.{layerRule, segmentRule, segmentCount}
+use Rattle.job_text_statements.specs.Job.{Job, render, WellFormed, Prints}
+use Rattle.job_text_statements.specs.Parse.{parse}
+use Rattle.job_text_statements.specs.Numbers.{layersIn, segmentsIn}
 use Rattle.job.specs.Table.{tableWords, tableColors}
 use Rattle.job.specs.Row.{rowWords}
 

@@ -10,7 +10,7 @@ use Rattle.laws.specs.Integer.{plus}
 use Rattle.laws.specs.Lists.{tabulate}
 use Rattle.pixel_segment.specs.Field.{cpu}
 use Rattle.pixel_segment.specs.Pack.{wordOf}
-use Rattle.job_text.specs.declared.segment.SegmentLine.{SegmentLine}
+use Rattle.job_lines.specs.declared.segment.SegmentLine.{SegmentLine}
 
 -- the word of a line, i pixel rows down
 unfoldable pub segmentWord : ℤ → SegmentLine → ℕ → ℕ

@@ -8,7 +8,7 @@ use lib.IntN.{ℤ}
 use Rattle.laws.specs.Integer.{plus, modℤ}
 use Rattle.styling.specs.declared.Color.{Color}
 use Rattle.styling.specs.declared.table.Words.{Words}
-use Rattle.job_text.specs.declared.layer.LayerLine.{LayerLine}
+use Rattle.job_lines.specs.declared.layer.LayerLine.{LayerLine}
 
 -- a number as a word: a negative one as its 32-bit pattern
 abbrev pub pattern : ℤ → ℕ

@@ -2,8 +2,8 @@
 pub mod row;
 pub mod table;
 
-use job_text::Head;
-use job_text::Numbers;
+use job_text_statements::Head;
+use job_text_statements::Numbers;
 ghost use Rattle.job.specs.Read.{Judged, outcomeOn, Left, JobRead};
 
 pub enum Reading {

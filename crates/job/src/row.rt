@@ -1,5 +1,5 @@
 // The row of a job: the packed words of each line of block 3, repeated downward.
-use job_text::segment::SegmentLine;
+use job_lines::segment::SegmentLine;
 use pixel_segment::Packed;
 use pixel_segment::PixelSegment;
 ghost use mathlib.Core.Path.{_≡_};
@@ -10,8 +10,8 @@ ghost use Rattle.laws.specs.Integer.{plus};
 ghost use Rattle.laws.specs.Lists.{over, all};
 ghost use Rattle.pixel_segment.specs.Pack.{storedOf};
 ghost use Rattle.decimal.specs.Print.{Printing};
-ghost use Rattle.job_text.specs.Rules.{segmentRule, segmentCount};
-ghost use Rattle.job_text.specs.Numbers.{segmentsIn};
+ghost use Rattle.job_lines.specs.Rules.{segmentRule, segmentCount};
+ghost use Rattle.job_text_statements.specs.Numbers.{segmentsIn};
 ghost use Rattle.job.specs.Row.{segmentWords, rowWords};
 ghost use Rattle.job.specs.Entries.{fieldsOf, packed, Packs, SegmentWritten};
 
@@ -85,7 +85,12 @@ pub fn write_row(numbers: &[i32], m: usize, number: i32, row: &mut [u64])
     let mut at: usize = 0;
     let mut i: usize = 0;
     while i < m {
-        at = write_segment(job_text::segment::segment_at(numbers, i), tile_y, row, at);
+        at = write_segment(
+            job_numbers::segment::segment_at(numbers, i),
+            tile_y,
+            row,
+            at,
+        );
         i += 1;
     }
 }

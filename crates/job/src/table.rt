@@ -6,8 +6,8 @@ ghost use lib.IntN.{pos};
 ghost use lib.ListN.{length};
 ghost use Rattle.laws.specs.Integer.{plus, minus};
 ghost use Rattle.laws.specs.Lists.{over, all};
-ghost use Rattle.job_text.specs.Rules.{layerRule};
-ghost use Rattle.job_text.specs.Numbers.{numberAt, layersIn};
+ghost use Rattle.job_lines.specs.Rules.{layerRule};
+ghost use Rattle.job_text_statements.specs.Numbers.{numberAt, layersIn};
 ghost use Rattle.job.specs.Table.{pattern, alphaOf, tableWords, tableColors};
 ghost use Rattle.job.specs.Entries.{wordAt, colorAt};
 

@@ -16,12 +16,12 @@ use Rattle.laws.specs.Answer.{Answer, refused, given}
 use Rattle.laws.specs.Integer.{plus}
 use Rattle.laws.specs.Lists.{over}
 use Rattle.laws.proofs.Bools.{left, right}
-use Rattle.job_text.specs.Job.{Job, render, WellFormed}
-use Rattle.job_text.specs.Parse.{parse}
-use Rattle.job_text.specs.Rules.{segmentCount}
-use Rattle.job_text.specs.declared.Head.{Head}
-use Rattle.job_text.specs.declared.layer.LayerLine.{LayerLine}
-use Rattle.job_text.proofs.Laws.{complete, sound}
+use Rattle.job_text_statements.specs.Job.{Job, render, WellFormed}
+use Rattle.job_text_statements.specs.Parse.{parse}
+use Rattle.job_lines.specs.Rules.{segmentCount}
+use Rattle.job_text_statements.specs.declared.Head.{Head}
+use Rattle.job_lines.specs.declared.layer.LayerLine.{LayerLine}
+use Rattle.job_text_statements.proofs.Laws.{complete, sound}
 use Rattle.job.specs.Table.{layerWords, layerColors, tableWords, tableColors}
 use Rattle.job.specs.Row.{rowWords}
 use Rattle.job.specs.Read.{Outcome, accepted, noRoom, malformed, Numbers, hasRoom, outcomeOf, answerOf, answerTo, Says, Left, JobRead}

@@ -13,7 +13,7 @@ use Rattle.row_driver.specs.Lines.{lineWords, wordsOf}
 use Rattle.row_driver.specs.Driven.{Driving, Told, toldBy, Drives}
 use Rattle.row_driver.specs.declared.Driven.{Driven}
 use Rattle.row_driver.specs.declared.Line.{Line}
-use Rattle.job_text.specs.declared.Head.{Head}
+use Rattle.job_text_statements.specs.declared.Head.{Head}
 use Rattle.job.proofs.Records.{length-parts}
 use Rattle.report.specs.Text.{names}
 use Rattle.report.specs.Put.{LineWritten}

@@ -1,5 +1,5 @@
 // A row driven, and the lines of it printed into a lent buffer that has room for all of them.
-use job_text::Head;
+use job_text_statements::Head;
 use report::Op;
 use report::Printed;
 use report::TileLine;

@@ -8,8 +8,8 @@ use mir.Facts.{toZ-ofZ}
 use Rattle.laws.specs.Integer.{plus, minus}
 use Rattle.laws.proofs.Machine.{kept, sfits, unsigned}
 use Rattle.laws.proofs.Parts.{whole}
-use Rattle.job_text.specs.declared.segment.SegmentLine.{SegmentLine}
-use Rattle.job_text.proofs.Ranges.{InTile, in-tile}
+use Rattle.job_lines.specs.declared.segment.SegmentLine.{SegmentLine}
+use Rattle.job_lines.proofs.Ranges.{InTile, in-tile}
 use Rattle.job.proofs.row.to_fields.Statement.{statement}
 use Rattle.job.proofs.row.to_fields.Tie as tie
 

@@ -6,7 +6,7 @@ use mir.Syntax.{w16, w32}
 use mir.Val.{toZ}
 use mir.Facts.{toZ-ofZ}
 use Rattle.laws.proofs.Machine.{kept}
-use Rattle.job_text.proofs.Counting.{rule-at}
+use Rattle.job_text_statements.proofs.Counting.{rule-at}
 use Rattle.job.proofs.Rows.{Writing, start, line-room, next, end}
 use Rattle.job.proofs.row.write_row.Statement.{statement}
 use Rattle.job.proofs.row.write_row.Tie as tie

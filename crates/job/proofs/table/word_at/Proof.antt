@@ -3,7 +3,7 @@ use borrow.Author.Tests.{eq-eqb, ne-eqb}
 use borrow.Author.Needs.{needs}
 use mir.Syntax.{w32}
 use Rattle.laws.proofs.Machine.{kept}
-use Rattle.job_text.specs.Numbers.{numberAt}
+use Rattle.job_text_statements.specs.Numbers.{numberAt}
 use Rattle.job.specs.Entries.{wordAt}
 use Rattle.job.proofs.table.word_at.Statement.{statement}
 use Rattle.job.proofs.table.word_at.Tie as tie
