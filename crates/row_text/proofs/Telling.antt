@@ -14,7 +14,7 @@ use Rattle.row_driver.specs.Driven.{Driving, Told, toldBy, Drives}
 use Rattle.row_driver.specs.declared.Driven.{Driven}
 use Rattle.row_driver.specs.declared.Line.{Line}
 use Rattle.job_text_statements.specs.declared.Head.{Head}
-use Rattle.job.proofs.Records.{length-parts}
+use Rattle.job_statements.proofs.Records.{length-parts}
 use Rattle.report.specs.Text.{names}
 use Rattle.report.specs.Put.{LineWritten}
 use Rattle.row_text.specs.Answer.{lineText, linesText, lastText, drivingText, headDriving, answerRoom}

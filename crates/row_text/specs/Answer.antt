@@ -15,8 +15,8 @@ use Rattle.row_driver.specs.declared.Line.{Line}
 use Rattle.job_text_statements.specs.Job.{Job}
 use Rattle.job_text_statements.specs.Parse.{parse}
 use Rattle.job_text_statements.specs.declared.Head.{Head}
-use Rattle.job.specs.Table.{tableWords, tableColors}
-use Rattle.job.specs.Row.{rowWords}
+use Rattle.job_statements.specs.Table.{tableWords, tableColors}
+use Rattle.job_statements.specs.Row.{rowWords}
 use Rattle.report.specs.Text.{names, tileText, refusalText}
 use Rattle.report.specs.declared.Op.{Op}
 use Rattle.report.specs.declared.Op.the-variants.{None, Solid, Paint}

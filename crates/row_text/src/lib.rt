@@ -1,7 +1,7 @@
 // The answer of the row program to a job text, as the bytes that it prints. `printing` prints the lines of a driven row.
 pub mod printing;
 
-use job::Reading;
+use job_statements::Reading;
 ghost use Rattle.report.specs.Put.{LineWritten};
 ghost use Rattle.row_text.specs.Answer.{answerText};
 
