@@ -1,19 +1,8 @@
-// The job text of the row program, read into a lent layer table and a lent row. `table` and `row` write them.
-pub mod row;
-pub mod table;
-
-use job_text::Head;
-use job_text::Numbers;
-ghost use Rattle.job.specs.Read.{Judged, outcomeOn, Left, JobRead};
-
-pub enum Reading {
-    // The numbers of block 1, how many layers the table has, and how many segments the row.
-    Accepted(Head, usize, usize),
-    // A lent array is too short for the job.
-    NoRoom,
-    // Refusal 10.
-    Malformed,
-}
+// The job text of the row program, read into a lent layer table and a lent row. `job_table` and `job_row` write them.
+use job_statements::Reading;
+use job_text_statements::Head;
+use job_text_statements::Numbers;
+ghost use Rattle.job_statements.specs.Read.{Judged, outcomeOn, Left, JobRead};
 
 // Writes a job whose numbers are read and judged: the table and the row, where there is room for both.
 fn write_job(
@@ -35,9 +24,9 @@ fn write_job(
     if !has_room {
         return Reading::NoRoom;
     }
-    table::write_words(layer_numbers, n, layers);
-    table::write_colors(layer_numbers, n, colors);
-    row::write_row(segment_numbers, m, head.row, row);
+    job_table::write_words(layer_numbers, n, layers);
+    job_table::write_colors(layer_numbers, n, colors);
+    job_row::write_row(segment_numbers, m, head.row, row);
     Reading::Accepted(head, n, count)
 }
 

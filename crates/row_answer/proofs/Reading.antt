@@ -16,20 +16,20 @@ use Rattle.laws.specs.Answer.{Answer, refused, given}
 use Rattle.laws.specs.Integer.{plus}
 use Rattle.laws.specs.Lists.{over}
 use Rattle.laws.proofs.Bools.{left, right}
-use Rattle.job_text.specs.Job.{Job, render, WellFormed}
-use Rattle.job_text.specs.Parse.{parse}
-use Rattle.job_text.specs.Rules.{segmentCount}
-use Rattle.job_text.specs.declared.Head.{Head}
-use Rattle.job_text.specs.declared.layer.LayerLine.{LayerLine}
-use Rattle.job_text.proofs.Laws.{complete, sound}
-use Rattle.job.specs.Table.{layerWords, layerColors, tableWords, tableColors}
-use Rattle.job.specs.Row.{rowWords}
-use Rattle.job.specs.Read.{Outcome, accepted, noRoom, malformed, Numbers, hasRoom, outcomeOf, answerOf, answerTo, Says, Left, JobRead}
-use Rattle.job.specs.declared.Reading.{Reading}
-use Rattle.job.specs.declared.Reading.the-variants.{Accepted, NoRoom, Malformed}
-use Rattle.job.proofs.Records.{length-parts}
-use Rattle.job.proofs.Room.{always-room}
-use Rattle.job.proofs.Rows.{length-row}
+use Rattle.job_text_statements.specs.Job.{Job, render, WellFormed}
+use Rattle.job_text_statements.specs.Parse.{parse}
+use Rattle.job_lines.specs.Rules.{segmentCount}
+use Rattle.job_text_statements.specs.declared.Head.{Head}
+use Rattle.job_lines.specs.declared.layer.LayerLine.{LayerLine}
+use Rattle.job_text_statements.proofs.Laws.{complete, sound}
+use Rattle.job_statements.specs.Table.{layerWords, layerColors, tableWords, tableColors}
+use Rattle.job_statements.specs.Row.{rowWords}
+use Rattle.job_statements.specs.Read.{Outcome, accepted, noRoom, malformed, Numbers, hasRoom, outcomeOf, answerOf, answerTo, Says, Left, JobRead}
+use Rattle.job_statements.specs.declared.Reading.{Reading}
+use Rattle.job_statements.specs.declared.Reading.the-variants.{Accepted, NoRoom, Malformed}
+use Rattle.job_statements.proofs.Records.{length-parts}
+use Rattle.job_statements.proofs.Room.{always-room}
+use Rattle.job_statements.proofs.Rows.{length-row}
 use Rattle.report.specs.Text.{refusalText}
 use Rattle.report.specs.Put.{LineWritten}
 use Rattle.row_answer.specs.Answer.{drivingText, headDriving, jobDriving, answerBy, answerText}

@@ -12,11 +12,11 @@ use Rattle.row_statements.specs.Lent.{lentTable}
 use Rattle.row_statements.specs.Opening.{openCall}
 use Rattle.row_lines.specs.Driven.{Driving, rowDriving}
 use Rattle.row_lines.specs.declared.Line.{Line}
-use Rattle.job_text.specs.Job.{Job}
-use Rattle.job_text.specs.Parse.{parse}
-use Rattle.job_text.specs.declared.Head.{Head}
-use Rattle.job.specs.Table.{tableWords, tableColors}
-use Rattle.job.specs.Row.{rowWords}
+use Rattle.job_text_statements.specs.Job.{Job}
+use Rattle.job_text_statements.specs.Parse.{parse}
+use Rattle.job_text_statements.specs.declared.Head.{Head}
+use Rattle.job_statements.specs.Table.{tableWords, tableColors}
+use Rattle.job_statements.specs.Row.{rowWords}
 use Rattle.report.specs.Text.{names, tileText, refusalText}
 use Rattle.report.specs.declared.Op.{Op}
 use Rattle.report.specs.declared.Op.the-variants.{None, Solid, Paint}

@@ -13,8 +13,8 @@ use Rattle.row_lines.specs.Lines.{lineWords, wordsOf}
 use Rattle.row_lines.specs.Driven.{Driving, Told, toldBy, Drives}
 use Rattle.row_lines.specs.declared.Driven.{Driven}
 use Rattle.row_lines.specs.declared.Line.{Line}
-use Rattle.job_text.specs.declared.Head.{Head}
-use Rattle.job.proofs.Records.{length-parts}
+use Rattle.job_text_statements.specs.declared.Head.{Head}
+use Rattle.job_statements.proofs.Records.{length-parts}
 use Rattle.report.specs.Text.{names}
 use Rattle.report.specs.Put.{LineWritten}
 use Rattle.row_answer.specs.Answer.{lineText, linesText, lastText, drivingText, headDriving, answerRoom}

@@ -1,6 +1,6 @@
 // The answer of the row program to a job text, as the bytes that it prints.
-use job::Reading;
-use job_text::Head;
+use job_statements::Reading;
+use job_text_statements::Head;
 ghost use Prim.Native.Nat.{_≤_};
 ghost use lib.ListN.{length};
 ghost use Rattle.laws.specs.Integer.{plus};

@@ -4,7 +4,7 @@ use borrow.Author.Tests.{not-true, not-false}
 use borrow.Author.Needs.{needs}
 use mir.Syntax.{w32}
 use Rattle.laws.proofs.Machine.{kept}
-use Rattle.job.proofs.Outcomes.{no-room, room, written}
+use Rattle.job_statements.proofs.Outcomes.{no-room, room, written}
 use Rattle.job.proofs.write_job.Statement.{statement}
 use Rattle.job.proofs.write_job.Tie as tie
 

@@ -1,7 +1,7 @@
 -- `read_numbers` meets its contract: each answer is a law of `Verdicts`. Assumes nothing.
 use borrow.Author.Needs.{needs}
 use Rattle.decimal.proofs.Steps.{is-true, is-false}
-use Rattle.job_text.proofs.Verdicts.{broken, few-lines, layers-long, segments-long, bad-layers, bad-segments, too-many, good}
+use Rattle.job_text_statements.proofs.Verdicts.{broken, few-lines, layers-long, segments-long, bad-layers, bad-segments, too-many, good}
 use Rattle.job_text.proofs.read_numbers.Statement.{statement}
 use Rattle.job_text.proofs.read_numbers.Tie as tie
 

@@ -1,0 +1,52 @@
+-- `is_layer` meets its contract. Assumes nothing.
+use borrow.Author.Needs.{needs}
+use mir.Syntax.{w32}
+use Rattle.laws.proofs.Machine.{kept}
+use Rattle.job_lines.specs.Rules.{layerRule}
+use Rattle.job_lines.proofs.layer.is_layer.Statement.{statement}
+use Rattle.job_lines.proofs.layer.is_layer.Tie as tie
+
+is-within-requires : tie.Need-is-within-requires
+is-within-requires c κs = search needs
+
+is-within-requires-2 : tie.Need-is-within-requires-2
+is-within-requires-2 c κs = search needs
+
+is-within-requires-3 : tie.Need-is-within-requires-3
+is-within-requires-3 c κs = search needs
+
+is-within-requires-4 : tie.Need-is-within-requires-4
+is-within-requires-4 c κs = search needs
+
+is-within-requires-5 : tie.Need-is-within-requires-5
+is-within-requires-5 c κs = search needs
+
+is-within-requires-6 : tie.Need-is-within-requires-6
+is-within-requires-6 c κs = search needs
+
+is-within-requires-7 : tie.Need-is-within-requires-7
+is-within-requires-7 c κs = search needs
+
+is-within-requires-8 : tie.Need-is-within-requires-8
+is-within-requires-8 c κs = search needs
+
+returns : tie.Need-returns
+unfolding layerRule
+returns c =
+    let l = c .before .before .before .before .before .before .before .before .before .before .before .before .before .before .before .before .args .l in
+    let t = c .before .struct-told8 .given in
+    rw (c .is-within8 .ensures, c .before .before .is-within7 .ensures, c .before .before .before .before .is-within6 .ensures, c .before .before .before .before .before .before .is-within5 .ensures, c .before .before .before .before .before .before .before .before .is-within4 .ensures, c .before .before .before .before .before .before .before .before .before .before .is-within3 .ensures, c .before .before .before .before .before .before .before .before .before .before .before .before .is-within2 .ensures, c .before .before .before .before .before .before .before .before .before .before .before .before .before .before .is-within .ensures, kept w32 (l .clip) (t .1 .1 .0 .1), kept w32 (l .span) (t .1 .1 .1 .0 .1), kept w32 (l .clipped) (t .1 .1 .1 .1 .0 .1), kept w32 (l .fill) (t .1 .1 .1 .1 .1 .0 .1), kept w32 (l .mode) (t .1 .1 .1 .1 .1 .1 .0 .1), kept w32 (l .alpha) (t .1 .1 .1 .1 .1 .1 .1 .0 .1))
+
+pub is-layer-spec : {M : Type 1} → statement M
+is-layer-spec =
+    tie.close
+    (tie.spec
+    is-within-requires
+    is-within-requires-2
+    is-within-requires-3
+    is-within-requires-4
+    is-within-requires-5
+    is-within-requires-6
+    is-within-requires-7
+    is-within-requires-8
+    returns)

@@ -1,0 +1,2 @@
+-- The rules on the lines of a job text.
+pub mod Rules

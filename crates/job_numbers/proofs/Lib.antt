@@ -1,0 +1,2 @@
+-- Laws of loops over lines.
+pub mod Judging

@@ -1,0 +1,38 @@
+-- `pack` meets its contract: the tiles are in range, so packing answers the word. Assumes nothing.
+use borrow.Author.Needs.{needs}
+use mir.Syntax.{w8, w16}
+use mir.Facts.{toZ-ofZ}
+use Rattle.laws.proofs.Machine.{kept}
+use Rattle.job_statements.proofs.Packing.{segment-is, never-refused}
+use Rattle.job_row.proofs.pack.Statement.{statement}
+use Rattle.job_row.proofs.pack.Tie as tie
+
+add-new : tie.Need-add-new
+add-new c = search needs
+
+new-requires : tie.Need-new-requires
+new-requires c κs = search needs
+
+enum-known-segment : tie.Need-enum-known-segment
+enum-known-segment c = search needs
+
+enum-told : tie.Need-enum-told
+enum-told c = search needs
+
+returns : tie.Need-returns
+returns c =
+    let s = c .before .before .before .before .before .before .before in
+    let t = c .before .before .before .before .struct-told2 .given in
+    segment-is (s .args .f) (s .args .tile-y) (s .args .i) (s .pre)
+    (rw (c .before .segment .given .1, kept w16 (s .args .f .«tile_x») (t .0 .1), toZ-ofZ (s .fits .tile-y), kept w8 (s .args .f .cover) (t .1 .1 .1 .1 .1 .1 .0 .1)) at (c .before .before .before .new .ensures))
+
+returns-2 : tie.Need-returns-2
+returns-2 c =
+    let s = c .before .before .before .before .before .before in
+    let t = c .before .before .before .struct-told2 .given in
+    never-refused (s .args .f) (s .args .tile-y) (s .args .i) (s .pre)
+    (rw (c .enum-told .given .1, kept w16 (s .args .f .«tile_x») (t .0 .1), toZ-ofZ (s .fits .tile-y), kept w8 (s .args .f .cover) (t .1 .1 .1 .1 .1 .1 .0 .1)) at (c .before .before .new .ensures))
+
+pub pack-spec : {M : Type 1} → statement M
+pack-spec =
+    tie.close (tie.spec add-new new-requires enum-known-segment enum-told returns returns-2)

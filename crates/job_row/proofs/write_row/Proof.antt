@@ -1,0 +1,76 @@
+-- `write_row` meets its contract: the invariant and its steps are those of `Rows`. Assumes nothing.
+use Prim.Native.Nat.{_-_}
+use native.Mathlib.Omega.{arith}
+use borrow.Author.Needs.{needs}
+use mir.Syntax.{w16, w32}
+use mir.Val.{toZ}
+use mir.Facts.{toZ-ofZ}
+use Rattle.laws.proofs.Machine.{kept}
+use Rattle.job_text_statements.proofs.Counting.{rule-at}
+use Rattle.job_statements.proofs.Rows.{Writing, start, line-room, next, end}
+use Rattle.job_row.proofs.write_row.Statement.{statement}
+use Rattle.job_row.proofs.write_row.Tie as tie
+
+abbrev Inv-loop : tie.InvT-loop
+Inv-loop numbers m number row₀ tile-y at₀ i₀ row at i = Writing (toZ w32 number) numbers m row₀ at i row
+
+abbrev μ-loop : tie.MeasureT-loop
+μ-loop numbers m number row₀ tile-y at₀ i₀ row at i = m - i
+
+to-tile-y-requires : tie.Need-to-tile-y-requires Inv-loop μ-loop
+to-tile-y-requires c κs = search needs
+
+loop-holds : tie.Need-loop-holds Inv-loop μ-loop
+loop-holds c = start (c .before .before .pre .2)
+
+segment-at-requires : tie.Need-segment-at-requires Inv-loop μ-loop
+segment-at-requires c κs = omega arith
+
+write-segment-requires : tie.Need-write-segment-requires Inv-loop μ-loop
+write-segment-requires c κs =
+    let s = c .before .before .before .before .before .before in
+    let ns = s .args .numbers .now in
+    let i = c .before .before .before .loop .i in
+    let at = c .before .segment-at .ensures in
+    let y = kept w16 (c .before .before .before .before .to-tile-y .result) (c .before .before .before .before .to-tile-y .ok) in (
+      rw at (rule-at ns (s .args .m) i (s .pre .1) (c .before .before .loop-test .taken)),
+      rw y (omega (arith, c .before .before .before .before .to-tile-y .ensures)),
+      rw at (line-room (c .before .before .before .loop .inv) (c .before .before .loop-test .taken)),
+    )
+
+add-i : tie.Need-add-i Inv-loop μ-loop
+add-i c = omega arith
+
+loop-less : tie.Need-loop-less Inv-loop μ-loop
+loop-less c = omega arith
+
+loop-again : tie.Need-loop-again Inv-loop μ-loop
+loop-again c =
+    let p = c .before .before in
+    let q = p .before .before in
+    let t = q .before .before .before in
+    let y = kept w16 (t .to-tile-y .result) (t .to-tile-y .ok) in
+    next (q .before .before .loop .inv) (q .before .loop-test .taken) (rw y (t .to-tile-y .ensures))
+    (rw (q .segment-at .ensures) at (p .write-segment .ensures))
+
+same-length : tie.Need-same-length Inv-loop μ-loop
+same-length c = c .before .loop .inv .long
+
+returns : tie.Need-returns Inv-loop μ-loop
+returns c = let s = c .before .before .before .before in end (rw (toZ-ofZ (s .fits .number)) at (c .before .loop .inv)) (omega arith)
+
+pub write-row-spec : {M : Type 1} → statement M
+write-row-spec =
+    tie.close
+    (tie.spec
+    Inv-loop
+    μ-loop
+    to-tile-y-requires
+    loop-holds
+    segment-at-requires
+    write-segment-requires
+    add-i
+    loop-less
+    loop-again
+    same-length
+    returns)

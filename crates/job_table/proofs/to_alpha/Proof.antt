@@ -1,0 +1,29 @@
+-- `to_alpha` meets its contract: that the product with 1/256 is exact is one test over all 257 numbers. Assumes nothing.
+use mathlib.Core.Path.{_≡_}
+use native.Mathlib.Omega.{arith}
+use borrow.Author.Needs.{needs}
+use lib.IntN.{natAbs}
+use mir.Syntax.{w16}
+use mir.Facts.{toZ-ofZ}
+use Rattle.laws.specs.Integer.{plus}
+use Rattle.laws.proofs.Machine.{unsigned}
+use Rattle.laws.proofs.Parts.{whole}
+use Rattle.job_statements.proofs.Alphas.{alpha-product}
+use Rattle.job_table.proofs.to_alpha.Statement.{statement}
+use Rattle.job_table.proofs.to_alpha.Tie as tie
+
+cast-result : tie.Need-cast-result
+cast-result c = rw (toZ-ofZ (c .fits .v)) (unsigned w16 (c .args .v) (c .pre .0) (omega arith))
+
+int-to-float-result : tie.Need-int-to-float-result
+int-to-float-result c = search needs
+
+returns : tie.Need-returns
+returns c =
+    let s = c .before in
+    let v = s .args .v in
+    let e : natAbs v ≡ plus v = omega (arith, whole v, s .pre .0) in
+    rw (toZ-ofZ (s .fits .v), e) (alpha-product (plus v) (s .pre .1))
+
+pub to-alpha-spec : {M : Type 1} → statement M
+to-alpha-spec = tie.close (tie.spec cast-result int-to-float-result returns)

@@ -1,9 +1,0 @@
-// Ranges of numbers.
-ghost use mathlib.Core.Path.{_≡_};
-ghost use Rattle.job_text.specs.Rules.{isWithin};
-
-pub fn is_within(v: i32, low: i32, high: i32) -> bool
-    ensures { λ r. ⌜ r ≡ isWithin low high v ⌝ }
-{
-    (low <= v) & (v <= high)
-}

@@ -1,0 +1,48 @@
+-- The lines of a job as they lie in lists of numbers, one line after another.
+use mathlib.Core.List.{List}
+use Prim.Native.Nat.{ℕ, _+_, _*_}
+use lib.IntN.{ℤ, pos}
+use lib.ListN.{getD}
+use Rattle.laws.specs.Lists.{tabulate}
+use Rattle.job_lines.specs.declared.layer.LayerLine.{LayerLine}
+use Rattle.job_lines.specs.declared.segment.SegmentLine.{SegmentLine}
+use Rattle.job_text_statements.specs.Job.{Job}
+use Rattle.job_text_statements.specs.Parse.{headOf}
+
+abbrev pub numberAt : List ℤ → ℕ → ℤ
+numberAt ns k = getD ns k (pos 0)
+
+unfoldable pub layerAt : List ℤ → ℕ → LayerLine
+layerAt ns i =
+    record {
+      layer = numberAt ns (8 * i);
+      rule = numberAt ns (8 * i + 1);
+      clip = numberAt ns (8 * i + 2);
+      span = numberAt ns (8 * i + 3);
+      clipped = numberAt ns (8 * i + 4);
+      fill = numberAt ns (8 * i + 5);
+      mode = numberAt ns (8 * i + 6);
+      alpha = numberAt ns (8 * i + 7);
+    }
+
+unfoldable pub segmentAt : List ℤ → ℕ → SegmentLine
+segmentAt ns i =
+    record {
+      «tile_x» = numberAt ns (7 * i);
+      layer = numberAt ns (7 * i + 1);
+      x = numberAt ns (7 * i + 2);
+      y = numberAt ns (7 * i + 3);
+      rows = numberAt ns (7 * i + 4);
+      mult = numberAt ns (7 * i + 5);
+      cover = numberAt ns (7 * i + 6);
+    }
+
+-- the first n lines
+abbrev pub layersIn : List ℤ → ℕ → List LayerLine
+layersIn ns n = tabulate n (layerAt ns)
+
+abbrev pub segmentsIn : List ℤ → ℕ → List SegmentLine
+segmentsIn ns n = tabulate n (segmentAt ns)
+
+abbrev pub jobIn : List ℤ → List ℤ → ℕ → List ℤ → ℕ → Job
+jobIn head layers n segments m = record { head = headOf head; layers = layersIn layers n; segments = segmentsIn segments m }
