@@ -14,7 +14,7 @@ use Rattle.pixel_segment.specs.Search.{tilePart}
 use Rattle.styling.specs.Lookup.{lookup}
 use Rattle.styling.specs.Table.{Table}
 use Rattle.styling.specs.declared.Layer.{Layer}
-use Rattle.queue.specs.Queue.{Carry, idsIn, isQueue, Queued}
+use Rattle.queue_statements.specs.Queue.{Carry, idsIn, isQueue, Queued}
 use Rattle.cached_tile.specs.Kept.{noTile}
 use Rattle.tile_layers.specs.Listing.{incomingOf}
 use Rattle.tile_layers.specs.Walk.{Walks}

@@ -8,7 +8,7 @@ ghost use Prim.Native.Nat.{_+_, _≤_};
 ghost use lib.Count.{ones};
 ghost use lib.ListN.{length, take};
 ghost use Rattle.styling.specs.Table.{tableOf};
-ghost use Rattle.queue.specs.Queue.{queueOf};
+ghost use Rattle.queue_statements.specs.Queue.{queueOf};
 ghost use Rattle.row_driver.specs.Shown.{shownIn};
 ghost use Rattle.row_driver.specs.InnerSteps.{sumIn, atStart, tallyNext, tallied};
 ghost use Rattle.row_driver.specs.InnerSteps.{Painter, Paintable, Walkable};

@@ -5,7 +5,7 @@ use native.Mathlib.Omega.{arith}
 use borrow.Author.Needs.{needs}
 use lib.ListN.{length}
 use Rattle.styling.specs.Table.{tableOf}
-use Rattle.queue.specs.Queue.{queueOf}
+use Rattle.queue_statements.specs.Queue.{queueOf}
 use Rattle.row_driver.specs.InnerSteps.{sumIn}
 use Rattle.row_driver.proofs.tally.tally_shown.Statement.{statement}
 use Rattle.row_driver.proofs.tally.tally_shown.Tie as tie
