@@ -23,7 +23,7 @@ use Rattle.pixel_segment.specs.Pack.{packOf}
 use Rattle.pixel_segment.specs.Search.{searchOf, halved, layerPart}
 use Rattle.pixel_segment.proofs.ReadBack.{kept}
 use Rattle.styling.specs.Lookup.{lookup}
-use Rattle.queue.specs.Queue.{heldIn}
+use Rattle.queue_statements.specs.Queue.{heldIn}
 use Rattle.tile_layers.specs.Groups.{groupsOf}
 use Rattle.tile_layers.specs.Listing.{listOf}
 use Rattle.pass_statements.specs.Clips.{clipsFrom, stepOf}

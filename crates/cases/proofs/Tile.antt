@@ -20,7 +20,7 @@ use Rattle.pixel_segment.specs.Field.{coverOf}
 use Rattle.pixel_segment.specs.Search.{searchOf, layerPart}
 use Rattle.cover_statements.specs.Carry.{isLight}
 use Rattle.cover_statements.specs.Entry.{entryOf}
-use Rattle.queue.specs.Queue.{queueOf, heldIn}
+use Rattle.queue_statements.specs.Queue.{queueOf, heldIn}
 use Rattle.painter.specs.Clip.{clipIn, clipAfter}
 use Rattle.painter.specs.Painting.{markIn, planeIn, Ready, Paints}
 use Rattle.painter.specs.declared.painting.Painting as painting

@@ -14,7 +14,7 @@ use Rattle.styling.specs.declared.FillRule.the-variants.{NonZero}
 use Rattle.styling.specs.declared.Func.{Func}
 use Rattle.styling.specs.declared.Func.the-variants.{Draw, Clip}
 use Rattle.styling.specs.declared.Layer.{Layer}
-use Rattle.queue.specs.Queue.{Carry}
+use Rattle.queue_statements.specs.Queue.{Carry}
 use Rattle.cases.specs.Numbers.{sixteen}
 
 -- ---- words

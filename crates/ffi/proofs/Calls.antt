@@ -16,7 +16,7 @@ use Rattle.pixel_segment.specs.Field.{cpu}
 use Rattle.pixel_segment.specs.Order.{Words, isRow}
 use Rattle.cached_tile.specs.Kept.{tagOutOfRange}
 use Rattle.tile_layers.specs.Listing.{isTooMany, areKnown, areLight}
-use Rattle.queue.specs.Opening.{openQueue, isLightOpening}
+use Rattle.queue_statements.specs.Opening.{openQueue, isLightOpening}
 use Rattle.painter.specs.Clip.{clipIn}
 use Rattle.painter.specs.declared.Clip as painter
 use Rattle.painter.specs.declared.Clip.the-variants.{Absent, Until}

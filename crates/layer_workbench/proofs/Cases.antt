@@ -16,7 +16,7 @@ use Rattle.styling.specs.declared.FillRule.the-variants.{NonZero}
 use Rattle.styling.specs.declared.Func.the-variants.{Draw}
 use Rattle.styling.specs.declared.Layer.{Layer}
 use Rattle.styling.specs.Lookup.{lookup}
-use Rattle.queue.specs.Queue.{idsIn}
+use Rattle.queue_statements.specs.Queue.{idsIn}
 use Rattle.tile_layers.specs.Listing.{Listed}
 use Rattle.tile_layers.specs.Carrying.{handedOn}
 use Rattle.pass_statements.specs.Clips.{stepOf, clipsFrom}

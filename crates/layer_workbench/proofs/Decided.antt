@@ -8,8 +8,8 @@ use lib.IntN.{ℤ}
 use Rattle.styling.specs.declared.Color.{Color}
 use Rattle.styling.specs.declared.Layer.{Layer}
 use Rattle.laws.specs.Lists.{over}
-use Rattle.queue.specs.Queue.{idsIn}
-use Rattle.queue.proofs.Columns.{areWide}
+use Rattle.queue_statements.specs.Queue.{idsIn}
+use Rattle.queue_statements.proofs.Columns.{areWide}
 use Rattle.tile_layers.specs.Listing.{Listed, incomingOf, Lists}
 use Rattle.tile_layers.specs.Carrying.{handedOn, Hands}
 use Rattle.pass_statements.specs.Entry.{Entry, entriesOf}

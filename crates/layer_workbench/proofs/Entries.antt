@@ -9,8 +9,8 @@ use lib.ListN.{length, getD, drop, length-map, length-append, List·getD-append,
 use Rattle.laws.specs.Lists.{over}
 use Rattle.laws.proofs.Rows.{is-tabulate, getD-tabulate}
 use Rattle.cover_statements.specs.Entry.{entryOf}
-use Rattle.queue.specs.Queue.{Carry, carryAt, queueOf, idsIn, coversIn}
-use Rattle.queue.proofs.Columns.{areWide, length-covers, reads-back}
+use Rattle.queue_statements.specs.Queue.{Carry, carryAt, queueOf, idsIn, coversIn}
+use Rattle.queue_statements.proofs.Columns.{areWide, length-covers, reads-back}
 use Rattle.tile_layers.specs.Listing.{Listed, noListed, hasAny, incomingOf, segmentsOf}
 use Rattle.pass_statements.specs.Entry.{entryAt, entriesOf}
 use Rattle.pass_statements.proofs.Listing.{cover-entry}

@@ -11,7 +11,7 @@ use Rattle.laws.specs.Lists.{over}
 use Rattle.styling.specs.Color.{sameColor}
 use Rattle.styling.specs.declared.Color.{Color}
 use Rattle.styling.specs.declared.Layer.{Layer}
-use Rattle.queue.specs.Queue.{Carry, idsIn, coversIn}
+use Rattle.queue_statements.specs.Queue.{Carry, idsIn, coversIn}
 use Rattle.tile_layers.specs.Listing.{Listed, hasAny, incomingOf, segmentsOf}
 use Rattle.tile_layers.specs.Carrying.{handedOn}
 use Rattle.pass_statements.specs.Entry.{Entry}

@@ -13,7 +13,7 @@ use Rattle.laws.specs.Lists.{filter}
 use Rattle.styling.specs.Lookup.{lookup}
 use Rattle.styling.specs.declared.Layer.{Layer}
 use Rattle.cover_statements.specs.Entry as entries
-use Rattle.queue.specs.Queue.{queueOf, zeros}
+use Rattle.queue_statements.specs.Queue.{queueOf, zeros}
 use Rattle.tile_layers.specs.Listing.{Listed, layersIn, isGiven}
 use Rattle.tile_layers.specs.Walk.{listedAt, leftOf, Stepped, Moved}
 use Rattle.tile_layers.specs.declared.walk.Next.{Next}

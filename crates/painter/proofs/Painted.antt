@@ -15,7 +15,7 @@ use Rattle.styling.specs.declared.Layer.{Layer}
 use Rattle.cover_statements.specs.Mark.{markOf}
 use Rattle.cover_statements.specs.Paint.{partPlane}
 use Rattle.cover_statements.proofs.Planes.{mark-over}
-use Rattle.queue.specs.Queue.{Carry, heldIn}
+use Rattle.queue_statements.specs.Queue.{Carry, heldIn}
 use Rattle.painter.specs.Clip.{clipIn, aliveAt, clipAfter, lacksClip}
 use Rattle.painter.specs.Painting.{needsIn, markFor, planeIn, Paints}
 use Rattle.painter.specs.declared.Clip as painter

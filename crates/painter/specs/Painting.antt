@@ -20,7 +20,7 @@ use Rattle.styling.specs.declared.Layer.{Layer}
 use Rattle.cover_statements.specs.Carry.{isLight}
 use Rattle.cover_statements.specs.Mark.{markOf}
 use Rattle.cover_statements.specs.Paint.{partPlane}
-use Rattle.queue.specs.Queue.{Carry, heldIn, Queued}
+use Rattle.queue_statements.specs.Queue.{Carry, heldIn, Queued}
 use Rattle.tile_layers.specs.Listing.{Listed, layersIn, isGiven}
 use Rattle.tile_layers.specs.Walk.{Walks}
 use Rattle.pass_statements.specs.Item.{itemsOf}

@@ -12,7 +12,7 @@ ghost use Prim.Native.Nat.{_*_, _≤_};
 ghost use lib.ListN.{length};
 ghost use Rattle.styling.specs.Lookup.{lookup};
 ghost use Rattle.styling.specs.Table.{Table, tableOf};
-ghost use Rattle.queue.specs.Queue.{queueOf};
+ghost use Rattle.queue_statements.specs.Queue.{queueOf};
 ghost use Rattle.tile_layers.specs.Listing.{layersIn};
 ghost use Rattle.tile_layers.specs.Walk.{Walks};
 ghost use Rattle.pass_statements.specs.Item.{itemFor};

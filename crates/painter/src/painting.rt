@@ -12,7 +12,7 @@ ghost use lib.ListN.{length};
 ghost use Rattle.laws.specs.Answer.{given};
 ghost use Rattle.styling.specs.Lookup.{lookup};
 ghost use Rattle.styling.specs.Table.{tableOf};
-ghost use Rattle.queue.specs.Queue.{queueOf};
+ghost use Rattle.queue_statements.specs.Queue.{queueOf};
 ghost use Rattle.painter.specs.Clip.{clipIn};
 ghost use Rattle.painter.specs.Painting.{markFor, isLightIn, Ready, Paints};
 

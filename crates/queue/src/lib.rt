@@ -1,14 +1,11 @@
 // The queue of carries (`CoverCarry` and `queue` of the Rust), lent as two columns: layer ids, and 16 signed bytes of cover for each.
-mod collect;
-pub mod opening;
 pub mod search;
-mod sums;
 
 use cover::Cover;
 use cover::entry;
 ghost use mathlib.Core.Path.{_≡_};
 ghost use Prim.Native.Nat.{min};
-ghost use Rattle.queue.specs.Queue.{isShort, isQueue, queueOf, heldIn, Queued};
+ghost use Rattle.queue_statements.specs.Queue.{isShort, isQueue, queueOf, heldIn, Queued};
 
 // The most carries that a queue has.
 const LIMIT: usize = 256;

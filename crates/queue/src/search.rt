@@ -4,7 +4,7 @@ ghost use mathlib.Core.Bool.{true};
 ghost use Prim.Native.Nat.{_≤_};
 ghost use lib.ListN.{length, take};
 ghost use Rattle.styling.specs.Ascending.{strictlyAscends};
-ghost use Rattle.queue.specs.Rank.{rankOf, holdsAt};
+ghost use Rattle.queue_statements.specs.Rank.{rankOf, holdsAt};
 
 // How many ids are below `id`: its place, or where it would stand.
 pub fn rank(ids: &[u32], n: usize, id: u32) -> usize

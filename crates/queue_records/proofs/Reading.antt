@@ -11,7 +11,7 @@ use Rattle.laws.specs.Lists.{over}
 use Rattle.laws.proofs.Rows.{is-tabulate}
 use Rattle.cover_statements.specs.Cover.{coverAt}
 use Rattle.cover_statements.specs.Entry.{putEntry}
-use Rattle.queue.specs.Queue.{coversIn}
+use Rattle.queue_statements.specs.Queue.{coversIn}
 use Rattle.queue_records.specs.Records.{carryOf, idsOf, coversOf, noRecord, readable, columnsOf}
 use Rattle.queue_records.specs.declared.CarryRecord.{CarryRecord}
 use Rattle.queue_records.specs.declared.Columns.{Columns}

@@ -6,7 +6,7 @@ use lib.IntN.{ℤ, pos}
 use lib.ListN.{length, take, replicate}
 use Rattle.laws.specs.Lists.{tabulate, over}
 use Rattle.cover_statements.specs.Cover.{coverAt}
-use Rattle.queue.specs.Queue.{Carry, idsIn, coversIn}
+use Rattle.queue_statements.specs.Queue.{Carry, idsIn, coversIn}
 use Rattle.queue_records.specs.declared.CarryRecord.{CarryRecord}
 use Rattle.queue_records.specs.declared.Columns.{Columns}
 

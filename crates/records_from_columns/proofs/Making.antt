@@ -9,7 +9,7 @@ use lib.ListN.{length, take, getD, set, length-set}
 use lib.Seq.{take-suc, take-suc-set, take-all, take-add}
 use Rattle.cover_statements.specs.Entry.{entryOf}
 use Rattle.cover_statements.proofs.Entries.{entry-length}
-use Rattle.queue.specs.Queue.{coversIn}
+use Rattle.queue_statements.specs.Queue.{coversIn}
 use Rattle.queue_records.specs.Records.{carryOf, idsOf, coversOf}
 use Rattle.queue_records.specs.declared.CarryRecord.{CarryRecord}
 use Rattle.queue_records.proofs.Reading.{cover-is, ids-append, covers-append}

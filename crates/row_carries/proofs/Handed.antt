@@ -20,8 +20,8 @@ use Rattle.styling.proofs.Ascents.{ascends-head, ascends-tail, ascends-weaken}
 use Rattle.cover_statements.specs.Carry.{carryOf}
 use Rattle.cover_statements.specs.Cover.{isEmpty}
 use Rattle.cover_statements.proofs.Carries.{carry-none}
-use Rattle.queue.specs.Queue.{Carry, idsIn, zeros, heldIn}
-use Rattle.queue.proofs.Queues.{held-here, held-past}
+use Rattle.queue_statements.specs.Queue.{Carry, idsIn, zeros, heldIn}
+use Rattle.queue_statements.proofs.Queues.{held-here, held-past}
 use Rattle.tile_layers.specs.Listing.{Listed, incomingOf}
 use Rattle.tile_layers.specs.Carrying.{ruleIn, carryFor, isKept, handedOn}
 use Rattle.tile_layers.proofs.Ordering.{listedIds}

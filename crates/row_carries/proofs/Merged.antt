@@ -17,10 +17,10 @@ use Rattle.pixel_segment.specs.Field.{cpu, layerIdOf}
 use Rattle.pixel_segment.specs.Order.{Ordered}
 use Rattle.styling.specs.Ascending.{strictlyAscendsFrom, strictlyAscends}
 use Rattle.styling.proofs.Ascents.{ascends-head, ascends-tail, ascends-low}
-use Rattle.queue.specs.Queue.{Carry, idsIn, zeros, heldIn}
-use Rattle.queue.specs.Opening.{ofLayer}
-use Rattle.queue.proofs.Openings.{held-low}
-use Rattle.queue.proofs.Queues.{held-here, held-past}
+use Rattle.queue_statements.specs.Queue.{Carry, idsIn, zeros, heldIn}
+use Rattle.queue_statements.specs.Opening.{ofLayer}
+use Rattle.queue_statements.proofs.Openings.{held-low}
+use Rattle.queue_statements.proofs.Queues.{held-here, held-past}
 use Rattle.tile_layers.specs.Groups.{Group, single, joinTo, groupsOf}
 use Rattle.tile_layers.specs.Listing.{noListed, Listed, carried, fresh, joined, listOf, layersIn, incomingOf}
 use Rattle.tile_layers.proofs.Ordering.{listedIds, list-ascends}

@@ -14,7 +14,7 @@ use Rattle.pixel_segment.proofs.Keys.{tile-suc}
 use Rattle.pixel_segment.proofs.TileParts.{tile-part, left-part, layer-part}
 use Rattle.pixel_segment.proofs.TileLayers.{layers-ordered}
 use Rattle.cover_statements.specs.WholeRow as WholeRow
-use Rattle.queue.specs.Opening.{ofLayer}
+use Rattle.queue_statements.specs.Opening.{ofLayer}
 use Rattle.row_carries.specs.Carries.{InOrder}
 
 module _ {ty : ℕ} {row : List ℕ} (r : InOrder ty row) (t : ℕ) where

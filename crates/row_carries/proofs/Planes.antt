@@ -28,8 +28,8 @@ use Rattle.cover_statements.specs.WholeRow.{leftCover, rowPlane, FromRow}
 use Rattle.cover_statements.proofs.Coverages.{coverage-zero, coverage-one}
 use Rattle.cover_statements.proofs.Filled.{getD-default}
 use Rattle.cover_statements.proofs.FromRow.{plane-from-row, full-from-row, empty-plane, full-plane}
-use Rattle.queue.specs.Queue.{zeros}
-use Rattle.queue.proofs.Openings.{held-wide}
+use Rattle.queue_statements.specs.Queue.{zeros}
+use Rattle.queue_statements.proofs.Openings.{held-wide}
 use Rattle.tile_layers.specs.Listing.{noListed, Listed, hasAny}
 use Rattle.tile_layers.specs.Carrying.{ruleFrom, ruleIn}
 use Rattle.pass_statements.specs.Covered.{itemAt}

@@ -12,8 +12,8 @@ use Rattle.pixel_segment.specs.Field.{cpu}
 use Rattle.pixel_segment.specs.Order.{isRow, Words}
 use Rattle.pixel_segment.specs.Search.{leftPart, tilePart}
 use Rattle.styling.specs.declared.Layer.{Layer}
-use Rattle.queue.specs.Queue.{Carry}
-use Rattle.queue.specs.Opening.{openQueue}
+use Rattle.queue_statements.specs.Queue.{Carry}
+use Rattle.queue_statements.specs.Opening.{openQueue}
 use Rattle.tile_layers.specs.Listing.{Listed, layersIn}
 use Rattle.tile_layers.specs.Carrying.{handedOn}
 

@@ -5,7 +5,7 @@ use Prim.Native.Nat.{ℕ, suc, _+_}
 use Rattle.pixel_segment.specs.Field.{cpu}
 use Rattle.styling.specs.declared.Layer.{Layer}
 use Rattle.cover_statements.specs.WholeRow.{partOf}
-use Rattle.queue.specs.Queue.{zeros, heldIn}
+use Rattle.queue_statements.specs.Queue.{zeros, heldIn}
 use Rattle.tile_layers.specs.Listing.{Listed}
 use Rattle.row_carries.specs.Carries.{queueAfter}
 

@@ -10,7 +10,7 @@ use lib.IntN.{pos}
 use lib.ListN.{length}
 use Rattle.pixel_segment.specs.Search.{tilePart}
 use Rattle.styling.specs.declared.Layer.{Layer}
-use Rattle.queue.specs.Queue.{Carry, idsIn}
+use Rattle.queue_statements.specs.Queue.{Carry, idsIn}
 use Rattle.cached_tile.specs.Kept.{noTile}
 use Rattle.tile_layers.specs.Listing.{Listed, incomingOf, areKnown}
 use Rattle.tile_layers.specs.Carrying.{handedOn}

@@ -20,9 +20,9 @@ use Rattle.styling.specs.Ascending.{strictlyAscends}
 use Rattle.styling.specs.Lookup.{lookup}
 use Rattle.styling.specs.declared.Layer.{Layer}
 use Rattle.cover_statements.specs.Carry.{isLight}
-use Rattle.queue.specs.Queue.{Carry, idsIn}
-use Rattle.queue.proofs.Judging as queue-judging
-use Rattle.queue.proofs.Queues.{ids-queue}
+use Rattle.queue_statements.specs.Queue.{Carry, idsIn}
+use Rattle.queue_statements.proofs.Judging as queue-judging
+use Rattle.queue_statements.proofs.Queues.{ids-queue}
 use Rattle.tile_layers.specs.Listing.{Listed, noListed, layersIn, incomingOf, isGiven}
 use Rattle.tile_layers.proofs.Handing.{handed-few}
 use Rattle.pass_statements.specs.Item.{itemOf}

@@ -10,7 +10,7 @@ use lib.ListN.{drop}
 use Rattle.laws.specs.Answer.{Answer, refused, given}
 use Rattle.styling.specs.Lookup.{lookup}
 use Rattle.styling.specs.declared.Layer.{Layer}
-use Rattle.queue.specs.Queue.{idsIn}
+use Rattle.queue_statements.specs.Queue.{idsIn}
 use Rattle.tile_layers.specs.Listing.{Listed, incomingOf}
 use Rattle.pass_statements.specs.Decide.{shownFrom, shownOf}
 use Rattle.pass_statements.specs.Entry.{Entry}

@@ -11,7 +11,7 @@ use lib.ListN.{length}
 use Rattle.laws.specs.Answer.{refused, given}
 use Rattle.refusals.specs.Refusal.{Judgement, pass, refuse, numberOf, andThen}
 use Rattle.refusals.specs.declared.Refusal.{Refusal}
-use Rattle.queue.specs.Queue.{isQueue}
+use Rattle.queue_statements.specs.Queue.{isQueue}
 use Rattle.cached_tile.specs.Kept.{noTile}
 use Rattle.layer_workbench.specs.declared.PreviousClear.the-variants.{Absent}
 use Rattle.row_statements.specs.Lent.{Columns, ListColumns, carriesIn, isQueueShort, isListShort}

@@ -8,7 +8,7 @@ use lib.Ieee.{Float}
 use lib.IntN.{ℤ}
 use lib.ListN.{length}
 use Rattle.pixel_segment.specs.Search.{tilePart}
-use Rattle.queue.specs.Queue.{idsIn, isQueue}
+use Rattle.queue_statements.specs.Queue.{idsIn, isQueue}
 use Rattle.cached_tile.specs.Kept.{noTile}
 use Rattle.tile_layers.specs.Listing.{incomingOf}
 use Rattle.pass_statements.specs.Decision.{codeOf}

@@ -10,7 +10,7 @@ use lib.Count.{ones}
 use lib.Ieee.{binary32, ofBits}
 use lib.ListN.{length}
 use Rattle.styling.specs.declared.Color.{Color}
-use Rattle.queue.specs.Queue.{idsIn}
+use Rattle.queue_statements.specs.Queue.{idsIn}
 use Rattle.cached_tile.specs.Kept.{noTile}
 use Rattle.tile_layers.specs.Listing.{incomingOf}
 use Rattle.refusals.specs.Refusal.{Judgement, pass, refuse}

@@ -2,8 +2,7 @@
 use painter::Clip;
 use pixel_segment::order;
 use pixel_segment::parts;
-use queue::opening;
-use queue::opening::Opening;
+use queue_statements::Opening;
 use refusals::Refusal;
 use refusals::Verdict;
 use row_statements::Opened;
@@ -11,7 +10,7 @@ use row_statements::RowState;
 use styling::table;
 ghost use mathlib.Core.Path.{_≡_};
 ghost use Rattle.refusals.specs.Refusal.{judgementIn};
-ghost use Rattle.queue.specs.Opening.{openingAnswer};
+ghost use Rattle.queue_statements.specs.Opening.{openingAnswer};
 ghost use Rattle.row_statements.specs.Lent.{columns, lentTable};
 ghost use Rattle.row_statements.specs.Opening.{openCall, hasBadEnds, openVerdict, stateBy, openOf};
 ghost use Rattle.row_statements.specs.Opening.{openedAnswer, OpensRow};
@@ -97,7 +96,12 @@ pub fn open_tile_row(
         Verdict::Refuse(refusal) => Opened::Refused(refusal),
         Verdict::Pass => {
             let left = parts::left_of_tile(row, from as i16);
-            opened(tile_y, from, to, opening::open_queue(left, ids, covers))
+            opened(
+                tile_y,
+                from,
+                to,
+                queue_opening::open_queue(left, ids, covers),
+            )
         }
     }
 }

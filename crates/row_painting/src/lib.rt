@@ -19,7 +19,7 @@ use styling::table::Found;
 ghost use mathlib.Core.Path.{_≡_};
 ghost use Rattle.refusals.specs.Refusal.{judgementIn};
 ghost use Rattle.styling.specs.Table.{Table, tableOf};
-ghost use Rattle.queue.specs.Queue.{queueOf, Queued};
+ghost use Rattle.queue_statements.specs.Queue.{queueOf, Queued};
 ghost use Rattle.row_statements.specs.Lent.{columns, lentTable};
 ghost use Rattle.row_statements.specs.State.{stateIn};
 ghost use Rattle.row_statements.specs.Painting.{paintCall, isPaintShort, callVerdict, layerVerdict, paintVerdict};

@@ -21,8 +21,8 @@ use Rattle.styling.specs.Lookup.{lookup}
 use Rattle.styling.specs.Table.{isShort, isValid, isTable, layerAt, tableOf}
 use Rattle.cover_statements.specs.Carry.{isLight, carryOf}
 use Rattle.cover_statements.specs.Cover.{isEmpty, isFull}
-use Rattle.queue.specs.Queue.{Carry, idsIn, heldIn}
-use Rattle.queue.specs.Opening.{addTo, addAll, openQueue, openAnswer, isLightOpening}
+use Rattle.queue_statements.specs.Queue.{Carry, idsIn, heldIn}
+use Rattle.queue_statements.specs.Opening.{addTo, addAll, openQueue, openAnswer, isLightOpening}
 use Rattle.cached_tile.specs.Kept.{noTile}
 use Rattle.tile_layers.specs.Groups.{groupsOf}
 use Rattle.tile_layers.specs.Listing.{listOf}

@@ -9,9 +9,9 @@ use lib.ListN.{length, length-map}
 use Rattle.laws.specs.Lists.{over}
 use Rattle.laws.proofs.Rows.{length-over}
 use Rattle.styling.specs.Ascending.{strictlyAscends}
-use Rattle.queue.specs.Queue.{Carry, idsIn, coversIn, isQueue}
-use Rattle.queue.proofs.Columns.{areWide, length-covers, reads-back, in-order}
-use Rattle.queue.proofs.Judging.{room}
+use Rattle.queue_statements.specs.Queue.{Carry, idsIn, coversIn, isQueue}
+use Rattle.queue_statements.proofs.Columns.{areWide, length-covers, reads-back, in-order}
+use Rattle.queue_statements.proofs.Judging.{room}
 use Rattle.row_statements.specs.Lent.{Columns, carriesIn, isQueueShort, queueOver}
 use Rattle.row_statements.specs.Run.{SameCarries}
 use Rattle.row_statements.specs.InnerHolding.{HoldsQueue}

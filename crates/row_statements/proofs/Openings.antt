@@ -15,8 +15,8 @@ use Rattle.refusals.specs.declared.Refusal.{Refusal}
 use Rattle.refusals.proofs.Judging.{passed, or-left, or-right}
 use Rattle.pixel_segment.specs.Field.{cpu}
 use Rattle.pixel_segment.specs.Order.{isRow}
-use Rattle.queue.specs.Queue.{idsIn, coversIn}
-use Rattle.queue.specs.Opening.{openQueue, openAnswer, writtenIf, Opens}
+use Rattle.queue_statements.specs.Queue.{idsIn, coversIn}
+use Rattle.queue_statements.specs.Opening.{openQueue, openAnswer, writtenIf, Opens}
 use Rattle.row_statements.specs.Lent.{Columns, isQueueShort, isTableShort, isTable}
 use Rattle.row_statements.specs.State.{State}
 use Rattle.row_statements.specs.Opening.{OpenCall, leftOf, hasBadEnds, openVerdict, countBy, stateBy, openOut, openOf, openedAnswer, OpensRow}

@@ -15,7 +15,7 @@ use Rattle.styling.specs.Lookup.{lookup}
 use Rattle.styling.specs.Table.{isShort, isValid, isTable, layerAt, tableOf}
 use Rattle.cover_statements.specs.Carry.{isLight}
 use Rattle.cover_statements.specs.Entry.{entryOf}
-use Rattle.queue.specs.Queue.{isQueue, queueOf, heldIn}
+use Rattle.queue_statements.specs.Queue.{isQueue, queueOf, heldIn}
 use Rattle.refusals.specs.Refusal.{Judgement, pass, refuse}
 use Rattle.row_statements.specs.Lent.{lentTable, columns}
 use Rattle.row_statements.specs.State.{State}

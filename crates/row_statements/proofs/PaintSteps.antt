@@ -23,7 +23,7 @@ use Rattle.styling.specs.declared.FillRule.{FillRule}
 use Rattle.styling.specs.declared.Layer.{Layer}
 use Rattle.cover_statements.specs.Cover.{coverAt}
 use Rattle.cover_statements.specs.Plane.{planeOf}
-use Rattle.queue.specs.Queue.{Carry, heldIn, isQueue}
+use Rattle.queue_statements.specs.Queue.{Carry, heldIn, isQueue}
 use Rattle.tile_layers.specs.Carrying.{ruleFrom, ruleIn}
 use Rattle.tile_layers.specs.Listing.{areKnown}
 use Rattle.pass_statements.specs.Rules.{needsClip}

@@ -22,8 +22,8 @@ use Rattle.pixel_segment.specs.Search.{tilePart}
 use Rattle.styling.specs.Lookup.{lookup}
 use Rattle.styling.specs.declared.Layer.{Layer}
 use Rattle.styling.proofs.Judging as judged
-use Rattle.queue.specs.Queue.{Carry, isQueue}
-use Rattle.queue.proofs.Judging.{queued, ordered}
+use Rattle.queue_statements.specs.Queue.{Carry, isQueue}
+use Rattle.queue_statements.proofs.Judging.{queued, ordered}
 use Rattle.tile_layers.specs.Listing.{isGiven}
 use Rattle.row_carries.proofs.Parts.{tile-ordered}
 use Rattle.painter.specs.Painting.{isLightIn, Ready, Paints}

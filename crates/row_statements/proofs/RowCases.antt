@@ -19,7 +19,7 @@ use Rattle.styling.specs.Table.{isShort, isValid, isTable, layerAt, tableOf}
 use Rattle.styling.specs.declared.Color.{Color}
 use Rattle.styling.specs.declared.Layer.{Layer}
 use Rattle.cover_statements.specs.Carry.{isLight}
-use Rattle.queue.specs.Queue.{isQueue}
+use Rattle.queue_statements.specs.Queue.{isQueue}
 use Rattle.cached_tile.specs.declared.kept.Kept as kept
 use Rattle.tile_layers.specs.Listing.{Listed}
 use Rattle.layer_workbench.specs.declared.PreviousClear.the-variants.{Absent}

@@ -20,9 +20,9 @@ use Rattle.pixel_segment.specs.Order.{Words}
 use Rattle.pixel_segment.specs.Search.{leftPart}
 use Rattle.styling.specs.Ascending.{strictlyAscends}
 use Rattle.styling.proofs.Judging.{table-short}
-use Rattle.queue.specs.Queue.{Carry, idsIn}
-use Rattle.queue.specs.Opening.{openQueue, isLightOpening}
-use Rattle.queue.proofs.Columns.{areWide}
+use Rattle.queue_statements.specs.Queue.{Carry, idsIn}
+use Rattle.queue_statements.specs.Opening.{openQueue, isLightOpening}
+use Rattle.queue_statements.proofs.Columns.{areWide}
 use Rattle.row_carries.proofs.Carried.{queue-first, queue-ascends, queue-wide, held-from-row}
 use Rattle.row_carries.proofs.Planes.{unlisted-zeros, unknown-zeros}
 use Rattle.row_carries.proofs.Covered.{covered-under}

@@ -17,8 +17,8 @@ use Rattle.laws.specs.Lists.{over}
 use Rattle.refusals.specs.Refusal.{Judgement, pass, refuse, unless, andThen, numberOf}
 use Rattle.refusals.proofs.Judging.{passed, or-left, or-right}
 use Rattle.pixel_segment.specs.Search.{tilePart}
-use Rattle.queue.specs.Queue.{Carry, isQueue}
-use Rattle.queue.proofs.Columns.{areWide}
+use Rattle.queue_statements.specs.Queue.{Carry, isQueue}
+use Rattle.queue_statements.proofs.Columns.{areWide}
 use Rattle.cached_tile.specs.Kept.{tagOutOfRange, previousCount}
 use Rattle.tile_layers.specs.Groups.{groupsOf}
 use Rattle.tile_layers.specs.Listing.{Listed, layersIn, incomingOf}

@@ -20,8 +20,8 @@ use Rattle.pixel_segment.specs.Order.{Words, Ordered, isRow}
 use Rattle.pixel_segment.specs.Search.{tilePart}
 use Rattle.styling.proofs.Judging as table-judging
 use Rattle.styling.specs.declared.Layer.{Layer}
-use Rattle.queue.specs.Queue.{isQueue}
-use Rattle.queue.proofs.Judging as queue-judging
+use Rattle.queue_statements.specs.Queue.{isQueue}
+use Rattle.queue_statements.proofs.Judging as queue-judging
 use Rattle.cached_tile.specs.Kept.{tagOutOfRange}
 use Rattle.tile_layers.specs.Listing.{Listed, layersIn, areKnown, areLight}
 use Rattle.tile_layers.specs.Carrying.{handedOn}

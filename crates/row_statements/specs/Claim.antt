@@ -16,7 +16,7 @@ use Rattle.styling.specs.declared.Color.{Color}
 use Rattle.styling.specs.declared.FillRule.{FillRule}
 use Rattle.cover_statements.specs.Coverage.{coverageOf}
 use Rattle.cover_statements.specs.WholeRow.{rowPlane, FromRow}
-use Rattle.queue.specs.Queue.{heldIn}
+use Rattle.queue_statements.specs.Queue.{heldIn}
 use Rattle.cached_tile.specs.declared.kept.Kept as kept
 use Rattle.tile_layers.specs.Carrying.{ruleIn}
 use Rattle.layer_workbench.specs.Work.{entryOf}

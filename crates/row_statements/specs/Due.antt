@@ -18,7 +18,7 @@ use Rattle.styling.specs.declared.Color.{Color}
 use Rattle.styling.specs.declared.Func.{Func}
 use Rattle.styling.specs.declared.Layer.{Layer}
 use Rattle.cover_statements.specs.WholeRow.{rowPlane}
-use Rattle.queue.specs.Queue.{Carry}
+use Rattle.queue_statements.specs.Queue.{Carry}
 use Rattle.cached_tile.specs.Kept.{tagOutOfRange}
 use Rattle.cached_tile.specs.declared.kept.Kept as kept
 use Rattle.tile_layers.specs.Carrying.{ruleIn}

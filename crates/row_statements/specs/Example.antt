@@ -13,7 +13,7 @@ use Rattle.pixel_segment.specs.Field.{cpu}
 use Rattle.pixel_segment.specs.Order.{Words}
 use Rattle.pixel_segment.specs.Pack.{wordOf}
 use Rattle.styling.specs.declared.Color.{Color}
-use Rattle.queue.specs.Queue.{idsIn}
+use Rattle.queue_statements.specs.Queue.{idsIn}
 use Rattle.cached_tile.specs.Kept.{noTile}
 use Rattle.cached_tile.specs.declared.kept.Kept as kept
 use Rattle.layer_workbench.specs.declared.PreviousClear.the-variants.{Absent}

@@ -5,7 +5,7 @@ use mathlib.Core.Bool.{true, false}
 use mathlib.Core.List.{List}
 use Prim.Native.Nat.{ℕ, zero, suc, _+_, _≤_}
 use lib.ListN.{length}
-use Rattle.queue.specs.Queue.{Carry, isQueue}
+use Rattle.queue_statements.specs.Queue.{Carry, isQueue}
 use Rattle.tile_layers.specs.Listing.{areKnown}
 use Rattle.row_carries.specs.Carries.{InOrder}
 use Rattle.row_statements.specs.Lent.{Columns, carriesIn, isQueueShort, isTableShort, isTable}

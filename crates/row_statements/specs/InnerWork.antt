@@ -13,7 +13,7 @@ use Rattle.pixel_segment.specs.Order.{isRow}
 use Rattle.pixel_segment.specs.Search.{tilePart}
 use Rattle.styling.specs.Table.{Table}
 use Rattle.styling.specs.declared.Layer.{Layer}
-use Rattle.queue.specs.Queue.{isQueue}
+use Rattle.queue_statements.specs.Queue.{isQueue}
 use Rattle.cached_tile.specs.Kept.{tagOutOfRange}
 use Rattle.cached_tile.specs.declared.kept.Kept as kept
 use Rattle.tile_layers.specs.Listing.{Listed}

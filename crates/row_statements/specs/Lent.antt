@@ -10,8 +10,8 @@ use lib.ListN.{length}
 use Rattle.laws.specs.Lists.{over}
 use Rattle.styling.specs.Table as table
 use Rattle.styling.specs.declared.Layer.{Layer}
-use Rattle.queue.specs.Queue as queue
-use Rattle.queue.specs.Queue.{Carry, queueOf, idsIn, coversIn}
+use Rattle.queue_statements.specs.Queue as queue
+use Rattle.queue_statements.specs.Queue.{Carry, queueOf, idsIn, coversIn}
 use Rattle.tile_layers.specs.Listing.{Listed, incomingOf, segmentsOf}
 use Rattle.pass_statements.specs.Entry.{Entry, entriesOf}
 

@@ -14,8 +14,8 @@ use Rattle.refusals.specs.Refusal.{Judgement, pass, refuse, unless, numberOf}
 use Rattle.pixel_segment.specs.Field.{cpu}
 use Rattle.pixel_segment.specs.Order.{isRow}
 use Rattle.pixel_segment.specs.Search.{leftPart}
-use Rattle.queue.specs.Queue.{Carry}
-use Rattle.queue.specs.Opening.{openQueue, openAnswer}
+use Rattle.queue_statements.specs.Queue.{Carry}
+use Rattle.queue_statements.specs.Opening.{openQueue, openAnswer}
 use Rattle.row_statements.specs.Lent.{Columns, LentTable, isQueueShort, isTableShort, isTable, queueOver}
 use Rattle.row_statements.specs.State.{State, stateIn}
 use Rattle.row_statements.specs.declared.Opened.{Opened}

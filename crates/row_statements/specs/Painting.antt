@@ -20,7 +20,7 @@ use Rattle.styling.specs.Lookup.{lookup}
 use Rattle.styling.specs.declared.FillRule.the-variants.{NonZero}
 use Rattle.styling.specs.declared.Func.the-variants.{Clip}
 use Rattle.styling.specs.declared.Layer.{Layer}
-use Rattle.queue.specs.Queue.{Carry, isQueue}
+use Rattle.queue_statements.specs.Queue.{Carry, isQueue}
 use Rattle.tile_layers.specs.Listing.{isGiven}
 use Rattle.painter.specs.Clip.{clipAfter}
 use Rattle.painter.specs.Painting.{markIn, planeIn, isLightIn}

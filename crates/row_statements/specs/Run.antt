@@ -6,7 +6,7 @@ use Prim.Native.Nat.{ℕ}
 use lib.Ieee.{Float}
 use Rattle.refusals.specs.Refusal.{refuse}
 use Rattle.laws.specs.Integer.{plus}
-use Rattle.queue.specs.Queue.{isQueue}
+use Rattle.queue_statements.specs.Queue.{isQueue}
 use Rattle.row_statements.specs.Lent.{Columns, carriesIn, isQueueShort}
 use Rattle.row_statements.specs.State.{State, stateIn}
 use Rattle.row_statements.specs.Opening.{OpenCall}

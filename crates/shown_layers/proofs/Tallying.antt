@@ -10,7 +10,7 @@ use lib.Count.{ones}
 use lib.ListN.{length, drop, take, getD, drop-of-length-le}
 use lib.Seq.{drop-cons, getD-take, length-take-le}
 use Rattle.styling.specs.declared.Layer.{Layer}
-use Rattle.queue.specs.Queue.{Carry}
+use Rattle.queue_statements.specs.Queue.{Carry}
 use Rattle.painter.specs.Clip.{clipAfter}
 use Rattle.painter.specs.Painting.{markIn}
 use Rattle.row_statements.specs.Painting.{layerIn}

@@ -12,7 +12,7 @@ use Rattle.laws.specs.Answer.{given}
 use Rattle.styling.specs.Lookup.{lookup}
 use Rattle.styling.specs.Table.{Table}
 use Rattle.styling.specs.declared.Layer.{Layer}
-use Rattle.queue.specs.Queue.{Carry, Queued}
+use Rattle.queue_statements.specs.Queue.{Carry, Queued}
 use Rattle.tile_layers.specs.Walk.{Walks}
 use Rattle.painter.specs.Clip.{clipIn, clipAfter}
 use Rattle.painter.specs.Painting.{markIn, isLightIn}

@@ -18,8 +18,8 @@ use Rattle.laws.proofs.Orders.{le-or-lt}
 use Rattle.laws.proofs.Rows.{filled}
 use Rattle.pixel_segment.specs.Search.{between}
 use Rattle.cover_statements.specs.Entry.{putEntry}
-use Rattle.queue.specs.Queue.{Carry, coversIn}
-use Rattle.queue.proofs.Columns.{isWide, areWide, length-covers}
+use Rattle.queue_statements.specs.Queue.{Carry, coversIn}
+use Rattle.queue_statements.proofs.Columns.{isWide, areWide, length-covers}
 use Rattle.tile_layers.specs.Listing.{hasAny}
 
 -- the cover of the m-th carry, among all covers

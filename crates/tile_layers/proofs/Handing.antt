@@ -17,8 +17,8 @@ use Rattle.pixel_segment.specs.Search.{between}
 use Rattle.cover_statements.specs.Carry.{isLight, carryOf}
 use Rattle.cover_statements.specs.Entry.{entryOf, putEntry}
 use Rattle.styling.specs.declared.Layer.{Layer}
-use Rattle.queue.specs.Queue.{Carry, queueOf, idsIn, coversIn, zeros}
-use Rattle.queue.proofs.Columns.{isWide, areWide, length-covers}
+use Rattle.queue_statements.specs.Queue.{Carry, queueOf, idsIn, coversIn, zeros}
+use Rattle.queue_statements.proofs.Columns.{isWide, areWide, length-covers}
 use Rattle.tile_layers.specs.Listing.{Listed, layersIn, areLight}
 use Rattle.tile_layers.specs.Carrying.{carryFor, isKept, handedOn, Hands, Puts, QueueRoom}
 use Rattle.tile_layers.specs.Walk.{listedAt, leftOf, Stepped, Moved}

@@ -10,7 +10,7 @@ use lib.Dec.{ltb, eqb}
 use lib.ListN.{length, getD}
 use Rattle.laws.specs.Lists.{any}
 use Rattle.pixel_segment.specs.Field.{cpu, layerIdOf}
-use Rattle.queue.specs.Queue.{Carry}
+use Rattle.queue_statements.specs.Queue.{Carry}
 use Rattle.tile_layers.specs.Groups.{Group, single, joinTo, groupsOf}
 use Rattle.tile_layers.specs.Listing.{Listed, noListed, carried, fresh, joined, listOf, layersIn, isListed, hasCarry, hasSegment}
 

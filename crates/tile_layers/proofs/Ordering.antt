@@ -12,7 +12,7 @@ use Rattle.pixel_segment.specs.Field.{cpu, layerIdOf}
 use Rattle.pixel_segment.specs.Order.{Ordered}
 use Rattle.styling.specs.Ascending.{strictlyAscendsFrom, strictlyAscends}
 use Rattle.styling.proofs.Ascents.{ascends-head, ascends-tail}
-use Rattle.queue.specs.Queue.{Carry, idsIn}
+use Rattle.queue_statements.specs.Queue.{Carry, idsIn}
 use Rattle.tile_layers.specs.Groups.{Group, single, joinTo, groupsOf}
 use Rattle.tile_layers.specs.Listing.{Listed, carried, fresh, joined, listOf, layersIn}
 

@@ -14,7 +14,7 @@ use Rattle.laws.proofs.Rows.{length-tabulate, getD-tabulate}
 use Rattle.pixel_segment.specs.Field.{cpu, layerIdOf}
 use Rattle.pixel_segment.specs.Search.{between}
 use Rattle.cover_statements.specs.Entry.{entryOf}
-use Rattle.queue.specs.Queue.{Carry, carryAt, queueOf, zeros}
+use Rattle.queue_statements.specs.Queue.{Carry, carryAt, queueOf, zeros}
 use Rattle.tile_layers.specs.Groups.{Group, groupsOf}
 use Rattle.tile_layers.specs.Listing.{carried, fresh, joined, listOf}
 use Rattle.tile_layers.specs.Walk.{GroupEnds, Stepped}

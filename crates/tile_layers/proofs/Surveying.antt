@@ -12,7 +12,7 @@ use Rattle.cover_statements.specs.Carry.{isLight}
 use Rattle.cover_statements.specs.Entry.{entryOf}
 use Rattle.styling.specs.Lookup.{lookup}
 use Rattle.styling.specs.declared.Layer.{Layer}
-use Rattle.queue.specs.Queue.{queueOf, zeros}
+use Rattle.queue_statements.specs.Queue.{queueOf, zeros}
 use Rattle.tile_layers.specs.Listing.{Listed, layersIn, isGiven, areKnown, areLight, Surveyed}
 use Rattle.tile_layers.specs.Walk.{Stepped, Moved}
 use Rattle.tile_layers.specs.declared.walk.Next.{Next}

@@ -6,7 +6,7 @@ use native.Mathlib.Omega.{arith}
 use lib.IntN.{ℤ}
 use lib.ListN.{length, drop, drop-of-length-le}
 use Rattle.laws.proofs.Drops.{nil-le, cons-lt, cons-rest}
-use Rattle.queue.specs.Queue.{queueOf}
+use Rattle.queue_statements.specs.Queue.{queueOf}
 use Rattle.tile_layers.specs.Groups.{groupsOf}
 use Rattle.tile_layers.specs.Listing.{listOf, layersIn}
 use Rattle.tile_layers.specs.Walk.{leftOf, listedAt, Stepped, Moved}

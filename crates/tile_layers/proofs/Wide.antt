@@ -13,8 +13,8 @@ use Rattle.laws.proofs.Every.{all-intro}
 use Rattle.laws.proofs.Rows.{length-tabulate, getD-tabulate}
 use Rattle.cover_statements.specs.Entry.{entryOf}
 use Rattle.cover_statements.proofs.Entries.{entry-length}
-use Rattle.queue.specs.Queue.{Carry, carryAt, queueOf}
-use Rattle.queue.proofs.Columns.{isWide, areWide}
+use Rattle.queue_statements.specs.Queue.{Carry, carryAt, queueOf}
+use Rattle.queue_statements.proofs.Columns.{isWide, areWide}
 use Rattle.tile_layers.specs.Groups.{Group}
 use Rattle.tile_layers.specs.Listing.{carried, fresh, joined, listOf, incomingOf}
 

@@ -10,8 +10,8 @@ use lib.ListN.{length, set, length-map}
 use Rattle.laws.proofs.Drops.{cons-lt, map-at, map-drop}
 use Rattle.laws.proofs.Rows.{filled, filled-more, filled-all, length-filled}
 use Rattle.cover_statements.specs.Entry.{entryOf, putEntry}
-use Rattle.queue.specs.Queue.{Carry, queueOf, idsIn, coversIn, zeros}
-use Rattle.queue.proofs.Columns.{areWide, length-covers}
+use Rattle.queue_statements.specs.Queue.{Carry, queueOf, idsIn, coversIn, zeros}
+use Rattle.queue_statements.proofs.Columns.{areWide, length-covers}
 use Rattle.tile_layers.specs.Groups.{groupsOf}
 use Rattle.tile_layers.specs.Listing.{Listed, layersIn, incomingOf, segmentsOf, hasAny, Lists, Room}
 use Rattle.tile_layers.specs.Walk.{Stepped, Moved}

@@ -13,7 +13,7 @@ use Rattle.pixel_segment.specs.Field.{cpu, layerIdOf}
 use Rattle.cover_statements.specs.Carry.{isLight}
 use Rattle.styling.specs.Lookup.{lookup}
 use Rattle.styling.specs.declared.Layer.{Layer}
-use Rattle.queue.specs.Queue.{Carry, zeros, idsIn, coversIn}
+use Rattle.queue_statements.specs.Queue.{Carry, zeros, idsIn, coversIn}
 use Rattle.tile_layers.specs.Groups.{Group, groupsOf}
 use Rattle.tile_layers.specs.declared.listing.Survey.{Survey}
 

@@ -9,7 +9,7 @@ use Rattle.pixel_segment.specs.Field.{cpu, layerIdOf}
 use Rattle.pixel_segment.specs.Order.{Ordered}
 use Rattle.pixel_segment.specs.Search.{between}
 use Rattle.cover_statements.specs.Entry.{entryOf}
-use Rattle.queue.specs.Queue.{queueOf, zeros}
+use Rattle.queue_statements.specs.Queue.{queueOf, zeros}
 use Rattle.tile_layers.specs.Groups.{groupsOf}
 use Rattle.tile_layers.specs.Listing.{Listed, listOf}
 use Rattle.tile_layers.specs.declared.walk.Next.{Next}

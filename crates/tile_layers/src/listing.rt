@@ -12,7 +12,7 @@ ghost use lib.ListN.{length};
 ghost use Rattle.styling.specs.Lookup.{lookup};
 ghost use Rattle.styling.specs.Table.{Table, tableOf};
 ghost use Rattle.cover_statements.specs.Entry.{entryOf};
-ghost use Rattle.queue.specs.Queue.{queueOf, zeros};
+ghost use Rattle.queue_statements.specs.Queue.{queueOf, zeros};
 ghost use Rattle.tile_layers.specs.Listing.{layersIn, isGiven, Surveyed, Lists, Room};
 ghost use Rattle.tile_layers.specs.Walk.{Walks};
 

@@ -11,7 +11,7 @@ use Rattle.refusals.specs.Refusal.{Judgement, pass, refuse, unless, andThen}
 use Rattle.pixel_segment.specs.Field.{cpu}
 use Rattle.pixel_segment.specs.Order.{isRow}
 use Rattle.pixel_segment.specs.Search.{tilePart}
-use Rattle.queue.specs.Queue.{Carry, isQueue}
+use Rattle.queue_statements.specs.Queue.{Carry, isQueue}
 use Rattle.cached_tile.specs.Kept.{tagOutOfRange}
 use Rattle.tile_layers.specs.Listing.{layersIn}
 use Rattle.tile_layers.specs.Carrying.{handedOn}

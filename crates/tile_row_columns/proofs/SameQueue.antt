@@ -14,8 +14,8 @@ use Rattle.laws.specs.Lists.{over}
 use Rattle.laws.proofs.Bools.{left}
 use Rattle.laws.proofs.Rows.{length-over}
 use Rattle.styling.specs.Ascending.{strictlyAscends}
-use Rattle.queue.specs.Queue.{Carry, roomOf, isShort, isQueue, queueOf, idsIn, coversIn}
-use Rattle.queue.proofs.Columns.{areWide, take-ids, reads-back}
+use Rattle.queue_statements.specs.Queue.{Carry, roomOf, isShort, isQueue, queueOf, idsIn, coversIn}
+use Rattle.queue_statements.proofs.Columns.{areWide, take-ids, reads-back}
 use Rattle.queue_records.specs.Records.{carryOf, carriesOf, idsOf, coversOf, readable, columnsOf}
 use Rattle.queue_records.specs.declared.CarryRecord.{CarryRecord}
 use Rattle.queue_records.specs.declared.Columns as read

@@ -7,9 +7,9 @@ use native.Mathlib.Omega.{arith}
 use lib.Dec.{leb}
 use lib.ListN.{length, take}
 use Rattle.styling.specs.Ascending.{strictlyAscends}
-use Rattle.queue.specs.Queue.{isQueue, idsIn}
-use Rattle.queue.proofs.Judging.{room}
-use Rattle.queue.proofs.Queues.{ids-queue}
+use Rattle.queue_statements.specs.Queue.{isQueue, idsIn}
+use Rattle.queue_statements.proofs.Judging.{room}
+use Rattle.queue_statements.proofs.Queues.{ids-queue}
 use Rattle.queue_records.specs.Records.{idsOf, coversOf}
 use Rattle.queue_records.specs.declared.CarryRecord.{CarryRecord}
 use Rattle.queue_records.proofs.Reading.{ids-length}

@@ -4,8 +4,8 @@ use native.Mathlib.Omega.{arith}
 use borrow.Author.Needs.{needs}
 use lib.ListN.{take}
 use lib.Seq.{length-take-le}
-use Rattle.queue.proofs.Ranks.{Held, held}
-use Rattle.queue.proofs.Queues.{held-lent, missed-lent}
+use Rattle.queue_statements.proofs.Ranks.{Held, held}
+use Rattle.queue_statements.proofs.Queues.{held-lent, missed-lent}
 use Rattle.queue.proofs.incoming.Statement.{statement}
 use Rattle.queue.proofs.incoming.Tie as tie
 

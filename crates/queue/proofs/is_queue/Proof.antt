@@ -2,7 +2,7 @@
 use Prim.Native.Nat.{_-_}
 use native.Mathlib.Omega.{arith}
 use borrow.Author.Needs.{needs}
-use Rattle.queue.proofs.Judging.{Judging, begin, next, end, many}
+use Rattle.queue_statements.proofs.Judging.{Judging, begin, next, end, many}
 use Rattle.queue.proofs.is_queue.Statement.{statement}
 use Rattle.queue.proofs.is_queue.Tie as tie
 

@@ -8,7 +8,7 @@ use mir.Facts.{toZ-ofZ}
 use Rattle.laws.proofs.Machine.{sfits}
 use Rattle.laws.proofs.Parts.{whole}
 use Rattle.refusals.specs.Refusal.{judgementIn, pass}
-use Rattle.queue.proofs.Judging.{room}
+use Rattle.queue_statements.proofs.Judging.{room}
 use Rattle.row_statements.specs.Lent.{Columns, columns, lentTable}
 use Rattle.row_statements.specs.Opening.{OpenCall, openCall, openVerdict}
 use Rattle.row_statements.proofs.Openings.{Passed, opening-passed, refused-row, opened-row}

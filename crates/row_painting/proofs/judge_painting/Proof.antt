@@ -9,7 +9,7 @@ use Rattle.laws.proofs.Machine.{sfits}
 use Rattle.laws.proofs.Parts.{whole}
 use Rattle.refusals.specs.Refusal.{Judgement, pass, judgementIn, andThen}
 use Rattle.styling.proofs.Judging as judged
-use Rattle.queue.proofs.Judging.{queued}
+use Rattle.queue_statements.proofs.Judging.{queued}
 use Rattle.row_statements.specs.Lent.{columns, lentTable}
 use Rattle.row_statements.specs.State.{stateIn}
 use Rattle.row_statements.specs.Painting.{PaintCall, paintCall, callVerdict, ownVerdict}

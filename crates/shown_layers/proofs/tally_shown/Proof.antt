@@ -5,7 +5,7 @@ use native.Mathlib.Omega.{arith}
 use borrow.Author.Needs.{needs}
 use lib.ListN.{length}
 use Rattle.styling.specs.Table.{tableOf}
-use Rattle.queue.specs.Queue.{queueOf}
+use Rattle.queue_statements.specs.Queue.{queueOf}
 use Rattle.shown_layers.specs.Counting.{sumIn}
 use Rattle.shown_layers.proofs.tally_shown.Statement.{statement}
 use Rattle.shown_layers.proofs.tally_shown.Tie as tie

@@ -4,7 +4,7 @@ use borrow.Author.Needs.{needs}
 use borrow.Author.Tests.{leb-true}
 use Rattle.styling.specs.Table.{layerAt, tableOf}
 use Rattle.cover_statements.specs.Entry.{entryOf}
-use Rattle.queue.specs.Queue.{queueOf}
+use Rattle.queue_statements.specs.Queue.{queueOf}
 use Rattle.cases.proofs.Tile.{ready, painted}
 use Rattle.cases.proofs.clips.paint.Statement.{statement}
 use Rattle.cases.proofs.clips.paint.Tie as tie

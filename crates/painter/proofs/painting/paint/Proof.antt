@@ -2,7 +2,7 @@
 use native.Mathlib.Omega.{arith}
 use borrow.Author.Needs.{needs}
 use Rattle.styling.specs.Table.{tableOf}
-use Rattle.queue.specs.Queue.{queueOf}
+use Rattle.queue_statements.specs.Queue.{queueOf}
 use Rattle.painter.proofs.Lasting.{last-small}
 use Rattle.painter.proofs.Painted.{painted}
 use Rattle.painter.specs.Clip.{clipIn}

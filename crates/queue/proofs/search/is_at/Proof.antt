@@ -1,7 +1,7 @@
 -- `queue::search::is_at` meets its contract. Assumes nothing.
 use native.Mathlib.Omega.{arith}
 use borrow.Author.Needs.{needs}
-use Rattle.queue.proofs.Ranks.{holds-is, holds-not}
+use Rattle.queue_statements.proofs.Ranks.{holds-is, holds-not}
 use Rattle.queue.proofs.search.is_at.Statement.{statement}
 use Rattle.queue.proofs.search.is_at.Tie as tie
 

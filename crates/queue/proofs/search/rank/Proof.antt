@@ -1,7 +1,7 @@
 -- `queue::search::rank` meets its contract. What holds of the places that are left is `Halving`. Assumes nothing.
 use Prim.Native.Nat.{_-_}
 use native.Mathlib.Omega.{arith}
-use Rattle.queue.proofs.Ranks.{Halving, begin, upper, lower, end}
+use Rattle.queue_statements.proofs.Ranks.{Halving, begin, upper, lower, end}
 use Rattle.queue.proofs.search.rank.Statement.{statement}
 use Rattle.queue.proofs.search.rank.Tie as tie
 
