@@ -20,7 +20,7 @@ use Rattle.cover_statements.specs.Coverage.{coverageOf}
 use Rattle.cover_statements.specs.Plane.{inPlaces}
 use Rattle.pixel_segment.specs.Field.{tileOf, coverOf, doubleAreaOf}
 use Rattle.pixel_segment.specs.Pack.{packOf}
-use Rattle.pixel_segment.specs.Search.{searchOf, halved, layerPart}
+use Rattle.segment_rows.specs.Search.{searchOf, halved, layerPart}
 use Rattle.pixel_segment.proofs.ReadBack.{kept}
 use Rattle.styling.specs.Lookup.{lookup}
 use Rattle.queue_statements.specs.Queue.{heldIn}

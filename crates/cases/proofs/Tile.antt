@@ -17,7 +17,7 @@ use Rattle.styling.specs.Record.{inRange}
 use Rattle.styling.specs.Table.{wordsAt, layerAt, tableOf, idsOf}
 use Rattle.styling.specs.declared.Layer.{Layer}
 use Rattle.pixel_segment.specs.Field.{coverOf}
-use Rattle.pixel_segment.specs.Search.{searchOf, layerPart}
+use Rattle.segment_rows.specs.Search.{searchOf, layerPart}
 use Rattle.cover_statements.specs.Carry.{isLight}
 use Rattle.cover_statements.specs.Entry.{entryOf}
 use Rattle.queue_statements.specs.Queue.{queueOf, heldIn}

@@ -8,7 +8,7 @@ use lib.Ieee.{Float, eq}
 use Rattle.laws.specs.Answer.{Answer, refused, given}
 use Rattle.cached_tile.specs.Kept.{Writing, write, keep}
 use Rattle.cached_tile.specs.declared.CachedTile.{CachedTile}
-use Rattle.pixel_segment.specs.Search.{Place, found, absent}
+use Rattle.segment_rows.specs.Search.{Place, found, absent}
 use Rattle.cases.specs.Numbers.{half}
 use Rattle.cases.specs.Inputs.{taggedTile}
 

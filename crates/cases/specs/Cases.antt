@@ -18,8 +18,8 @@ use Rattle.cover_statements.specs.Coverage.{areaCoverage}
 use Rattle.cover_statements.specs.Weight.{weightOf}
 use Rattle.pixel_segment.specs.Field.{cpu, doubleAreaOf}
 use Rattle.pixel_segment.specs.Pack.{packOf, wordOf}
-use Rattle.pixel_segment.specs.Search.{found, absent, searchOf, orderAt}
-use Rattle.pixel_segment.specs.declared.search.Key.the-variants.{LayerId}
+use Rattle.segment_rows.specs.Search.{found, absent, searchOf, orderAt}
+use Rattle.segment_rows.specs.declared.search.Key.the-variants.{LayerId}
 use Rattle.styling.specs.declared.FillRule.the-variants.{NonZero, EvenOdd}
 use Rattle.styling.specs.declared.Func.the-variants.{Clip}
 use Rattle.tile_layers.specs.Listing.{layersIn}

@@ -1,12 +1,12 @@
 // P1 to P5: packed words and searches.
 use pixel_segment::Packed;
 use pixel_segment::PixelSegment;
-use pixel_segment::search;
-use pixel_segment::search::Found;
+use segment_rows::search;
+use segment_rows::search::Found;
 ghost use mathlib.Core.Path.{_≡_};
 ghost use mathlib.Core.Bool.{true};
 ghost use Rattle.pixel_segment.specs.Pack.{answerOf};
-ghost use Rattle.pixel_segment.specs.Search.{placeIn};
+ghost use Rattle.segment_rows.specs.Search.{placeIn};
 ghost use Rattle.cases.specs.Answers.{isWord, isAt, isAbsent};
 
 // Whether packing gave the word.

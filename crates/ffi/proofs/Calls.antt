@@ -13,7 +13,7 @@ use Rattle.laws.specs.Answer.{Answer, refused, given}
 use Rattle.refusals.specs.Refusal.{Judgement, pass, refuse, unless}
 use Rattle.laws.specs.Integer.{plus}
 use Rattle.pixel_segment.specs.Field.{cpu}
-use Rattle.pixel_segment.specs.Order.{Words, isRow}
+use Rattle.segment_rows.specs.Rows.{Words, isRow}
 use Rattle.cached_tile.specs.Kept.{tagOutOfRange}
 use Rattle.tile_layers.specs.Listing.{isTooMany, areKnown, areLight}
 use Rattle.queue_statements.specs.Opening.{openQueue, isLightOpening}

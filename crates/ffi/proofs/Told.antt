@@ -9,7 +9,7 @@ use Rattle.laws.specs.Answer.{Answer}
 use Rattle.cached_tile.specs.declared.SolidColor.{SolidColor}
 use Rattle.cached_tile.specs.declared.kept.Kept.{Kept}
 use Rattle.cached_tile.specs.Kept.{Writing}
-use Rattle.pixel_segment.specs.Search.{Place}
+use Rattle.segment_rows.specs.Search.{Place}
 use Rattle.row_statements.specs.Lent.{Columns}
 use Rattle.row_statements.specs.State.{State, stateIn}
 use Rattle.row_statements.specs.Opening.{OpenGiven}

@@ -4,7 +4,7 @@
 use mathlib.Core.List.{List, [], _∷_}
 use Prim.Native.Nat.{ℕ, zero, suc}
 use lib.Ieee.{Float}
-use Rattle.pixel_segment.specs.Order.{Words}
+use Rattle.segment_rows.specs.Rows.{Words}
 use Rattle.row_statements.specs.Lent.{Columns}
 use Rattle.row_statements.specs.Opening.{OpenCall, openOf}
 use Rattle.row_statements.specs.TileWork.{WorkLent, workOf}

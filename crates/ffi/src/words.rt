@@ -1,16 +1,17 @@
 // Packing, fields, order and searches of packed words.
 use ffi_numbers::words;
 use pixel_segment::PixelSegment;
-use pixel_segment::order;
 use pixel_segment::order::Ordering;
-use pixel_segment::search;
+use segment_rows::order;
+use segment_rows::search;
 ghost use mathlib.Core.Path.{_≡_};
 ghost use Rattle.pixel_segment.specs.Field.{cpu, layerIdOf, tileXOf, tileYOf, tileOf};
 ghost use Rattle.pixel_segment.specs.Field.{localXOf, localYOf, multiplierOf, doubleAreaOf, coverOf};
 ghost use Rattle.pixel_segment.specs.Pack.{packOf};
-ghost use Rattle.pixel_segment.specs.Order.{rank, orderKey, compareOf, ascends, isRow};
-ghost use Rattle.pixel_segment.specs.Search.{searchOf, orderAt};
-ghost use Rattle.pixel_segment.specs.declared.search.Key.{Key};
+ghost use Rattle.pixel_segment.specs.Order.{rank, orderKey, compareOf};
+ghost use Rattle.segment_rows.specs.Rows.{ascends, isRow};
+ghost use Rattle.segment_rows.specs.Search.{searchOf, orderAt};
+ghost use Rattle.segment_rows.specs.declared.search.Key.{Key};
 ghost use Rattle.ffi_numbers.specs.Numbers.{numberOf, valueOr, isFound, placeOf};
 
 #[no_mangle]

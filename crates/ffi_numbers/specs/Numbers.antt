@@ -2,7 +2,7 @@
 use mathlib.Core.Bool.{Bool, true, false}
 use Prim.Native.Nat.{ℕ}
 use Rattle.laws.specs.Answer.{Answer, refused, given}
-use Rattle.pixel_segment.specs.Search.{Place, found, absent}
+use Rattle.segment_rows.specs.Search.{Place, found, absent}
 
 -- the number of a refusal in the table of refusals ('Turned down'), 0 where it is none
 abbrev pub numberOf : {A : Type 0} → Answer A → ℕ

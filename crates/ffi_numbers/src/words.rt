@@ -1,9 +1,9 @@
 // Packed words, and the places that searches find.
 use pixel_segment::Packed;
-use pixel_segment::search::Found;
+use segment_rows::search::Found;
 ghost use mathlib.Core.Path.{_≡_};
 ghost use Rattle.pixel_segment.specs.Pack.{answerOf};
-ghost use Rattle.pixel_segment.specs.Search.{placeIn};
+ghost use Rattle.segment_rows.specs.Search.{placeIn};
 ghost use Rattle.ffi_numbers.specs.Numbers.{numberOf, valueOr, isFound, placeOf};
 
 // 0 and the word in `word`, or the number of the refusal.

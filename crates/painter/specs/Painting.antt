@@ -11,7 +11,7 @@ use lib.IntN.{ℤ}
 use lib.ListN.{length}
 use Rattle.laws.specs.Lists.{over, filter}
 use Rattle.pixel_segment.specs.Field.{cpu}
-use Rattle.pixel_segment.specs.Search.{layerPart}
+use Rattle.segment_rows.specs.Search.{layerPart}
 use Rattle.styling.specs.Lookup.{lookup}
 use Rattle.styling.specs.Table.{Table}
 use Rattle.styling.specs.declared.Func.{Func}

@@ -2,7 +2,7 @@
 use crate::Clip;
 use crate::clips;
 use crate::freed;
-use pixel_segment::parts;
+use segment_rows::parts;
 use styling::Func;
 use styling::Layer;
 ghost use mathlib.Core.Path.{_≡_};

@@ -1,11 +1,4 @@
--- Laws of packed words, their order and the searches.
+-- Laws of packed words and their order.
 pub mod Widths
-pub mod Ascending
-pub mod Halving
-pub mod Rows
-pub mod Sorted
 pub mod ReadBack
 pub mod Lexical
-pub mod Keys
-pub mod TileParts
-pub mod TileLayers

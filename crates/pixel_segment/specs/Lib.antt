@@ -2,4 +2,3 @@
 pub mod Field
 pub mod Pack
 pub mod Order
-pub mod Search

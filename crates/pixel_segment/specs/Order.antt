@@ -1,15 +1,12 @@
--- The order of segments, and a row in order. Stands for 'order compares only the upper 44 bits: tile y, tile x, layer' and for what
--- refusal 3 asks of a row: its segments don't descend, and none has another tile y. How two keys compare is a number, the rank of the
--- first: 0 below the second, 1 equal to it, 2 above it.
-use mathlib.Core.Bool.{Bool, true, false, cond, _&&_}
-use mathlib.Core.List.{List, [], _∷_}
-use Prim.Native.Nat.{ℕ, zero, suc, _/_, _^_, _≤_, _<_}
-use lib.Dec.{ltb, leb, eqb}
+-- The order of segments. Stands for 'order compares only the upper 44 bits: tile y, tile x, layer'. How two keys compare is a number,
+-- the rank of the first: 0 below the second, 1 equal to it, 2 above it.
+use mathlib.Core.Bool.{Bool, true, false, cond}
+use mathlib.Core.List.{List}
+use Prim.Native.Nat.{ℕ, zero, suc, _/_, _^_}
+use lib.Dec.{ltb}
 use lib.IntN.{ℤ}
-use lib.ListN.{length, getD}
 use lib.Signed.{ltZ}
-use Rattle.laws.specs.Lists.{all}
-use Rattle.pixel_segment.specs.Field.{shiftOf, tileYOf}
+use Rattle.pixel_segment.specs.Field.{shiftOf}
 use Rattle.pixel_segment.specs.declared.order.Ordering.{Ordering}
 use Rattle.pixel_segment.specs.declared.order.Ordering.the-variants.{Less, Equal, Greater}
 
@@ -52,28 +49,6 @@ compareBool false true = 0
 compareBool true false = 2
 compareBool true true = 1
 
--- the list doesn't descend by the key f: nothing below k, and nothing below what stands before it
-unfoldable pub ascendsFrom : (ℕ → ℕ) → ℕ → List ℕ → Bool
-ascendsFrom f k [] = true
-ascendsFrom f k (w ∷ ws) = leb k (f w) && ascendsFrom f (f w) ws
-
-abbrev pub ascends : (ℕ → ℕ) → List ℕ → Bool
-ascends f l = ascendsFrom f 0 l
-
--- a row in order: its segments don't descend, and each has the tile y (as it is stored)
-abbrev pub isRow : List ℕ → ℕ → List ℕ → Bool
-isRow ws ty row = ascends (orderKey ws) row && all (λ w. eqb (tileYOf ws w) ty) row
-
 -- the first rank, unless it says equal: then the next
 abbrev pub andThen : ℕ → ℕ → ℕ
 andThen r s = cond (isEq r) s r
-
--- ---- what functions over parts of a row in order ask
-
--- an earlier element has no greater number than a later one
-pub record Ordered (f : ℕ → ℕ) (l : List ℕ) : Type 0 where
-  pub up : (i j : ℕ) → i ≤ j → j < length l → f (getD l i 0) ≤ f (getD l j 0)
-
--- every word has 64 bits, as those of a lent row have
-pub record Words (l : List ℕ) : Type 0 where
-  pub small : (i : ℕ) → getD l i 0 < 2 ^ 64

@@ -1,9 +1,6 @@
-// The packed pixel segment (cpu/pixel_segment.rs): seven fields in a word of 64 bits, their order, and the searches in
-// a row of such words.
+// The packed pixel segment (cpu/pixel_segment.rs): seven fields in a word of 64 bits, and how two of them compare.
 pub mod consts;
 pub mod order;
-pub mod parts;
-pub mod search;
 
 use consts::BitField;
 use order::Ordering;

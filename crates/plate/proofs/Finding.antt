@@ -13,9 +13,9 @@ use Rattle.laws.proofs.Parts.{difference, taken}
 use Rattle.laws.proofs.Machine.{sfits}
 use Rattle.pixel_segment.specs.Field.{cpu, tileOf, tileYOf}
 use Rattle.pixel_segment.specs.Order.{isEq}
-use Rattle.pixel_segment.specs.Search.{Place, found, absent, searchOf, orderAt, afterOf}
-use Rattle.pixel_segment.specs.declared.search.Key.the-variants.{TileY, TileYNotNegative}
-use Rattle.pixel_segment.proofs.Halving.{after-le, found-lt, found-equal}
+use Rattle.segment_rows.specs.Search.{Place, found, absent, searchOf, orderAt, afterOf}
+use Rattle.segment_rows.specs.declared.search.Key.the-variants.{TileY, TileYNotNegative}
+use Rattle.segment_rows.proofs.Halving.{after-le, found-lt, found-equal}
 use Rattle.plate.specs.declared.Part.{Part}
 use Rattle.plate.specs.declared.Crop.{Crop}
 use Rattle.plate.specs.Crop.{isInCrop}

@@ -15,12 +15,13 @@ use Rattle.laws.specs.Sum.{countBy}
 use Rattle.laws.proofs.Orders.{le-or-lt}
 use Rattle.laws.proofs.Filtered.{filter-ext}
 use Rattle.pixel_segment.specs.Field.{cpu, tileOf, tileYOf}
-use Rattle.pixel_segment.specs.Order.{isLt, isEq, isGt, compareBool, Ordered}
-use Rattle.pixel_segment.specs.Search.{Place, searchOf, orderAt, afterOf, between, lastOf}
-use Rattle.pixel_segment.specs.declared.search.Key.the-variants.{TileY, TileYNotNegative}
-use Rattle.pixel_segment.proofs.Sorted.{Split, splits, sorted-search, above-from, below-to}
-use Rattle.pixel_segment.proofs.Keys.{tile-suc, le-tile}
-use Rattle.pixel_segment.proofs.TileParts.{after-search, having-part, search-below, from-part}
+use Rattle.pixel_segment.specs.Order.{isLt, isEq, isGt, compareBool}
+use Rattle.segment_rows.specs.Rows.{Ordered}
+use Rattle.segment_rows.specs.Search.{Place, searchOf, orderAt, afterOf, between, lastOf}
+use Rattle.segment_rows.specs.declared.search.Key.the-variants.{TileY, TileYNotNegative}
+use Rattle.segment_rows.proofs.Sorted.{Split, splits, sorted-search, above-from, below-to}
+use Rattle.segment_rows.proofs.Keys.{tile-suc, le-tile}
+use Rattle.segment_rows.proofs.TileParts.{after-search, having-part, search-below, from-part}
 use Rattle.plate.specs.Rows.{castOf, pastOf, startOf, notNegative, placeBy, placeOf, rowPart}
 use Rattle.plate.proofs.Neighbours.{neighbours, rank-up, tile-order, is-row}
 

@@ -15,12 +15,13 @@ use Rattle.laws.proofs.Orders.{le-or-lt}
 use Rattle.laws.proofs.Every.{all-at, all-intro}
 use Rattle.laws.proofs.Filtered.{filter-all, filter-none, filter-ext, filter-twice, all-own}
 use Rattle.pixel_segment.specs.Field.{cpu, tileOf, tileYOf}
-use Rattle.pixel_segment.specs.Order.{ascends, orderKey, isRow, Ordered, Words}
-use Rattle.pixel_segment.specs.Search.{Place, found, absent, searchOf, orderAt, between}
-use Rattle.pixel_segment.specs.declared.search.Key.the-variants.{TileY}
-use Rattle.pixel_segment.proofs.Ascending.{from-ordered, from-intro}
-use Rattle.pixel_segment.proofs.Rows.{tile-y-ordered}
-use Rattle.pixel_segment.proofs.TileLayers.{filter-ascends}
+use Rattle.pixel_segment.specs.Order.{orderKey}
+use Rattle.segment_rows.specs.Rows.{ascends, isRow, Ordered, Words}
+use Rattle.segment_rows.specs.Search.{Place, found, absent, searchOf, orderAt, between}
+use Rattle.segment_rows.specs.declared.search.Key.the-variants.{TileY}
+use Rattle.segment_rows.proofs.Ascending.{from-ordered, from-intro}
+use Rattle.segment_rows.proofs.Rows.{tile-y-ordered}
+use Rattle.segment_rows.proofs.TileLayers.{filter-ascends}
 use Rattle.plate.specs.Crop.{isInCrop}
 use Rattle.plate.specs.Rows.{castOf, placeBy, placeOf, notNegative, rowPart}
 use Rattle.plate.specs.Print as printing

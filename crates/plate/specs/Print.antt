@@ -3,7 +3,7 @@
 use mathlib.Core.Bool.{cond}
 use mathlib.Core.List.{List, [], _++_}
 use Prim.Native.Nat.{ℕ, zero, suc}
-use Rattle.pixel_segment.specs.Search.{between}
+use Rattle.segment_rows.specs.Search.{between}
 use Rattle.plate.specs.Crop.{isInCrop}
 use Rattle.plate.specs.Rows.{castOf, placeOf}
 use Rattle.plate.specs.declared.Crop.{Crop}

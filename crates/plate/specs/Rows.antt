@@ -7,8 +7,8 @@ use Prim.Native.Nat.{ℕ, suc}
 use lib.IntN.{ℤ, pos, _-ℤ_}
 use lib.ListN.{take, drop}
 use Rattle.pixel_segment.specs.Field.{signedOf}
-use Rattle.pixel_segment.specs.Search.{Place, found, absent, searchOf, orderAt, afterOf, between}
-use Rattle.pixel_segment.specs.declared.search.Key.the-variants.{TileY, TileYNotNegative}
+use Rattle.segment_rows.specs.Search.{Place, found, absent, searchOf, orderAt, afterOf, between}
+use Rattle.segment_rows.specs.declared.search.Key.the-variants.{TileY, TileYNotNegative}
 use Rattle.plate.specs.declared.Part.{Part}
 
 -- `j as i16`: the low 16 bits of a row number, signed. So row 65,535 is tile row -1, and row 65,536 is tile row 0 again

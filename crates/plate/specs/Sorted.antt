@@ -7,7 +7,7 @@ use Prim.Native.Nat.{ℕ, suc, _+_, _-_, _≤_, _<_}
 use lib.Dec.{leb, eqb}
 use Rattle.laws.specs.Lists.{filter}
 use Rattle.pixel_segment.specs.Field.{cpu, tileYOf}
-use Rattle.pixel_segment.specs.Order.{isRow}
+use Rattle.segment_rows.specs.Rows.{isRow}
 use Rattle.plate.specs.Crop.{isInCrop}
 use Rattle.plate.specs.Rows.{castOf, notNegative, placeOf, rowPart}
 use Rattle.plate.specs.Print.{skipped, row, printRow, printedPart, printedBelow}

@@ -1,12 +1,12 @@
 // Which part of all segments of a plate is a row, and which rows are printed (painter/mod.rs: `for_each_row`,
 // `print_row`). None of these functions refuses anything.
-use pixel_segment::parts;
-use pixel_segment::search;
-use pixel_segment::search::Found;
+use segment_rows::parts;
+use segment_rows::search;
+use segment_rows::search::Found;
 ghost use mathlib.Core.Path.{_≡_};
 ghost use Prim.Native.Nat.{_≤_};
 ghost use lib.ListN.{length};
-ghost use Rattle.pixel_segment.specs.Search.{between};
+ghost use Rattle.segment_rows.specs.Search.{between};
 ghost use Rattle.plate.specs.Rows.{castOf, startOf, notNegative, placeOf, rowPart};
 ghost use Rattle.plate.specs.Crop.{isInCrop};
 ghost use Rattle.plate.specs.Print.{printingIn, printRow, printedPart};

@@ -10,7 +10,7 @@ use lib.IntN.{ℤ, pos}
 use lib.ListN.{length, getD}
 use Rattle.laws.specs.Integer.{modℤ}
 use Rattle.pixel_segment.specs.Field.{cpu}
-use Rattle.pixel_segment.specs.Search.{leftPart, tilePart, layerPart}
+use Rattle.segment_rows.specs.Search.{leftPart, tilePart, layerPart}
 use Rattle.styling.specs.Ascending.{strictlyAscends}
 use Rattle.styling.specs.declared.FillRule.the-variants.{NonZero, EvenOdd}
 use Rattle.styling.specs.declared.Layer.{Layer}

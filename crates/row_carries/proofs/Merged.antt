@@ -14,7 +14,7 @@ use lib.ListN.{length, getD, length-map, List·getD-map}
 use Rattle.laws.proofs.Bools.{both, left, right, either-way}
 use Rattle.laws.proofs.Orders.{eq-or-ne}
 use Rattle.pixel_segment.specs.Field.{cpu, layerIdOf}
-use Rattle.pixel_segment.specs.Order.{Ordered}
+use Rattle.segment_rows.specs.Rows.{Ordered}
 use Rattle.styling.specs.Ascending.{strictlyAscendsFrom, strictlyAscends}
 use Rattle.styling.proofs.Ascents.{ascends-head, ascends-tail, ascends-low}
 use Rattle.queue_statements.specs.Queue.{Carry, idsIn, zeros, heldIn}

@@ -8,11 +8,11 @@ use lib.IntN.{ℤ, pos}
 use Rattle.laws.specs.Lists.{filter}
 use Rattle.laws.proofs.Filtered.{filter-twice}
 use Rattle.pixel_segment.specs.Field.{cpu, tileXOf, layerIdOf}
-use Rattle.pixel_segment.specs.Order.{Ordered}
-use Rattle.pixel_segment.specs.Search.{leftPart, tilePart, layerPart}
-use Rattle.pixel_segment.proofs.Keys.{tile-suc}
-use Rattle.pixel_segment.proofs.TileParts.{tile-part, left-part, layer-part}
-use Rattle.pixel_segment.proofs.TileLayers.{layers-ordered}
+use Rattle.segment_rows.specs.Rows.{Ordered}
+use Rattle.segment_rows.specs.Search.{leftPart, tilePart, layerPart}
+use Rattle.segment_rows.proofs.Keys.{tile-suc}
+use Rattle.segment_rows.proofs.TileParts.{tile-part, left-part, layer-part}
+use Rattle.segment_rows.proofs.TileLayers.{layers-ordered}
 use Rattle.cover_statements.specs.WholeRow as WholeRow
 use Rattle.queue_statements.specs.Opening.{ofLayer}
 use Rattle.row_carries.specs.Carries.{InOrder}

@@ -9,8 +9,8 @@ use lib.Dec.{eqb}
 use lib.IntN.{pos}
 use Rattle.laws.specs.Lists.{all}
 use Rattle.pixel_segment.specs.Field.{cpu}
-use Rattle.pixel_segment.specs.Order.{isRow, Words}
-use Rattle.pixel_segment.specs.Search.{leftPart, tilePart}
+use Rattle.segment_rows.specs.Rows.{isRow, Words}
+use Rattle.segment_rows.specs.Search.{leftPart, tilePart}
 use Rattle.styling.specs.declared.Layer.{Layer}
 use Rattle.queue_statements.specs.Queue.{Carry}
 use Rattle.queue_statements.specs.Opening.{openQueue}

@@ -13,9 +13,9 @@ use Rattle.laws.specs.Lists.{over}
 use Rattle.laws.proofs.Every.{all-at}
 use Rattle.laws.proofs.Rows.{length-over}
 use Rattle.pixel_segment.specs.Field.{cpu, layerIdOf}
-use Rattle.pixel_segment.specs.Order.{Ordered}
-use Rattle.pixel_segment.specs.Search.{tilePart}
-use Rattle.pixel_segment.proofs.TileParts.{layer-part}
+use Rattle.segment_rows.specs.Rows.{Ordered}
+use Rattle.segment_rows.specs.Search.{tilePart}
+use Rattle.segment_rows.proofs.TileParts.{layer-part}
 use Rattle.styling.specs.Ascending.{strictlyAscends}
 use Rattle.styling.specs.Lookup.{lookup}
 use Rattle.styling.specs.declared.Layer.{Layer}

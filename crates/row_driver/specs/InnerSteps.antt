@@ -7,7 +7,7 @@ use Prim.Native.Nat.{ℕ, _+_, _*_, _≤_}
 use lib.Ieee.{Float}
 use lib.IntN.{ℤ}
 use lib.ListN.{length}
-use Rattle.pixel_segment.specs.Search.{tilePart}
+use Rattle.segment_rows.specs.Search.{tilePart}
 use Rattle.queue_statements.specs.Queue.{idsIn, isQueue}
 use Rattle.cached_tile.specs.Kept.{noTile}
 use Rattle.tile_layers.specs.Listing.{incomingOf}

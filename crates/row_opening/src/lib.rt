@@ -1,12 +1,12 @@
 // Opening a tile row: judged by 1 to 4, then by 7 and 9, and its queue of carries written.
 use painter::Clip;
-use pixel_segment::order;
-use pixel_segment::parts;
 use queue_statements::Opening;
 use refusals::Refusal;
 use refusals::Verdict;
 use row_statements::Opened;
 use row_statements::RowState;
+use segment_rows::order;
+use segment_rows::parts;
 use styling::table;
 ghost use mathlib.Core.Path.{_≡_};
 ghost use Rattle.refusals.specs.Refusal.{judgementIn};

@@ -3,13 +3,13 @@
 use cover::carry;
 use painter::painting;
 use painter::painting::Painting;
-use pixel_segment::order;
-use pixel_segment::parts;
 use refusals::Refusal;
 use refusals::Verdict;
 use row_statements::PaintAnswer;
 use row_statements::Painted;
 use row_statements::RowState;
+use segment_rows::order;
+use segment_rows::parts;
 use styling::FillRule;
 use styling::Func;
 use styling::Layer;

@@ -14,8 +14,8 @@ use Rattle.laws.specs.Lists.{all, over}
 use Rattle.laws.proofs.Bools.{left, right}
 use Rattle.refusals.specs.Refusal.{pass, refuse}
 use Rattle.pixel_segment.specs.Field.{cpu, coverOf, tileOf}
-use Rattle.pixel_segment.specs.Order.{Words, ascendsFrom}
-use Rattle.pixel_segment.specs.Search.{halved, searchOf, leftPart, tilePart, layerPart}
+use Rattle.segment_rows.specs.Rows.{Words, ascendsFrom}
+use Rattle.segment_rows.specs.Search.{halved, searchOf, leftPart, tilePart, layerPart}
 use Rattle.styling.specs.Ascending.{strictlyAscendsFrom}
 use Rattle.styling.specs.Lookup.{lookup}
 use Rattle.styling.specs.Table.{isShort, isValid, isTable, layerAt, tableOf}

@@ -14,7 +14,7 @@ use Rattle.refusals.specs.Refusal.{Judgement, pass, refuse, numberOf}
 use Rattle.refusals.specs.declared.Refusal.{Refusal}
 use Rattle.refusals.proofs.Judging.{passed, or-left, or-right}
 use Rattle.pixel_segment.specs.Field.{cpu}
-use Rattle.pixel_segment.specs.Order.{isRow}
+use Rattle.segment_rows.specs.Rows.{isRow}
 use Rattle.queue_statements.specs.Queue.{idsIn, coversIn}
 use Rattle.queue_statements.specs.Opening.{openQueue, openAnswer, writtenIf, Opens}
 use Rattle.row_statements.specs.Lent.{Columns, isQueueShort, isTableShort, isTable}

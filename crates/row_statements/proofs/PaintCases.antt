@@ -7,9 +7,9 @@ use lib.Ieee.{nan}
 use lib.IntN.{ℤ, pos, negsuc}
 use lib.ListN.{replicate}
 use Rattle.pixel_segment.specs.Field.{cpu, coverOf, tileOf}
-use Rattle.pixel_segment.specs.Order.{ascendsFrom}
+use Rattle.segment_rows.specs.Rows.{ascendsFrom}
 use Rattle.pixel_segment.specs.Pack.{wordOf}
-use Rattle.pixel_segment.specs.Search.{halved, searchOf, tilePart, layerPart}
+use Rattle.segment_rows.specs.Search.{halved, searchOf, tilePart, layerPart}
 use Rattle.styling.specs.Ascending.{strictlyAscendsFrom}
 use Rattle.styling.specs.Lookup.{lookup}
 use Rattle.styling.specs.Table.{isShort, isValid, isTable, layerAt, tableOf}

@@ -17,7 +17,7 @@ use Rattle.laws.proofs.Parts.{whole, equal, lt-false}
 use Rattle.refusals.specs.Refusal.{Judgement, pass, refuse, unless, andThen}
 use Rattle.refusals.proofs.Judging.{passed, or-left, or-right}
 use Rattle.pixel_segment.specs.Field.{cpu}
-use Rattle.pixel_segment.specs.Search.{tilePart, layerPart}
+use Rattle.segment_rows.specs.Search.{tilePart, layerPart}
 use Rattle.styling.specs.Lookup.{lookup}
 use Rattle.styling.specs.declared.FillRule.{FillRule}
 use Rattle.styling.specs.declared.Layer.{Layer}

@@ -17,8 +17,8 @@ use Rattle.refusals.specs.Refusal.{Judgement, pass, refuse, numberOf}
 use Rattle.refusals.specs.declared.Refusal.{Refusal}
 use Rattle.refusals.proofs.Judging.{passed, or-left, or-right}
 use Rattle.pixel_segment.specs.Field.{cpu, layerIdOf}
-use Rattle.pixel_segment.specs.Order.{isRow, Ordered, Words}
-use Rattle.pixel_segment.specs.Search.{tilePart}
+use Rattle.segment_rows.specs.Rows.{isRow, Ordered, Words}
+use Rattle.segment_rows.specs.Search.{tilePart}
 use Rattle.styling.specs.Lookup.{lookup}
 use Rattle.styling.specs.declared.Layer.{Layer}
 use Rattle.styling.proofs.Judging as judged

@@ -10,7 +10,7 @@ use lib.IntN.{ℤ, pos, negsuc}
 use lib.ListN.{replicate}
 use Rattle.laws.specs.Lists.{tabulate}
 use Rattle.pixel_segment.specs.Field.{cpu, coverOf}
-use Rattle.pixel_segment.specs.Order.{ascendsFrom}
+use Rattle.segment_rows.specs.Rows.{ascendsFrom}
 use Rattle.pixel_segment.specs.Pack.{wordOf}
 use Rattle.styling.specs.Ascending.{strictlyAscendsFrom}
 use Rattle.styling.specs.Lookup.{lookup}

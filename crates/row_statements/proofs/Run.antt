@@ -16,8 +16,8 @@ use Rattle.laws.specs.Integer.{plus}
 use Rattle.laws.proofs.Bools.{not-true, clash}
 use Rattle.laws.proofs.Parts.{whole, equal}
 use Rattle.refusals.specs.Refusal.{Judgement, pass, refuse}
-use Rattle.pixel_segment.specs.Order.{Words}
-use Rattle.pixel_segment.specs.Search.{leftPart}
+use Rattle.segment_rows.specs.Rows.{Words}
+use Rattle.segment_rows.specs.Search.{leftPart}
 use Rattle.styling.specs.Ascending.{strictlyAscends}
 use Rattle.styling.proofs.Judging.{table-short}
 use Rattle.queue_statements.specs.Queue.{Carry, idsIn}

@@ -16,7 +16,7 @@ use Rattle.laws.specs.Integer.{plus}
 use Rattle.laws.specs.Lists.{over}
 use Rattle.refusals.specs.Refusal.{Judgement, pass, refuse, unless, andThen, numberOf}
 use Rattle.refusals.proofs.Judging.{passed, or-left, or-right}
-use Rattle.pixel_segment.specs.Search.{tilePart}
+use Rattle.segment_rows.specs.Search.{tilePart}
 use Rattle.queue_statements.specs.Queue.{Carry, isQueue}
 use Rattle.queue_statements.proofs.Columns.{areWide}
 use Rattle.cached_tile.specs.Kept.{tagOutOfRange, previousCount}

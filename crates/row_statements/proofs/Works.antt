@@ -16,8 +16,8 @@ use Rattle.refusals.specs.Refusal.{Judgement, pass, refuse, numberOf}
 use Rattle.refusals.specs.declared.Refusal.{Refusal}
 use Rattle.refusals.proofs.Judging.{passed, or-left, or-right}
 use Rattle.pixel_segment.specs.Field.{cpu, layerIdOf}
-use Rattle.pixel_segment.specs.Order.{Words, Ordered, isRow}
-use Rattle.pixel_segment.specs.Search.{tilePart}
+use Rattle.segment_rows.specs.Rows.{Words, Ordered, isRow}
+use Rattle.segment_rows.specs.Search.{tilePart}
 use Rattle.styling.proofs.Judging as table-judging
 use Rattle.styling.specs.declared.Layer.{Layer}
 use Rattle.queue_statements.specs.Queue.{isQueue}

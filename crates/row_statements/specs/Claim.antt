@@ -10,7 +10,7 @@ use lib.ListN.{length, take, replicate}
 use Rattle.laws.specs.Answer.{refused}
 use Rattle.refusals.specs.Refusal.{Judgement, pass, refuse}
 use Rattle.pixel_segment.specs.Field.{cpu}
-use Rattle.pixel_segment.specs.Order.{Words}
+use Rattle.segment_rows.specs.Rows.{Words}
 use Rattle.styling.specs.Lookup.{lookup}
 use Rattle.styling.specs.declared.Color.{Color}
 use Rattle.styling.specs.declared.FillRule.{FillRule}

@@ -13,7 +13,7 @@ use lib.Signed.{ltZ}
 use Rattle.laws.specs.Integer.{plus}
 use Rattle.refusals.specs.Refusal.{Judgement, pass, refuse, unless}
 use Rattle.pixel_segment.specs.Field.{cpu}
-use Rattle.pixel_segment.specs.Search.{tilePart}
+use Rattle.segment_rows.specs.Search.{tilePart}
 use Rattle.styling.specs.declared.Color.{Color}
 use Rattle.styling.specs.declared.Func.{Func}
 use Rattle.styling.specs.declared.Layer.{Layer}

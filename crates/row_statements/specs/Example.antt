@@ -10,7 +10,7 @@ use lib.ListN.{length, replicate}
 use Rattle.laws.specs.Lists.{tabulate}
 use Rattle.refusals.specs.Refusal.{Judgement, pass, refuse}
 use Rattle.pixel_segment.specs.Field.{cpu}
-use Rattle.pixel_segment.specs.Order.{Words}
+use Rattle.segment_rows.specs.Rows.{Words}
 use Rattle.pixel_segment.specs.Pack.{wordOf}
 use Rattle.styling.specs.declared.Color.{Color}
 use Rattle.queue_statements.specs.Queue.{idsIn}

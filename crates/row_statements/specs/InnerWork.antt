@@ -9,8 +9,8 @@ use Rattle.laws.specs.Integer.{plus, minus}
 use Rattle.refusals.specs.Refusal.{Judgement, pass, unless, judgementIn}
 use Rattle.refusals.specs.declared.Refusal.{Refusal}
 use Rattle.pixel_segment.specs.Field.{cpu}
-use Rattle.pixel_segment.specs.Order.{isRow}
-use Rattle.pixel_segment.specs.Search.{tilePart}
+use Rattle.segment_rows.specs.Rows.{isRow}
+use Rattle.segment_rows.specs.Search.{tilePart}
 use Rattle.styling.specs.Table.{Table}
 use Rattle.styling.specs.declared.Layer.{Layer}
 use Rattle.queue_statements.specs.Queue.{isQueue}

@@ -12,8 +12,8 @@ use Rattle.laws.specs.Answer.{Answer, refused, given}
 use Rattle.laws.specs.Integer.{plus}
 use Rattle.refusals.specs.Refusal.{Judgement, pass, refuse, unless, numberOf}
 use Rattle.pixel_segment.specs.Field.{cpu}
-use Rattle.pixel_segment.specs.Order.{isRow}
-use Rattle.pixel_segment.specs.Search.{leftPart}
+use Rattle.segment_rows.specs.Rows.{isRow}
+use Rattle.segment_rows.specs.Search.{leftPart}
 use Rattle.queue_statements.specs.Queue.{Carry}
 use Rattle.queue_statements.specs.Opening.{openQueue, openAnswer}
 use Rattle.row_statements.specs.Lent.{Columns, LentTable, isQueueShort, isTableShort, isTable, queueOver}

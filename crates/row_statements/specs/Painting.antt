@@ -14,8 +14,8 @@ use Rattle.laws.specs.Answer.{Answer, refused, given}
 use Rattle.laws.specs.Lists.{over}
 use Rattle.refusals.specs.Refusal.{Judgement, pass, refuse, unless, andThen, numberOf}
 use Rattle.pixel_segment.specs.Field.{cpu}
-use Rattle.pixel_segment.specs.Order.{isRow}
-use Rattle.pixel_segment.specs.Search.{tilePart}
+use Rattle.segment_rows.specs.Rows.{isRow}
+use Rattle.segment_rows.specs.Search.{tilePart}
 use Rattle.styling.specs.Lookup.{lookup}
 use Rattle.styling.specs.declared.FillRule.the-variants.{NonZero}
 use Rattle.styling.specs.declared.Func.the-variants.{Clip}

@@ -1,10 +1,10 @@
 // The judges of tile work: refusals 1 to 6 by the arguments, and 7 to 9 by the tile's layers.
 use cached_tile::kept::Kept;
-use pixel_segment::order;
 use refusals::Refusal;
 use refusals::Verdict;
 use row_statements::ListJudged;
 use row_statements::RowState;
+use segment_rows::order;
 use styling::table;
 use tile_layers::listing;
 ghost use mathlib.Core.Path.{_≡_};

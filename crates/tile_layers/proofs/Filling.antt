@@ -16,7 +16,7 @@ use Rattle.laws.proofs.Bools.{left, right}
 use Rattle.laws.proofs.Drops.{cons-lt}
 use Rattle.laws.proofs.Orders.{le-or-lt}
 use Rattle.laws.proofs.Rows.{filled}
-use Rattle.pixel_segment.specs.Search.{between}
+use Rattle.segment_rows.specs.Search.{between}
 use Rattle.cover_statements.specs.Entry.{putEntry}
 use Rattle.queue_statements.specs.Queue.{Carry, coversIn}
 use Rattle.queue_statements.proofs.Columns.{isWide, areWide, length-covers}

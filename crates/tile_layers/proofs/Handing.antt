@@ -13,7 +13,7 @@ use Rattle.laws.proofs.Every.{all-at}
 use Rattle.laws.proofs.Filtered.{all-kept, length-filter}
 use Rattle.laws.proofs.Rows.{filled, filled-more, filled-all, length-filled}
 use Rattle.pixel_segment.specs.Field.{cpu}
-use Rattle.pixel_segment.specs.Search.{between}
+use Rattle.segment_rows.specs.Search.{between}
 use Rattle.cover_statements.specs.Carry.{isLight, carryOf}
 use Rattle.cover_statements.specs.Entry.{entryOf, putEntry}
 use Rattle.styling.specs.declared.Layer.{Layer}

@@ -9,7 +9,7 @@ use lib.Dec.{leb, ltb, eqb}
 use lib.ListN.{length, getD}
 use Rattle.laws.proofs.Bools.{both}
 use Rattle.pixel_segment.specs.Field.{cpu, layerIdOf}
-use Rattle.pixel_segment.specs.Order.{Ordered}
+use Rattle.segment_rows.specs.Rows.{Ordered}
 use Rattle.styling.specs.Ascending.{strictlyAscendsFrom, strictlyAscends}
 use Rattle.styling.proofs.Ascents.{ascends-head, ascends-tail}
 use Rattle.queue_statements.specs.Queue.{Carry, idsIn}

@@ -11,12 +11,13 @@ use lib.ListN.{length, getD, take, drop, length-drop}
 use lib.Seq.{getD-drop, drop-drop}
 use Rattle.laws.specs.Sum.{countBy}
 use Rattle.pixel_segment.specs.Field.{cpu, layerIdOf}
-use Rattle.pixel_segment.specs.Order.{Ordered, compareOf, isLt, isEq}
-use Rattle.pixel_segment.specs.Search.{found, searchOf, orderAt, lastOf}
-use Rattle.pixel_segment.specs.declared.search.Key.the-variants.{LayerId}
-use Rattle.pixel_segment.proofs.Sorted.{Split, splits, sorted-search}
+use Rattle.pixel_segment.specs.Order.{compareOf, isLt, isEq}
+use Rattle.segment_rows.specs.Rows.{Ordered}
+use Rattle.segment_rows.specs.Search.{found, searchOf, orderAt, lastOf}
+use Rattle.segment_rows.specs.declared.search.Key.the-variants.{LayerId}
+use Rattle.segment_rows.proofs.Sorted.{Split, splits, sorted-search}
 use Rattle.pixel_segment.proofs.Lexical.{compare-equal}
-use Rattle.pixel_segment.proofs.Keys.{sorted-by, is-eq}
+use Rattle.segment_rows.proofs.Keys.{sorted-by, is-eq}
 use Rattle.tile_layers.specs.Groups.{Group, single, joinTo, groupsOf}
 use Rattle.tile_layers.specs.Walk.{GroupEnds}
 

@@ -12,7 +12,7 @@ use lib.Seq.{drop-cons}
 use lib.IntN.{ℤ}
 use Rattle.laws.proofs.Rows.{length-tabulate, getD-tabulate}
 use Rattle.pixel_segment.specs.Field.{cpu, layerIdOf}
-use Rattle.pixel_segment.specs.Search.{between}
+use Rattle.segment_rows.specs.Search.{between}
 use Rattle.cover_statements.specs.Entry.{entryOf}
 use Rattle.queue_statements.specs.Queue.{Carry, carryAt, queueOf, zeros}
 use Rattle.tile_layers.specs.Groups.{Group, groupsOf}

@@ -6,8 +6,8 @@ use Prim.Native.Nat.{ℕ, _+_, _≤_, _<_}
 use lib.IntN.{ℤ}
 use lib.ListN.{length, drop, getD}
 use Rattle.pixel_segment.specs.Field.{cpu, layerIdOf}
-use Rattle.pixel_segment.specs.Order.{Ordered}
-use Rattle.pixel_segment.specs.Search.{between}
+use Rattle.segment_rows.specs.Rows.{Ordered}
+use Rattle.segment_rows.specs.Search.{between}
 use Rattle.cover_statements.specs.Entry.{entryOf}
 use Rattle.queue_statements.specs.Queue.{queueOf, zeros}
 use Rattle.tile_layers.specs.Groups.{groupsOf}

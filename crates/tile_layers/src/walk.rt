@@ -1,14 +1,14 @@
 // A walk over the incoming queue and a tile's part of the row in step: both ascend by layer id, so each layer of either is met once.
 use pixel_segment::PixelSegment;
-use pixel_segment::search;
-use pixel_segment::search::Found;
+use segment_rows::search;
+use segment_rows::search::Found;
 ghost use mathlib.Core.Path.{_≡_};
 ghost use Prim.Native.Nat.{_+_, _≤_, _<_};
 ghost use lib.IntN.{ℤ};
 ghost use mathlib.Core.List.{List};
 ghost use lib.ListN.{length, getD};
 ghost use Rattle.pixel_segment.specs.Field.{cpu, layerIdOf};
-ghost use Rattle.pixel_segment.specs.Order.{Ordered};
+ghost use Rattle.segment_rows.specs.Rows.{Ordered};
 ghost use Rattle.tile_layers.specs.Walk.{Walks, GroupEnds, Stepped, Moved};
 
 // The next layer: its id, whether it has a carry, and the places after it in the queue and in the part.

@@ -4,9 +4,9 @@ use mathlib.Core.Bool.{false}
 use native.Mathlib.Omega.{arith}
 use native.Mathlib.Numerals.{add-one}
 use borrow.Author.Needs.{needs}
-use Rattle.pixel_segment.specs.Search.{found, placeIn, searchOf, orderAt}
-use Rattle.pixel_segment.specs.declared.search.Key.the-variants.{TileYNotNegative}
-use Rattle.pixel_segment.proofs.Halving.{found-lt}
+use Rattle.segment_rows.specs.Search.{found, placeIn, searchOf, orderAt}
+use Rattle.segment_rows.specs.declared.search.Key.the-variants.{TileYNotNegative}
+use Rattle.segment_rows.proofs.Halving.{found-lt}
 use Rattle.plate.specs.Rows.{startOf, pastOf}
 use Rattle.plate.proofs.find_not_negative.Statement.{statement}
 use Rattle.plate.proofs.find_not_negative.Tie as tie

@@ -8,9 +8,9 @@ use mir.Syntax.{w16}
 use mir.Val.{SFits, toZ, ofZ}
 use mir.Facts.{toZ-ofZ}
 use Rattle.laws.proofs.Machine.{kept}
-use Rattle.pixel_segment.specs.Search.{found, placeIn, searchOf, orderAt, afterOf}
-use Rattle.pixel_segment.specs.declared.search.Key.the-variants.{TileY}
-use Rattle.pixel_segment.proofs.Halving.{told-le, found-lt}
+use Rattle.segment_rows.specs.Search.{found, placeIn, searchOf, orderAt, afterOf}
+use Rattle.segment_rows.specs.declared.search.Key.the-variants.{TileY}
+use Rattle.segment_rows.proofs.Halving.{told-le, found-lt}
 use Rattle.plate.specs.Rows.{castOf}
 use Rattle.plate.proofs.Finding.{row-found, row-absent, above-fits}
 use Rattle.plate.proofs.find_row.Statement.{statement}

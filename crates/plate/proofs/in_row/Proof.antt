@@ -1,7 +1,7 @@
 -- `in_row` meets its contract. Assumes nothing.
 use mathlib.Core.Path.{ap, _∙_}
 use borrow.Author.Needs.{needs}
-use Rattle.pixel_segment.specs.Search.{between}
+use Rattle.segment_rows.specs.Search.{between}
 use Rattle.plate.specs.Rows.{castOf, rowPart}
 use Rattle.plate.specs.declared.Part.{Part}
 use Rattle.plate.proofs.Finding.{place-inside}

@@ -7,7 +7,7 @@ use borrow.Author.Needs.{needs}
 use mir.Facts.{toZ-ofZ}
 use Rattle.laws.specs.Integer.{plus}
 use Rattle.pixel_segment.specs.Field.{cpu}
-use Rattle.pixel_segment.specs.Order.{isRow}
+use Rattle.segment_rows.specs.Rows.{isRow}
 use Rattle.row_statements.specs.Opening.{openVerdict, hasBadEnds}
 use Rattle.row_opening.proofs.judge_opening.Statement.{statement}
 use Rattle.row_opening.proofs.judge_opening.Tie as tie

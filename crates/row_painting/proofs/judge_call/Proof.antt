@@ -5,7 +5,7 @@ use native.Mathlib.Numerals.{add-one}
 use borrow.Author.Needs.{needs}
 use mir.Facts.{toZ-ofZ}
 use Rattle.pixel_segment.specs.Field.{cpu}
-use Rattle.pixel_segment.specs.Order.{isRow}
+use Rattle.segment_rows.specs.Rows.{isRow}
 use Rattle.row_statements.specs.State.{stateIn, isWrongWorked}
 use Rattle.row_statements.specs.Painting.{callVerdict}
 use Rattle.row_painting.proofs.judge_call.Statement.{statement}

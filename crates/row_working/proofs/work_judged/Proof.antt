@@ -7,7 +7,7 @@ use mir.Val.{SFits}
 use mir.Facts.{toZ-ofZ}
 use Rattle.laws.proofs.Machine.{sfits}
 use Rattle.laws.proofs.Parts.{whole}
-use Rattle.pixel_segment.specs.Search.{tilePart}
+use Rattle.segment_rows.specs.Search.{tilePart}
 use Rattle.refusals.specs.Refusal.{judgementIn}
 use Rattle.row_statements.specs.Lent.{columns, listColumns, lentTable, layersOf}
 use Rattle.row_statements.specs.State.{stateIn}

@@ -1,6 +1,6 @@
 -- P5, from the contracts. Assumes nothing.
 use borrow.Author.Needs.{needs}
-use Rattle.pixel_segment.specs.Search.{searchOf, halved}
+use Rattle.segment_rows.specs.Search.{searchOf, halved}
 use Rattle.cases.proofs.words.p5_absent.Statement.{statement}
 use Rattle.cases.proofs.words.p5_absent.Tie as tie
 

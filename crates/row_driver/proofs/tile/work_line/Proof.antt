@@ -7,7 +7,7 @@ use mir.Val.{SFits}
 use mir.Facts.{toZ-ofZ}
 use Rattle.laws.proofs.Machine.{sfits}
 use Rattle.laws.proofs.Parts.{whole}
-use Rattle.pixel_segment.specs.Search.{tilePart}
+use Rattle.segment_rows.specs.Search.{tilePart}
 use Rattle.row_statements.specs.Lent.{columns, listColumns}
 use Rattle.row_statements.specs.TileWork.{WorkCall, WorkLent, workLent, GivesWork}
 use Rattle.row_statements.specs.InnerWork.{workedBy}

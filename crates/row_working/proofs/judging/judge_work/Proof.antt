@@ -6,7 +6,7 @@ use native.Mathlib.Numerals.{add-one}
 use borrow.Author.Needs.{needs}
 use mir.Facts.{toZ-ofZ}
 use Rattle.pixel_segment.specs.Field.{cpu}
-use Rattle.pixel_segment.specs.Order.{isRow}
+use Rattle.segment_rows.specs.Rows.{isRow}
 use Rattle.row_statements.specs.State.{stateIn, isWrongNext}
 use Rattle.row_statements.specs.InnerWork.{judgedBy}
 use Rattle.row_working.proofs.judging.judge_work.Statement.{statement}

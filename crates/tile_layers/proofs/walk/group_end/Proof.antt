@@ -8,8 +8,8 @@ use borrow.Author.Needs.{needs}
 use lib.ListN.{length, getD, drop, length-drop}
 use lib.Seq.{getD-drop, take-all}
 use Rattle.pixel_segment.specs.Field.{cpu, layerIdOf}
-use Rattle.pixel_segment.specs.Search.{Place, found, absent, placeIn, searchOf, orderAt}
-use Rattle.pixel_segment.specs.declared.search.Key.the-variants.{LayerId}
+use Rattle.segment_rows.specs.Search.{Place, found, absent, placeIn, searchOf, orderAt}
+use Rattle.segment_rows.specs.declared.search.Key.the-variants.{LayerId}
 use Rattle.tile_layers.proofs.Runs.{Grouped, grouped, ordered-drop, ends-at}
 use Rattle.tile_layers.proofs.walk.group_end.Statement.{statement}
 use Rattle.tile_layers.proofs.walk.group_end.Tie as tie

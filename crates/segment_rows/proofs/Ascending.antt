@@ -1,0 +1,59 @@
+-- Laws of ascending lists: how a loop over one goes, and what it says of any two elements. Assumes nothing.
+use mathlib.Core.Path.{_≡_, refl, ap, sym, _∙_}
+use mathlib.Core.Bool.{Bool, true, _&&_, and-assoc}
+use mathlib.Core.List.{List, [], _∷_}
+use Prim.Native.Nat.{ℕ, zero, suc, _+_, _≤_, _<_}
+use native.Mathlib.Nat.{not-suc-le-zero, le-of-suc-le-suc}
+use native.Mathlib.Numerals.{add-one}
+use native.Mathlib.Omega.{arith}
+use borrow.Author.Tests.{leb-true, le-leb}
+use lib.Dec.{leb}
+use lib.ListN.{length, getD, drop, drop-of-length-le}
+use lib.Seq.{drop-cons}
+use Rattle.laws.proofs.Bools.{left, right, both}
+use Rattle.segment_rows.specs.Rows.{ascendsFrom, ascends}
+
+module _ (f : ℕ → ℕ) where
+  pub ascends-step : (k : ℕ) (l : List ℕ) (i : ℕ) → i < length l → ascendsFrom f k (drop i l) ≡ (leb k (f (getD l i 0)) && ascendsFrom f (f (getD l i 0)) (drop (i + 1) l))
+  unfolding ascendsFrom
+  ascends-step k l i h = rw add-one (ap (ascendsFrom f k) (drop-cons l i 0 h))
+
+  pub ascends-end : (k : ℕ) (l : List ℕ) (i : ℕ) → length l ≤ i → ascendsFrom f k (drop i l) ≡ true
+  unfolding ascendsFrom
+  ascends-end k l i h = ap (ascendsFrom f k) (drop-of-length-le l h)
+
+  -- a turn of a loop over the list: what is found so far and what is left make the whole
+  pub ascends-again : (ok whole : Bool) (k : ℕ) (l : List ℕ) (i next : ℕ) → i < length l → next ≡ f (getD l i 0) → (ok && ascendsFrom f k (drop i l)) ≡ whole → (ok && leb k next && ascendsFrom f next (drop (i + 1) l)) ≡ whole
+  ascends-again ok whole k l i next h e p =
+      rw e
+      (and-assoc ok (leb k (f (getD l i 0))) (ascendsFrom f (f (getD l i 0)) (drop (i + 1) l))
+      ∙ ap (λ (t : Bool). ok && t) (sym (ascends-step k l i h))
+      ∙ p)
+
+  -- every element is at least the start
+  pub from-le : (k : ℕ) (l : List ℕ) → ascendsFrom f k l ≡ true → (i : ℕ) → i < length l → k ≤ f (getD l i 0)
+  unfolding ascendsFrom
+  from-le k [] e i h = absurd (not-suc-le-zero h)
+  from-le k (w ∷ ws) e zero h = leb-true k (f w) (left (leb k (f w)) (ascendsFrom f (f w) ws) e)
+  from-le k (w ∷ ws) e (suc i) h =
+      let a : k ≤ f w = leb-true k (f w) (left (leb k (f w)) (ascendsFrom f (f w) ws) e) in
+      let b : f w ≤ f (getD ws i 0) = from-le (f w) ws (right (leb k (f w)) (ascendsFrom f (f w) ws) e) i (le-of-suc-le-suc h) in
+      omega arith
+
+  -- an earlier element is at most a later one
+  pub from-ordered : (k : ℕ) (l : List ℕ) → ascendsFrom f k l ≡ true → (i j : ℕ) → i ≤ j → j < length l → f (getD l i 0) ≤ f (getD l j 0)
+  unfolding ascendsFrom
+  from-ordered k [] e i j h g = absurd (not-suc-le-zero g)
+  from-ordered k (w ∷ ws) e zero zero h g = omega arith
+  from-ordered k (w ∷ ws) e zero (suc j) h g = from-le (f w) ws (right (leb k (f w)) (ascendsFrom f (f w) ws) e) j (le-of-suc-le-suc g)
+  from-ordered k (w ∷ ws) e (suc i) zero h g = absurd (not-suc-le-zero h)
+  from-ordered k (w ∷ ws) e (suc i) (suc j) h g =
+      from-ordered (f w) ws (right (leb k (f w)) (ascendsFrom f (f w) ws) e) i j (le-of-suc-le-suc h) (le-of-suc-le-suc g)
+
+  -- the other way: a list whose earlier elements are at most the later ones ascends
+  pub from-intro : (k : ℕ) (l : List ℕ) → ((i : ℕ) → i < length l → k ≤ f (getD l i 0)) → ((i j : ℕ) → i ≤ j → j < length l → f (getD l i 0) ≤ f (getD l j 0)) → ascendsFrom f k l ≡ true
+  unfolding ascendsFrom
+  from-intro k [] low h = refl
+  from-intro k (w ∷ ws) low h =
+      both (leb k (f w)) (ascendsFrom f (f w) ws) (le-leb k (f w) (low 0 (omega arith)))
+      (from-intro (f w) ws (λ i p. h 0 (suc i) (omega arith) (omega arith)) (λ i j p q. h (suc i) (suc j) (omega arith) (omega arith)))

@@ -1,0 +1,132 @@
+-- Laws of the halving: how a turn of a search's loop goes, by a test whether an element is above the key. Assumes nothing.
+use mathlib.Core.Path.{_≡_, refl, sym, ap, ap₂, _∙_}
+use mathlib.Core.Bool.{Bool, true, false, cond}
+use mathlib.Core.List.{List, [], _∷_}
+use mathlib.Core.Logic.{⊎-elim}
+use Prim.Native.Nat.{ℕ, zero, suc, _+_, _-_, _/_, _≤_, _<_}
+use native.Mathlib.Nat.{not-suc-le-zero}
+use native.Mathlib.Omega.{arith}
+use borrow.Author.Tests.{lt-ltb, le-ltb}
+use lib.ListN.{length, getD}
+use Rattle.laws.proofs.Orders.{le-or-lt}
+use Rattle.laws.proofs.Bools.{either}
+use Rattle.pixel_segment.specs.Order.{isGt}
+use Rattle.segment_rows.specs.Search.{Place, found, absent, halved, ended, searchOf, afterOf}
+
+module _ (isAbove : ℕ → Bool) (l : List ℕ) where
+  -- a turn with more than one element
+  turn : (turns start len : ℕ) → 1 < len → halved isAbove l (suc turns) start len ≡ cond (isAbove (getD l (start + len / 2) 0)) (halved isAbove l turns start (len / 2)) (halved isAbove l turns (start + len / 2) (len - len / 2))
+  unfolding halved
+  turn turns start len h =
+      ap (λ (t : Bool). cond t (cond (isAbove (getD l (start + len / 2) 0)) (halved isAbove l turns start (len / 2)) (halved isAbove l turns (start + len / 2) (len - len / 2))) start)
+      (lt-ltb 1 len h)
+
+  -- no turn is left to do
+  pub halved-end : (turns start len : ℕ) → len ≤ 1 → halved isAbove l turns start len ≡ start
+  unfolding halved
+  halved-end zero start len h = refl
+  halved-end (suc turns) start len h = rw (le-ltb 1 len h)
+
+  -- more turns than elements change nothing
+  enough : (m n start len : ℕ) → len ≤ m → len ≤ n → halved isAbove l m start len ≡ halved isAbove l n start len
+  enough zero n start len h g = halved-end zero start len (omega arith) ∙ sym (halved-end n start len (omega arith))
+  enough (suc m) zero start len h g = halved-end (suc m) start len (omega arith) ∙ sym (halved-end zero start len (omega arith))
+  enough (suc m) (suc n) start len h g =
+      let low : len / 2 ≤ m → len / 2 ≤ n → halved isAbove l m start (len / 2) ≡ halved isAbove l n start (len / 2) = enough m n start (len / 2) in
+      let high : len - len / 2 ≤ m → len - len / 2 ≤ n → halved isAbove l m (start + len / 2) (len - len / 2) ≡ halved isAbove l n (start + len / 2) (len - len / 2) = enough m n (start + len / 2) (len - len / 2) in
+      ⊎-elim
+      (λ (q : len ≤ 1). halved-end (suc m) start len q ∙ sym (halved-end (suc n) start len q))
+      (λ (q : 1 < len).
+      turn m start len q
+      ∙ ap₂ (λ (a b : ℕ). cond (isAbove (getD l (start + len / 2) 0)) a b) (low (omega arith) (omega arith)) (high (omega arith) (omega arith))
+      ∙ sym (turn n start len q))
+      (le-or-lt len 1)
+
+  -- a turn of the loop: the left half where the middle element is greater, else from the middle on
+  by-middle : (start len : ℕ) (t : Bool) → 1 < len → isAbove (getD l (start + len / 2) 0) ≡ t → halved isAbove l len start len ≡ cond t (halved isAbove l len start (len / 2)) (halved isAbove l len (start + len / 2) (len - len / 2))
+  by-middle start len t h e =
+      enough len (suc len) start len (omega arith) (omega arith)
+      ∙ turn len start len h
+      ∙ ap (λ (b : Bool). cond b (halved isAbove l len start (len / 2)) (halved isAbove l len (start + len / 2) (len - len / 2))) e
+
+  pub halved-left : (start len : ℕ) → 1 < len → isAbove (getD l (start + len / 2) 0) ≡ true → halved isAbove l len start len ≡ halved isAbove l (len / 2) start (len / 2)
+  halved-left start len h e = by-middle start len true h e ∙ enough len (len / 2) start (len / 2) (omega arith) (omega arith)
+
+  pub halved-right : (start len : ℕ) → 1 < len → isAbove (getD l (start + len / 2) 0) ≡ false → halved isAbove l len start len ≡ halved isAbove l (len - len / 2) (start + len / 2) (len - len / 2)
+  halved-right start len h e =
+      by-middle start len false h e ∙ enough len (len - len / 2) (start + len / 2) (len - len / 2) (omega arith) (omega arith)
+
+-- the whole search, of a list that is not empty
+pub search-is : (at : ℕ → ℕ) (l : List ℕ) → 0 < length l → searchOf at l ≡ ended (at (getD l (halved (λ w. isGt (at w)) l (length l) 0 (length l)) 0)) (halved (λ w. isGt (at w)) l (length l) 0 (length l))
+unfolding searchOf
+search-is at [] h = absurd (not-suc-le-zero h)
+search-is at (w ∷ ws) h = refl
+
+pub search-empty : (at : ℕ → ℕ) (l : List ℕ) → length l ≡ 0 → absent 0 ≡ searchOf at l
+unfolding searchOf
+search-empty at [] h = refl
+search-empty at (w ∷ ws) h = absurd (omega arith)
+
+-- ---- the answer stays inside the list
+
+halved-lt : (isAbove : ℕ → Bool) (l : List ℕ) (turns start len : ℕ) → 1 ≤ len → len ≤ turns → halved isAbove l len start len < start + len
+halved-lt isAbove l zero start len h t = absurd (omega arith)
+halved-lt isAbove l (suc turns) start len h t =
+    let low = halved-lt isAbove l turns start (len / 2) in
+    let high = halved-lt isAbove l turns (start + len / 2) (len - len / 2) in
+    ⊎-elim
+    (λ (one : len ≤ 1). rw (halved-end isAbove l len start len one) (omega arith))
+    (λ (many : 1 < len).
+    ⊎-elim
+    (λ (g : isAbove (getD l (start + len / 2) 0) ≡ true).
+    let b = low (omega arith) (omega arith) in
+    rw (halved-left isAbove l start len many g) (omega (arith, b)))
+    (λ (g : isAbove (getD l (start + len / 2) 0) ≡ false).
+    let b = high (omega arith) (omega arith) in
+    rw (halved-right isAbove l start len many g) (omega (arith, b)))
+    (either (isAbove (getD l (start + len / 2) 0))))
+    (le-or-lt len 1)
+
+-- where the search ends, and what it tells there
+abbrev endOf : (ℕ → ℕ) → List ℕ → ℕ
+endOf at l = halved (λ w. isGt (at w)) l (length l) 0 (length l)
+
+end-lt : (at : ℕ → ℕ) (l : List ℕ) → 0 < length l → endOf at l < length l
+end-lt at l some = omega (arith, halved-lt (λ w. isGt (at w)) l (length l) 0 (length l) some (omega arith))
+
+pub after-le : (at : ℕ → ℕ) (l : List ℕ) → afterOf (searchOf at l) ≤ length l
+after-le at l =
+    ⊎-elim
+    (λ (none : length l ≤ 0). rw (← search-empty at l (omega arith)) (omega arith))
+    (λ (some : 0 < length l). rw (search-is at l some) (inside (at (getD l (endOf at l) 0)) (endOf at l) (end-lt at l some)))
+    (le-or-lt (length l) 0)
+  where
+    inside : (r s : ℕ) → s < length l → afterOf (ended r s) ≤ length l
+    inside zero s h = omega arith
+    inside (suc zero) s h = omega arith
+    inside (suc (suc r)) s h = omega arith
+
+pub told-le : (at : ℕ → ℕ) (l : List ℕ) {p : Place} → p ≡ searchOf at l → afterOf p ≤ length l
+told-le at l e = rw e (after-le at l)
+
+-- what is found is found inside
+pub found-lt : (at : ℕ → ℕ) (l : List ℕ) (i : ℕ) → searchOf at l ≡ found i → i < length l
+found-lt at l i e = rw e at (after-le at l)
+
+-- and has the key
+pub found-equal : (at : ℕ → ℕ) (l : List ℕ) (i : ℕ) → searchOf at l ≡ found i → at (getD l i 0) ≡ 1
+found-equal at l i e =
+    ⊎-elim
+    (λ (none : length l ≤ 0). absurd (never (search-empty at l (omega arith) ∙ e)))
+    (λ (some : 0 < length l). by (endOf at l) (at (getD l (endOf at l) 0)) refl (sym (search-is at l some) ∙ e))
+    (le-or-lt (length l) 0)
+  where
+    never : {j : ℕ} → absent j ≡ found i → ⊥
+    never p = let z : _≡_ {A = ℕ} 0 1 = cc in omega arith
+
+    by : (s r : ℕ) → at (getD l s 0) ≡ r → ended r s ≡ found i → at (getD l i 0) ≡ 1
+    by s zero p q = absurd (never q)
+    by s (suc zero) p q =
+        let same : s ≡ i = cc in
+        ap (λ (k : ℕ). at (getD l k 0)) (sym same) ∙ p
+    by s (suc (suc r)) p q = absurd (never q)

@@ -1,0 +1,8 @@
+-- Laws of rows of segments.
+pub mod Ascending
+pub mod Halving
+pub mod Rows
+pub mod Sorted
+pub mod Keys
+pub mod TileParts
+pub mod TileLayers

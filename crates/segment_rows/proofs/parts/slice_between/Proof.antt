@@ -1,0 +1,48 @@
+-- `parts::slice_between` meets its contract. Assumes nothing.
+use mathlib.Core.Path.{_≡_, ap}
+use Prim.Native.Nat.{ℕ, _-_}
+use native.Mathlib.Omega.{arith}
+use borrow.Author.Needs.{needs}
+use lib.ListN.{take, drop}
+use Rattle.segment_rows.proofs.parts.slice_between.Statement.{statement}
+use Rattle.segment_rows.proofs.parts.slice_between.Tie as tie
+
+mul-result : tie.Need-mul-result
+mul-result c = search needs
+
+part-result-start : tie.Need-part-result-start
+part-result-start c = search needs
+
+part-result-end : tie.Need-part-result-end
+part-result-end c = search needs
+
+sub-result : tie.Need-sub-result
+sub-result c = search needs
+
+part-result-start-2 : tie.Need-part-result-start-2
+part-result-start-2 c = search needs
+
+part-result-end-2 : tie.Need-part-result-end-2
+part-result-end-2 c = search needs
+
+returns : tie.Need-returns
+returns c = search needs
+
+returns-2 : tie.Need-returns-2
+returns-2 c =
+    let s = c .before .before .args in
+    let e : 0 ≡ s .end - s .start = omega arith in
+    ap (λ (n : ℕ). take n (drop (s .start) (s .segments .now))) e
+
+pub slice-between-spec : {M : Type 1} → statement M
+slice-between-spec =
+    tie.close
+    (tie.spec
+    mul-result
+    part-result-start
+    part-result-end
+    sub-result
+    part-result-start-2
+    part-result-end-2
+    returns
+    returns-2)

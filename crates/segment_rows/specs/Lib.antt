@@ -1,0 +1,3 @@
+-- What is said of rows of segments.
+pub mod Rows
+pub mod Search

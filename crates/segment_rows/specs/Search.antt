@@ -1,0 +1,87 @@
+-- `search_last_by_key`: the Rust's halving. `at w` is the rank of the element w: how its key compares with the key that is looked for, so
+-- one definition serves every key. On a slice that the key does not sort, the halving decides; on a sorted one see proofs/Sorted. Stands for
+-- the clause on `search_last_by_key`, P5.
+use mathlib.Core.Bool.{Bool, false, cond}
+use mathlib.Core.List.{List, [], _∷_}
+use Prim.Native.Nat.{ℕ, zero, suc, _+_, _-_, _/_}
+use lib.Dec.{ltb, leb}
+use lib.IntN.{ℤ, pos}
+use lib.ListN.{length, getD, take, drop}
+use lib.Signed.{leZ}
+use Rattle.pixel_segment.specs.Field.{cpu, tileXOf, tileYOf, layerIdOf, tileOf}
+use Rattle.pixel_segment.specs.Order.{isGt, compareOf, compareℤ, compareBool}
+use Rattle.segment_rows.specs.declared.search.Found.{Found}
+use Rattle.segment_rows.specs.declared.search.Found.the-variants.{At, Absent}
+use Rattle.segment_rows.specs.declared.search.Key.{Key}
+use Rattle.segment_rows.specs.declared.search.Key.the-variants.{TileY, TileX, LayerId, TileXAtLeast, LayerIdAtLeast, TileYNotNegative}
+
+-- what a search tells: the place of the last element with the key, or that it is absent, and where such an element would stand
+pub data Place : Type 0 where
+  found : ℕ → Place
+  absent : ℕ → Place
+
+-- what an answer of the code stands for
+abbrev pub placeIn : Found → Place
+placeIn (At i) = found i
+placeIn (Absent i) = absent i
+
+-- where the halving ends that looks at `len` elements from `start` on: in the left half where the middle element is above the key, else
+-- from the middle on. The first number bounds the turns: `len` turns are always enough
+unfoldable pub halved : (ℕ → Bool) → List ℕ → ℕ → ℕ → ℕ → ℕ
+halved isAbove l zero start len = start
+halved isAbove l (suc turns) start len =
+    let mid = start + len / 2 in
+    let lower = halved isAbove l turns start (len / 2) in
+    let upper = halved isAbove l turns mid (len - len / 2) in
+    cond (ltb 1 len) (cond (isAbove (getD l mid 0)) lower upper) start
+
+-- what is told of the element where the halving ends, by its rank
+abbrev pub ended : ℕ → ℕ → Place
+ended zero start = absent (start + 1)
+ended (suc zero) start = found start
+ended (suc (suc r)) start = absent start
+
+unfoldable pub searchOf : (ℕ → ℕ) → List ℕ → Place
+searchOf at [] = absent 0
+searchOf at (w ∷ ws) =
+    let start = halved (λ v. isGt (at v)) (w ∷ ws) (length (w ∷ ws)) 0 (length (w ∷ ws)) in
+    ended (at (getD (w ∷ ws) start 0)) start
+
+-- what a search tells in a slice that the key sorts (`Ordered at l`: the elements below the key stand first, then those that have it, then
+-- those above it), by how many are below the key and how many have it: the last one that has it, or absent with the number of those below
+abbrev pub lastOf : ℕ → ℕ → Place
+lastOf below zero = absent below
+lastOf below (suc n) = found (below + n)
+
+-- ---- the keys of the painter: how a word compares with the value that is looked for
+
+abbrev pub orderAt : Key → ℕ → ℕ
+orderAt (TileY k) w = compareℤ (tileOf (tileYOf cpu w)) k
+orderAt (TileX k) w = compareℤ (tileOf (tileXOf cpu w)) k
+orderAt (LayerId k) w = compareOf (layerIdOf cpu w) k
+orderAt (TileXAtLeast start k) w = compareBool (leZ start (tileOf (tileXOf cpu w))) k
+orderAt (LayerIdAtLeast start k) w = compareBool (leb start (layerIdOf cpu w)) k
+orderAt (TileYNotNegative k) w = compareBool (leZ (pos 0) (tileOf (tileYOf cpu w))) k
+
+-- ---- the parts of a row that searches find
+
+-- the place after the one that is found, or where one would stand; on a sorted slice, how many elements are at most the key
+abbrev pub afterOf : Place → ℕ
+afterOf (found i) = suc i
+afterOf (absent i) = i
+
+-- the elements from one place up to another
+abbrev pub between {ℓ} : {A : Type ℓ} → ℕ → ℕ → List A → List A
+between start end l = take (end - start) (drop start l)
+
+-- the segments left of a tile: up to the last one whose tile x is not at least the tile's
+unfoldable pub leftPart : ℤ → List ℕ → List ℕ
+leftPart t row = between 0 (afterOf (searchOf (orderAt (TileXAtLeast t false)) row)) row
+
+-- the segments of a tile: from there up to the last one of the tile
+unfoldable pub tilePart : ℤ → List ℕ → List ℕ
+tilePart t row = between (afterOf (searchOf (orderAt (TileXAtLeast t false)) row)) (afterOf (searchOf (orderAt (TileX t)) row)) row
+
+-- the segments of one layer in a tile's part that ascends: from the last one of a lower layer up to the last one of the layer
+unfoldable pub layerPart : ℕ → List ℕ → List ℕ
+layerPart id part = between (afterOf (searchOf (orderAt (LayerIdAtLeast id false)) part)) (afterOf (searchOf (orderAt (LayerId id)) part)) part
