@@ -22,7 +22,7 @@ use Rattle.pixel_segment.specs.Field.{tileOf, coverOf, doubleAreaOf}
 use Rattle.pixel_segment.specs.Pack.{packOf}
 use Rattle.segment_rows.specs.Search.{searchOf, halved, layerPart}
 use Rattle.pixel_segment.proofs.ReadBack.{kept}
-use Rattle.styling.specs.Lookup.{lookup}
+use Rattle.layer_table.specs.Lookup.{lookup}
 use Rattle.queue_statements.specs.Queue.{heldIn}
 use Rattle.tile_layers.specs.Groups.{groupsOf}
 use Rattle.tile_layers.specs.Listing.{listOf}

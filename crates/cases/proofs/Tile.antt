@@ -12,9 +12,9 @@ use lib.ListN.{length, replicate}
 use Rattle.laws.specs.Lists.{over, all}
 use Rattle.laws.proofs.Every.{every-at}
 use Rattle.styling.specs.Ascending.{strictlyAscendsFrom}
-use Rattle.styling.specs.Lookup.{lookup}
-use Rattle.styling.specs.Record.{inRange}
-use Rattle.styling.specs.Table.{wordsAt, layerAt, tableOf, idsOf}
+use Rattle.layer_table.specs.Lookup.{lookup}
+use Rattle.layer_table.specs.Record.{inRange}
+use Rattle.layer_table.specs.Table.{wordsAt, layerAt, tableOf, idsOf}
 use Rattle.styling.specs.declared.Layer.{Layer}
 use Rattle.pixel_segment.specs.Field.{coverOf}
 use Rattle.segment_rows.specs.Search.{searchOf, layerPart}

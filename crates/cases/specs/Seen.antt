@@ -8,7 +8,7 @@ use lib.Ieee.{Float}
 use lib.ListN.{replicate}
 use Rattle.laws.specs.Answer.{given}
 use Rattle.laws.specs.Lists.{over, all}
-use Rattle.styling.specs.Lookup.{lookup}
+use Rattle.layer_table.specs.Lookup.{lookup}
 use Rattle.styling.specs.declared.Layer.{Layer}
 use Rattle.painter.specs.Clip.{clipIn, clipAfter}
 use Rattle.painter.specs.Painting.{isLightIn, markIn, planeIn}

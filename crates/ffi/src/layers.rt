@@ -4,12 +4,11 @@ use styling::Color;
 use styling::Func;
 use styling::Style;
 use styling::codes;
-use styling::table;
 ghost use mathlib.Core.Path.{_≡_};
 ghost use Rattle.styling.specs.Codes.{modeCode, modeOf};
 ghost use Rattle.styling.specs.Color.{sameColor};
 ghost use Rattle.styling.specs.Style.{isOpaque};
-ghost use Rattle.styling.specs.Table.{isShort, isTable};
+ghost use Rattle.layer_table.specs.Table.{isShort, isTable};
 ghost use Rattle.ffi.specs.Layers.{colorOf, previousOf, drawOf};
 
 pub fn to_color(numbers: [f32; 4]) -> Color
@@ -71,7 +70,7 @@ pub extern "C" fn ffi_blend_mode(code: u32) -> u32
 pub extern "C" fn ffi_is_short(layers: &[u32], colors: &[f32], count: usize) -> bool
     ensures { λ r. ⌜ r ≡ isShort (now (layers .entry)) (now (colors .entry)) count ⌝ }
 {
-    table::is_short(layers, colors, count)
+    layer_table::is_short(layers, colors, count)
 }
 
 // Whether no refusal applies to the table.
@@ -79,5 +78,5 @@ pub extern "C" fn ffi_is_short(layers: &[u32], colors: &[f32], count: usize) -> 
 pub extern "C" fn ffi_is_table(layers: &[u32], colors: &[f32], count: usize) -> bool
     ensures { λ r. ⌜ r ≡ isTable (now (layers .entry)) (now (colors .entry)) count ⌝ }
 {
-    table::is_table(layers, colors, count)
+    layer_table::is_table(layers, colors, count)
 }

@@ -11,8 +11,8 @@ use lib.Seq.{getD-append-add}
 use Rattle.laws.specs.Lists.{over}
 use Rattle.laws.proofs.Rows.{is-tabulate}
 use Rattle.styling.specs.declared.Layer.{Layer}
-use Rattle.styling.specs.Record.{layerOf}
-use Rattle.styling.specs.Table.{wordsAt, colorAt, layerAt, tableOf}
+use Rattle.layer_table.specs.Record.{layerOf}
+use Rattle.layer_table.specs.Table.{wordsAt, colorAt, layerAt, tableOf}
 use Rattle.job_lines.specs.declared.layer.LayerLine.{LayerLine}
 use Rattle.job_statements.specs.Table.{layerWords, layerColors, tableWords, tableColors, wordsOf, colorOf}
 

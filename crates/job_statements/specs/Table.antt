@@ -7,7 +7,7 @@ use lib.Ieee.{Float, binary32, odd, ofBits}
 use lib.IntN.{ℤ}
 use Rattle.laws.specs.Integer.{plus, modℤ}
 use Rattle.styling.specs.declared.Color.{Color}
-use Rattle.styling.specs.declared.table.Words.{Words}
+use Rattle.layer_table.specs.declared.Words.{Words}
 use Rattle.job_lines.specs.declared.layer.LayerLine.{LayerLine}
 
 -- a number as a word: a negative one as its 32-bit pattern

@@ -15,7 +15,7 @@ use Rattle.styling.specs.declared.Fill.the-variants.{Solid}
 use Rattle.styling.specs.declared.FillRule.the-variants.{NonZero}
 use Rattle.styling.specs.declared.Func.the-variants.{Draw}
 use Rattle.styling.specs.declared.Layer.{Layer}
-use Rattle.styling.specs.Lookup.{lookup}
+use Rattle.layer_table.specs.Lookup.{lookup}
 use Rattle.queue_statements.specs.Queue.{idsIn}
 use Rattle.tile_layers.specs.Listing.{Listed}
 use Rattle.tile_layers.specs.Carrying.{handedOn}

@@ -10,7 +10,7 @@ use lib.ListN.{length, drop}
 use Rattle.laws.specs.Answer.{Answer, refused, given}
 use Rattle.laws.proofs.Drops.{cons-rest}
 use Rattle.laws.specs.Lists.{filter}
-use Rattle.styling.specs.Lookup.{lookup}
+use Rattle.layer_table.specs.Lookup.{lookup}
 use Rattle.styling.specs.declared.Layer.{Layer}
 use Rattle.cover_statements.specs.Entry as entries
 use Rattle.queue_statements.specs.Queue.{queueOf, zeros}

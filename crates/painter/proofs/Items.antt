@@ -4,7 +4,7 @@ use mathlib.Core.Path.{_≡_, ap}
 use mathlib.Core.Bool.{true}
 use mathlib.Core.List.{List, map}
 use Rattle.laws.proofs.Filtered.{filter-all}
-use Rattle.styling.specs.Lookup.{lookup}
+use Rattle.layer_table.specs.Lookup.{lookup}
 use Rattle.styling.specs.declared.Layer.{Layer}
 use Rattle.tile_layers.specs.Listing.{Listed, isGiven, areKnown}
 use Rattle.pass_statements.specs.Item.{itemsOf}

@@ -13,11 +13,11 @@ use Rattle.laws.specs.Lists.{all}
 use Rattle.laws.proofs.Bools.{left, right}
 use Rattle.laws.proofs.Every.{all-intro}
 use Rattle.laws.proofs.Orders.{eq-or-ne}
-use Rattle.styling.specs.Lookup.{lookup}
-use Rattle.styling.specs.Table.{layerAt, Table, tableOf}
-use Rattle.styling.proofs.Listed.{length-table, getD-table, layer-id}
-use Rattle.styling.proofs.Looking.{lookup-hit, lookup-pass, lookup-id}
-use Rattle.styling.proofs.Ranges.{id-le, span-le}
+use Rattle.layer_table.specs.Lookup.{lookup}
+use Rattle.layer_table.specs.Table.{layerAt, Table, tableOf}
+use Rattle.layer_table.proofs.Listed.{length-table, getD-table, layer-id}
+use Rattle.layer_table.proofs.Looking.{lookup-hit, lookup-pass, lookup-id}
+use Rattle.layer_table.proofs.Ranges.{id-le, span-le}
 use Rattle.styling.specs.declared.Func.{Func}
 use Rattle.styling.specs.declared.Func.the-variants.{Draw, Clip}
 use Rattle.styling.specs.declared.Layer.{Layer}

@@ -12,8 +12,8 @@ use lib.ListN.{length}
 use Rattle.laws.specs.Lists.{over, filter}
 use Rattle.pixel_segment.specs.Field.{cpu}
 use Rattle.segment_rows.specs.Search.{layerPart}
-use Rattle.styling.specs.Lookup.{lookup}
-use Rattle.styling.specs.Table.{Table}
+use Rattle.layer_table.specs.Lookup.{lookup}
+use Rattle.layer_table.specs.Table.{Table}
 use Rattle.styling.specs.declared.Func.{Func}
 use Rattle.styling.specs.declared.Func.the-variants.{Draw, Clip}
 use Rattle.styling.specs.declared.Layer.{Layer}

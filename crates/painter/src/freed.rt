@@ -1,17 +1,16 @@
 // Whether a draw needs a clip, by the layers of its tile.
 use cover::Cover;
+use layer_table::Found;
 use styling::Func;
 use styling::Layer;
-use styling::table;
-use styling::table::Found;
 use tile_layers::listing;
 use tile_layers::walk;
 ghost use mathlib.Core.Path.{_≡_};
 ghost use mathlib.Core.Option.{none};
 ghost use Prim.Native.Nat.{_*_, _≤_};
 ghost use lib.ListN.{length};
-ghost use Rattle.styling.specs.Lookup.{lookup};
-ghost use Rattle.styling.specs.Table.{Table, tableOf};
+ghost use Rattle.layer_table.specs.Lookup.{lookup};
+ghost use Rattle.layer_table.specs.Table.{Table, tableOf};
 ghost use Rattle.queue_statements.specs.Queue.{queueOf};
 ghost use Rattle.tile_layers.specs.Listing.{layersIn};
 ghost use Rattle.tile_layers.specs.Walk.{Walks};
@@ -60,9 +59,9 @@ fn freed_by(
     requires { ⌜ Table (now layers) (now colors) count ⌝ }
     ensures { λ r. ⌜ r ≡ freedBy (lookup (tableOf (now (layers .entry)) (now (colors .entry)) count) at) (record { id = at; cover = cover .covers; segments = «has_segments» }) id freed ⌝ }
 {
-    match table::find(layers, count, at) {
+    match layer_table::find(layers, count, at) {
         Found::At(p) => {
-            let layer = table::layer_at(layers, colors, p);
+            let layer = layer_table::layer_at(layers, colors, p);
             freed_after(layer, at, cover, has_segments, id, freed)
         }
         Found::Absent => freed,

@@ -13,8 +13,8 @@ use Rattle.cover_statements.proofs.Entries.{entry-length, entry-at}
 use Rattle.laws.specs.Answer.{given, refused}
 use Rattle.styling.specs.declared.Layer.{Layer}
 use Rattle.styling.specs.declared.Func.the-variants.{Clip}
-use Rattle.styling.specs.Lookup.{lookup}
-use Rattle.styling.proofs.Listed.{map-tabulate, drop-tabulate}
+use Rattle.layer_table.specs.Lookup.{lookup}
+use Rattle.layer_table.proofs.Listed.{map-tabulate, drop-tabulate}
 use Rattle.pass_statements.specs.Entry.{Entry, coverFrom, entryAt, entriesOf}
 use Rattle.pass_statements.specs.Covered.{itemAt}
 use Rattle.pass_statements.specs.Item.{itemFor, itemOf, itemsOf}

@@ -7,7 +7,7 @@ use lib.IntN.{ℤ}
 use lib.ListN.{length}
 use Rattle.laws.specs.Answer.{Answer, refused, given}
 use Rattle.cover_statements.specs.Cover.{isFull}
-use Rattle.styling.specs.Lookup.{lookup}
+use Rattle.layer_table.specs.Lookup.{lookup}
 use Rattle.styling.specs.declared.Layer.{Layer}
 use Rattle.styling.specs.declared.Func.the-variants.{Clip}
 use Rattle.pass_statements.specs.Entry.{Entry}

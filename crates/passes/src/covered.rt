@@ -6,7 +6,7 @@ use tile_unchanged::item;
 ghost use mathlib.Core.Path.{_≡_};
 ghost use Prim.Native.Nat.{_≤_};
 ghost use lib.ListN.{length};
-ghost use Rattle.styling.specs.Table.{Table, tableOf};
+ghost use Rattle.layer_table.specs.Table.{Table, tableOf};
 ghost use Rattle.pass_statements.specs.Entry.{entriesOf};
 ghost use Rattle.pass_statements.specs.Item.{itemsOf, Columns};
 ghost use Rattle.pass_statements.specs.Covered.{coveredOf};

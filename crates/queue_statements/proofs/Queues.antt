@@ -12,7 +12,7 @@ use lib.Seq.{getD-take, length-take-le}
 use Rattle.laws.proofs.Rows.{length-tabulate, getD-tabulate, is-tabulate}
 use Rattle.styling.specs.Ascending.{strictlyAscendsFrom}
 use Rattle.styling.proofs.Ascents.{ascends-tail, ascends-low}
-use Rattle.styling.proofs.Listed.{map-tabulate}
+use Rattle.layer_table.proofs.Listed.{map-tabulate}
 use Rattle.cover_statements.specs.Entry.{entryOf}
 use Rattle.queue_statements.specs.Queue.{Carry, carryAt, queueOf, idsIn, zeros, heldIn, Queued}
 use Rattle.queue_statements.specs.Rank.{rankOf, holdsAt}

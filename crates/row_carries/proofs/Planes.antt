@@ -17,7 +17,7 @@ use Rattle.laws.proofs.Drops.{map-at}
 use Rattle.laws.proofs.Every.{every-at}
 use Rattle.laws.proofs.Rows.{is-tabulate}
 use Rattle.pixel_segment.specs.Field.{cpu}
-use Rattle.styling.specs.Lookup.{lookup}
+use Rattle.layer_table.specs.Lookup.{lookup}
 use Rattle.styling.specs.declared.FillRule.{FillRule}
 use Rattle.styling.specs.declared.FillRule.the-variants.{NonZero, EvenOdd}
 use Rattle.styling.specs.declared.Layer.{Layer}

@@ -17,7 +17,7 @@ use Rattle.segment_rows.specs.Rows.{Ordered}
 use Rattle.segment_rows.specs.Search.{tilePart}
 use Rattle.segment_rows.proofs.TileParts.{layer-part}
 use Rattle.styling.specs.Ascending.{strictlyAscends}
-use Rattle.styling.specs.Lookup.{lookup}
+use Rattle.layer_table.specs.Lookup.{lookup}
 use Rattle.styling.specs.declared.Layer.{Layer}
 use Rattle.cover_statements.specs.Carry.{isLight}
 use Rattle.queue_statements.specs.Queue.{Carry, idsIn}

@@ -8,7 +8,7 @@ use borrow.Author.Tests.{le-leb, lt-leb}
 use lib.Dec.{leb}
 use lib.ListN.{drop}
 use Rattle.laws.specs.Answer.{Answer, refused, given}
-use Rattle.styling.specs.Lookup.{lookup}
+use Rattle.layer_table.specs.Lookup.{lookup}
 use Rattle.styling.specs.declared.Layer.{Layer}
 use Rattle.queue_statements.specs.Queue.{idsIn}
 use Rattle.tile_layers.specs.Listing.{Listed, incomingOf}

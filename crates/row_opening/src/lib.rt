@@ -7,7 +7,6 @@ use row_statements::Opened;
 use row_statements::RowState;
 use segment_rows::order;
 use segment_rows::parts;
-use styling::table;
 ghost use mathlib.Core.Path.{_≡_};
 ghost use Rattle.refusals.specs.Refusal.{judgementIn};
 ghost use Rattle.queue_statements.specs.Opening.{openingAnswer};
@@ -38,7 +37,7 @@ pub fn judge_opening(
         (openCall «tile_y» from to (now (row .entry)) (lentTable (now (layers .entry)) (now (colors .entry)) count))
         (columns (now (ids .entry)) (now (covers .entry))) ⌝ }
 {
-    if queue::is_short(ids, covers) | table::is_short(layers, colors, count) {
+    if queue::is_short(ids, covers) | layer_table::is_short(layers, colors, count) {
         return Verdict::Refuse(Refusal::Room);
     }
     if has_bad_ends(tile_y, from, to) {
@@ -47,7 +46,7 @@ pub fn judge_opening(
     if !order::is_row(row, row_state::natural(tile_y) as u64 + 1) {
         return Verdict::Refuse(Refusal::Row);
     }
-    if !table::is_table(layers, colors, count) {
+    if !layer_table::is_table(layers, colors, count) {
         return Verdict::Refuse(Refusal::Table);
     }
     Verdict::Pass

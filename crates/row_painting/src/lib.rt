@@ -1,6 +1,7 @@
 // Painting a layer of the tile just worked: judged by 1 to 5, then by 8 and 9 for the layer, and painted from the queue that the
 // tile took in.
 use cover::carry;
+use layer_table::Found;
 use painter::painting;
 use painter::painting::Painting;
 use refusals::Refusal;
@@ -14,11 +15,9 @@ use styling::FillRule;
 use styling::Func;
 use styling::Layer;
 use styling::Props;
-use styling::table;
-use styling::table::Found;
 ghost use mathlib.Core.Path.{_≡_};
 ghost use Rattle.refusals.specs.Refusal.{judgementIn};
-ghost use Rattle.styling.specs.Table.{Table, tableOf};
+ghost use Rattle.layer_table.specs.Table.{Table, tableOf};
 ghost use Rattle.queue_statements.specs.Queue.{queueOf, Queued};
 ghost use Rattle.row_statements.specs.Lent.{columns, lentTable};
 ghost use Rattle.row_statements.specs.State.{stateIn};
@@ -38,7 +37,9 @@ fn is_paint_short(
     ensures { λ r. ⌜ r ≡ isShortWith (lentTable (now (layers .entry)) (now (colors .entry)) count)
         (columns (now (ids .entry)) (now (covers .entry))) (now (plane .entry)) ⌝ }
 {
-    queue::is_short(ids, covers) | table::is_short(layers, colors, count) | (plane.len() < 256)
+    queue::is_short(ids, covers)
+        | layer_table::is_short(layers, colors, count)
+        | (plane.len() < 256)
 }
 
 // Refusals 1 to 5, the lowest that applies.
@@ -67,7 +68,7 @@ fn judge_call(
     if !order::is_row(row, state.tile_y as u64 + 1) {
         return Verdict::Refuse(Refusal::Row);
     }
-    if !table::is_table(layers, colors, count) {
+    if !layer_table::is_table(layers, colors, count) {
         return Verdict::Refuse(Refusal::Table);
     }
     if !queue::is_queue(ids, state.taken) {
@@ -91,7 +92,7 @@ fn judge_layer(
     ensures { λ r. ⌜ judgementIn r ≡ layerVerdict (tableOf (now (layers .entry)) (now (colors .entry)) count)
         (queueOf n (now (ids .entry)) (now (covers .entry))) (now (part .entry)) layer ⌝ }
 {
-    match table::find(layers, count, layer) {
+    match layer_table::find(layers, count, layer) {
         Found::Absent => Verdict::Refuse(Refusal::Missing),
         Found::At(_) => {
             let own = parts::of_layer(part, layer);
@@ -136,8 +137,8 @@ pub fn record_of(layers: &[u32], colors: &[f32], count: usize, id: u32) -> Layer
     requires { ⌜ Table (now layers) (now colors) count ⌝ }
     ensures { λ r. ⌜ r ≡ layerIn (tableOf (now (layers .entry)) (now (colors .entry)) count) id ⌝ }
 {
-    match table::find(layers, count, id) {
-        Found::At(p) => table::layer_at(layers, colors, p),
+    match layer_table::find(layers, count, id) {
+        Found::At(p) => layer_table::layer_at(layers, colors, p),
         Found::Absent => {
             let props = Props {
                 fill_rule: FillRule::NonZero,

@@ -17,8 +17,8 @@ use Rattle.pixel_segment.specs.Field.{cpu, coverOf, tileOf}
 use Rattle.segment_rows.specs.Rows.{Words, ascendsFrom}
 use Rattle.segment_rows.specs.Search.{halved, searchOf, leftPart, tilePart, layerPart}
 use Rattle.styling.specs.Ascending.{strictlyAscendsFrom}
-use Rattle.styling.specs.Lookup.{lookup}
-use Rattle.styling.specs.Table.{isShort, isValid, isTable, layerAt, tableOf}
+use Rattle.layer_table.specs.Lookup.{lookup}
+use Rattle.layer_table.specs.Table.{isShort, isValid, isTable, layerAt, tableOf}
 use Rattle.cover_statements.specs.Carry.{isLight, carryOf}
 use Rattle.cover_statements.specs.Cover.{isEmpty, isFull}
 use Rattle.queue_statements.specs.Queue.{Carry, idsIn, heldIn}

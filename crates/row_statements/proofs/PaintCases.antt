@@ -11,8 +11,8 @@ use Rattle.segment_rows.specs.Rows.{ascendsFrom}
 use Rattle.pixel_segment.specs.Pack.{wordOf}
 use Rattle.segment_rows.specs.Search.{halved, searchOf, tilePart, layerPart}
 use Rattle.styling.specs.Ascending.{strictlyAscendsFrom}
-use Rattle.styling.specs.Lookup.{lookup}
-use Rattle.styling.specs.Table.{isShort, isValid, isTable, layerAt, tableOf}
+use Rattle.layer_table.specs.Lookup.{lookup}
+use Rattle.layer_table.specs.Table.{isShort, isValid, isTable, layerAt, tableOf}
 use Rattle.cover_statements.specs.Carry.{isLight}
 use Rattle.cover_statements.specs.Entry.{entryOf}
 use Rattle.queue_statements.specs.Queue.{isQueue, queueOf, heldIn}

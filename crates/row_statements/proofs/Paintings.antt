@@ -19,9 +19,9 @@ use Rattle.refusals.proofs.Judging.{passed, or-left, or-right}
 use Rattle.pixel_segment.specs.Field.{cpu, layerIdOf}
 use Rattle.segment_rows.specs.Rows.{isRow, Ordered, Words}
 use Rattle.segment_rows.specs.Search.{tilePart}
-use Rattle.styling.specs.Lookup.{lookup}
+use Rattle.layer_table.specs.Lookup.{lookup}
 use Rattle.styling.specs.declared.Layer.{Layer}
-use Rattle.styling.proofs.Judging as judged
+use Rattle.layer_table.proofs.Judging as judged
 use Rattle.queue_statements.specs.Queue.{Carry, isQueue}
 use Rattle.queue_statements.proofs.Judging.{queued, ordered}
 use Rattle.tile_layers.specs.Listing.{isGiven}

@@ -13,9 +13,9 @@ use Rattle.pixel_segment.specs.Field.{cpu, coverOf}
 use Rattle.segment_rows.specs.Rows.{ascendsFrom}
 use Rattle.pixel_segment.specs.Pack.{wordOf}
 use Rattle.styling.specs.Ascending.{strictlyAscendsFrom}
-use Rattle.styling.specs.Lookup.{lookup}
-use Rattle.styling.specs.Record.{layerOf}
-use Rattle.styling.specs.Table.{isShort, isValid, isTable, layerAt, tableOf}
+use Rattle.layer_table.specs.Lookup.{lookup}
+use Rattle.layer_table.specs.Record.{layerOf}
+use Rattle.layer_table.specs.Table.{isShort, isValid, isTable, layerAt, tableOf}
 use Rattle.styling.specs.declared.Color.{Color}
 use Rattle.styling.specs.declared.Layer.{Layer}
 use Rattle.cover_statements.specs.Carry.{isLight}

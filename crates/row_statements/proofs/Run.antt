@@ -19,7 +19,7 @@ use Rattle.refusals.specs.Refusal.{Judgement, pass, refuse}
 use Rattle.segment_rows.specs.Rows.{Words}
 use Rattle.segment_rows.specs.Search.{leftPart}
 use Rattle.styling.specs.Ascending.{strictlyAscends}
-use Rattle.styling.proofs.Judging.{table-short}
+use Rattle.layer_table.proofs.Judging.{table-short}
 use Rattle.queue_statements.specs.Queue.{Carry, idsIn}
 use Rattle.queue_statements.specs.Opening.{openQueue, isLightOpening}
 use Rattle.queue_statements.proofs.Columns.{areWide}

@@ -12,7 +12,7 @@ use Rattle.laws.specs.Answer.{Answer, refused, given}
 use Rattle.refusals.specs.Refusal.{Judgement, pass, refuse, unless, numberOf}
 use Rattle.refusals.proofs.Naming.{refusalOf, Named, named}
 use Rattle.segment_rows.specs.Search.{tilePart}
-use Rattle.styling.specs.Lookup.{lookup}
+use Rattle.layer_table.specs.Lookup.{lookup}
 use Rattle.styling.specs.declared.Layer.{Layer}
 use Rattle.cached_tile.specs.Kept.{tagOutOfRange}
 use Rattle.tile_layers.specs.Listing.{Listed, isTooMany, areKnown, areLight, isGiven}

@@ -18,7 +18,7 @@ use Rattle.refusals.proofs.Judging.{passed, or-left, or-right}
 use Rattle.pixel_segment.specs.Field.{cpu, layerIdOf}
 use Rattle.segment_rows.specs.Rows.{Words, Ordered, isRow}
 use Rattle.segment_rows.specs.Search.{tilePart}
-use Rattle.styling.proofs.Judging as table-judging
+use Rattle.layer_table.proofs.Judging as table-judging
 use Rattle.styling.specs.declared.Layer.{Layer}
 use Rattle.queue_statements.specs.Queue.{isQueue}
 use Rattle.queue_statements.proofs.Judging as queue-judging

@@ -11,7 +11,7 @@ use Rattle.refusals.specs.declared.Refusal.{Refusal}
 use Rattle.pixel_segment.specs.Field.{cpu}
 use Rattle.segment_rows.specs.Rows.{isRow}
 use Rattle.segment_rows.specs.Search.{tilePart}
-use Rattle.styling.specs.Table.{Table}
+use Rattle.layer_table.specs.Table.{Table}
 use Rattle.styling.specs.declared.Layer.{Layer}
 use Rattle.queue_statements.specs.Queue.{isQueue}
 use Rattle.cached_tile.specs.Kept.{tagOutOfRange}

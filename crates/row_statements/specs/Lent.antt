@@ -8,7 +8,7 @@ use lib.Ieee.{Float}
 use lib.IntN.{ℤ}
 use lib.ListN.{length}
 use Rattle.laws.specs.Lists.{over}
-use Rattle.styling.specs.Table as table
+use Rattle.layer_table.specs.Table as table
 use Rattle.styling.specs.declared.Layer.{Layer}
 use Rattle.queue_statements.specs.Queue as queue
 use Rattle.queue_statements.specs.Queue.{Carry, queueOf, idsIn, coversIn}

@@ -5,14 +5,13 @@ use refusals::Verdict;
 use row_statements::ListJudged;
 use row_statements::RowState;
 use segment_rows::order;
-use styling::table;
 use tile_layers::listing;
 ghost use mathlib.Core.Path.{_≡_};
 ghost use mathlib.Core.Bool.{Bool};
 ghost use Prim.Native.Nat.{_*_, _≤_};
 ghost use lib.ListN.{length};
 ghost use Rattle.refusals.specs.Refusal.{judgementIn};
-ghost use Rattle.styling.specs.Table.{Table, tableOf};
+ghost use Rattle.layer_table.specs.Table.{Table, tableOf};
 ghost use Rattle.queue_statements.specs.Queue.{queueOf};
 ghost use Rattle.tile_layers.specs.Listing.{layersIn};
 ghost use Rattle.tile_layers.specs.Walk.{Walks};
@@ -52,7 +51,7 @@ pub fn judge_work(
     if !order::is_row(row, state.tile_y as u64 + 1) {
         return Verdict::Refuse(Refusal::Row);
     }
-    if !table::is_table(layers, colors, count) {
+    if !layer_table::is_table(layers, colors, count) {
         return Verdict::Refuse(Refusal::Table);
     }
     if !queue::is_queue(ids, state.left) {

@@ -15,7 +15,6 @@ use row_statements::TileWorked;
 use row_statements::WorkAnswer;
 use segment_rows::parts;
 use styling::Color;
-use styling::table;
 ghost use mathlib.Core.Path.{_≡_};
 ghost use Prim.Native.Nat.{_≤_};
 ghost use Rattle.cached_tile.specs.Kept.{KeptSettled};
@@ -169,7 +168,7 @@ pub fn work_tile(
 {
     let short = queue::is_short(ids, covers)
         | queue::is_short(next_ids, next_covers)
-        | table::is_short(layers, colors, count)
+        | layer_table::is_short(layers, colors, count)
         | judging::is_list_short(list_ids, list_covers, list_segments, list_unmasked);
     match judging::judge_work(short, state, tile, row, layers, colors, count, kept, ids) {
         Verdict::Refuse(refusal) => refuse(state, kept, refusal),

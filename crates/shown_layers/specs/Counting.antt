@@ -9,8 +9,8 @@ use lib.Ieee.{Float}
 use lib.IntN.{ℤ}
 use lib.ListN.{length, getD}
 use Rattle.laws.specs.Answer.{given}
-use Rattle.styling.specs.Lookup.{lookup}
-use Rattle.styling.specs.Table.{Table}
+use Rattle.layer_table.specs.Lookup.{lookup}
+use Rattle.layer_table.specs.Table.{Table}
 use Rattle.styling.specs.declared.Layer.{Layer}
 use Rattle.queue_statements.specs.Queue.{Carry, Queued}
 use Rattle.tile_layers.specs.Walk.{Walks}

@@ -6,7 +6,7 @@ ghost use mathlib.Core.Bool.{cond};
 ghost use Prim.Native.Nat.{_+_, _≤_};
 ghost use lib.Count.{ones};
 ghost use lib.ListN.{length, take};
-ghost use Rattle.styling.specs.Table.{tableOf};
+ghost use Rattle.layer_table.specs.Table.{tableOf};
 ghost use Rattle.queue_statements.specs.Queue.{queueOf};
 ghost use Rattle.row_lines.specs.Shown.{shownIn};
 ghost use Rattle.shown_layers.specs.Counting.{sumIn, atStart, tallyNext, tallied};

@@ -1,10 +1,4 @@
--- Laws of layer records and their table.
+-- Laws of styles, of the numbers that stand for them, and of ascending ids.
 pub mod Coded
 pub mod Ascents
-pub mod Places
-pub mod Listed
-pub mod Halving
-pub mod Judging
-pub mod Looking
-pub mod Ranges
 pub mod Cases

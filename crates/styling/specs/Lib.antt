@@ -3,6 +3,3 @@ pub mod Codes
 pub mod Color
 pub mod Style
 pub mod Ascending
-pub mod Record
-pub mod Table
-pub mod Lookup

@@ -1,7 +1,5 @@
-// How layers are drawn (styling.rs), without the contents of gradients and textures. `codes` reads the numbers of a layer record, and
-// `table` is the lent table of such records.
+// How layers are drawn (styling.rs), without the contents of gradients and textures. `codes` reads the numbers of a layer record.
 pub mod codes;
-pub mod table;
 
 ghost use mathlib.Core.Path.{_≡_};
 ghost use Rattle.styling.specs.Color.{sameColor};

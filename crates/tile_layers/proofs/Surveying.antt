@@ -10,7 +10,7 @@ use Rattle.pixel_segment.specs.Field.{cpu}
 use Rattle.segment_rows.specs.Search.{between}
 use Rattle.cover_statements.specs.Carry.{isLight}
 use Rattle.cover_statements.specs.Entry.{entryOf}
-use Rattle.styling.specs.Lookup.{lookup}
+use Rattle.layer_table.specs.Lookup.{lookup}
 use Rattle.styling.specs.declared.Layer.{Layer}
 use Rattle.queue_statements.specs.Queue.{queueOf, zeros}
 use Rattle.tile_layers.specs.Listing.{Listed, layersIn, isGiven, areKnown, areLight, Surveyed}

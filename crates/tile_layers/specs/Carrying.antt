@@ -12,7 +12,7 @@ use Rattle.pixel_segment.specs.Field.{cpu}
 use Rattle.cover_statements.specs.Carry.{carryOf}
 use Rattle.cover_statements.specs.Cover.{isEmpty}
 use Rattle.cover_statements.specs.Entry.{putEntry}
-use Rattle.styling.specs.Lookup.{lookup}
+use Rattle.layer_table.specs.Lookup.{lookup}
 use Rattle.styling.specs.declared.Layer.{Layer}
 use Rattle.styling.specs.declared.FillRule.{FillRule}
 use Rattle.styling.specs.declared.FillRule.the-variants.{NonZero}

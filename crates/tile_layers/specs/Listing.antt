@@ -11,7 +11,7 @@ use Rattle.laws.specs.Answer.{Answer, refused, given}
 use Rattle.laws.specs.Lists.{all, any, over}
 use Rattle.pixel_segment.specs.Field.{cpu, layerIdOf}
 use Rattle.cover_statements.specs.Carry.{isLight}
-use Rattle.styling.specs.Lookup.{lookup}
+use Rattle.layer_table.specs.Lookup.{lookup}
 use Rattle.styling.specs.declared.Layer.{Layer}
 use Rattle.queue_statements.specs.Queue.{Carry, zeros, idsIn, coversIn}
 use Rattle.tile_layers.specs.Groups.{Group, groupsOf}

@@ -4,14 +4,13 @@ use crate::walk;
 use cover::Cover;
 use cover::carry;
 use cover::entry;
+use layer_table::Found;
 use styling::FillRule;
-use styling::table;
-use styling::table::Found;
 ghost use mathlib.Core.Path.{_≡_};
 ghost use mathlib.Core.Bool.{true};
 ghost use Prim.Native.Nat.{_*_, _+_, _≤_, _<_};
 ghost use lib.ListN.{length};
-ghost use Rattle.styling.specs.Table.{Table, tableOf};
+ghost use Rattle.layer_table.specs.Table.{Table, tableOf};
 ghost use Rattle.queue_statements.specs.Queue.{queueOf};
 ghost use Rattle.tile_layers.specs.Listing.{layersIn, areLight};
 ghost use Rattle.tile_layers.specs.Carrying.{ruleIn, handedOn, Hands, Puts, QueueRoom};
@@ -22,9 +21,9 @@ pub fn rule_of(layers: &[u32], colors: &[f32], count: usize, id: u32) -> FillRul
     requires { ⌜ Table (now layers) (now colors) count ⌝ }
     ensures { λ r. ⌜ r ≡ ruleIn (tableOf (now (layers .entry)) (now (colors .entry)) count) id ⌝ }
 {
-    match table::find(layers, count, id) {
+    match layer_table::find(layers, count, id) {
         Found::At(p) => {
-            let layer = table::layer_at(layers, colors, p);
+            let layer = layer_table::layer_at(layers, colors, p);
             let props = layer.props;
             props.fill_rule
         }

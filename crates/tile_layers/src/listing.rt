@@ -3,14 +3,13 @@ use crate::walk;
 use cover::Cover;
 use cover::carry;
 use cover::entry;
-use styling::table;
-use styling::table::Found;
+use layer_table::Found;
 ghost use mathlib.Core.Path.{_≡_};
 ghost use mathlib.Core.Bool.{true, cond};
 ghost use Prim.Native.Nat.{_*_, _+_, _≤_, _<_};
 ghost use lib.ListN.{length};
-ghost use Rattle.styling.specs.Lookup.{lookup};
-ghost use Rattle.styling.specs.Table.{Table, tableOf};
+ghost use Rattle.layer_table.specs.Lookup.{lookup};
+ghost use Rattle.layer_table.specs.Table.{Table, tableOf};
 ghost use Rattle.cover_statements.specs.Entry.{entryOf};
 ghost use Rattle.queue_statements.specs.Queue.{queueOf, zeros};
 ghost use Rattle.tile_layers.specs.Listing.{layersIn, isGiven, Surveyed, Lists, Room};
@@ -39,7 +38,7 @@ fn is_known(layers: &[u32], colors: &[f32], count: usize, id: u32) -> bool
     requires { ⌜ Table (now layers) (now colors) count ⌝ }
     ensures { λ r. ⌜ r ≡ isGiven (lookup (tableOf (now (layers .entry)) (now (colors .entry)) count) id) ⌝ }
 {
-    match table::find(layers, count, id) {
+    match layer_table::find(layers, count, id) {
         Found::At(_) => true,
         Found::Absent => false,
     }

@@ -2,15 +2,14 @@
 // count: layer ids, incoming covers (16 bytes an entry), and whether the layer has segments in the tile.
 use cover::Cover;
 use cover::entry;
+use layer_table::Found;
 use pass_statements::Index;
 use pass_statements::item::Item;
 use styling::Func;
 use styling::Layer;
-use styling::table;
-use styling::table::Found;
 ghost use mathlib.Core.Path.{_≡_};
 ghost use Prim.Native.Nat.{_<_};
-ghost use Rattle.styling.specs.Table.{Table, tableOf};
+ghost use Rattle.layer_table.specs.Table.{Table, tableOf};
 ghost use Rattle.pass_statements.specs.Entry.{entryAt};
 ghost use Rattle.pass_statements.specs.Item.{itemFor, itemOf, Columns};
 
@@ -44,9 +43,9 @@ pub fn item_at(
 {
     let at = i.0;
     let id = ids[at];
-    match table::find(layers, count, id) {
+    match layer_table::find(layers, count, id) {
         Found::At(p) => {
-            let layer = table::layer_at(layers, colors, p);
+            let layer = layer_table::layer_at(layers, colors, p);
             item_for(layer, id, entry::read_cover(covers, at), segments[at])
         }
         Found::Absent => Item {

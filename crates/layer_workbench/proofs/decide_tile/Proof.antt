@@ -1,7 +1,7 @@
 -- `decide_tile` meets its contract. Assumes nothing.
 use native.Mathlib.Omega.{arith}
 use borrow.Author.Needs.{needs}
-use Rattle.styling.specs.Table.{tableOf}
+use Rattle.layer_table.specs.Table.{tableOf}
 use Rattle.pass_statements.specs.Entry.{entriesOf}
 use Rattle.layer_workbench.proofs.Decided.{decided}
 use Rattle.layer_workbench.proofs.decide_tile.Statement.{statement}

@@ -1,7 +1,7 @@
 -- `work` meets its contract. Assumes nothing.
 use native.Mathlib.Omega.{arith}
 use borrow.Author.Needs.{needs}
-use Rattle.styling.specs.Table.{tableOf}
+use Rattle.layer_table.specs.Table.{tableOf}
 use Rattle.queue_statements.specs.Queue.{queueOf}
 use Rattle.tile_layers.specs.Groups.{groupsOf}
 use Rattle.tile_layers.specs.Listing.{layersIn}

@@ -1,6 +1,6 @@
 -- `judge_layer` meets its contract. Assumes nothing.
 use borrow.Author.Needs.{needs}
-use Rattle.styling.proofs.Looking.{at-place, at-none}
+use Rattle.layer_table.proofs.Looking.{at-place, at-none}
 use Rattle.row_painting.proofs.judge_layer.Statement.{statement}
 use Rattle.row_painting.proofs.judge_layer.Tie as tie
 

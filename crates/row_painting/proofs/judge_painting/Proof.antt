@@ -8,7 +8,7 @@ use mir.Facts.{toZ-ofZ}
 use Rattle.laws.proofs.Machine.{sfits}
 use Rattle.laws.proofs.Parts.{whole}
 use Rattle.refusals.specs.Refusal.{Judgement, pass, judgementIn, andThen}
-use Rattle.styling.proofs.Judging as judged
+use Rattle.layer_table.proofs.Judging as judged
 use Rattle.queue_statements.proofs.Judging.{queued}
 use Rattle.row_statements.specs.Lent.{columns, lentTable}
 use Rattle.row_statements.specs.State.{stateIn}

@@ -9,7 +9,7 @@ use Rattle.laws.proofs.Machine.{sfits}
 use Rattle.laws.proofs.Parts.{whole}
 use Rattle.refusals.specs.Refusal.{pass, judgementIn}
 use Rattle.refusals.proofs.Judging.{both-passed}
-use Rattle.styling.proofs.Judging as judged
+use Rattle.layer_table.proofs.Judging as judged
 use Rattle.row_statements.specs.Lent.{columns, lentTable, layersOf}
 use Rattle.row_statements.specs.State.{stateIn}
 use Rattle.row_statements.specs.Painting.{PaintCall, paintCall, callVerdict, ownVerdict, paintVerdict, takenFor, partFor, paintSays}

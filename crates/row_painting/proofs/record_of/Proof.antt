@@ -1,7 +1,7 @@
 -- `record_of` meets its contract. Assumes nothing.
 use native.Mathlib.Omega.{arith}
 use borrow.Author.Needs.{needs}
-use Rattle.styling.proofs.Looking.{at-place, at-none}
+use Rattle.layer_table.proofs.Looking.{at-place, at-none}
 use Rattle.row_painting.proofs.record_of.Statement.{statement}
 use Rattle.row_painting.proofs.record_of.Tie as tie
 

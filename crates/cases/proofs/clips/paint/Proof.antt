@@ -2,7 +2,7 @@
 use mathlib.Core.Path.{refl}
 use borrow.Author.Needs.{needs}
 use borrow.Author.Tests.{leb-true}
-use Rattle.styling.specs.Table.{layerAt, tableOf}
+use Rattle.layer_table.specs.Table.{layerAt, tableOf}
 use Rattle.cover_statements.specs.Entry.{entryOf}
 use Rattle.queue_statements.specs.Queue.{queueOf}
 use Rattle.cases.proofs.Tile.{ready, painted}

@@ -1,7 +1,7 @@
 -- `freed::freed_by` meets its contract. Assumes nothing.
 use native.Mathlib.Omega.{arith}
 use borrow.Author.Needs.{needs}
-use Rattle.styling.proofs.Looking.{at-place, at-none}
+use Rattle.layer_table.proofs.Looking.{at-place, at-none}
 use Rattle.painter.proofs.freed.freed_by.Statement.{statement}
 use Rattle.painter.proofs.freed.freed_by.Tie as tie
 

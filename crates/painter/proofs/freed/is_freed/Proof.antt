@@ -2,7 +2,7 @@
 use Prim.Native.Nat.{_+_, _-_}
 use native.Mathlib.Omega.{arith}
 use lib.ListN.{length}
-use Rattle.styling.specs.Table.{tableOf}
+use Rattle.layer_table.specs.Table.{tableOf}
 use Rattle.painter.proofs.Freeing.{Freeing, free-start, free-next, free-end}
 use Rattle.painter.proofs.freed.is_freed.Statement.{statement}
 use Rattle.painter.proofs.freed.is_freed.Tie as tie

@@ -1,7 +1,7 @@
 -- `painting::paint` meets its contract. Assumes nothing.
 use native.Mathlib.Omega.{arith}
 use borrow.Author.Needs.{needs}
-use Rattle.styling.specs.Table.{tableOf}
+use Rattle.layer_table.specs.Table.{tableOf}
 use Rattle.queue_statements.specs.Queue.{queueOf}
 use Rattle.painter.proofs.Lasting.{last-small}
 use Rattle.painter.proofs.Painted.{painted}

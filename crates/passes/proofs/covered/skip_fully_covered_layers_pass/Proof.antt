@@ -1,7 +1,7 @@
 -- `passes::covered::skip_fully_covered_layers_pass` meets its contract. Assumes nothing.
 use Prim.Native.Nat.{_-_}
 use native.Mathlib.Omega.{arith}
-use Rattle.styling.specs.Table.{tableOf}
+use Rattle.layer_table.specs.Table.{tableOf}
 use Rattle.pass_statements.specs.Entry.{entriesOf}
 use Rattle.pass_statements.specs.Item.{itemsOf}
 use Rattle.pass_statements.proofs.Covering.{Looking, look-start, look-masked, look-next, look-found, look-end}

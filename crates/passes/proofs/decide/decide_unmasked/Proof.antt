@@ -1,6 +1,6 @@
 -- `passes::decide::decide_unmasked` meets its contract. Assumes nothing.
 use borrow.Author.Needs.{needs}
-use Rattle.styling.specs.Table.{tableOf}
+use Rattle.layer_table.specs.Table.{tableOf}
 use Rattle.pass_statements.specs.Covered.{coveredOf}
 use Rattle.pass_statements.specs.Entry.{entriesOf}
 use Rattle.pass_statements.specs.Item.{itemsOf}

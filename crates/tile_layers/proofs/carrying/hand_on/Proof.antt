@@ -11,7 +11,7 @@ use Rattle.pixel_segment.specs.Field.{cpu}
 use Rattle.segment_rows.specs.Search.{between}
 use Rattle.cover_statements.specs.Carry.{carryOf}
 use Rattle.cover_statements.specs.Cover.{isEmpty}
-use Rattle.styling.specs.Table.{tableOf}
+use Rattle.layer_table.specs.Table.{tableOf}
 use Rattle.tile_layers.proofs.Handing.{Handing, hand-start, hand-lengths, hand-room, hand-light, hand-next, hand-end}
 use Rattle.tile_layers.proofs.carrying.hand_on.Statement.{statement}
 use Rattle.tile_layers.proofs.carrying.hand_on.Tie as tie

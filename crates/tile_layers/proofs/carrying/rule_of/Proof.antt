@@ -1,7 +1,7 @@
 -- `carrying::rule_of` meets its contract. Assumes nothing.
 use native.Mathlib.Omega.{arith}
 use borrow.Author.Needs.{needs}
-use Rattle.styling.proofs.Looking.{at-place, at-none}
+use Rattle.layer_table.proofs.Looking.{at-place, at-none}
 use Rattle.tile_layers.proofs.carrying.rule_of.Statement.{statement}
 use Rattle.tile_layers.proofs.carrying.rule_of.Tie as tie
 

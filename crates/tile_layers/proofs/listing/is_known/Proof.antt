@@ -1,6 +1,6 @@
 -- `listing::is_known` meets its contract. Assumes nothing.
 use borrow.Author.Needs.{needs}
-use Rattle.styling.proofs.Looking.{at-place, at-none}
+use Rattle.layer_table.proofs.Looking.{at-place, at-none}
 use Rattle.tile_layers.proofs.listing.is_known.Statement.{statement}
 use Rattle.tile_layers.proofs.listing.is_known.Tie as tie
 

@@ -3,7 +3,7 @@ use Prim.Native.Nat.{_+_, _-_}
 use native.Mathlib.Omega.{arith}
 use borrow.Author.Needs.{needs}
 use lib.ListN.{length}
-use Rattle.styling.specs.Table.{tableOf}
+use Rattle.layer_table.specs.Table.{tableOf}
 use Rattle.tile_layers.proofs.Surveying.{Surveying, survey-start, survey-next, survey-end}
 use Rattle.tile_layers.proofs.listing.survey_layers.Statement.{statement}
 use Rattle.tile_layers.proofs.listing.survey_layers.Tie as tie

@@ -2,8 +2,8 @@
 use mathlib.Core.Path.{sym, _∙_}
 use native.Mathlib.Omega.{arith}
 use borrow.Author.Needs.{needs}
-use Rattle.styling.specs.Table.{tableOf}
-use Rattle.styling.proofs.Looking.{at-place, at-none}
+use Rattle.layer_table.specs.Table.{tableOf}
+use Rattle.layer_table.proofs.Looking.{at-place, at-none}
 use Rattle.pass_statements.specs.Entry.{entryAt}
 use Rattle.pass_statements.proofs.Listing.{cover-entry, item-found, item-missing}
 use Rattle.tile_unchanged.proofs.item.item_at.Statement.{statement}

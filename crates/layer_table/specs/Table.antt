@@ -8,11 +8,11 @@ use lib.Dec.{ltb}
 use lib.ListN.{length, getD}
 use lib.Ieee.{Float, nan}
 use Rattle.laws.specs.Lists.{tabulate, all}
 use Rattle.styling.specs.declared.Color.{Color}
 use Rattle.styling.specs.declared.Layer.{Layer}
-use Rattle.styling.specs.declared.table.Words.{Words}
+use Rattle.layer_table.specs.declared.Words.{Words}
 use Rattle.styling.specs.Ascending.{strictlyAscends}
-use Rattle.styling.specs.Record.{inRange, layerOf}
+use Rattle.layer_table.specs.Record.{inRange, layerOf}
 
 -- ---- the layout
 

@@ -1,14 +1,14 @@
--- `styling::table::is_table` meets its contract. What holds while the records are passed is `Judging`.
+-- `layer_table::is_table` meets its contract. What holds while the records are passed is `Judging`.
 -- Assumes nothing.
 use mathlib.Core.Path.{_≡_, sym, _∙_}
 use mathlib.Core.Bool.{false}
 use Prim.Native.Nat.{_-_}
 use native.Mathlib.Omega.{arith}
 use borrow.Author.Needs.{needs}
-use Rattle.styling.specs.Table.{isShort}
-use Rattle.styling.proofs.Judging.{Judging, begin, next, end, long, table-short, table-long}
-use Rattle.styling.proofs.table.is_table.Statement.{statement}
-use Rattle.styling.proofs.table.is_table.Tie as tie
+use Rattle.layer_table.specs.Table.{isShort}
+use Rattle.layer_table.proofs.Judging.{Judging, begin, next, end, long, table-short, table-long}
+use Rattle.layer_table.proofs.is_table.Statement.{statement}
+use Rattle.layer_table.proofs.is_table.Tie as tie
 
 abbrev Inv-loop : tie.InvT-loop
 Inv-loop layers colors count ok₀ low₀ i₀ ok low i = Judging layers count i ok low

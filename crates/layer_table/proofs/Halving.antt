@@ -9,11 +9,11 @@ use native.Mathlib.Nat.{eq-or-lt-of-le, zero-add}
 use native.Mathlib.Omega.{arith}
 use Rattle.laws.specs.Answer.{refused, given}
 use Rattle.laws.proofs.Orders.{le-or-lt}
 use Rattle.styling.specs.Ascending.{strictlyAscends}
-use Rattle.styling.specs.Table.{idAt, idsOf}
-use Rattle.styling.specs.Lookup.{placeOf}
-use Rattle.styling.proofs.Listed.{length-ids, getD-ids, ids-lt}
-use Rattle.styling.proofs.Places.{place-at, place-none}
+use Rattle.layer_table.specs.Table.{idAt, idsOf}
+use Rattle.layer_table.specs.Lookup.{placeOf}
+use Rattle.layer_table.proofs.Listed.{length-ids, getD-ids, ids-lt}
+use Rattle.layer_table.proofs.Places.{place-at, place-none}
 
 pub record Halving (words : List ℕ) (count id start len : ℕ) : Type 0 where
   pub some : 0 < len

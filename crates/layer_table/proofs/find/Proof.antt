@@ -1,10 +1,10 @@
--- `styling::table::find` meets its contract. What holds of the places that are left is `Halving`.
+-- `layer_table::find` meets its contract. What holds of the places that are left is `Halving`.
 -- Assumes nothing.
 use mathlib.Core.Path.{sym, _∙_}
 use native.Mathlib.Omega.{arith}
-use Rattle.styling.proofs.Halving.{Halving, begin, upper, lower, found, absent, none}
-use Rattle.styling.proofs.table.find.Statement.{statement}
-use Rattle.styling.proofs.table.find.Tie as tie
+use Rattle.layer_table.proofs.Halving.{Halving, begin, upper, lower, found, absent, none}
+use Rattle.layer_table.proofs.find.Statement.{statement}
+use Rattle.layer_table.proofs.find.Tie as tie
 
 abbrev Inv-loop : tie.InvT-loop
 Inv-loop layers count id start₀ len₀ start len = Halving layers count id start len

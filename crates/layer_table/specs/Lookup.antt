@@ -4,9 +4,9 @@ use mathlib.Core.List.{List, [], _∷_}
 use Prim.Native.Nat.{ℕ, suc}
 use lib.Dec.{eqb}
 use Rattle.laws.specs.Answer.{Answer, refused, given}
 use Rattle.styling.specs.declared.Layer.{Layer}
-use Rattle.styling.specs.declared.table.Found.{Found}
-use Rattle.styling.specs.declared.table.Found.the-variants.{At, Absent}
+use Rattle.layer_table.specs.declared.Found.{Found}
+use Rattle.layer_table.specs.declared.Found.the-variants.{At, Absent}
 
 -- the layer with an id
 unfoldable pub lookup : List Layer → ℕ → Answer Layer

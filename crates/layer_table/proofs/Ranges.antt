@@ -8,15 +8,15 @@ use borrow.Author.Tests.{leb-true}
 use lib.Dec.{leb, eqb, eqb·suc-zero}
 use lib.Ieee.{Float, eq, ofBits, binary32}
 use Rattle.laws.proofs.Bools.{left, right}
 use Rattle.styling.specs.declared.Color.{Color}
 use Rattle.styling.specs.declared.Style.{Style}
 use Rattle.styling.specs.declared.Func.the-variants.{Draw, Clip}
-use Rattle.styling.specs.declared.table.Words.{Words}
+use Rattle.layer_table.specs.declared.Words.{Words}
 use Rattle.styling.specs.Codes.{fillOf, modeCode, modeOf}
 use Rattle.styling.specs.Style.{fillColor, hasAlphaOne, isOpaque}
-use Rattle.styling.specs.Record.{layerLimit, inRange, funcOf}
+use Rattle.layer_table.specs.Record.{layerLimit, inRange, funcOf}
 use Rattle.styling.proofs.Coded.{mode-code}
-use Rattle.styling.specs.Table.{idAt, wordsAt, layerAt, Table}
+use Rattle.layer_table.specs.Table.{idAt, wordsAt, layerAt, Table}
 
 pub record InRange (w : Words) : Type 0 where
   pub id-le : w .id ≤ 2097151

@@ -11,9 +11,9 @@ use borrow.Author.Tests.{eq-eqb, ne-eqb}
 use lib.ListN.{length, getD}
 use Rattle.laws.specs.Answer.{refused, given}
 use Rattle.laws.proofs.Orders.{eq-or-ne}
 use Rattle.styling.specs.Ascending.{strictlyAscendsFrom}
-use Rattle.styling.specs.Lookup.{placeFrom}
+use Rattle.layer_table.specs.Lookup.{placeFrom}
 use Rattle.styling.proofs.Ascents.{ascends-tail, ascends-low}
 
 -- ---- a step past an element
 

@@ -9,10 +9,10 @@ use lib.Seq.{drop-cons}
 use lib.Ieee.{Float}
 use Rattle.laws.specs.Lists.{tabulate}
 use Rattle.laws.proofs.Rows.{length-tabulate, getD-tabulate}
 use Rattle.styling.specs.declared.Layer.{Layer}
 use Rattle.styling.specs.Ascending.{strictlyAscends}
-use Rattle.styling.specs.Table.{idAt, layerAt, tableOf, idsOf}
+use Rattle.layer_table.specs.Table.{idAt, layerAt, tableOf, idsOf}
 use Rattle.styling.proofs.Ascents.{ascends-lt}
 
 -- what is left of a list that is given by its elements, one element at a time: how a loop over places goes
 pub drop-tabulate {ℓ} : {A : Type ℓ} (n : ℕ) (f : ℕ → A) (i : ℕ) → i < n → drop i (tabulate n f) ≡ f i ∷ drop (suc i) (tabulate n f)

@@ -1,9 +1,9 @@
--- `styling::table::to_layer` meets its contract.
+-- `layer_table::to_layer` meets its contract.
 -- Assumes nothing.
 use mathlib.Core.Path.{refl}
 use borrow.Author.Needs.{needs}
-use Rattle.styling.proofs.table.to_layer.Statement.{statement}
-use Rattle.styling.proofs.table.to_layer.Tie as tie
+use Rattle.layer_table.proofs.to_layer.Statement.{statement}
+use Rattle.layer_table.proofs.to_layer.Tie as tie
 
 fill-rule-requires : tie.Need-fill-rule-requires
 fill-rule-requires c κs = search needs

@@ -1,19 +1,19 @@
 // The lent layer table: eight words a record (id, rule, func, span, clipped, fill, blend mode, unchanged), four floats a record (red,
 // green, blue, alpha), and how many records there are.
-use crate::Color;
-use crate::Func;
-use crate::Layer;
-use crate::Props;
-use crate::Style;
-use crate::codes;
+use styling::Color;
+use styling::Func;
+use styling::Layer;
+use styling::Props;
+use styling::Style;
+use styling::codes;
 ghost use mathlib.Core.Path.{_≡_};
 ghost use Prim.Native.Nat.{_*_, _+_, _≤_, _<_};
 ghost use mathlib.Core.Bool.{true};
 ghost use lib.ListN.{length};
-ghost use Rattle.styling.specs.Record.{inRange, funcOf, layerOf};
-ghost use Rattle.styling.specs.Table.{idAt, wordsAt, colorAt, layerAt, idsOf, isShort, isTable};
-ghost use Rattle.styling.specs.Lookup.{placeOf, foundOf};
+ghost use Rattle.layer_table.specs.Record.{inRange, funcOf, layerOf};
+ghost use Rattle.layer_table.specs.Table.{idAt, wordsAt, colorAt, layerAt, idsOf, isShort, isTable};
+ghost use Rattle.layer_table.specs.Lookup.{placeOf, foundOf};
 ghost use Rattle.styling.specs.Ascending.{strictlyAscends};
 
 // The largest layer id, and the longest span.
 const LAYER_LIMIT: u32 = 2097151;

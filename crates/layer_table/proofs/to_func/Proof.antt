@@ -1,10 +1,10 @@
--- `styling::table::to_func` meets its contract.
+-- `layer_table::to_func` meets its contract.
 -- Assumes nothing.
 use mathlib.Core.Path.{refl}
 use borrow.Author.Needs.{needs}
 use borrow.Author.Tests.{eq-eqb, ne-eqb}
-use Rattle.styling.proofs.table.to_func.Statement.{statement}
-use Rattle.styling.proofs.table.to_func.Tie as tie
+use Rattle.layer_table.proofs.to_func.Statement.{statement}
+use Rattle.layer_table.proofs.to_func.Tie as tie
 
 fill-requires : tie.Need-fill-requires
 fill-requires c κs = search needs

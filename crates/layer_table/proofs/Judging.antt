@@ -13,11 +13,11 @@ use Rattle.laws.specs.Lists.{tabulate, all}
 use Rattle.laws.proofs.Bools.{left, right}
 use Rattle.laws.proofs.Every.{all-at}
 use Rattle.laws.proofs.Rows.{length-tabulate, getD-tabulate}
-use Rattle.styling.specs.declared.table.Words.{Words}
+use Rattle.layer_table.specs.declared.Words.{Words}
 use Rattle.styling.specs.Ascending.{strictlyAscendsFrom, strictlyAscends}
-use Rattle.styling.specs.Record.{inRange}
-use Rattle.styling.specs.Table.{idAt, wordsAt, idsOf, isShort, isValid, isTable, Table}
-use Rattle.styling.proofs.Listed.{drop-tabulate, map-tabulate}
+use Rattle.layer_table.specs.Record.{inRange}
+use Rattle.layer_table.specs.Table.{idAt, wordsAt, idsOf, isShort, isValid, isTable, Table}
+use Rattle.layer_table.proofs.Listed.{drop-tabulate, map-tabulate}
 
 -- ---- refusal 1
 

@@ -1,11 +1,11 @@
--- `styling::table::is_short` meets its contract.
+-- `layer_table::is_short` meets its contract.
 -- Assumes nothing.
 use Prim.Native.Nat.{_/_}
 use lib.ListN.{length}
-use Rattle.styling.specs.Table.{isShort}
-use Rattle.styling.proofs.Judging.{ltb-min}
-use Rattle.styling.proofs.table.is_short.Statement.{statement}
-use Rattle.styling.proofs.table.is_short.Tie as tie
+use Rattle.layer_table.specs.Table.{isShort}
+use Rattle.layer_table.proofs.Judging.{ltb-min}
+use Rattle.layer_table.proofs.is_short.Statement.{statement}
+use Rattle.layer_table.proofs.is_short.Tie as tie
 
 returns : tie.Need-returns
 unfolding isShort

@@ -13,15 +13,15 @@ use lib.Ieee.{Float}
 use lib.ListN.{length, getD, length-map}
 use Rattle.laws.specs.Answer.{refused, given}
 use Rattle.laws.proofs.Orders.{le-or-lt, eq-or-ne}
 use Rattle.styling.specs.declared.Layer.{Layer}
-use Rattle.styling.specs.declared.table.Found.{Found}
-use Rattle.styling.specs.declared.table.Found.the-variants.{At, Absent}
+use Rattle.layer_table.specs.declared.Found.{Found}
+use Rattle.layer_table.specs.declared.Found.the-variants.{At, Absent}
 use Rattle.styling.specs.Ascending.{strictlyAscendsFrom, strictlyAscends}
-use Rattle.styling.specs.Table.{idAt, layerAt, tableOf, idsOf}
-use Rattle.styling.specs.Lookup.{lookup, placeOf, foundOf}
+use Rattle.layer_table.specs.Table.{idAt, layerAt, tableOf, idsOf}
+use Rattle.layer_table.specs.Lookup.{lookup, placeOf, foundOf}
 use Rattle.styling.proofs.Ascents.{ascends-tail, ascends-low}
-use Rattle.styling.proofs.Listed.{length-ids, getD-ids, length-table, getD-table, layer-id, ids-table, ids-lt}
-use Rattle.styling.proofs.Places.{Sought, held, missed, sought}
+use Rattle.layer_table.proofs.Listed.{length-ids, getD-ids, length-table, getD-table, layer-id, ids-table, ids-lt}
+use Rattle.layer_table.proofs.Places.{Sought, held, missed, sought}
 
 -- ---- over any list of layers
 

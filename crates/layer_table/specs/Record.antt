@@ -4,12 +4,12 @@
 use mathlib.Core.Bool.{Bool, cond, _&&_}
 use Prim.Native.Nat.{ℕ}
 use lib.Dec.{leb, eqb}
 use Rattle.styling.specs.declared.Color.{Color}
 use Rattle.styling.specs.declared.Func.{Func}
 use Rattle.styling.specs.declared.Func.the-variants.{Draw, Clip}
 use Rattle.styling.specs.declared.Layer.{Layer}
-use Rattle.styling.specs.declared.table.Words.{Words}
+use Rattle.layer_table.specs.declared.Words.{Words}
 use Rattle.styling.specs.Codes.{ruleOf, fillOf, modeOf}
 
 -- the largest layer id, and the longest span
 abbrev pub layerLimit : ℕ

@@ -1,11 +1,11 @@
--- `styling::table::layer_at` meets its contract.
+-- `layer_table::layer_at` meets its contract.
 -- Assumes nothing.
 use mathlib.Core.Path.{ap₂, _∙_}
 use borrow.Author.Needs.{needs}
-use Rattle.styling.specs.Record.{layerOf}
-use Rattle.styling.specs.Table.{layerAt}
-use Rattle.styling.proofs.table.layer_at.Statement.{statement}
-use Rattle.styling.proofs.table.layer_at.Tie as tie
+use Rattle.layer_table.specs.Record.{layerOf}
+use Rattle.layer_table.specs.Table.{layerAt}
+use Rattle.layer_table.proofs.layer_at.Statement.{statement}
+use Rattle.layer_table.proofs.layer_at.Tie as tie
 
 words-at-requires : tie.Need-words-at-requires
 words-at-requires c κs = search needs
