@@ -1,11 +1,13 @@
-// A cached tile that may be given or not, through the work of a tile (`convert_optimizer_op` of cpu/painter/mod.rs): any work updates the
-// count, paint clears the solid colour, and a solid tile is settled by a second call with its display bytes.
+// A cached tile that may be given or not, through the work of a tile (`convert_optimizer_op` of cpu/painter/mod.rs):
+// any work updates the count, paint clears the solid colour, and a solid tile is settled by a second call with its
+// display bytes.
 use crate::CachedTile;
 use crate::LayerCount;
 use crate::SolidColor;
 ghost use mathlib.Core.Path.{_≡_};
 ghost use Rattle.laws.specs.Answer.{given};
-ghost use Rattle.cached_tile.specs.Kept.{noTile, tagOutOfRange, KeptCounted, cleared, settlementOf, keepOrWrite, sameBytes, TileSettled, KeptSettled};
+ghost use Rattle.cached_tile.specs.Kept.{noTile, tagOutOfRange, KeptCounted, cleared, settlementOf, keepOrWrite};
+ghost use Rattle.cached_tile.specs.Kept.{sameBytes, TileSettled, KeptSettled};
 
 // Whether a cached tile is given, and the tile.
 pub struct Kept {
@@ -134,8 +136,8 @@ fn settle_tile(tile: CachedTile, color: [u8; 4]) -> Settled
     }
 }
 
-// The second call of a solid tile, with its four display bytes: they are kept where a tile is given, and needn't be written where it
-// kept the same before.
+// The second call of a solid tile, with its four display bytes: they are kept where a tile is given, and needn't be
+// written where it kept the same before.
 pub fn settle(kept: Kept, color: [u8; 4]) -> Settled
     ensures { λ r. ⌜ KeptSettled kept color r ⌝ }
 {

@@ -1,10 +1,11 @@
-// What the last frame left of a tile (`CachedTile` of cpu/painter/mod.rs), by value, with the Rust's methods. `settle` is the second
-// call of a solid tile.
+// What the last frame left of a tile (`CachedTile` of cpu/painter/mod.rs), by value, with the Rust's methods. `settle`
+// is the second call of a solid tile.
 pub mod kept;
 
 ghost use mathlib.Core.Path.{_≡_};
 ghost use Prim.Native.Nat.{_<_};
-ghost use Rattle.cached_tile.specs.Tile.{emptyTile, keepsCount, keepsColor, countOf, layerCountOf, solidColorOf, keepCount, dropCount, keepColor, dropColor, CountUpdated, ColorUpdated};
+ghost use Rattle.cached_tile.specs.Tile.{emptyTile, keepsCount, keepsColor, countOf, layerCountOf, solidColorOf};
+ghost use Rattle.cached_tile.specs.Tile.{keepCount, dropCount, keepColor, dropColor, CountUpdated, ColorUpdated};
 
 pub struct CachedTile {
     // 1 where a solid colour is kept, plus 2 where a layer count is.

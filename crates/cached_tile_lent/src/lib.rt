@@ -1,5 +1,6 @@
-// The two updates of a cached tile that stays with the caller (`update_layer_count` and `update_solid_color` of the Rust, which take `&mut self`):
-// the tile is read, the method by value is called, the new tile is stored, and what was kept before is answered.
+// The two updates of a cached tile that stays with the caller (`update_layer_count` and `update_solid_color` of the
+// Rust, which take `&mut self`): the tile is read, the method by value is called, the new tile is stored, and what was
+// kept before is answered.
 use cached_tile::CachedTile;
 use cached_tile::LayerCount;
 use cached_tile::SolidColor;
@@ -9,7 +10,8 @@ ghost use mathlib.Core.Path.{_≡_};
 ghost use Rattle.cached_tile.specs.Tile.{CountUpdated, ColorUpdated};
 
 pub fn update_layer_count(tile: &mut CachedTile, layer_count: LayerCount) -> LayerCount
-    ensures { λ r. ⌜ CountUpdated (now (tile .entry)) «layer_count» (record { previous = r; tile = now (tile .exit) }) ⌝ }
+    ensures { λ r. ⌜ CountUpdated (now (tile .entry)) «layer_count»
+        (record { previous = r; tile = now (tile .exit) }) ⌝ }
 {
     let updated = CachedTile::update_layer_count(*tile, layer_count);
     *tile = updated.tile;
@@ -17,7 +19,8 @@ pub fn update_layer_count(tile: &mut CachedTile, layer_count: LayerCount) -> Lay
 }
 
 pub fn update_solid_color(tile: &mut CachedTile, solid_color: SolidColor) -> SolidColor
-    ensures { λ r. ⌜ ColorUpdated (now (tile .entry)) «solid_color» (record { previous = r; tile = now (tile .exit) }) ⌝ }
+    ensures { λ r. ⌜ ColorUpdated (now (tile .entry)) «solid_color»
+        (record { previous = r; tile = now (tile .exit) }) ⌝ }
 {
     let updated = CachedTile::update_solid_color(*tile, solid_color);
     *tile = updated.tile;

@@ -42,8 +42,8 @@ pub fn carry(text: &[u8], at: usize, row: &mut [u64]) -> Cursor {
     lists::expect_cover(text, told, bytes)
 }
 
-// PAINT by a rule, 16 bytes, how many words, the words: the refusal, the mark, the octets, and the 256 coverages. The mark was 5 and the
-// plane 2 each.
+// PAINT by a rule, 16 bytes, how many words, the words: the refusal, the mark, the octets, and the 256 coverages. The
+// mark was 5 and the plane 2 each.
 pub fn paint(text: &[u8], at: usize, row: &mut [u64]) -> Cursor {
     let rule = text::next(text, at);
     let mut bytes = [0i8; 16];

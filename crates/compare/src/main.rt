@@ -1,5 +1,6 @@
-// Replays the stored answers of the Rust (the file stdin, whose form is told at each kind): the same input to the exported operations, and every
-// number of the answer held to the stored one. Says how many cases of each kind were compared and how many differ.
+// Replays the stored answers of the Rust (the file stdin, whose form is told at each kind): the same input to the
+// exported operations, and every number of the answer held to the stored one. Says how many cases of each kind were
+// compared and how many differ.
 mod covers;
 mod paints;
 mod rows;

@@ -8,7 +8,8 @@ use stored_answers::stand::Stand;
 use stored_answers::text;
 use stored_answers::text::Cursor;
 
-// How many paintings, and each: the layer; then the refusal, the state, the mark, which was 5, and the 256 coverages, which were 2.
+// How many paintings, and each: the layer; then the refusal, the state, the mark, which was 5, and the 256 coverages,
+// which were 2.
 pub fn layers(
     text: &[u8],
     start: Stand,

@@ -9,9 +9,9 @@ use stored_answers::stand::Stand;
 use stored_answers::text;
 use stored_answers::text::Cursor;
 
-// OPEN or ROW of tile y, from, to, how many layers, how many words; the layers' words, the layers' colours, the row: the refusal, the state's 6
-// words and 2 counts, which were 5 each, and the carries: ids, then covers; then how many tiles, and each tile. The lent queue was 7 each, and
-// still is past the carries.
+// OPEN or ROW of tile y, from, to, how many layers, how many words; the layers' words, the layers' colours, the row:
+// the refusal, the state's 6 words and 2 counts, which were 5 each, and the carries: ids, then covers; then how many
+// tiles, and each tile. The lent queue was 7 each, and still is past the carries.
 pub fn row(
     text: &[u8],
     at: usize,

@@ -5,7 +5,8 @@ use stored_answers::numbers;
 use stored_answers::text;
 use stored_answers::text::Cursor;
 
-// COUNT of a tile's 8 bytes, whether one is given, the count: whether one was kept, which (5 where none), and the bytes then.
+// COUNT of a tile's 8 bytes, whether one is given, the count: whether one was kept, which (5 where none), and the bytes
+// then.
 pub fn count(text: &[u8], at: usize) -> Cursor {
     let mut tile = [0u8; 8];
     let start = lists::fill_bytes(text, at, &mut tile);
@@ -30,7 +31,8 @@ pub fn count(text: &[u8], at: usize) -> Cursor {
     lists::expect_tile(text, c2, tile)
 }
 
-// COLOR of a tile's 8 bytes, whether one is given, its 4 bytes: whether one was kept, which (5 each where none), and the bytes then.
+// COLOR of a tile's 8 bytes, whether one is given, its 4 bytes: whether one was kept, which (5 each where none), and
+// the bytes then.
 pub fn color(text: &[u8], at: usize) -> Cursor {
     let mut tile = [0u8; 8];
     let start = lists::fill_bytes(text, at, &mut tile);
@@ -56,7 +58,8 @@ pub fn color(text: &[u8], at: usize) -> Cursor {
     lists::expect_tile(text, c2, tile)
 }
 
-// SETTLE whether a tile is given, its 8 bytes, 4 display bytes: the refusal, whether they are written (no after a refusal), and the bytes then.
+// SETTLE whether a tile is given, its 8 bytes, 4 display bytes: the refusal, whether they are written (no after a
+// refusal), and the bytes then.
 pub fn settle(text: &[u8], at: usize) -> Cursor {
     let flag = text::next(text, at);
     let mut tile = [0u8; 8];

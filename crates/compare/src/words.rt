@@ -5,7 +5,8 @@ use stored_answers::numbers;
 use stored_answers::text;
 use stored_answers::text::Cursor;
 
-// PACK layer, tile x, tile y, local x, local y, multiplier, cover: the refusal, and what the lent word then is, which was 5.
+// PACK layer, tile x, tile y, local x, local y, multiplier, cover: the refusal, and what the lent word then is, which
+// was 5.
 pub fn pack(text: &[u8], at: usize) -> Cursor {
     let mut w = [0u64; 7];
     let end = lists::fill(text, at, &mut w, 7);
@@ -96,7 +97,8 @@ fn search_in(row: &[u64], key: u64, value: u64, wanted: bool, place: &mut usize)
     }
 }
 
-// SEARCH by a key, its value, the answer that is looked for, how many words, the words: whether it is found, and the place.
+// SEARCH by a key, its value, the answer that is looked for, how many words, the words: whether it is found, and the
+// place.
 pub fn search(text: &[u8], at: usize, row: &mut [u64]) -> Cursor {
     let mut w = [0u64; 4];
     let start = lists::fill(text, at, &mut w, 4);

@@ -10,7 +10,8 @@ use stored_answers::text;
 use stored_answers::text::Cursor;
 ghost use Prim.Native.Nat.{_≤_};
 
-// What a tile is given: its number, whether a cached tile is given and its 8 bytes, the clear colour, whether one of the frame before is given and it.
+// What a tile is given: its number, whether a cached tile is given and its 8 bytes, the clear colour, whether one of
+// the frame before is given and it.
 struct Given {
     at: usize,
     tile: i32,
@@ -54,8 +55,8 @@ fn expect_told(text: &[u8], cursor: Cursor, told: [usize; 4], bottom: [f32; 4]) 
     text::expect_float(text, c7, bottom[3])
 }
 
-// What a tile is given; then the refusal, the state, the cached tile, the answer, the list's four columns, the carries handed on; then the
-// paintings. Lent columns were 7 each or false, and still are past what is written.
+// What a tile is given; then the refusal, the state, the cached tile, the answer, the list's four columns, the carries
+// handed on; then the paintings. Lent columns were 7 each or false, and still are past what is written.
 pub fn tile(
     text: &[u8],
     stand: Stand,

@@ -1,4 +1,5 @@
-// The covers of a part of a row added to an incoming cover: what a tile hands on. Refused by 9 where a pixel row's absolute covers exceed 127.
+// The covers of a part of a row added to an incoming cover: what a tile hands on. Refused by 9 where a pixel row's
+// absolute covers exceed 127.
 use crate::Cover;
 use pixel_segment::PixelSegment;
 ghost use mathlib.Core.Path.{_≡_};
@@ -10,7 +11,8 @@ ghost use Rattle.cover_statements.specs.Carry.{isLight, carryOf};
 ghost use Rattle.cover.specs.Adding.{Adding};
 ghost use Rattle.cover_statements.specs.Load.{Capped, Magnitudes, loadsOf, allLight};
 
-// What adding answers: the carry, or refusal 9 and the cover as it came. An enum can't hold the array of a cover, so a flag tells the two.
+// What adding answers: the carry, or refusal 9 and the cover as it came. An enum can't hold the array of a cover, so a
+// flag tells the two.
 pub struct Carried {
     pub accepted: bool,
     pub cover: Cover,

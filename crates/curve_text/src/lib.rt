@@ -17,8 +17,8 @@ fn line_of(rest: u16) -> [i32; 2]
     [rest as i32, weight as i32]
 }
 
-// Writes the text at the front of `out`, and answers its length. The names have 12 bytes, a line at most 9; printing a line
-// asks for 24.
+// Writes the text at the front of `out`, and answers its length. The names have 12 bytes, a line at most 9; printing a
+// line asks for 24.
 fn write_curve(out: &mut [u8]) -> usize
     requires { ⌜ 9252 ≤ length (now out) ⌝ }
     ensures { λ r. ⌜ LineWritten curveText (now (out .entry)) r (now (out .exit)) ⌝ }

@@ -1,5 +1,5 @@
-// The third pass, `skip_fully_covered_layers_pass`, at one layer, and what lies below the layers to mix by what it found. The pass itself is of
-// passes.
+// The third pass, `skip_fully_covered_layers_pass`, at one layer, and what lies below the layers to mix by what it
+// found. The pass itself is of passes.
 use pass_statements::Index;
 use pass_statements::covered::Covered;
 use pass_statements::covered::InterestingCover;
@@ -10,7 +10,8 @@ use styling::Color;
 use styling::Paint;
 ghost use mathlib.Core.Path.{_≡_};
 ghost use Rattle.styling.specs.Style.{paintOf};
-ghost use Rattle.pass_statements.specs.Covered.{firstOf, opaqueOf, isPartial, hides as hidesOf, tells as tellsOf, skipTo, lookAt};
+ghost use Rattle.pass_statements.specs.Covered.{firstOf, opaqueOf, isPartial, hides as hidesOf, tells as tellsOf};
+ghost use Rattle.pass_statements.specs.Covered.{skipTo, lookAt};
 ghost use Rattle.pass_statements.specs.Decide.{bottomOf};
 
 fn first_of(first: InterestingCover, next: InterestingCover) -> InterestingCover

@@ -17,8 +17,10 @@ fn write_job(
     row: &mut [u64],
 ) -> Reading
     requires { ⌜ Judged (now «layer_numbers») n (now «segment_numbers») m count ⌝ }
-    ensures { λ r. ⌜ Left (outcomeOn head (now («layer_numbers» .entry)) n (now («segment_numbers» .entry)) m (now (layers .entry)) (now (colors .entry)) (now (row .entry)))
-        (now (layers .entry)) (now (colors .entry)) (now (row .entry)) r (now (layers .exit)) (now (colors .exit)) (now (row .exit)) ⌝ }
+    ensures { λ r. ⌜ Left (outcomeOn head (now («layer_numbers» .entry)) n (now («segment_numbers» .entry)) m
+        (now (layers .entry)) (now (colors .entry)) (now (row .entry)))
+        (now (layers .entry)) (now (colors .entry)) (now (row .entry)) r (now (layers .exit)) (now (colors .exit))
+        (now (row .exit)) ⌝ }
 {
     let has_room = (n <= layers.len() / 8) & (n <= colors.len() / 4) & (count <= row.len());
     if !has_room {

@@ -67,8 +67,10 @@ fn write_segment(s: SegmentLine, tile_y: i16, row: &mut [u64], at: usize) -> usi
 }
 
 pub fn write_row(numbers: &[i32], m: usize, number: i32, row: &mut [u64])
-    requires { ⌜ (7 * m ≤ length (now numbers)) × (all segmentRule (segmentsIn (now numbers) m) ≡ true) × (segmentCount (segmentsIn (now numbers) m) ≤ length (now row)) ⌝ }
-    ensures { λ _. ⌜ now (row .exit) ≡ over (rowWords number (segmentsIn (now (numbers .entry)) m)) (now (row .entry)) ⌝ }
+    requires { ⌜ (7 * m ≤ length (now numbers)) × (all segmentRule (segmentsIn (now numbers) m) ≡ true)
+        × (segmentCount (segmentsIn (now numbers) m) ≤ length (now row)) ⌝ }
+    ensures { λ _. ⌜ now (row .exit) ≡ over (rowWords number (segmentsIn (now (numbers .entry)) m))
+        (now (row .entry)) ⌝ }
 {
     let tile_y = to_tile_y(number);
     let mut at: usize = 0;

@@ -28,7 +28,8 @@ fn word_at(numbers: &[i32], k: usize) -> u32
 
 pub fn write_words(numbers: &[i32], n: usize, layers: &mut [u32])
     requires { ⌜ (8 * n ≤ length (now numbers)) × (8 * n ≤ length (now layers)) ⌝ }
-    ensures { λ _. ⌜ now (layers .exit) ≡ over (tableWords (layersIn (now (numbers .entry)) n)) (now (layers .entry)) ⌝ }
+    ensures { λ _. ⌜ now (layers .exit) ≡ over (tableWords (layersIn (now (numbers .entry)) n))
+        (now (layers .entry)) ⌝ }
 {
     let mut k: usize = 0;
     while k < 8 * n {
@@ -47,7 +48,8 @@ fn to_alpha(v: i32) -> f32
 
 // A float of the table: alpha, or 0 for the other colours.
 fn color_at(numbers: &[i32], k: usize) -> f32
-    requires { ⌜ (8 * (k / 4) + 7 < length (now numbers)) × (minus (numberAt (now numbers) (8 * (k / 4) + 7)) ≡ 0) × (plus (numberAt (now numbers) (8 * (k / 4) + 7)) ≤ 256) ⌝ }
+    requires { ⌜ (8 * (k / 4) + 7 < length (now numbers)) × (minus (numberAt (now numbers) (8 * (k / 4) + 7)) ≡ 0)
+        × (plus (numberAt (now numbers) (8 * (k / 4) + 7)) ≤ 256) ⌝ }
     ensures { λ r. ⌜ r ≡ colorAt (now (numbers .entry)) k ⌝ }
 {
     if k % 4 == 3 {
@@ -58,8 +60,10 @@ fn color_at(numbers: &[i32], k: usize) -> f32
 }
 
 pub fn write_colors(numbers: &[i32], n: usize, colors: &mut [f32])
-    requires { ⌜ (8 * n ≤ length (now numbers)) × (4 * n ≤ length (now colors)) × (all layerRule (layersIn (now numbers) n) ≡ true) ⌝ }
-    ensures { λ _. ⌜ now (colors .exit) ≡ over (tableColors (layersIn (now (numbers .entry)) n)) (now (colors .entry)) ⌝ }
+    requires { ⌜ (8 * n ≤ length (now numbers)) × (4 * n ≤ length (now colors))
+        × (all layerRule (layersIn (now numbers) n) ≡ true) ⌝ }
+    ensures { λ _. ⌜ now (colors .exit) ≡ over (tableColors (layersIn (now (numbers .entry)) n))
+        (now (colors .entry)) ⌝ }
 {
     let mut k: usize = 0;
     while k < 4 * n {

@@ -1,4 +1,5 @@
-// The job text of the row program, read as numbers: `job_blocks` reads its three blocks, `job_numbers` judges their lines.
+// The job text of the row program, read as numbers: `job_blocks` reads its three blocks, `job_numbers` judges their
+// lines.
 use job_text_statements::Head;
 use job_text_statements::Numbers;
 use job_text_statements::blocks::Blocks;

@@ -1,5 +1,5 @@
-// Runs the job files that its arguments name, one after another, and prints for each a line with the file's name and then the answer of the row
-// program to its text.
+// Runs the job files that its arguments name, one after another, and prints for each a line with the file's name and
+// then the answer of the row program to its text.
 use libc::STDOUT_FILENO;
 
 fn print_name(path: &[u8]) {

@@ -1,5 +1,5 @@
-// The lent layer table: eight words a record (id, rule, func, span, clipped, fill, blend mode, unchanged), four floats a record (red,
-// green, blue, alpha), and how many records there are.
+// The lent layer table: eight words a record (id, rule, func, span, clipped, fill, blend mode, unchanged), four floats
+// a record (red, green, blue, alpha), and how many records there are.
 use styling::Color;
 use styling::Func;
 use styling::Layer;
@@ -134,8 +134,8 @@ fn is_in_range(words: Words) -> bool
         & (words.unchanged <= 1)
 }
 
-// Whether neither refusal 1 nor refusal 4 applies to the table. `low` is the least id that may follow. No early exit: a table is in
-// order more often than not.
+// Whether neither refusal 1 nor refusal 4 applies to the table. `low` is the least id that may follow. No early exit: a
+// table is in order more often than not.
 pub fn is_table(layers: &[u32], colors: &[f32], count: usize) -> bool
     ensures { λ r. ⌜ r ≡ isTable (now (layers .entry)) (now (colors .entry)) count ⌝ }
 {

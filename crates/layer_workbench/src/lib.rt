@@ -1,4 +1,5 @@
-// The work on one tile (`drive_tile_painting` of painter/layer_workbench/mod.rs, without painting): list, decide, keep, hand on.
+// The work on one tile (`drive_tile_painting` of painter/layer_workbench/mod.rs, without painting): list, decide, keep,
+// hand on.
 use cached_tile::LayerCount;
 use cached_tile::kept::Kept;
 use pass_statements::Index;
@@ -20,7 +21,8 @@ ghost use Rattle.cached_tile.specs.Tile.{countOf};
 ghost use Rattle.pass_statements.specs.Entry.{entriesOf};
 ghost use Rattle.pass_statements.specs.Decision.{decisionIn};
 ghost use Rattle.pass_statements.specs.Item.{Columns};
-ghost use Rattle.layer_workbench.specs.Work.{clearUnchanged, countFrom, keptBy, outcomeOn, outcomeIn, carriesAfter, Decides, Works, ListWritten, QueueWritten, Rooms};
+ghost use Rattle.layer_workbench.specs.Work.{clearUnchanged, countFrom, keptBy, outcomeOn, outcomeIn};
+ghost use Rattle.layer_workbench.specs.Work.{carriesAfter, Decides, Works, ListWritten, QueueWritten, Rooms};
 
 // The clear colour of the frame before, where one is given.
 pub enum PreviousClear {
@@ -28,8 +30,8 @@ pub enum PreviousClear {
     Given(Color),
 }
 
-// What a tile's work gives: the decision, how many layers are listed and how many of them skipped, the cached tile, and how many carries are
-// handed on.
+// What a tile's work gives: the decision, how many layers are listed and how many of them skipped, the cached tile, and
+// how many carries are handed on.
 pub struct Worked {
     pub decision: Decision,
     pub listed: usize,
@@ -88,8 +90,11 @@ pub fn decide_tile(
     previous: PreviousClear,
     unmasked: &mut [bool],
 ) -> DecidedTile
-    requires { ⌜ Columns n (now ids) (now covers) (now segments) × Table (now layers) (now colors) count × (n ≤ length (now unmasked)) ⌝ }
-    ensures { λ r. ⌜ Decides (outcomeOn (tableOf (now (layers .entry)) (now (colors .entry)) count) kept clear previous (entriesOf n (now (ids .entry)) (now (covers .entry)) (now (segments .entry)))) kept n (now (unmasked .entry)) r (now (unmasked .exit)) ⌝ }
+    requires { ⌜ Columns n (now ids) (now covers) (now segments) × Table (now layers) (now colors) count
+        × (n ≤ length (now unmasked)) ⌝ }
+    ensures { λ r. ⌜ Decides (outcomeOn (tableOf (now (layers .entry)) (now (colors .entry)) count) kept clear previous
+        (entriesOf n (now (ids .entry)) (now (covers .entry)) (now (segments .entry)))) kept n (now (unmasked .entry)) r
+        (now (unmasked .exit)) ⌝ }
 {
     let counted = kept.update_layer_count(n as u32);
     let before = counted.previous;
@@ -137,10 +142,23 @@ pub fn work(
     list_segments: &mut [bool],
     list_unmasked: &mut [bool],
 ) -> Worked
-    requires { ⌜ Walks n (now ids) (now part) × (16 * n ≤ length (now covers)) × Table (now layers) (now colors) count × Rooms (now «list_ids») (now «list_covers») (now «list_segments») (now «list_unmasked») (now «next_ids») (now «next_covers») × (areLight (layersIn (queueOf n (now ids) (now covers)) (now part)) ≡ true) × (listed ≡ length (layersIn (queueOf n (now ids) (now covers)) (now part))) × (listed ≤ 256) ⌝ }
-    ensures answer { λ r. ⌜ Works (tableOf (now (layers .entry)) (now (colors .entry)) count) kept clear previous (layersIn (queueOf n (now (ids .entry)) (now (covers .entry))) (now (part .entry))) r ⌝ }
-    ensures list { λ r. ⌜ ListWritten (layersIn (queueOf n (now (ids .entry)) (now (covers .entry))) (now (part .entry))) (outcomeIn (tableOf (now (layers .entry)) (now (colors .entry)) count) kept clear previous (layersIn (queueOf n (now (ids .entry)) (now (covers .entry))) (now (part .entry)))) (now («list_ids» .entry)) (now («list_covers» .entry)) (now («list_segments» .entry)) (now («list_unmasked» .entry)) (now («list_ids» .exit)) (now («list_covers» .exit)) (now («list_segments» .exit)) (now («list_unmasked» .exit)) ⌝ }
-    ensures queue { λ r. ⌜ QueueWritten (carriesAfter (tableOf (now (layers .entry)) (now (colors .entry)) count) (outcomeIn (tableOf (now (layers .entry)) (now (colors .entry)) count) kept clear previous (layersIn (queueOf n (now (ids .entry)) (now (covers .entry))) (now (part .entry)))) (layersIn (queueOf n (now (ids .entry)) (now (covers .entry))) (now (part .entry)))) (now («next_ids» .entry)) (now («next_covers» .entry)) (now («next_ids» .exit)) (now («next_covers» .exit)) ⌝ }
+    requires { ⌜ Walks n (now ids) (now part) × (16 * n ≤ length (now covers)) × Table (now layers) (now colors) count
+        × Rooms (now «list_ids») (now «list_covers») (now «list_segments») (now «list_unmasked») (now «next_ids»)
+        (now «next_covers») × (areLight (layersIn (queueOf n (now ids) (now covers)) (now part)) ≡ true)
+        × (listed ≡ length (layersIn (queueOf n (now ids) (now covers)) (now part))) × (listed ≤ 256) ⌝ }
+    ensures answer { λ r. ⌜ Works (tableOf (now (layers .entry)) (now (colors .entry)) count) kept clear previous
+        (layersIn (queueOf n (now (ids .entry)) (now (covers .entry))) (now (part .entry))) r ⌝ }
+    ensures list { λ r. ⌜ ListWritten (layersIn (queueOf n (now (ids .entry)) (now (covers .entry)))
+        (now (part .entry))) (outcomeIn (tableOf (now (layers .entry)) (now (colors .entry)) count) kept clear previous
+        (layersIn (queueOf n (now (ids .entry)) (now (covers .entry))) (now (part .entry)))) (now («list_ids» .entry))
+        (now («list_covers» .entry)) (now («list_segments» .entry)) (now («list_unmasked» .entry))
+        (now («list_ids» .exit)) (now («list_covers» .exit)) (now («list_segments» .exit))
+        (now («list_unmasked» .exit)) ⌝ }
+    ensures queue { λ r. ⌜ QueueWritten (carriesAfter (tableOf (now (layers .entry)) (now (colors .entry)) count)
+        (outcomeIn (tableOf (now (layers .entry)) (now (colors .entry)) count) kept clear previous
+        (layersIn (queueOf n (now (ids .entry)) (now (covers .entry))) (now (part .entry))))
+        (layersIn (queueOf n (now (ids .entry)) (now (covers .entry))) (now (part .entry)))) (now («next_ids» .entry))
+        (now («next_covers» .entry)) (now («next_ids» .exit)) (now («next_covers» .exit)) ⌝ }
 {
     listing::list_layers(ids, covers, n, part, list_ids, list_covers, list_segments);
     let decided = decide_tile(

@@ -87,7 +87,8 @@ fn starts_number(s: &[u8], at: usize) -> bool
 // Reads lines of k numbers while numbers come, at most m lines, and stores them from the front on.
 pub fn read_lines(s: &[u8], at: usize, m: usize, k: usize, out: &mut [i32]) -> Block
     requires { ⌜ (at ≤ length (now s)) × (m * k ≤ length (now out)) ⌝ }
-    ensures { λ r. ⌜ LinesRead (parseLines m k (drop at (now (s .entry)))) (now (s .entry)) (now (out .entry)) r (now (out .exit)) ⌝ }
+    ensures { λ r. ⌜ LinesRead (parseLines m k (drop at (now (s .entry)))) (now (s .entry)) (now (out .entry)) r
+        (now (out .exit)) ⌝ }
 {
     let mut i = at;
     let mut p: usize = 0;
@@ -109,7 +110,8 @@ pub fn read_lines(s: &[u8], at: usize, m: usize, k: usize, out: &mut [i32]) -> B
 // A block: a line of names, then lines of k numbers, at most m of them.
 pub fn read_block(s: &[u8], at: usize, names: &[u8], m: usize, k: usize, out: &mut [i32]) -> Block
     requires { ⌜ (at ≤ length (now s)) × (m * k ≤ length (now out)) ⌝ }
-    ensures { λ r. ⌜ LinesRead (parseBlock (now (names .entry)) m k (drop at (now (s .entry)))) (now (s .entry)) (now (out .entry)) r (now (out .exit)) ⌝ }
+    ensures { λ r. ⌜ LinesRead (parseBlock (now (names .entry)) m k (drop at (now (s .entry)))) (now (s .entry))
+        (now (out .entry)) r (now (out .exit)) ⌝ }
 {
     let Place::At(first) = read_prefix(s, at, names) else {
         return Block::Cut;

@@ -29,7 +29,8 @@ fn load_with(load: u8, cover: i8) -> u16
 // A segment's cover and load added at their place; neither, where the load would exceed 127.
 fn add_segment(word: u64, place: usize, sums: &mut [i8], loads: &mut [u8]) -> bool
     requires { ⌜ Placing place (now sums) (now loads) ⌝ }
-    ensures { λ r. ⌜ Placed place word (now (sums .entry)) (now (loads .entry)) r (now (sums .exit)) (now (loads .exit)) ⌝ }
+    ensures { λ r. ⌜ Placed place word (now (sums .entry)) (now (loads .entry)) r (now (sums .exit))
+        (now (loads .exit)) ⌝ }
 {
     let cover = PixelSegment(word).cover();
     let load = load_with(loads[place], cover);

@@ -19,7 +19,8 @@ ghost use Rattle.pass_statements.specs.Rules.{latestClip, isFreed, needsClip};
 ghost use Rattle.painter.specs.Painting.{itemsIn};
 ghost use Rattle.painter.specs.Freed.{freedAfter, freedBy};
 
-// Whether a draw of layer `id` is freed once the layer `at` is met: a clip below it decides anew, and all else leaves it.
+// Whether a draw of layer `id` is freed once the layer `at` is met: a clip below it decides anew, and all else leaves
+// it.
 fn freed_after(
     layer: Layer,
     at: u32,
@@ -28,7 +29,12 @@ fn freed_after(
     id: u32,
     freed: bool,
 ) -> bool
-    ensures { λ r. ⌜ r ≡ freedAfter (itemFor layer (record { id = at; cover = cover .covers; segments = «has_segments» })) id freed ⌝ }
+    ensures { λ r. ⌜ r ≡ freedAfter (itemFor layer (record {
+      id = at;
+      cover = cover .covers;
+      segments =
+          «has_segments»;
+    })) id freed ⌝ }
 {
     let props = layer.props;
     let rule = props.fill_rule;
@@ -57,7 +63,8 @@ fn freed_by(
     freed: bool,
 ) -> bool
     requires { ⌜ Table (now layers) (now colors) count ⌝ }
-    ensures { λ r. ⌜ r ≡ freedBy (lookup (tableOf (now (layers .entry)) (now (colors .entry)) count) at) (record { id = at; cover = cover .covers; segments = «has_segments» }) id freed ⌝ }
+    ensures { λ r. ⌜ r ≡ freedBy (lookup (tableOf (now (layers .entry)) (now (colors .entry)) count) at)
+        (record { id = at; cover = cover .covers; segments = «has_segments» }) id freed ⌝ }
 {
     match layer_table::find(layers, count, at) {
         Found::At(p) => {
@@ -68,7 +75,8 @@ fn freed_by(
     }
 }
 
-// Whether the latest listed clip below a layer frees its draw: the layer lies within its span, and it is full in the tile.
+// Whether the latest listed clip below a layer frees its draw: the layer lies within its span, and it is full in the
+// tile.
 pub fn is_freed(
     ids: &[u32],
     covers: &[i8],
@@ -79,8 +87,10 @@ pub fn is_freed(
     count: usize,
     id: u32,
 ) -> bool
-    requires { ⌜ Walks n (now ids) (now part) × (16 * n ≤ length (now covers)) × Table (now layers) (now colors) count ⌝ }
-    ensures { λ r. ⌜ r ≡ isFreed (latestClip (itemsIn (tableOf (now (layers .entry)) (now (colors .entry)) count) (layersIn (queueOf n (now (ids .entry)) (now (covers .entry))) (now (part .entry)))) id none) id ⌝ }
+    requires { ⌜ Walks n (now ids) (now part) × (16 * n ≤ length (now covers))
+        × Table (now layers) (now colors) count ⌝ }
+    ensures { λ r. ⌜ r ≡ isFreed (latestClip (itemsIn (tableOf (now (layers .entry)) (now (colors .entry)) count)
+        (layersIn (queueOf n (now (ids .entry)) (now (covers .entry))) (now (part .entry)))) id none) id ⌝ }
 {
     let mut freed = false;
     let mut i: usize = 0;
@@ -108,8 +118,10 @@ pub fn needs_clip(
     func: Func,
     id: u32,
 ) -> bool
-    requires { ⌜ Walks n (now ids) (now part) × (16 * n ≤ length (now covers)) × Table (now layers) (now colors) count ⌝ }
-    ensures { λ r. ⌜ r ≡ needsClip (itemsIn (tableOf (now (layers .entry)) (now (colors .entry)) count) (layersIn (queueOf n (now (ids .entry)) (now (covers .entry))) (now (part .entry)))) func id ⌝ }
+    requires { ⌜ Walks n (now ids) (now part) × (16 * n ≤ length (now covers))
+        × Table (now layers) (now colors) count ⌝ }
+    ensures { λ r. ⌜ r ≡ needsClip (itemsIn (tableOf (now (layers .entry)) (now (colors .entry)) count)
+        (layersIn (queueOf n (now (ids .entry)) (now (covers .entry))) (now (part .entry)))) func id ⌝ }
 {
     if func.is_clipped() {
         !is_freed(ids, covers, n, part, layers, colors, count, id)

@@ -39,7 +39,8 @@ fn mark_for(func: Func, needs: bool, alive: Clip, plane: &[f32]) -> u32
     }
 }
 
-// Paints the layer `id` of the table, whose record is `layer`: its coverages into the plane, its mark, and the clip after it.
+// Paints the layer `id` of the table, whose record is `layer`: its coverages into the plane, its mark, and the clip
+// after it.
 pub fn paint(
     ids: &[u32],
     covers: &[i8],
@@ -53,8 +54,12 @@ pub fn paint(
     clip: Clip,
     plane: &mut [f32],
 ) -> Painting
-    requires { ⌜ Ready n (now ids) (now covers) (now part) (now layers) (now colors) count (now plane) × (lookup (tableOf (now layers) (now colors) count) id ≡ given layer) × (isLightIn (queueOf n (now ids) (now covers)) (now part) id ≡ true) ⌝ }
-    ensures { λ r. ⌜ Paints (tableOf (now (layers .entry)) (now (colors .entry)) count) (queueOf n (now (ids .entry)) (now (covers .entry))) (now (part .entry)) id layer (clipIn clip) (now (plane .entry)) r (now (plane .exit)) ⌝ }
+    requires { ⌜ Ready n (now ids) (now covers) (now part) (now layers) (now colors) count (now plane)
+        × (lookup (tableOf (now layers) (now colors) count) id ≡ given layer)
+        × (isLightIn (queueOf n (now ids) (now covers)) (now part) id ≡ true) ⌝ }
+    ensures { λ r. ⌜ Paints (tableOf (now (layers .entry)) (now (colors .entry)) count)
+        (queueOf n (now (ids .entry)) (now (covers .entry))) (now (part .entry)) id layer (clipIn clip)
+        (now (plane .entry)) r (now (plane .exit)) ⌝ }
 {
     let props = layer.props;
     let rule = props.fill_rule;

@@ -2,7 +2,8 @@
 use crate::Index;
 use styling::Color;
 
-// Nothing is drawn; the tile has one colour, mixed over the bottom colour from the shown layers after the first so many; or it is painted.
+// Nothing is drawn; the tile has one colour, mixed over the bottom colour from the shown layers after the first so
+// many; or it is painted.
 pub enum Decision {
     None,
     Solid(Color, usize),

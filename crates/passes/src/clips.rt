@@ -40,7 +40,8 @@ fn mask_last(unmasked: &mut [bool], cur: Current)
 // The marks of one turn: the layer in place i, and then a clip that ended unused.
 fn mark(unmasked: &mut [bool], unclipped: &mut [bool], i: Index, s: Step)
     requires { ⌜ i .0 < length (now unclipped) ⌝ }
-    ensures { λ _. ⌜ (now (unmasked .exit) ≡ unmaskedAfter (now (unmasked .entry)) (i .0) s) × (now (unclipped .exit) ≡ set (now (unclipped .entry)) (i .0) (s .unclipped)) ⌝ }
+    ensures { λ _. ⌜ (now (unmasked .exit) ≡ unmaskedAfter (now (unmasked .entry)) (i .0) s)
+        × (now (unclipped .exit) ≡ set (now (unclipped .entry)) (i .0) (s .unclipped)) ⌝ }
 {
     mask_off(unmasked, i, s.masked);
     let clip = s.at;
@@ -73,8 +74,11 @@ pub fn skip_trivial_clips_pass(
     unmasked: &mut [bool],
     unclipped: &mut [bool],
 )
-    requires { ⌜ Columns n (now ids) (now covers) (now segments) × Table (now layers) (now colors) count × (n ≤ length (now unmasked)) × (n ≤ length (now unclipped)) ⌝ }
-    ensures { λ _. ⌜ Marking (itemsOf (tableOf (now (layers .entry)) (now (colors .entry)) count) (entriesOf n (now (ids .entry)) (now (covers .entry)) (now (segments .entry)))) (now (unmasked .entry)) (now (unclipped .entry)) (now (unmasked .exit)) (now (unclipped .exit)) ⌝ }
+    requires { ⌜ Columns n (now ids) (now covers) (now segments) × Table (now layers) (now colors) count
+        × (n ≤ length (now unmasked)) × (n ≤ length (now unclipped)) ⌝ }
+    ensures { λ _. ⌜ Marking (itemsOf (tableOf (now (layers .entry)) (now (colors .entry)) count)
+        (entriesOf n (now (ids .entry)) (now (covers .entry)) (now (segments .entry)))) (now (unmasked .entry))
+        (now (unclipped .entry)) (now (unmasked .exit)) (now (unclipped .exit)) ⌝ }
 {
     fill(unmasked, n, true);
     fill(unclipped, n, false);

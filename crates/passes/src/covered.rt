@@ -24,8 +24,11 @@ pub fn skip_fully_covered_layers_pass(
     unclipped: &[bool],
     removed: bool,
 ) -> Covered
-    requires { ⌜ Columns n (now ids) (now covers) (now segments) × Table (now layers) (now colors) count × (n ≤ length (now unmasked)) × (n ≤ length (now unclipped)) ⌝ }
-    ensures { λ r. ⌜ r ≡ coveredOf (itemsOf (tableOf (now (layers .entry)) (now (colors .entry)) count) (entriesOf n (now (ids .entry)) (now (covers .entry)) (now (segments .entry)))) (now (unmasked .entry)) (now (unclipped .entry)) removed ⌝ }
+    requires { ⌜ Columns n (now ids) (now covers) (now segments) × Table (now layers) (now colors) count
+        × (n ≤ length (now unmasked)) × (n ≤ length (now unclipped)) ⌝ }
+    ensures { λ r. ⌜ r ≡ coveredOf (itemsOf (tableOf (now (layers .entry)) (now (colors .entry)) count)
+        (entriesOf n (now (ids .entry)) (now (covers .entry)) (now (segments .entry)))) (now (unmasked .entry))
+        (now (unclipped .entry)) removed ⌝ }
 {
     let mut found = Covered {
         first: InterestingCover::Absent,

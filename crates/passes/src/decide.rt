@@ -18,7 +18,8 @@ ghost use Rattle.pass_statements.specs.Entry.{entriesOf};
 ghost use Rattle.pass_statements.specs.Item.{itemsOf, Columns};
 ghost use Rattle.pass_statements.specs.Covered.{coveredOf};
 ghost use Rattle.pass_statements.specs.Decision.{codeOf, decisionIn};
-ghost use Rattle.pass_statements.specs.Decide.{hasColor, shownOf, areSolid, mixedOf, DecidedBy, passedOf, outcomeOf, Deciding};
+ghost use Rattle.pass_statements.specs.Decide.{hasColor, shownOf, areSolid, mixedOf, DecidedBy, passedOf, outcomeOf};
+ghost use Rattle.pass_statements.specs.Decide.{Deciding};
 
 pub fn code_of(decision: Decision) -> u32
     ensures { λ r. ⌜ r ≡ codeOf (decisionIn decision) ⌝ }
@@ -52,8 +53,11 @@ fn are_solid(
     skipped: Index,
     below: usize,
 ) -> bool
-    requires { ⌜ Columns n (now ids) (now covers) (now segments) × Table (now layers) (now colors) count × (n ≤ length (now unmasked)) ⌝ }
-    ensures { λ r. ⌜ r ≡ areSolid below (shownOf (skipped .0) (itemsOf (tableOf (now (layers .entry)) (now (colors .entry)) count) (entriesOf n (now (ids .entry)) (now (covers .entry)) (now (segments .entry)))) (now (unmasked .entry))) ⌝ }
+    requires { ⌜ Columns n (now ids) (now covers) (now segments) × Table (now layers) (now colors) count
+        × (n ≤ length (now unmasked)) ⌝ }
+    ensures { λ r. ⌜ r ≡ areSolid below (shownOf (skipped .0)
+        (itemsOf (tableOf (now (layers .entry)) (now (colors .entry)) count)
+        (entriesOf n (now (ids .entry)) (now (covers .entry)) (now (segments .entry)))) (now (unmasked .entry))) ⌝ }
 {
     let mut ok = true;
     let mut left = below;
@@ -86,8 +90,11 @@ fn mix(
     unmasked: &[bool],
     skipped: Index,
 ) -> Decision
-    requires { ⌜ Columns n (now ids) (now covers) (now segments) × Table (now layers) (now colors) count × (n ≤ length (now unmasked)) ⌝ }
-    ensures { λ r. ⌜ decisionIn r ≡ mixedOf bottom (shownOf (skipped .0) (itemsOf (tableOf (now (layers .entry)) (now (colors .entry)) count) (entriesOf n (now (ids .entry)) (now (covers .entry)) (now (segments .entry)))) (now (unmasked .entry))) ⌝ }
+    requires { ⌜ Columns n (now ids) (now covers) (now segments) × Table (now layers) (now colors) count
+        × (n ≤ length (now unmasked)) ⌝ }
+    ensures { λ r. ⌜ decisionIn r ≡ mixedOf bottom (shownOf (skipped .0)
+        (itemsOf (tableOf (now (layers .entry)) (now (colors .entry)) count)
+        (entriesOf n (now (ids .entry)) (now (covers .entry)) (now (segments .entry)))) (now (unmasked .entry))) ⌝ }
 {
     match bottom {
         Bottom::Settled(decision) => decision,
@@ -126,8 +133,12 @@ fn decide_unmasked(
     unmasked: &[bool],
     unclipped: &[bool],
 ) -> Decided
-    requires { ⌜ Columns n (now ids) (now covers) (now segments) × Table (now layers) (now colors) count × (n ≤ length (now unmasked)) × (n ≤ length (now unclipped)) ⌝ }
-    ensures { λ r. ⌜ DecidedBy (coveredOf (itemsOf (tableOf (now (layers .entry)) (now (colors .entry)) count) (entriesOf n (now (ids .entry)) (now (covers .entry)) (now (segments .entry)))) (now (unmasked .entry)) (now (unclipped .entry)) removed) clear (itemsOf (tableOf (now (layers .entry)) (now (colors .entry)) count) (entriesOf n (now (ids .entry)) (now (covers .entry)) (now (segments .entry)))) (now (unmasked .entry)) r ⌝ }
+    requires { ⌜ Columns n (now ids) (now covers) (now segments) × Table (now layers) (now colors) count
+        × (n ≤ length (now unmasked)) × (n ≤ length (now unclipped)) ⌝ }
+    ensures { λ r. ⌜ DecidedBy (coveredOf (itemsOf (tableOf (now (layers .entry)) (now (colors .entry)) count)
+        (entriesOf n (now (ids .entry)) (now (covers .entry)) (now (segments .entry)))) (now (unmasked .entry))
+        (now (unclipped .entry)) removed) clear (itemsOf (tableOf (now (layers .entry)) (now (colors .entry)) count)
+        (entriesOf n (now (ids .entry)) (now (covers .entry)) (now (segments .entry)))) (now (unmasked .entry)) r ⌝ }
 {
     let found = covered::skip_fully_covered_layers_pass(
         ids,
@@ -175,8 +186,12 @@ fn run_passes(
     count: usize,
     unmasked: &mut [bool],
 ) -> Decided
-    requires { ⌜ Columns n (now ids) (now covers) (now segments) × Table (now layers) (now colors) count × (n ≤ length (now unmasked)) ⌝ }
-    ensures { λ r. ⌜ Deciding (passedOf clear removed (itemsOf (tableOf (now (layers .entry)) (now (colors .entry)) count) (entriesOf n (now (ids .entry)) (now (covers .entry)) (now (segments .entry))))) (now (unmasked .entry)) r (now (unmasked .exit)) ⌝ }
+    requires { ⌜ Columns n (now ids) (now covers) (now segments) × Table (now layers) (now colors) count
+        × (n ≤ length (now unmasked)) ⌝ }
+    ensures { λ r. ⌜ Deciding (passedOf clear removed (itemsOf
+        (tableOf (now (layers .entry)) (now (colors .entry)) count)
+        (entriesOf n (now (ids .entry)) (now (covers .entry)) (now (segments .entry))))) (now (unmasked .entry)) r
+        (now (unmasked .exit)) ⌝ }
 {
     let mut unclipped = [false; 256];
     clips::skip_trivial_clips_pass(
@@ -219,8 +234,12 @@ pub fn decide(
     count: usize,
     unmasked: &mut [bool],
 ) -> Decided
-    requires { ⌜ Columns n (now ids) (now covers) (now segments) × Table (now layers) (now colors) count × (n ≤ length (now unmasked)) ⌝ }
-    ensures { λ r. ⌜ Deciding (outcomeOf clear «clear_unchanged» previous (itemsOf (tableOf (now (layers .entry)) (now (colors .entry)) count) (entriesOf n (now (ids .entry)) (now (covers .entry)) (now (segments .entry))))) (now (unmasked .entry)) r (now (unmasked .exit)) ⌝ }
+    requires { ⌜ Columns n (now ids) (now covers) (now segments) × Table (now layers) (now colors) count
+        × (n ≤ length (now unmasked)) ⌝ }
+    ensures { λ r. ⌜ Deciding (outcomeOf clear «clear_unchanged» previous
+        (itemsOf (tableOf (now (layers .entry)) (now (colors .entry)) count)
+        (entriesOf n (now (ids .entry)) (now (covers .entry)) (now (segments .entry))))) (now (unmasked .entry)) r
+        (now (unmasked .exit)) ⌝ }
 {
     if tile_unchanged::is_kept(
         clear_unchanged,

@@ -30,7 +30,8 @@ fn write_coverages(areas: &[i16; 256], rule: FillRule, plane: &mut [f32])
 // The coverages of a part that nothing refuses.
 pub fn paint(part: &[u64], cover: Cover, rule: FillRule, plane: &mut [f32])
     requires { ⌜ (isLight cpu 16 (cover .covers) (now part) ≡ true) × (256 ≤ length (now plane)) ⌝ }
-    ensures { λ _. ⌜ now (plane .exit) ≡ over (partPlane cpu rule (cover .covers) (now (part .entry))) (now (plane .entry)) ⌝ }
+    ensures { λ _. ⌜ now (plane .exit) ≡ over (partPlane cpu rule (cover .covers) (now (part .entry)))
+        (now (plane .entry)) ⌝ }
 {
     let mut areas = [0i16; 256];
     area::doubled_areas(part, cover, &mut areas);
@@ -39,7 +40,8 @@ pub fn paint(part: &[u64], cover: Cover, rule: FillRule, plane: &mut [f32])
 
 // The coverages of any part, and their mark; or a refusal, which leaves the plane as it was.
 pub fn paint_part(part: &[u64], cover: Cover, rule: FillRule, plane: &mut [f32]) -> Painted
-    ensures { λ r. ⌜ Painting cpu rule (cover .covers) (now (part .entry)) (now (plane .entry)) r (now (plane .exit)) ⌝ }
+    ensures { λ r. ⌜ Painting cpu rule (cover .covers) (now (part .entry)) (now (plane .entry)) r
+        (now (plane .exit)) ⌝ }
 {
     if plane.len() < 256 {
         return Painted::PlaneTooShort;

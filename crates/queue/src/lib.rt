@@ -1,4 +1,5 @@
-// The queue of carries (`CoverCarry` and `queue` of the Rust), lent as two columns: layer ids, and 16 signed bytes of cover for each.
+// The queue of carries (`CoverCarry` and `queue` of the Rust), lent as two columns: layer ids, and 16 signed bytes of
+// cover for each.
 pub mod search;
 
 use cover::Cover;
@@ -23,8 +24,8 @@ fn lesser(a: usize, b: usize) -> usize
     if a < b { a } else { b }
 }
 
-// Whether refusal 5 does not apply to a queue of `n` entries. `low` is the least id that may follow. No early exit: a queue is in order
-// more often than not.
+// Whether refusal 5 does not apply to a queue of `n` entries. `low` is the least id that may follow. No early exit: a
+// queue is in order more often than not.
 pub fn is_queue(ids: &[u32], n: usize) -> bool
     ensures { λ r. ⌜ r ≡ isQueue n (now (ids .entry)) ⌝ }
 {

@@ -1,4 +1,5 @@
-// The opening of a row (`paint_tile_row`, `covers_left_of_row`): one carry for each layer with segments left of the first tile.
+// The opening of a row (`paint_tile_row`, `covers_left_of_row`): one carry for each layer with segments left of the
+// first tile.
 use opening_columns::collect;
 use opening_columns::sums;
 use queue_statements::Opening;
@@ -61,10 +62,12 @@ fn copy_covers(from: &[i8], n: usize, to: &mut [i8])
     }
 }
 
-// The queue that a row opens with, of its segments left of the first tile. A refusal leaves the lent columns as they were.
+// The queue that a row opens with, of its segments left of the first tile. A refusal leaves the lent columns as they
+// were.
 pub fn open_queue(left: &[u64], ids: &mut [u32], covers: &mut [i8]) -> Opening
     requires { ⌜ Room (now ids) (now covers) ⌝ }
-    ensures { λ r. ⌜ Opens (now (left .entry)) (now (ids .entry)) (now (covers .entry)) (openingAnswer r) (now (ids .exit)) (now (covers .exit)) ⌝ }
+    ensures { λ r. ⌜ Opens (now (left .entry)) (now (ids .entry)) (now (covers .entry)) (openingAnswer r)
+        (now (ids .exit)) (now (covers .exit)) ⌝ }
 {
     let mut own_ids = [0u32; 256];
     let mut own_covers = [0i8; 4096];

@@ -1,5 +1,5 @@
-// A queue that is lent as a slice of carry records, read into the columns that the rest of the painter works on. Functions over a `&[CarryRecord]` are
-// walked by hand; what they call is covered.
+// A queue that is lent as a slice of carry records, read into the columns that the rest of the painter works on.
+// Functions over a `&[CarryRecord]` are walked by hand; what they call is covered.
 use cover::Cover;
 use cover::entry;
 ghost use mathlib.Core.Path.{_≡_};
@@ -38,7 +38,8 @@ fn count_readable(count: usize, queue: usize, ids: usize, covers: usize) -> usiz
 // A record becomes entry `i` of the columns.
 fn put_record(carry: CarryRecord, i: usize, ids: &mut [u32], covers: &mut [i8])
     requires { ⌜ (i < length (now ids)) × (i * 16 + 16 ≤ length (now covers)) ⌝ }
-    ensures { λ _. ⌜ (now (ids .exit) ≡ set (now (ids .entry)) i (carry .id)) × (now (covers .exit) ≡ putEntry 16 i (carry .covers) (now (covers .entry))) ⌝ }
+    ensures { λ _. ⌜ (now (ids .exit) ≡ set (now (ids .entry)) i (carry .id))
+        × (now (covers .exit) ≡ putEntry 16 i (carry .covers) (now (covers .entry))) ⌝ }
 {
     ids[i] = carry.id;
     let bytes = carry.covers;
@@ -56,7 +57,8 @@ pub fn record_at(queue: &[CarryRecord], i: usize) -> CarryRecord
 
 // The first `count` records over the front of the columns, as many as are there and have room.
 pub fn read_queue(queue: &[CarryRecord], count: usize, ids: &mut [u32], covers: &mut [i8]) -> usize
-    ensures { λ r. ⌜ (r ≡ readable count (length (now (queue .entry))) (length (now (ids .entry))) (length (now (covers .entry))))
+    ensures { λ r. ⌜ (r ≡ readable count (length (now (queue .entry))) (length (now (ids .entry)))
+        (length (now (covers .entry))))
         × (now (ids .exit) ≡ over (idsOf (take r (now (queue .entry)))) (now (ids .entry)))
         × (now (covers .exit) ≡ over (coversOf (take r (now (queue .entry)))) (now (covers .entry))) ⌝ }
 {

@@ -11,7 +11,8 @@ pub enum Op {
     Paint,
 }
 
-// A tile's line: its number, the decision, layers listed, layers shown, used octets summed over the draws, carries handed on.
+// A tile's line: its number, the decision, layers listed, layers shown, used octets summed over the draws, carries
+// handed on.
 pub struct TileLine {
     pub tile: u32,
     pub op: Op,

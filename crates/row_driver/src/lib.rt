@@ -1,5 +1,6 @@
-// A whole tile row driven: opened, each of its tiles worked, the shown layers of a painted tile painted, and a line written for each tile. The row
-// and the table are judged once, at the opening; the tiles are worked by the inner functions, and two queues take turns.
+// A whole tile row driven: opened, each of its tiles worked, the shown layers of a painted tile painted, and a line
+// written for each tile. The row and the table are judged once, at the opening; the tiles are worked by the inner
+// functions, and two queues take turns.
 pub mod tile;
 
 use row_lines::Driven;
@@ -161,8 +162,8 @@ fn drive_open(
     )
 }
 
-// Drives the tiles of from..to that a row of so many tiles has. Five words of `lines` are written for each tile, up to the first
-// that is refused; there are words for 4,095 tiles, as many as a row can have.
+// Drives the tiles of from..to that a row of so many tiles has. Five words of `lines` are written for each tile, up to
+// the first that is refused; there are words for 4,095 tiles, as many as a row can have.
 pub fn drive_row(
     tile_y: i32,
     from: i32,

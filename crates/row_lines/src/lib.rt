@@ -1,7 +1,8 @@
 // What is said of a driven row: a line for each tile. No code stands here.
 use refusals::Refusal;
 
-// The line of a tile: the decision (0 none, 1 solid, 2 paint), layers listed, layers shown, used octets, carries handed on.
+// The line of a tile: the decision (0 none, 1 solid, 2 paint), layers listed, layers shown, used octets, carries handed
+// on.
 pub struct Line {
     pub decision: u32,
     pub listed: u32,

@@ -1,5 +1,5 @@
-// Painting a layer of the tile just worked: judged by 1 to 5, then by 8 and 9 for the layer, and painted from the queue that the
-// tile took in.
+// Painting a layer of the tile just worked: judged by 1 to 5, then by 8 and 9 for the layer, and painted from the queue
+// that the tile took in.
 use cover::carry;
 use layer_table::Found;
 use painter::painting;
@@ -56,7 +56,8 @@ fn judge_call(
 ) -> Verdict
     ensures { λ r. ⌜ judgementIn r ≡ callVerdict
         (paintCall (stateIn state) tile 0 (now (row .entry))
-        (lentTable (now (layers .entry)) (now (colors .entry)) count) (columns (now (ids .entry)) (now (covers .entry))))
+        (lentTable (now (layers .entry)) (now (colors .entry)) count)
+        (columns (now (ids .entry)) (now (covers .entry))))
         (now (plane .entry)) ⌝ }
 {
     if is_paint_short(layers, colors, count, ids, covers, plane) {
@@ -120,7 +121,8 @@ fn judge_painting(
 ) -> Verdict
     ensures { λ r. ⌜ judgementIn r ≡ paintVerdict
         (paintCall (stateIn state) tile layer (now (row .entry))
-        (lentTable (now (layers .entry)) (now (colors .entry)) count) (columns (now (ids .entry)) (now (covers .entry))))
+        (lentTable (now (layers .entry)) (now (colors .entry)) count)
+        (columns (now (ids .entry)) (now (covers .entry))))
         (now (plane .entry)) ⌝ }
 {
     match judge_call(state, tile, row, layers, colors, count, ids, covers, plane) {
@@ -173,8 +175,8 @@ fn answered(state: RowState, painting: Painting) -> Painted
     }
 }
 
-// Paints a layer of the table in the tile just worked: its 256 coverages into the lent plane, its mark, and the state with the
-// painter's clip after it.
+// Paints a layer of the table in the tile just worked: its 256 coverages into the lent plane, its mark, and the state
+// with the painter's clip after it.
 pub fn paint_layer(
     state: RowState,
     tile: i32,
@@ -190,7 +192,8 @@ pub fn paint_layer(
     ensures { λ r. ⌜ PaintsLayer
         (paintOf
         (paintCall (stateIn state) tile layer (now (row .entry))
-        (lentTable (now (layers .entry)) (now (colors .entry)) count) (columns (now (ids .entry)) (now (covers .entry))))
+        (lentTable (now (layers .entry)) (now (colors .entry)) count)
+        (columns (now (ids .entry)) (now (covers .entry))))
         (now (plane .entry)))
         r
         (now (plane .exit)) ⌝ }

@@ -1,5 +1,6 @@
-// A row of tiles (`paint_tile_row` of painter/mod.rs), as operations that a caller makes one after the other: what they take and answer. specs/ has
-// what they promise, proofs/ the laws and the theorem over any list of them. The functions are of row_state, row_opening, row_working and row_painting.
+// A row of tiles (`paint_tile_row` of painter/mod.rs), as operations that a caller makes one after the other: what they
+// take and answer. specs/ has what they promise, proofs/ the laws and the theorem over any list of them. The functions
+// are of row_state, row_opening, row_working and row_painting.
 use cached_tile::kept::Kept;
 use painter::Clip;
 use pass_statements::Index;
@@ -7,8 +8,8 @@ use pass_statements::decide::Decision;
 use refusals::Refusal;
 use refusals::Verdict;
 
-// Where a caller stands in a row: the row and its tiles from..to, the next tile, how many carries are left in the queue and how many the last
-// tile took in, and the painter's clip.
+// Where a caller stands in a row: the row and its tiles from..to, the next tile, how many carries are left in the queue
+// and how many the last tile took in, and the painter's clip.
 pub struct RowState {
     pub tile_y: u32,
     pub from: u32,

@@ -38,7 +38,8 @@ fn drive(
     row_printing::print_driven(driven, &told, row_state::natural(first), out)
 }
 
-// Writes the answer at the front of `out`, which has room for every answer, and answers its length. The arrays hold every job.
+// Writes the answer at the front of `out`, which has room for every answer, and answers its length. The arrays hold
+// every job.
 pub fn answer(text: &[u8], out: &mut [u8; 249850]) -> usize
     ensures { λ r. ⌜ LineWritten (answerText (now (text .entry))) (now (out .entry)) r (now (out .exit)) ⌝ }
 {

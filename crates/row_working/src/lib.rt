@@ -1,5 +1,5 @@
-// The work on the next tile of a row as a public operation, and settling: judged first, then done; a refusal leaves everything
-// as it was.
+// The work on the next tile of a row as a public operation, and settling: judged first, then done; a refusal leaves
+// everything as it was.
 pub mod judging;
 
 use cached_tile::kept::Kept;

@@ -1,5 +1,5 @@
-// Numbers of the text as the numbers of the operations. Signed ones stand there by their bits; floats by their multiple of 1/512, and the
-// others by codes.
+// Numbers of the text as the numbers of the operations. Signed ones stand there by their bits; floats by their multiple
+// of 1/512, and the others by codes.
 ghost use Prim.Native.Nat.{_≤_};
 
 pub fn byte(value: u64) -> u8 {

@@ -1,4 +1,5 @@
-// Where a replay stands in a row: its place in the text, whether all was the same so far, and the state's six words and two counts.
+// Where a replay stands in a row: its place in the text, whether all was the same so far, and the state's six words and
+// two counts.
 use crate::numbers;
 use crate::text;
 use crate::text::Cursor;

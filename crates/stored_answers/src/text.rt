@@ -1,5 +1,5 @@
-// Stored answers as text: whole numbers in hexadecimal, small letters. All other bytes part them, so words in between are in capitals. Past the
-// end of the text every number is 0.
+// Stored answers as text: whole numbers in hexadecimal, small letters. All other bytes part them, so words in between
+// are in capitals. Past the end of the text every number is 0.
 use crate::numbers;
 ghost use Prim.Native.Nat.{_≤_};
 

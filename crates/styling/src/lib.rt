@@ -1,4 +1,5 @@
-// How layers are drawn (styling.rs), without the contents of gradients and textures. `codes` reads the numbers of a layer record.
+// How layers are drawn (styling.rs), without the contents of gradients and textures. `codes` reads the numbers of a
+// layer record.
 pub mod codes;
 
 ghost use mathlib.Core.Path.{_≡_};

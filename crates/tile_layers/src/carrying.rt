@@ -41,7 +41,8 @@ fn put_carry(
     keep: bool,
 ) -> usize
     requires { ⌜ (m < length (now ids)) × (m * 16 + 16 ≤ length (now covers)) ⌝ }
-    ensures { λ r. ⌜ Puts m id (cover .covers) keep (now (ids .entry)) (now (covers .entry)) r (now (ids .exit)) (now (covers .exit)) ⌝ }
+    ensures { λ r. ⌜ Puts m id (cover .covers) keep (now (ids .entry)) (now (covers .entry)) r (now (ids .exit))
+        (now (covers .exit)) ⌝ }
 {
     if keep {
         ids[m] = id;
@@ -64,8 +65,12 @@ pub fn hand_on(
     next_ids: &mut [u32],
     next_covers: &mut [i8],
 ) -> usize
-    requires { ⌜ Walks n (now ids) (now part) × (16 * n ≤ length (now covers)) × Table (now layers) (now colors) count × (areLight (layersIn (queueOf n (now ids) (now covers)) (now part)) ≡ true) × QueueRoom (layersIn (queueOf n (now ids) (now covers)) (now part)) (now «next_ids») (now «next_covers») ⌝ }
-    ensures { λ r. ⌜ Hands (handedOn (tableOf (now (layers .entry)) (now (colors .entry)) count) (layersIn (queueOf n (now (ids .entry)) (now (covers .entry))) (now (part .entry)))) (now («next_ids» .entry)) (now («next_covers» .entry)) r (now («next_ids» .exit)) (now («next_covers» .exit)) ⌝ }
+    requires { ⌜ Walks n (now ids) (now part) × (16 * n ≤ length (now covers)) × Table (now layers) (now colors) count
+        × (areLight (layersIn (queueOf n (now ids) (now covers)) (now part)) ≡ true)
+        × QueueRoom (layersIn (queueOf n (now ids) (now covers)) (now part)) (now «next_ids») (now «next_covers») ⌝ }
+    ensures { λ r. ⌜ Hands (handedOn (tableOf (now (layers .entry)) (now (colors .entry)) count)
+        (layersIn (queueOf n (now (ids .entry)) (now (covers .entry))) (now (part .entry)))) (now («next_ids» .entry))
+        (now («next_covers» .entry)) r (now («next_ids» .exit)) (now («next_covers» .exit)) ⌝ }
 {
     let mut m: usize = 0;
     let mut i: usize = 0;

@@ -54,8 +54,10 @@ pub fn survey_layers(
     colors: &[f32],
     count: usize,
 ) -> Survey
-    requires { ⌜ Walks n (now ids) (now part) × (16 * n ≤ length (now covers)) × Table (now layers) (now colors) count ⌝ }
-    ensures { λ r. ⌜ Surveyed (tableOf (now (layers .entry)) (now (colors .entry)) count) (layersIn (queueOf n (now (ids .entry)) (now (covers .entry))) (now (part .entry))) r ⌝ }
+    requires { ⌜ Walks n (now ids) (now part) × (16 * n ≤ length (now covers))
+        × Table (now layers) (now colors) count ⌝ }
+    ensures { λ r. ⌜ Surveyed (tableOf (now (layers .entry)) (now (colors .entry)) count)
+        (layersIn (queueOf n (now (ids .entry)) (now (covers .entry))) (now (part .entry))) r ⌝ }
 {
     let mut total: usize = 0;
     let mut known = true;
@@ -89,8 +91,12 @@ pub fn list_layers(
     list_covers: &mut [i8],
     list_segments: &mut [bool],
 )
-    requires { ⌜ Walks n (now ids) (now part) × (16 * n ≤ length (now covers)) × Room (layersIn (queueOf n (now ids) (now covers)) (now part)) (now «list_ids») (now «list_covers») (now «list_segments») ⌝ }
-    ensures { λ _. ⌜ Lists (layersIn (queueOf n (now (ids .entry)) (now (covers .entry))) (now (part .entry))) (now («list_ids» .entry)) (now («list_covers» .entry)) (now («list_segments» .entry)) (now («list_ids» .exit)) (now («list_covers» .exit)) (now («list_segments» .exit)) ⌝ }
+    requires { ⌜ Walks n (now ids) (now part) × (16 * n ≤ length (now covers))
+        × Room (layersIn (queueOf n (now ids) (now covers)) (now part)) (now «list_ids») (now «list_covers»)
+        (now «list_segments») ⌝ }
+    ensures { λ _. ⌜ Lists (layersIn (queueOf n (now (ids .entry)) (now (covers .entry))) (now (part .entry)))
+        (now («list_ids» .entry)) (now («list_covers» .entry)) (now («list_segments» .entry)) (now («list_ids» .exit))
+        (now («list_covers» .exit)) (now («list_segments» .exit)) ⌝ }
 {
     let mut k: usize = 0;
     let mut i: usize = 0;

@@ -1,4 +1,5 @@
-// A walk over the incoming queue and a tile's part of the row in step: both ascend by layer id, so each layer of either is met once.
+// A walk over the incoming queue and a tile's part of the row in step: both ascend by layer id, so each layer of either
+// is met once.
 use pixel_segment::PixelSegment;
 use segment_rows::search;
 use segment_rows::search::Found;

@@ -1,5 +1,5 @@
-// The two operations with the columns of a queue as an array of carry records. Nothing here is walked: a caller that the
-// checker covers has the records' form by these functions.
+// The two operations with the columns of a queue as an array of carry records. Nothing here is walked: a caller that
+// the checker covers has the records' form by these functions.
 use crate::working;
 use cached_tile::kept::Kept;
 use layer_workbench::PreviousClear;

@@ -1,5 +1,6 @@
-// What the passes read of a listed layer: its entry and its record in one value. A list is lent as three columns, the first n entries of which
-// count: layer ids, incoming covers (16 bytes an entry), and whether the layer has segments in the tile.
+// What the passes read of a listed layer: its entry and its record in one value. A list is lent as three columns, the
+// first n entries of which count: layer ids, incoming covers (16 bytes an entry), and whether the layer has segments in
+// the tile.
 use cover::Cover;
 use cover::entry;
 use layer_table::Found;
@@ -38,8 +39,10 @@ pub fn item_at(
     count: usize,
     i: Index,
 ) -> Item
-    requires { ⌜ Columns n (now ids) (now covers) (now segments) × Table (now layers) (now colors) count × (i .0 < n) ⌝ }
-    ensures { λ r. ⌜ r ≡ itemOf (tableOf (now (layers .entry)) (now (colors .entry)) count) (entryAt (now (ids .entry)) (now (covers .entry)) (now (segments .entry)) (i .0)) ⌝ }
+    requires { ⌜ Columns n (now ids) (now covers) (now segments) × Table (now layers) (now colors) count
+        × (i .0 < n) ⌝ }
+    ensures { λ r. ⌜ r ≡ itemOf (tableOf (now (layers .entry)) (now (colors .entry)) count)
+        (entryAt (now (ids .entry)) (now (covers .entry)) (now (segments .entry)) (i .0)) ⌝ }
 {
     let at = i.0;
     let id = ids[at];

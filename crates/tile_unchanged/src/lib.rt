@@ -22,7 +22,8 @@ pub fn are_unchanged(
     count: usize,
 ) -> bool
     requires { ⌜ Columns n (now ids) (now covers) (now segments) × Table (now layers) (now colors) count ⌝ }
-    ensures { λ r. ⌜ r ≡ allUnchanged (itemsOf (tableOf (now (layers .entry)) (now (colors .entry)) count) (entriesOf n (now (ids .entry)) (now (covers .entry)) (now (segments .entry)))) ⌝ }
+    ensures { λ r. ⌜ r ≡ allUnchanged (itemsOf (tableOf (now (layers .entry)) (now (colors .entry)) count)
+        (entriesOf n (now (ids .entry)) (now (covers .entry)) (now (segments .entry)))) ⌝ }
 {
     let mut ok = true;
     let mut i = 0;
@@ -47,7 +48,9 @@ pub fn is_kept(
     count: usize,
 ) -> bool
     requires { ⌜ Columns n (now ids) (now covers) (now segments) × Table (now layers) (now colors) count ⌝ }
-    ensures { λ r. ⌜ r ≡ isKept «clear_unchanged» previous (itemsOf (tableOf (now (layers .entry)) (now (colors .entry)) count) (entriesOf n (now (ids .entry)) (now (covers .entry)) (now (segments .entry)))) ⌝ }
+    ensures { λ r. ⌜ r ≡ isKept «clear_unchanged» previous (itemsOf
+        (tableOf (now (layers .entry)) (now (colors .entry)) count)
+        (entriesOf n (now (ids .entry)) (now (covers .entry)) (now (segments .entry)))) ⌝ }
 {
     match previous {
         PreviousCount::Absent => false,

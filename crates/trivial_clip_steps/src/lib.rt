@@ -1,5 +1,5 @@
-// The second pass, `skip_trivial_clips_pass`, at one layer. The three `if let`s of the Rust's loop are `open_clip`, `draw` and `close_clip`; the
-// pass itself is of passes.
+// The second pass, `skip_trivial_clips_pass`, at one layer. The three `if let`s of the Rust's loop are `open_clip`,
+// `draw` and `close_clip`; the pass itself is of passes.
 use pass_statements::Index;
 use pass_statements::clips::ActiveClip;
 use pass_statements::clips::Closed;

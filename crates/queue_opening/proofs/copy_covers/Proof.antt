@@ -1,4 +1,4 @@
--- `queue::opening::copy_covers` meets its contract. Assumes nothing.
+-- `queue_opening::copy_covers` meets its contract. Assumes nothing.
 use Prim.Native.Nat.{_-_}
 use native.Mathlib.Omega.{arith}
 use lib.IntN.{pos}

@@ -1,4 +1,4 @@
--- `queue::opening::copy_ids` meets its contract. Assumes nothing.
+-- `queue_opening::copy_ids` meets its contract. Assumes nothing.
 use mathlib.Core.Path.{refl}
 use Prim.Native.Nat.{_-_}
 use native.Mathlib.Omega.{arith}

@@ -1,4 +1,4 @@
--- `queue::opening::gather` meets its contract. Assumes nothing.
+-- `queue_opening::gather` meets its contract. Assumes nothing.
 use mathlib.Core.Path.{_∙_}
 use borrow.Author.Needs.{needs}
 use Rattle.queue_statements.proofs.Gathering.{many, summing, light, heavy}

@@ -1,4 +1,4 @@
--- `queue::opening::open_queue` meets its contract. Assumes nothing.
+-- `queue_opening::open_queue` meets its contract. Assumes nothing.
 use mathlib.Core.Path.{refl, ap}
 use borrow.Author.Needs.{needs}
 use lib.IntN.{natAbs}

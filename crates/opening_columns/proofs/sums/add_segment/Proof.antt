@@ -1,4 +1,4 @@
--- `queue::sums::add_segment` meets its contract. Assumes nothing.
+-- `opening_columns::sums::add_segment` meets its contract. Assumes nothing.
 use mathlib.Core.Path.{_≡_}
 use native.Mathlib.Omega.{arith}
 use borrow.Author.Needs.{needs}

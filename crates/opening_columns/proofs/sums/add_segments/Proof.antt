@@ -1,4 +1,4 @@
--- `queue::sums::add_segments` meets its contract. What holds at a word is `Tallying`. Assumes nothing.
+-- `opening_columns::sums::add_segments` meets its contract. What holds at a word is `Tallying`. Assumes nothing.
 use mathlib.Core.Path.{_≡_, refl, sym, _∙_}
 use Prim.Native.Nat.{_-_}
 use native.Mathlib.Omega.{arith}

@@ -1,4 +1,4 @@
--- `queue::sums::load_with` meets its contract. Assumes nothing.
+-- `opening_columns::sums::load_with` meets its contract. Assumes nothing.
 use native.Mathlib.Omega.{arith}
 use borrow.Author.Needs.{needs}
 use mir.Facts.{toZ-ofZ}

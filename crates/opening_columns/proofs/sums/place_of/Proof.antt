@@ -1,4 +1,4 @@
--- `queue::sums::place_of` meets its contract. Assumes nothing.
+-- `opening_columns::sums::place_of` meets its contract. Assumes nothing.
 use Prim.Native.Nat.{_≤_}
 use native.Mathlib.Omega.{arith}
 use borrow.Author.Needs.{needs}
