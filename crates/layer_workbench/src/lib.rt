@@ -6,8 +6,6 @@ use passes::decide;
 use passes::decide::Decision;
 use passes::unchanged::PreviousCount;
 use styling::Color;
-use tile_layers::carrying;
-use tile_layers::listing;
 ghost use mathlib.Core.Path.{_≡_};
 ghost use mathlib.Core.Bool.{true};
 ghost use Prim.Native.Nat.{_*_, _≤_};
@@ -142,7 +140,7 @@ pub fn work(
     ensures list { λ r. ⌜ ListWritten (layersIn (queueOf n (now (ids .entry)) (now (covers .entry))) (now (part .entry))) (outcomeIn (tableOf (now (layers .entry)) (now (colors .entry)) count) kept clear previous (layersIn (queueOf n (now (ids .entry)) (now (covers .entry))) (now (part .entry)))) (now («list_ids» .entry)) (now («list_covers» .entry)) (now («list_segments» .entry)) (now («list_unmasked» .entry)) (now («list_ids» .exit)) (now («list_covers» .exit)) (now («list_segments» .exit)) (now («list_unmasked» .exit)) ⌝ }
     ensures queue { λ r. ⌜ QueueWritten (carriesAfter (tableOf (now (layers .entry)) (now (colors .entry)) count) (outcomeIn (tableOf (now (layers .entry)) (now (colors .entry)) count) kept clear previous (layersIn (queueOf n (now (ids .entry)) (now (covers .entry))) (now (part .entry)))) (layersIn (queueOf n (now (ids .entry)) (now (covers .entry))) (now (part .entry)))) (now («next_ids» .entry)) (now («next_covers» .entry)) (now («next_ids» .exit)) (now («next_covers» .exit)) ⌝ }
 {
-    listing::list_layers(ids, covers, n, part, list_ids, list_covers, list_segments);
+    layer_listing::list_layers(ids, covers, n, part, list_ids, list_covers, list_segments);
     let decided = decide_tile(
         list_ids,
         list_covers,
@@ -156,7 +154,7 @@ pub fn work(
         previous,
         list_unmasked,
     );
-    let left = carrying::hand_on(
+    let left = layer_carrying::hand_on(
         ids,
         covers,
         n,
