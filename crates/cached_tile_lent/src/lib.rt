@@ -10,8 +10,8 @@ ghost use mathlib.Core.Path.{_≡_};
 ghost use Rattle.cached_tile.specs.Tile.{CountUpdated, ColorUpdated};
 
 pub fn update_layer_count(tile: &mut CachedTile, layer_count: LayerCount) -> LayerCount
-    ensures { λ r. ⌜ CountUpdated (now (tile .entry)) «layer_count»
-        (record { previous = r; tile = now (tile .exit) }) ⌝ }
+    ensures { λ r. ⌜
+        CountUpdated (now (tile .entry)) «layer_count» (record { previous = r; tile = now (tile .exit) }) ⌝ }
 {
     let updated = CachedTile::update_layer_count(*tile, layer_count);
     *tile = updated.tile;
@@ -19,8 +19,8 @@ pub fn update_layer_count(tile: &mut CachedTile, layer_count: LayerCount) -> Lay
 }
 
 pub fn update_solid_color(tile: &mut CachedTile, solid_color: SolidColor) -> SolidColor
-    ensures { λ r. ⌜ ColorUpdated (now (tile .entry)) «solid_color»
-        (record { previous = r; tile = now (tile .exit) }) ⌝ }
+    ensures { λ r. ⌜
+        ColorUpdated (now (tile .entry)) «solid_color» (record { previous = r; tile = now (tile .exit) }) ⌝ }
 {
     let updated = CachedTile::update_solid_color(*tile, solid_color);
     *tile = updated.tile;

@@ -18,7 +18,7 @@ use Rattle.styling.specs.declared.Layer.{Layer}
 use Rattle.layer_table.specs.Lookup.{lookup}
 use Rattle.queue_statements.specs.Queue.{idsIn}
 use Rattle.tile_layers.specs.Listing.{Listed}
-use Rattle.tile_layers.specs.Carrying.{handedOn}
+use Rattle.layer_carrying.specs.Carrying.{handedOn}
 use Rattle.pass_statements.specs.Clips.{stepOf, clipsFrom}
 use Rattle.pass_statements.specs.Covered.{coveredFrom}
 use Rattle.pass_statements.specs.Decide.{Outcome, outcomeOf}

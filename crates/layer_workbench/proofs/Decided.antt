@@ -11,7 +11,7 @@ use Rattle.laws.specs.Lists.{over}
 use Rattle.queue_statements.specs.Queue.{idsIn}
 use Rattle.queue_statements.proofs.Columns.{areWide}
 use Rattle.tile_layers.specs.Listing.{Listed, incomingOf, Lists}
-use Rattle.tile_layers.specs.Carrying.{handedOn, Hands}
+use Rattle.layer_carrying.specs.Carrying.{handedOn, Hands}
 use Rattle.pass_statements.specs.Entry.{Entry, entriesOf}
 use Rattle.pass_statements.specs.Item.{itemsOf}
 use Rattle.pass_statements.specs.Decide.{outcomeOf, Deciding}

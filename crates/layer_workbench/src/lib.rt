@@ -7,8 +7,6 @@ use pass_statements::decide::Decision;
 use pass_statements::unchanged::PreviousCount;
 use passes::decide;
 use styling::Color;
-use tile_layers::carrying;
-use tile_layers::listing;
 ghost use mathlib.Core.Path.{_≡_};
 ghost use mathlib.Core.Bool.{true};
 ghost use Prim.Native.Nat.{_*_, _≤_};
@@ -160,7 +158,7 @@ pub fn work(
         (layersIn (queueOf n (now (ids .entry)) (now (covers .entry))) (now (part .entry)))) (now («next_ids» .entry))
         (now («next_covers» .entry)) (now («next_ids» .exit)) (now («next_covers» .exit)) ⌝ }
 {
-    listing::list_layers(ids, covers, n, part, list_ids, list_covers, list_segments);
+    layer_listing::list_layers(ids, covers, n, part, list_ids, list_covers, list_segments);
     let decided = decide_tile(
         list_ids,
         list_covers,
@@ -174,7 +172,7 @@ pub fn work(
         previous,
         list_unmasked,
     );
-    let left = carrying::hand_on(
+    let left = layer_carrying::hand_on(
         ids,
         covers,
         n,

@@ -3,7 +3,6 @@ use cover::Cover;
 use layer_table::Found;
 use styling::Func;
 use styling::Layer;
-use tile_layers::listing;
 use tile_layers::walk;
 ghost use mathlib.Core.Path.{_≡_};
 ghost use mathlib.Core.Option.{none};
@@ -98,7 +97,7 @@ pub fn is_freed(
     while i + j < n + part.len() {
         let next = walk::next_layer(ids, n, part, i, j);
         let end = next.end;
-        let cover = listing::incoming_cover(covers, next.carried, i);
+        let cover = walk::incoming_cover(covers, next.carried, i);
         freed = freed_by(layers, colors, count, next.id, cover, j < end, id, freed);
         i = next.i;
         j = end;

@@ -13,7 +13,7 @@ use Rattle.styling.specs.declared.Layer.{Layer}
 use Rattle.queue_statements.specs.Queue.{Carry, idsIn}
 use Rattle.cached_tile.specs.Kept.{noTile}
 use Rattle.tile_layers.specs.Listing.{Listed, incomingOf, areKnown}
-use Rattle.tile_layers.specs.Carrying.{handedOn}
+use Rattle.layer_carrying.specs.Carrying.{handedOn}
 use Rattle.pass_statements.specs.Decision.{codeOf}
 use Rattle.layer_workbench.specs.Work.{outcomeIn}
 use Rattle.row_carries.proofs.Carried.{queue-next}

@@ -24,7 +24,7 @@ use Rattle.queue_statements.specs.Queue.{Carry, idsIn}
 use Rattle.queue_statements.proofs.Judging as queue-judging
 use Rattle.queue_statements.proofs.Queues.{ids-queue}
 use Rattle.tile_layers.specs.Listing.{Listed, noListed, layersIn, incomingOf, isGiven}
-use Rattle.tile_layers.proofs.Handing.{handed-few}
+use Rattle.layer_carrying.proofs.Handing.{handed-few}
 use Rattle.pass_statements.specs.Item.{itemOf}
 use Rattle.pass_statements.proofs.Words.{outcome-long}
 use Rattle.pass_statements.specs.Decision.{codeOf, decisionIn}

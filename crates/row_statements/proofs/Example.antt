@@ -26,7 +26,7 @@ use Rattle.queue_statements.specs.Opening.{addTo, addAll, openQueue, openAnswer
 use Rattle.cached_tile.specs.Kept.{noTile}
 use Rattle.tile_layers.specs.Groups.{groupsOf}
 use Rattle.tile_layers.specs.Listing.{listOf}
-use Rattle.tile_layers.specs.Carrying.{handedOn}
+use Rattle.layer_carrying.specs.Carrying.{handedOn}
 use Rattle.pass_statements.specs.Clips.{stepOf, clipsFrom}
 use Rattle.pass_statements.specs.Covered.{coveredFrom}
 use Rattle.pass_statements.specs.Decide.{shownFrom, outcomeOf}

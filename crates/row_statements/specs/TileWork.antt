@@ -18,7 +18,7 @@ use Rattle.queue_statements.specs.Queue.{Carry, isQueue}
 use Rattle.cached_tile.specs.Kept.{tagOutOfRange}
 use Rattle.cached_tile.specs.declared.kept.Kept as kept
 use Rattle.tile_layers.specs.Listing.{Listed, layersIn, isTooMany, areKnown, areLight}
-use Rattle.tile_layers.specs.Carrying.{handedOn}
+use Rattle.layer_carrying.specs.Carrying.{handedOn}
 use Rattle.pass_statements.specs.Decision.{TileDecision, decisionIn}
 use Rattle.pass_statements.specs.Decide.{Outcome}
 use Rattle.layer_workbench.specs.Work.{outcomeIn, keptAfter}

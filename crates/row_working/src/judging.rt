@@ -5,7 +5,6 @@ use refusals::Verdict;
 use row_statements::ListJudged;
 use row_statements::RowState;
 use segment_rows::order;
-use tile_layers::listing;
 ghost use mathlib.Core.Path.{_≡_};
 ghost use mathlib.Core.Bool.{Bool};
 ghost use Prim.Native.Nat.{_*_, _≤_};
@@ -78,7 +77,7 @@ pub fn judge_list(
     ensures { λ r. ⌜ JudgesList (tableOf (now (layers .entry)) (now (colors .entry)) count)
         (layersIn (queueOf n (now (ids .entry)) (now (covers .entry))) (now (part .entry))) r ⌝ }
 {
-    let found = listing::survey_layers(ids, covers, n, part, layers, colors, count);
+    let found = layer_listing::survey_layers(ids, covers, n, part, layers, colors, count);
     let listed = found.count;
     if 256 < listed {
         return ListJudged {

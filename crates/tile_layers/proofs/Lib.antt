@@ -2,10 +2,7 @@
 pub mod Runs
 pub mod Steps
 pub mod Walking
-pub mod Surveying
 pub mod Wide
 pub mod Filling
-pub mod Writing
-pub mod Handing
 pub mod Ordering
 pub mod Members

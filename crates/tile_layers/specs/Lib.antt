@@ -1,5 +1,4 @@
--- One tile: its list of layers and the carries it hands on. What the contracts say.
+-- One tile: its list of layers. What the contracts say.
 pub mod Groups
 pub mod Listing
-pub mod Carrying
 pub mod Walk

@@ -15,7 +15,6 @@ use Rattle.layer_table.specs.Lookup.{lookup}
 use Rattle.styling.specs.declared.Layer.{Layer}
 use Rattle.queue_statements.specs.Queue.{Carry, zeros, idsIn, coversIn}
 use Rattle.tile_layers.specs.Groups.{Group, groupsOf}
-use Rattle.tile_layers.specs.declared.listing.Survey.{Survey}
 
 -- a listed layer: its incoming cover, and its own segments in the tile
 pub record Listed : Type 0 where
@@ -102,9 +101,3 @@ areKnown table ls = all (λ l. isGiven (lookup table (l .id))) ls
 -- 9 does not apply: no layer's covers grow too large
 abbrev pub areLight : List Listed → Bool
 areLight ls = all (λ l. isLight cpu 16 (l .cover) (l .own)) ls
-
--- what a survey of the list tells: how many layers, and whether 8 and 9 do not apply
-pub record Surveyed (table : List Layer) (ls : List Listed) (r : Survey) : Type 0 where
-  pub count : r .count ≡ length ls
-  pub known : r .known ≡ areKnown table ls
-  pub light : r .light ≡ areLight ls

@@ -1,5 +1,3 @@
-// The work on one tile (painter/layer_workbench/mod.rs): the list of its layers, and the carries that it hands on. The
-// passes over the list are a crate of their own.
-pub mod carrying;
-pub mod listing;
+// The layers of one tile (painter/layer_workbench/mod.rs), met one after the other. The list, the carries handed on and
+// the passes are crates of their own.
 pub mod walk;

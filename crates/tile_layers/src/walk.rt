@@ -1,15 +1,20 @@
 // A walk over the incoming queue and a tile's part of the row in step: both ascend by layer id, so each layer of either
 // is met once.
+use cover::Cover;
+use cover::entry;
 use pixel_segment::PixelSegment;
 use segment_rows::search;
 use segment_rows::search::Found;
 ghost use mathlib.Core.Path.{_≡_};
-ghost use Prim.Native.Nat.{_+_, _≤_, _<_};
+ghost use mathlib.Core.Bool.{true, cond};
+ghost use Prim.Native.Nat.{_+_, _*_, _≤_, _<_};
 ghost use lib.IntN.{ℤ};
 ghost use mathlib.Core.List.{List};
 ghost use lib.ListN.{length, getD};
 ghost use Rattle.pixel_segment.specs.Field.{cpu, layerIdOf};
 ghost use Rattle.segment_rows.specs.Rows.{Ordered};
+ghost use Rattle.cover_statements.specs.Entry.{entryOf};
+ghost use Rattle.queue_statements.specs.Queue.{zeros};
 ghost use Rattle.tile_layers.specs.Walk.{Walks, GroupEnds, Stepped, Moved};
 
 // The next layer: its id, whether it has a carry, and the places after it in the queue and in the part.
@@ -84,5 +89,17 @@ pub fn next_layer(ids: &[u32], n: usize, part: &[u64], i: usize, j: usize) -> Ne
         carried: true,
         i: i + 1,
         end: group_end(part, j),
+    }
+}
+
+// The cover that comes in for a layer: that of the carry at i, or zeros.
+pub fn incoming_cover(covers: &[i8], carried: bool, i: usize) -> Cover
+    requires { ⌜ (carried ≡ true → i * 16 + 16 ≤ length (now covers)) ⌝ }
+    ensures { λ r. ⌜ r .covers ≡ cond carried (entryOf 16 i (now (covers .entry))) zeros ⌝ }
+{
+    if carried {
+        entry::read_cover(covers, i)
+    } else {
+        Cover { covers: [0i8; 16] }
     }
 }

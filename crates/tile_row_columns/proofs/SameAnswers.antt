@@ -14,7 +14,7 @@ use Rattle.segment_rows.specs.Search.{tilePart}
 use Rattle.queue_statements.specs.Queue.{Carry, isQueue}
 use Rattle.cached_tile.specs.Kept.{tagOutOfRange}
 use Rattle.tile_layers.specs.Listing.{layersIn}
-use Rattle.tile_layers.specs.Carrying.{handedOn}
+use Rattle.layer_carrying.specs.Carrying.{handedOn}
 use Rattle.layer_workbench.specs.Work.{outcomeIn}
 use Rattle.row_statements.specs.Lent.{Columns, carriesIn, isQueueShort, isListShort, layersOf, isTableShort, isTable}
 use Rattle.row_statements.specs.State.{isWrongNext, isWrongWorked}

@@ -12,9 +12,9 @@ use Rattle.segment_rows.specs.Search.{between}
 use Rattle.cover_statements.specs.Carry.{carryOf}
 use Rattle.cover_statements.specs.Cover.{isEmpty}
 use Rattle.layer_table.specs.Table.{tableOf}
-use Rattle.tile_layers.proofs.Handing.{Handing, hand-start, hand-lengths, hand-room, hand-light, hand-next, hand-end}
-use Rattle.tile_layers.proofs.carrying.hand_on.Statement.{statement}
-use Rattle.tile_layers.proofs.carrying.hand_on.Tie as tie
+use Rattle.layer_carrying.proofs.Handing.{Handing, hand-start, hand-lengths, hand-room, hand-light, hand-next, hand-end}
+use Rattle.layer_carrying.proofs.hand_on.Statement.{statement}
+use Rattle.layer_carrying.proofs.hand_on.Tie as tie
 
 -- `carrying::hand_on` meets its contract. Assumes nothing.
 

@@ -1,9 +1,9 @@
 use Prim.Native.Nat.{_+_, _-_}
 use native.Mathlib.Omega.{arith}
 use lib.ListN.{length}
-use Rattle.tile_layers.proofs.Writing.{Writing, write-start, write-lengths, write-room, write-next, write-end}
-use Rattle.tile_layers.proofs.listing.list_layers.Statement.{statement}
-use Rattle.tile_layers.proofs.listing.list_layers.Tie as tie
+use Rattle.layer_listing.proofs.Writing.{Writing, write-start, write-lengths, write-room, write-next, write-end}
+use Rattle.layer_listing.proofs.list_layers.Statement.{statement}
+use Rattle.layer_listing.proofs.list_layers.Tie as tie
 
 -- `listing::list_layers` meets its contract. Assumes nothing.
 

@@ -1,8 +1,8 @@
 -- `carrying::put_carry` meets its contract. Assumes nothing.
 use mathlib.Core.Path.{refl}
 use borrow.Author.Needs.{needs}
-use Rattle.tile_layers.proofs.carrying.put_carry.Statement.{statement}
-use Rattle.tile_layers.proofs.carrying.put_carry.Tie as tie
+use Rattle.layer_carrying.proofs.put_carry.Statement.{statement}
+use Rattle.layer_carrying.proofs.put_carry.Tie as tie
 
 mul-ids : tie.Need-mul-ids
 mul-ids c = search needs

@@ -1,37 +1,24 @@
 // The layers of a tile, surveyed for refusals 7, 8 and 9, and written into the columns of a lent list.
-use crate::walk;
-use cover::Cover;
 use cover::carry;
 use cover::entry;
 use layer_table::Found;
+use tile_layers::walk;
 ghost use mathlib.Core.Path.{_≡_};
-ghost use mathlib.Core.Bool.{true, cond};
+ghost use mathlib.Core.Bool.{true};
 ghost use Prim.Native.Nat.{_*_, _+_, _≤_, _<_};
 ghost use lib.ListN.{length};
 ghost use Rattle.layer_table.specs.Lookup.{lookup};
 ghost use Rattle.layer_table.specs.Table.{Table, tableOf};
-ghost use Rattle.cover_statements.specs.Entry.{entryOf};
-ghost use Rattle.queue_statements.specs.Queue.{queueOf, zeros};
-ghost use Rattle.tile_layers.specs.Listing.{layersIn, isGiven, Surveyed, Lists, Room};
+ghost use Rattle.queue_statements.specs.Queue.{queueOf};
+ghost use Rattle.tile_layers.specs.Listing.{layersIn, isGiven, Lists, Room};
 ghost use Rattle.tile_layers.specs.Walk.{Walks};
+ghost use Rattle.layer_listing.specs.Survey.{Surveyed};
 
 // How many layers a tile has, and whether each is in the table and none's covers grow too large.
 pub struct Survey {
     pub count: usize,
     pub known: bool,
     pub light: bool,
-}
-
-// The cover that comes in for a layer: that of the carry at i, or zeros.
-pub fn incoming_cover(covers: &[i8], carried: bool, i: usize) -> Cover
-    requires { ⌜ (carried ≡ true → i * 16 + 16 ≤ length (now covers)) ⌝ }
-    ensures { λ r. ⌜ r .covers ≡ cond carried (entryOf 16 i (now (covers .entry))) zeros ⌝ }
-{
-    if carried {
-        entry::read_cover(covers, i)
-    } else {
-        Cover { covers: [0i8; 16] }
-    }
 }
 
 fn is_known(layers: &[u32], colors: &[f32], count: usize, id: u32) -> bool
@@ -67,7 +54,7 @@ pub fn survey_layers(
     while i + j < n + part.len() {
         let next = walk::next_layer(ids, n, part, i, j);
         let end = next.end;
-        let cover = incoming_cover(covers, next.carried, i);
+        let cover = walk::incoming_cover(covers, next.carried, i);
         known = known & is_known(layers, colors, count, next.id);
         light = light & carry::is_light(&part[j..end], cover);
         i = next.i;
@@ -105,7 +92,11 @@ pub fn list_layers(
         let next = walk::next_layer(ids, n, part, i, j);
         let end = next.end;
         list_ids[k] = next.id;
-        entry::write_cover(list_covers, k, incoming_cover(covers, next.carried, i));
+        entry::write_cover(
+            list_covers,
+            k,
+            walk::incoming_cover(covers, next.carried, i),
+        );
         list_segments[k] = j < end;
         i = next.i;
         j = end;

@@ -13,10 +13,11 @@ use Rattle.cover_statements.specs.Entry.{entryOf}
 use Rattle.layer_table.specs.Lookup.{lookup}
 use Rattle.styling.specs.declared.Layer.{Layer}
 use Rattle.queue_statements.specs.Queue.{queueOf, zeros}
-use Rattle.tile_layers.specs.Listing.{Listed, layersIn, isGiven, areKnown, areLight, Surveyed}
+use Rattle.tile_layers.specs.Listing.{Listed, layersIn, isGiven, areKnown, areLight}
+use Rattle.layer_listing.specs.Survey.{Surveyed}
 use Rattle.tile_layers.specs.Walk.{Stepped, Moved}
 use Rattle.tile_layers.specs.declared.walk.Next.{Next}
 use Rattle.tile_layers.proofs.Walking.{Walking, walk-start, walk-here, walk-next, walk-end, walk-all}
 
 module _ (n : ℕ) (ids : List ℕ) (covers : List ℤ) (part : List ℕ) (table : List Layer) where
   abbrev whole : List Listed

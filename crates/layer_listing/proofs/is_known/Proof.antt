@@ -1,8 +1,8 @@
 -- `listing::is_known` meets its contract. Assumes nothing.
 use borrow.Author.Needs.{needs}
 use Rattle.layer_table.proofs.Looking.{at-place, at-none}
-use Rattle.tile_layers.proofs.listing.is_known.Statement.{statement}
-use Rattle.tile_layers.proofs.listing.is_known.Tie as tie
+use Rattle.layer_listing.proofs.is_known.Statement.{statement}
+use Rattle.layer_listing.proofs.is_known.Tie as tie
 
 find-requires : tie.Need-find-requires
 find-requires c κs = search needs

@@ -1,6 +1,6 @@
--- `listing::incoming_cover` meets its contract. Assumes nothing.
-use Rattle.tile_layers.proofs.listing.incoming_cover.Statement.{statement}
-use Rattle.tile_layers.proofs.listing.incoming_cover.Tie as tie
+-- `walk::incoming_cover` meets its contract. Assumes nothing.
+use Rattle.tile_layers.proofs.walk.incoming_cover.Statement.{statement}
+use Rattle.tile_layers.proofs.walk.incoming_cover.Tie as tie
 
 read-cover-requires : tie.Need-read-cover-requires
 read-cover-requires c κs = c .before .pre (c .if1 .taken)

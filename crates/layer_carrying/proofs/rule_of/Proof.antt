@@ -2,8 +2,8 @@
 use native.Mathlib.Omega.{arith}
 use borrow.Author.Needs.{needs}
 use Rattle.layer_table.proofs.Looking.{at-place, at-none}
-use Rattle.tile_layers.proofs.carrying.rule_of.Statement.{statement}
-use Rattle.tile_layers.proofs.carrying.rule_of.Tie as tie
+use Rattle.layer_carrying.proofs.rule_of.Statement.{statement}
+use Rattle.layer_carrying.proofs.rule_of.Tie as tie
 
 find-requires : tie.Need-find-requires
 find-requires c κs = search needs

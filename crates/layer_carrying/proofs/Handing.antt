@@ -19,12 +19,12 @@ use Rattle.cover_statements.specs.Entry.{entryOf, putEntry}
 use Rattle.styling.specs.declared.Layer.{Layer}
 use Rattle.queue_statements.specs.Queue.{Carry, queueOf, idsIn, coversIn, zeros}
 use Rattle.queue_statements.proofs.Columns.{isWide, areWide, length-covers}
 use Rattle.tile_layers.specs.Listing.{Listed, layersIn, areLight}
-use Rattle.tile_layers.specs.Carrying.{carryFor, isKept, handedOn, Hands, Puts, QueueRoom}
+use Rattle.layer_carrying.specs.Carrying.{carryFor, isKept, handedOn, Hands, Puts, QueueRoom}
 use Rattle.tile_layers.specs.Walk.{listedAt, leftOf, Stepped, Moved}
 use Rattle.tile_layers.specs.declared.walk.Next.{Next}
 use Rattle.tile_layers.proofs.Walking.{Walking, walk-start, walk-here, walk-next, walk-end}
 use Rattle.tile_layers.proofs.Filling.{put-filled}
 
 carries-wide : (ls : List Listed) → areWide (map carryFor ls) ≡ true
 unfolding carryOf

@@ -4,9 +4,9 @@ use native.Mathlib.Omega.{arith}
 use borrow.Author.Needs.{needs}
 use lib.ListN.{length}
 use Rattle.layer_table.specs.Table.{tableOf}
-use Rattle.tile_layers.proofs.Surveying.{Surveying, survey-start, survey-next, survey-end}
-use Rattle.tile_layers.proofs.listing.survey_layers.Statement.{statement}
-use Rattle.tile_layers.proofs.listing.survey_layers.Tie as tie
+use Rattle.layer_listing.proofs.Surveying.{Surveying, survey-start, survey-next, survey-end}
+use Rattle.layer_listing.proofs.survey_layers.Statement.{statement}
+use Rattle.layer_listing.proofs.survey_layers.Tie as tie
 
 abbrev Inv-loop : tie.InvT-loop
 Inv-loop ids covers n part layers colors count total₀ known₀ light₀ i₀ j₀ total known light i j = Surveying n ids covers part (tableOf layers colors count) total known light i j

@@ -1,20 +1,19 @@
 // The carries that a tile hands on.
-use crate::listing;
-use crate::walk;
 use cover::Cover;
 use cover::carry;
 use cover::entry;
 use layer_table::Found;
 use styling::FillRule;
+use tile_layers::walk;
 ghost use mathlib.Core.Path.{_≡_};
 ghost use mathlib.Core.Bool.{true};
 ghost use Prim.Native.Nat.{_*_, _+_, _≤_, _<_};
 ghost use lib.ListN.{length};
 ghost use Rattle.layer_table.specs.Table.{Table, tableOf};
 ghost use Rattle.queue_statements.specs.Queue.{queueOf};
 ghost use Rattle.tile_layers.specs.Listing.{layersIn, areLight};
-ghost use Rattle.tile_layers.specs.Carrying.{ruleIn, handedOn, Hands, Puts, QueueRoom};
+ghost use Rattle.layer_carrying.specs.Carrying.{ruleIn, handedOn, Hands, Puts, QueueRoom};
 ghost use Rattle.tile_layers.specs.Walk.{Walks};
 
 // The fill rule of a layer.
 pub fn rule_of(layers: &[u32], colors: &[f32], count: usize, id: u32) -> FillRule
@@ -78,7 +77,7 @@ pub fn hand_on(
     while i + j < n + part.len() {
         let next = walk::next_layer(ids, n, part, i, j);
         let end = next.end;
-        let cover = listing::incoming_cover(covers, next.carried, i);
+        let cover = walk::incoming_cover(covers, next.carried, i);
         let sum = carry::add_segments(&part[j..end], cover);
         let keep = !sum.is_empty(rule_of(layers, colors, count, next.id));
         m = put_carry(next_ids, next_covers, m, next.id, sum, keep);

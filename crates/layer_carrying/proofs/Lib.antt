@@ -1,0 +1,2 @@
+-- Laws of handing on.
+pub mod Handing

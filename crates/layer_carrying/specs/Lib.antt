@@ -1,0 +1,2 @@
+-- The carries that a tile hands on.
+pub mod Carrying

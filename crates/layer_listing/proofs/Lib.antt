@@ -1,0 +1,3 @@
+-- Laws of the loops over the list.
+pub mod Surveying
+pub mod Writing

@@ -1,0 +1,2 @@
+-- What a survey of the list tells.
+pub mod Survey
