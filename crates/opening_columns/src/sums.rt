@@ -1,5 +1,4 @@
 // The covers of an opening, once its layers are known: sums and loads (absolute covers), 16 numbers a layer.
-use crate::search;
 use pixel_segment::PixelSegment;
 use queue::search;
 ghost use mathlib.Core.Path.{_≡_};
