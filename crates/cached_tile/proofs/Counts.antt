@@ -11,10 +11,10 @@ use lib.Bits.{bitAnd, bitOr}
 use lib.Dec.{leb}
 use Rattle.laws.proofs.Every.{every-at}
 use Rattle.cached_tile.specs.declared.CachedTile.{CachedTile}
-use Rattle.cached_tile.specs.Tile.{keepsCount, keepsColor, numberOf, bytesOf, layerCountOf, solidColorOf, keepCount, keepColor, dropCount, dropColor}
+use Rattle.cached_tile.specs.Tile.{keepsCount, keepsColor, countNumber, countBytes, layerCountOf, solidColorOf, keepCount, keepColor, dropCount, dropColor}
 
 -- three bytes hold the low 24 bits of a number
-pub low-bits : (n : ℕ) → numberOf (bytesOf n) ≡ n % 2 ^ 24
+pub low-bits : (n : ℕ) → countNumber (countBytes n) ≡ n % 2 ^ 24
 low-bits n = omega arith
 
 -- two tests that agree

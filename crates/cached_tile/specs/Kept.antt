@@ -15,7 +15,7 @@ use Rattle.cached_tile.specs.declared.kept.Counted.{Counted}
 use Rattle.cached_tile.specs.declared.kept.Settlement.{Settlement}
 use Rattle.cached_tile.specs.declared.kept.Settlement.the-variants.{Write, Keep, TagOutOfRange}
 use Rattle.cached_tile.specs.declared.kept.Settled.{Settled}
-use Rattle.cached_tile.specs.Tile.{emptyTile, countOf, layerCountOf, keepsColor, keepCount, keepColor, dropColor}
+use Rattle.cached_tile.specs.Tile.{emptyTile, countIn, layerCountOf, keepsColor, keepCount, keepColor, dropColor}
 
 abbrev pub noTile : Kept
 noTile = record { given = false; tile = emptyTile }
@@ -40,7 +40,7 @@ abbrev pub cleared : Kept → Kept
 cleared k = changed k (dropColor (k .tile))
 
 pub record KeptCounted (k : Kept) (n : ℕ) (r : Counted) : Type 0 where
-  pub previous : countOf (r .previous) ≡ previousCount k
+  pub previous : countIn (r .previous) ≡ previousCount k
   pub kept : r .kept ≡ counted k n
 
 -- ---- settling

@@ -29,16 +29,16 @@ abbrev pub keepsCount : ℕ → Bool
 keepsCount tags = eqb tags 2 || eqb tags 3
 
 -- the values of the answer `LayerCount`
-abbrev pub countOf : LayerCount → Option ℕ
-countOf (Count n) = some n
-countOf Absent = none
+abbrev pub countIn : LayerCount → Option ℕ
+countIn (Count n) = some n
+countIn Absent = none
 
 -- the number of three bytes, the lowest first
-abbrev pub numberOf : List ℕ → ℕ
-numberOf bytes = getD bytes 0 0 + 256 * getD bytes 1 0 + 65536 * getD bytes 2 0
+abbrev pub countNumber : List ℕ → ℕ
+countNumber bytes = getD bytes 0 0 + 256 * getD bytes 1 0 + 65536 * getD bytes 2 0
 
 abbrev pub layerCountOf : CachedTile → Option ℕ
-layerCountOf t = cond (keepsCount (t .tags)) (some (numberOf (t .«layer_count»))) none
+layerCountOf t = cond (keepsCount (t .tags)) (some (countNumber (t .«layer_count»))) none
 
 -- where no colour is kept, the bytes are the tile's all the same
 abbrev pub solidColorOf : CachedTile → SolidColor
@@ -47,11 +47,11 @@ solidColorOf t = record { given = keepsColor (t .tags); bytes = t .«solid_color
 -- ---- what an update leaves
 
 -- the low 24 bits of a number
-abbrev pub bytesOf : ℕ → List ℕ
-bytesOf n = n % 256 ∷ n / 256 % 256 ∷ n / 65536 % 256 ∷ []
+abbrev pub countBytes : ℕ → List ℕ
+countBytes n = n % 256 ∷ n / 256 % 256 ∷ n / 65536 % 256 ∷ []
 
 abbrev pub keepCount : CachedTile → ℕ → CachedTile
-keepCount t n = record { tags = bitOr (t .tags) 2; «layer_count» = bytesOf n; «solid_color» = t .«solid_color» }
+keepCount t n = record { tags = bitOr (t .tags) 2; «layer_count» = countBytes n; «solid_color» = t .«solid_color» }
 
 abbrev pub dropCount : CachedTile → CachedTile
 dropCount t = record { tags = bitAnd (t .tags) 1; «layer_count» = t .«layer_count»; «solid_color» = t .«solid_color» }
@@ -72,8 +72,8 @@ updateColor t c = cond (c .given) (keepColor t (c .bytes)) (dropColor t)
 -- ---- what the two updates promise: what was kept before, and the tile after
 
 pub record CountUpdated (t : CachedTile) (n : LayerCount) (r : UpdatedLayerCount) : Type 0 where
-  pub previous : countOf (r .previous) ≡ layerCountOf t
-  pub tile : r .tile ≡ updateCount t (countOf n)
+  pub previous : countIn (r .previous) ≡ layerCountOf t
+  pub tile : r .tile ≡ updateCount t (countIn n)
 
 pub record ColorUpdated (t : CachedTile) (c : SolidColor) (r : UpdatedSolidColor) : Type 0 where
   pub previous : r .previous ≡ solidColorOf t

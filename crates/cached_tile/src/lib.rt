@@ -4,7 +4,7 @@ pub mod kept;
 
 ghost use mathlib.Core.Path.{_≡_};
 ghost use Prim.Native.Nat.{_<_};
-ghost use Rattle.cached_tile.specs.Tile.{emptyTile, keepsCount, keepsColor, countOf, layerCountOf, solidColorOf};
+ghost use Rattle.cached_tile.specs.Tile.{emptyTile, keepsCount, keepsColor, countIn, layerCountOf, solidColorOf};
 ghost use Rattle.cached_tile.specs.Tile.{keepCount, dropCount, keepColor, dropColor, CountUpdated, ColorUpdated};
 
 pub struct CachedTile {
@@ -68,7 +68,7 @@ impl CachedTile {
     }
 
     pub fn layer_count(self) -> LayerCount
-        ensures { λ r. ⌜ countOf r ≡ layerCountOf self ⌝ }
+        ensures { λ r. ⌜ countIn r ≡ layerCountOf self ⌝ }
     {
         let bytes = self.layer_count;
         let count = wide(bytes[0]) + 256 * wide(bytes[1]) + 65536 * wide(bytes[2]);

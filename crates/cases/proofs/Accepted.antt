@@ -4,11 +4,10 @@ use mathlib.Core.Bool.{Bool, true, false, cond}
 use mathlib.Core.List.{List}
 use Prim.Native.Nat.{ℕ}
 use lib.IntN.{ℤ}
-use Rattle.laws.specs.Answer.{refused, given}
+use Rattle.laws.specs.Answer.{refused, given, isGiven}
 use Rattle.cover_statements.specs.Carry.{addOf}
 use Rattle.cover.specs.Adding.{Adding}
 use Rattle.cover.specs.declared.carry.Carried.{Carried}
-use Rattle.cases.specs.Answers.{isGiven}
 
 flag-is : (flag : Bool) (covers : List ℤ) → isGiven (cond flag (given covers) (refused 9)) ≡ flag
 flag-is true covers = refl

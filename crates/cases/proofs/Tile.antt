@@ -14,12 +14,12 @@ use Rattle.laws.proofs.Every.{every-at}
 use Rattle.styling.specs.Ascending.{strictlyAscendsFrom}
 use Rattle.layer_table.specs.Lookup.{lookup}
 use Rattle.layer_table.specs.Record.{inRange}
-use Rattle.layer_table.specs.Table.{wordsAt, layerAt, tableOf, idsOf}
+use Rattle.layer_table.specs.Table.{wordsAt, layerAt, tableOf, tableIds}
 use Rattle.styling.specs.declared.Layer.{Layer}
 use Rattle.pixel_segment.specs.Field.{coverOf}
 use Rattle.segment_rows.specs.Search.{searchOf, layerPart}
 use Rattle.cover_statements.specs.Carry.{isLight}
-use Rattle.cover_statements.specs.Entry.{entryOf}
+use Rattle.cover_statements.specs.Entry.{coverEntry}
 use Rattle.queue_statements.specs.Queue.{queueOf, heldIn}
 use Rattle.painter.specs.Clip.{clipIn, clipAfter}
 use Rattle.painter.specs.Painting.{markIn, planeIn, Ready, Paints}
@@ -41,7 +41,7 @@ abbrev pub records : List ℕ
 records = 1 ∷ 0 ∷ 1 ∷ 1 ∷ 0 ∷ 0 ∷ 0 ∷ 0 ∷ 2 ∷ 0 ∷ 1 ∷ 5 ∷ 0 ∷ 0 ∷ 0 ∷ 0 ∷ 3 ∷ 0 ∷ 0 ∷ 0 ∷ 1 ∷ 1 ∷ 0 ∷ 0 ∷ []
 
 pub ready : (colors plane : List Float) → 12 ≤ length colors → 256 ≤ length plane → Ready 3 ids covers [] records colors 3 plane
-unfolding strictlyAscendsFrom idsOf
+unfolding strictlyAscendsFrom tableIds
 ready colors plane h room =
     record {
       queued = record { ids-long = leb-true 3 3 refl; covers-long = leb-true 48 48 refl; ascending = refl };
@@ -57,7 +57,7 @@ ready colors plane h room =
     }
 
 pub painted : (colors : List Float) {id : ℕ} {layer : Layer} {clip : Option ℕ} {old plane : List Float} {r : painting.Painting} → Paints (tableOf records colors 3) (queueOf 3 ids covers) [] id layer clip old r plane → Paints threeLayers threeCarries [] id layer clip old r plane
-unfolding tableOf layerAt queueOf entryOf
+unfolding tableOf layerAt queueOf coverEntry
 painted colors p = p
 
 -- each of the three may be painted

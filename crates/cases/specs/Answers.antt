@@ -20,9 +20,9 @@ abbrev pub isAt : Place → ℕ → Bool
 isAt (found i) place = eqb i place
 isAt (absent i) place = false
 
-abbrev pub isAbsent : Place → ℕ → Bool
-isAbsent (found i) place = false
-isAbsent (absent i) place = eqb i place
+abbrev pub isAbsentAt : Place → ℕ → Bool
+isAbsentAt (found i) place = false
+isAbsentAt (absent i) place = eqb i place
 
 abbrev pub isCount : Option ℕ → ℕ → Bool
 isCount (some n) number = eqb n number
@@ -55,7 +55,3 @@ nothingKept = taggedTile 0 (9 ∷ 9 ∷ 9 ∷ []) (8 ∷ 8 ∷ 8 ∷ 8 ∷ [])
 -- a coverage is 0.5
 abbrev pub isHalf : Float → Bool
 isHalf coverage = eq coverage half
-
-abbrev pub isGiven : {A : Type 0} → Answer A → Bool
-isGiven (refused n) = false
-isGiven (given v) = true

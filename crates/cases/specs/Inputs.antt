@@ -42,17 +42,17 @@ inRow0 c = wordOf cpu 5 (pos 2) (pos 0) 3 0 32 c
 -- ---- the tile of P7: clip layer 1 with span 1, clip layer 2 with span 5, and a clipped draw at 3, each with half a cover in every row from
 -- the left, and without a segment in the tile
 
-abbrev pub layerOf : ℕ → Func → Layer
-layerOf id func = record { id = id; props = record { «fill_rule» = NonZero; func = func }; «is_unchanged» = false }
+abbrev pub layerWith : ℕ → Func → Layer
+layerWith id func = record { id = id; props = record { «fill_rule» = NonZero; func = func }; «is_unchanged» = false }
 
 abbrev pub firstClip : Layer
-firstClip = layerOf 1 (Clip 1)
+firstClip = layerWith 1 (Clip 1)
 
 abbrev pub secondClip : Layer
-secondClip = layerOf 2 (Clip 5)
+secondClip = layerWith 2 (Clip 5)
 
 abbrev pub clippedDraw : Layer
-clippedDraw = layerOf 3 (Draw (record { «is_clipped» = true; fill = Gradient; «blend_mode» = Over }))
+clippedDraw = layerWith 3 (Draw (record { «is_clipped» = true; fill = Gradient; «blend_mode» = Over }))
 
 abbrev pub threeLayers : List Layer
 threeLayers = firstClip ∷ secondClip ∷ clippedDraw ∷ []

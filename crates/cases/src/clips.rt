@@ -19,10 +19,10 @@ ghost use Rattle.painter.specs.Clip.{clipIn};
 ghost use Rattle.painter.specs.Painting.{Paints};
 ghost use Rattle.cases.specs.Answers.{isHalf};
 ghost use Rattle.cases.specs.Seen.{Known, Sees};
-ghost use Rattle.cases.specs.Inputs.{layerOf, clippedDraw, threeLayers, threeCarries};
+ghost use Rattle.cases.specs.Inputs.{layerWith, clippedDraw, threeLayers, threeCarries};
 
 fn layer_of(id: u32, func: Func) -> Layer
-    ensures { λ r. ⌜ r ≡ layerOf id func ⌝ }
+    ensures { λ r. ⌜ r ≡ layerWith id func ⌝ }
 {
     let props = Props {
         fill_rule: FillRule::NonZero,

@@ -6,12 +6,12 @@ use cached_tile::kept::Kept;
 use cached_tile::kept::Settlement;
 ghost use mathlib.Core.Path.{_≡_};
 ghost use mathlib.Core.Bool.{true};
-ghost use Rattle.cached_tile.specs.Tile.{countOf};
+ghost use Rattle.cached_tile.specs.Tile.{countIn};
 ghost use Rattle.cached_tile.specs.Kept.{settlementOf};
 ghost use Rattle.cases.specs.Answers.{isCount, isNoCount, isWrite, isKeep, nothingKept};
 
 fn is_count(count: LayerCount, number: u32) -> bool
-    ensures { λ r. ⌜ r ≡ isCount (countOf count) number ⌝ }
+    ensures { λ r. ⌜ r ≡ isCount (countIn count) number ⌝ }
 {
     match count {
         LayerCount::Count(n) => n == number,
@@ -20,7 +20,7 @@ fn is_count(count: LayerCount, number: u32) -> bool
 }
 
 fn is_no_count(count: LayerCount) -> bool
-    ensures { λ r. ⌜ r ≡ isNoCount (countOf count) ⌝ }
+    ensures { λ r. ⌜ r ≡ isNoCount (countIn count) ⌝ }
 {
     match count {
         LayerCount::Count(_) => false,

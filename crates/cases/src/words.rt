@@ -5,13 +5,13 @@ use segment_rows::search;
 use segment_rows::search::Found;
 ghost use mathlib.Core.Path.{_≡_};
 ghost use mathlib.Core.Bool.{true};
-ghost use Rattle.pixel_segment.specs.Pack.{answerOf};
+ghost use Rattle.pixel_segment.specs.Pack.{packedAnswer};
 ghost use Rattle.segment_rows.specs.Search.{placeIn};
-ghost use Rattle.cases.specs.Answers.{isWord, isAt, isAbsent};
+ghost use Rattle.cases.specs.Answers.{isWord, isAt, isAbsentAt};
 
 // Whether packing gave the word.
 fn is_word(packed: Packed, word: u64) -> bool
-    ensures { λ r. ⌜ r ≡ isWord (answerOf packed) word ⌝ }
+    ensures { λ r. ⌜ r ≡ isWord (packedAnswer packed) word ⌝ }
 {
     match packed {
         Packed::Segment(s) => s.0 == word,
@@ -29,7 +29,7 @@ fn is_at(found: Found, place: usize) -> bool
 }
 
 fn is_absent(found: Found, place: usize) -> bool
-    ensures { λ r. ⌜ r ≡ isAbsent (placeIn found) place ⌝ }
+    ensures { λ r. ⌜ r ≡ isAbsentAt (placeIn found) place ⌝ }
 {
     match found {
         Found::At(_) => false,

@@ -3,12 +3,12 @@ use crate::Cover;
 ghost use mathlib.Core.Path.{_≡_};
 ghost use Prim.Native.Nat.{_+_, _*_, _≤_};
 ghost use lib.ListN.{length};
-ghost use Rattle.cover_statements.specs.Entry.{entryOf, putEntry};
+ghost use Rattle.cover_statements.specs.Entry.{coverEntry, putEntry};
 
 // The cover at a place.
 pub fn read_cover(covers: &[i8], place: usize) -> Cover
     requires { ⌜ place * 16 + 16 ≤ length (now covers) ⌝ }
-    ensures { λ r. ⌜ r .covers ≡ entryOf 16 place (now (covers .entry)) ⌝ }
+    ensures { λ r. ⌜ r .covers ≡ coverEntry 16 place (now (covers .entry)) ⌝ }
 {
     let start = place * 16;
     let mut entry = [0i8; 16];

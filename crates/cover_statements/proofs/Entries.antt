@@ -12,18 +12,18 @@ use lib.Seq.{take-all, drop-drop, getD-take, getD-drop, ext-getD, length-take-le
 use Rattle.laws.proofs.Orders.{le-or-lt}
 use Rattle.laws.proofs.Rows.{filled, filled-more}
 use Rattle.laws.specs.Lists.{over}
-use Rattle.cover_statements.specs.Entry.{entryOf, putEntry}
+use Rattle.cover_statements.specs.Entry.{coverEntry, putEntry}
 use Rattle.cover_statements.proofs.Filled.{filled-whole}
 
 abbrev at : List ℤ → ℕ → ℤ
 at l k = getD l k (pos 0)
 
-pub entry-length : (n place : ℕ) (covers : List ℤ) → place * n + n ≤ length covers → length (entryOf n place covers) ≡ n
-unfolding entryOf
+pub entry-length : (n place : ℕ) (covers : List ℤ) → place * n + n ≤ length covers → length (coverEntry n place covers) ≡ n
+unfolding coverEntry
 entry-length n place covers h = length-take-le n (drop (place * n) covers) (omega (arith, length-drop (place * n) covers))
 
-pub entry-at : (n place : ℕ) (covers : List ℤ) (y : ℕ) → y < n → at (entryOf n place covers) y ≡ at covers (place * n + y)
-unfolding entryOf
+pub entry-at : (n place : ℕ) (covers : List ℤ) (y : ℕ) → y < n → at (coverEntry n place covers) y ≡ at covers (place * n + y)
+unfolding coverEntry
 entry-at n place covers y h = getD-take n (drop (place * n) covers) y (pos 0) h ∙ getD-drop (place * n) covers y (pos 0)
 
 -- ---- the loop that reads an entry
@@ -33,7 +33,7 @@ pub record Reading (covers : List ℤ) (n place start y : ℕ) (entry : List ℤ
   pub begun : start ≡ place * n
   pub room : place * n + n ≤ length covers
   pub long : length entry ≡ n
-  pub drawn : entry ≡ filled (replicate n (pos 0)) (entryOf n place covers) y
+  pub drawn : entry ≡ filled (replicate n (pos 0)) (coverEntry n place covers) y
 
 module _ {covers : List ℤ} {n place start : ℕ} where
   pub read-start : start ≡ place * n → place * n + n ≤ length covers → Reading covers n place start 0 (replicate n (pos 0))
@@ -48,13 +48,13 @@ module _ {covers : List ℤ} {n place start : ℕ} where
         long = length-set entry y v ∙ c .long;
         drawn =
             rw (e, c .begun, ← entry-at n place covers y h, c .drawn)
-            (filled-more (replicate n (pos 0)) (entryOf n place covers) y (pos 0) (omega (arith, length-replicate n (pos 0))) (omega (arith, entry-length n place covers (c .room))));
+            (filled-more (replicate n (pos 0)) (coverEntry n place covers) y (pos 0) (omega (arith, length-replicate n (pos 0))) (omega (arith, entry-length n place covers (c .room))));
       }
 
-  pub read-end : {y : ℕ} {entry : List ℤ} → Reading covers n place start y entry → n ≤ y → entry ≡ entryOf n place covers
+  pub read-end : {y : ℕ} {entry : List ℤ} → Reading covers n place start y entry → n ≤ y → entry ≡ coverEntry n place covers
   read-end {y} {entry} c h =
       let e : y ≡ n = omega (arith, c .reached) in
-      c .drawn ∙ rw e (filled-whole (replicate n (pos 0)) (entryOf n place covers) n (length-replicate n (pos 0)) (entry-length n place covers (c .room)))
+      c .drawn ∙ rw e (filled-whole (replicate n (pos 0)) (coverEntry n place covers) n (length-replicate n (pos 0)) (entry-length n place covers (c .room)))
 
 -- ---- the loop that writes one
 
@@ -128,17 +128,17 @@ module _ (n place : ℕ) (cover old : List ℤ) (wide : length cover ≡ n) (roo
       head : length (take (place * n) old ++ take n cover) ≡ place * n + n
       head = simp (length-append, length-take) (omega arith)
 
-  pub put-same : entryOf n place (putEntry n place cover old) ≡ cover
+  pub put-same : coverEntry n place (putEntry n place cover old) ≡ cover
   put-same =
-      ext-getD (pos 0) (entryOf n place (putEntry n place cover old)) cover (long ∙ sym wide)
+      ext-getD (pos 0) (coverEntry n place (putEntry n place cover old)) cover (long ∙ sym wide)
       (λ i h. let l : i < n = omega (arith, long) in entry-at n place (putEntry n place cover old) i l ∙ inside i l)
     where
-      long : length (entryOf n place (putEntry n place cover old)) ≡ n
+      long : length (coverEntry n place (putEntry n place cover old)) ≡ n
       long = entry-length n place (putEntry n place cover old) (omega (arith, put-length))
 
-  pub put-other : (other : ℕ) → (other ≡ place → ⊥) → other * n + n ≤ length old → entryOf n other (putEntry n place cover old) ≡ entryOf n other old
+  pub put-other : (other : ℕ) → (other ≡ place → ⊥) → other * n + n ≤ length old → coverEntry n other (putEntry n place cover old) ≡ coverEntry n other old
   put-other other d r =
-      ext-getD (pos 0) (entryOf n other (putEntry n place cover old)) (entryOf n other old)
+      ext-getD (pos 0) (coverEntry n other (putEntry n place cover old)) (coverEntry n other old)
       (entry-length n other (putEntry n place cover old) (omega (arith, put-length)) ∙ sym (entry-length n other old r))
       (λ i h.
       let l : i < n = omega (arith, entry-length n other (putEntry n place cover old) (omega (arith, put-length))) in

@@ -20,7 +20,7 @@ use Rattle.cover_statements.specs.Coverage.{coverageOf}
 use Rattle.cover_statements.specs.Cover.{coverAt, noCover, emptyAt, fullAt, isEmpty, isFull}
 use Rattle.cover_statements.specs.Plane.{inPlaces, pixelOf, planeOf}
 use Rattle.cover_statements.specs.Weight.{weightOf, isInside}
-use Rattle.cover_statements.specs.WholeRow.{inTile, leftOfTile, partOf, leftPart, leftCover, rowPlane, FromRow}
+use Rattle.cover_statements.specs.WholeRow.{inTile, leftOfTile, partOf, segmentsLeft, leftCover, rowPlane, FromRow}
 use Rattle.cover_statements.proofs.Agreement.{agrees-refl, agrees-add, agrees-trans, agrees-empty, agrees-full, empty-agrees}
 use Rattle.cover_statements.proofs.Areas.{and-false, split}
 use Rattle.cover_statements.proofs.Testing.{and-true, all-every}
@@ -62,18 +62,18 @@ left-next ws tile layer row y =
 
 module _ {ws : List ℕ} {n : ℕ} {rule : FillRule} {tile layer : ℕ} {row : List ℕ} where
   -- a row is opened with the covers of what lies left of the first tile
-  pub opening-from-row : FromRow ws n rule tile layer row (carryOf ws n (noCover n) (leftPart ws tile layer row))
+  pub opening-from-row : FromRow ws n rule tile layer row (carryOf ws n (noCover n) (segmentsLeft ws tile layer row))
   unfolding leftCover
   opening-from-row =
       record {
         at =
             λ y h.
-            let left = coverIn ws y (leftPart ws tile layer row) in
-            rw (carry-at ws n (noCover n) (leftPart ws tile layer row) y h, no-cover-at n y, +ℤ-idl left) (agrees-refl rule left);
+            let left = coverIn ws y (segmentsLeft ws tile layer row) in
+            rw (carry-at ws n (noCover n) (segmentsLeft ws tile layer row) y h, no-cover-at n y, +ℤ-idl left) (agrees-refl rule left);
       }
 
   -- a layer without segments there has no cover
-  pub none-from-row : leftPart ws tile layer row ≡ [] → FromRow ws n rule tile layer row (noCover n)
+  pub none-from-row : segmentsLeft ws tile layer row ≡ [] → FromRow ws n rule tile layer row (noCover n)
   unfolding leftCover
   none-from-row e =
       record { at = λ y h. rw (no-cover-at n y, e) (agrees-refl rule (pos 0)) }

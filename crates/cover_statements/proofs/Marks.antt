@@ -14,7 +14,7 @@ use lib.Seq.{drop-cons, drop-length}
 use Rattle.laws.proofs.Rows.{length-tabulate, getD-tabulate, is-tabulate}
 use Rattle.cover_statements.specs.Coverage.{coverageOf, isAbove}
 use Rattle.cover_statements.specs.Plane.{inPlaces}
-use Rattle.cover_statements.specs.Mark.{aboveAt, some, isUsed, usedOctets, bit, numberOf, countTrue, markOf, octetsOf}
+use Rattle.cover_statements.specs.Mark.{aboveAt, some, isOctetUsed, usedOctets, bit, binaryNumber, countTrue, markOf, octetsOf}
 
 pub bit-lt : (b : Bool) → bit b < 2
 bit-lt true = omega arith
@@ -22,14 +22,14 @@ bit-lt false = omega arith
 
 used-length : (plane : List Float) → length (usedOctets plane) ≡ 32
 unfolding usedOctets
-used-length plane = length-tabulate 32 (λ octet. isUsed plane (octet / 2) (octet % 2))
+used-length plane = length-tabulate 32 (λ octet. isOctetUsed plane (octet / 2) (octet % 2))
 
-used-at : (plane : List Float) (octet : ℕ) → octet < 32 → getD (usedOctets plane) octet false ≡ isUsed plane (octet / 2) (octet % 2)
+used-at : (plane : List Float) (octet : ℕ) → octet < 32 → getD (usedOctets plane) octet false ≡ isOctetUsed plane (octet / 2) (octet % 2)
 unfolding usedOctets
-used-at plane octet h = getD-tabulate 32 (λ o. isUsed plane (o / 2) (o % 2)) false octet h
+used-at plane octet h = getD-tabulate 32 (λ o. isOctetUsed plane (o / 2) (o % 2)) false octet h
 
-number-lt : (bs : List Bool) → numberOf bs < 2 ^ length bs
-unfolding numberOf
+number-lt : (bs : List Bool) → binaryNumber bs < 2 ^ length bs
+unfolding binaryNumber
 number-lt [] = omega arith
 number-lt (b ∷ bs) = rw pow-suc (omega (arith, number-lt bs, bit-lt b))
 
@@ -37,14 +37,14 @@ number-lt (b ∷ bs) = rw pow-suc (omega (arith, number-lt bs, bit-lt b))
 
 pub record Marking (plane : List Float) (mark octet : ℕ) : Type 0 where
   pub reached : octet ≤ 32
-  pub same : mark ≡ numberOf (drop octet (usedOctets plane))
+  pub same : mark ≡ binaryNumber (drop octet (usedOctets plane))
 
 pub mark-start : {plane : List Float} → Marking plane 0 32
-unfolding numberOf
+unfolding binaryNumber
 mark-start {plane} =
     record {
       reached = omega arith;
-      same = sym (ap numberOf (ap (λ (n : ℕ). drop n (usedOctets plane)) (sym (used-length plane)) ∙ drop-length (usedOctets plane)));
+      same = sym (ap binaryNumber (ap (λ (n : ℕ). drop n (usedOctets plane)) (sym (used-length plane)) ∙ drop-length (usedOctets plane)));
     }
 
 -- while octets are left, the number fits 31 bits
@@ -53,9 +53,9 @@ mark-small {plane} {mark} {octet} c h =
     let l : length (drop octet (usedOctets plane)) ≤ 31 = omega (arith, length-drop octet (usedOctets plane), used-length plane, c .reached) in
     rw (c .same) (lt-of-lt-of-le (number-lt (drop octet (usedOctets plane))) (pow-mono l))
 
-pub mark-next : {plane : List Float} {mark octet : ℕ} {used : Bool} → Marking plane mark octet → 0 < octet → used ≡ isUsed plane ((octet - 1) / 2) ((octet - 1) % 2)
+pub mark-next : {plane : List Float} {mark octet : ℕ} {used : Bool} → Marking plane mark octet → 0 < octet → used ≡ isOctetUsed plane ((octet - 1) / 2) ((octet - 1) % 2)
     → Marking plane (mark * 2 + bit used) (octet - 1)
-unfolding numberOf
+unfolding binaryNumber
 mark-next {plane} {mark} {octet} {used} c h e =
     let l = usedOctets plane in
     let o = octet - 1 in
@@ -64,40 +64,40 @@ mark-next {plane} {mark} {octet} {used} c h e =
       reached = omega (arith, c .reached);
       same =
           ap₂ (λ (n : ℕ) (b : Bool). n * 2 + bit b)
-          (c .same ∙ ap (λ (n : ℕ). numberOf (drop n l)) (sym back))
+          (c .same ∙ ap (λ (n : ℕ). binaryNumber (drop n l)) (sym back))
           (e ∙ sym (used-at plane o (omega (arith, c .reached))))
-          ∙ sym (ap numberOf (drop-cons l o false (omega (arith, used-length plane, c .reached))));
+          ∙ sym (ap binaryNumber (drop-cons l o false (omega (arith, used-length plane, c .reached))));
     }
 
 pub mark-end : {plane : List Float} {mark octet : ℕ} → Marking plane mark octet → octet ≤ 0 → mark ≡ markOf plane
 unfolding markOf
 mark-end {plane} {mark} {octet} c h =
     let z : octet ≡ 0 = omega arith in
-    c .same ∙ ap (λ (n : ℕ). numberOf (drop n (usedOctets plane))) z
+    c .same ∙ ap (λ (n : ℕ). binaryNumber (drop n (usedOctets plane))) z
 
 -- ---- its bits and its ones
 
 -- bit k of a number made of flags is the flag k
-digit : (bs : List Bool) (k : ℕ) → numberOf bs / 2 ^ k % 2 ≡ bit (getD bs k false)
-unfolding numberOf
+digit : (bs : List Bool) (k : ℕ) → binaryNumber bs / 2 ^ k % 2 ≡ bit (getD bs k false)
+unfolding binaryNumber
 digit [] k = rw (zero-div (2 ^ k))
-digit (b ∷ bs) zero = omega (arith, div-one (numberOf bs * 2 + bit b), bit-lt b)
+digit (b ∷ bs) zero = omega (arith, div-one (binaryNumber bs * 2 + bit b), bit-lt b)
 digit (b ∷ bs) (suc k) =
-    let half : (numberOf bs * 2 + bit b) / 2 ≡ numberOf bs = omega (arith, bit-lt b) in
-    let e : (numberOf bs * 2 + bit b) / 2 ^ suc k ≡ numberOf bs / 2 ^ k =
-    ap (λ (m : ℕ). (numberOf bs * 2 + bit b) / 2 ^ m) (sym (one-add k))
-    ∙ sym (shr-shr (numberOf bs * 2 + bit b) 1 k)
+    let half : (binaryNumber bs * 2 + bit b) / 2 ≡ binaryNumber bs = omega (arith, bit-lt b) in
+    let e : (binaryNumber bs * 2 + bit b) / 2 ^ suc k ≡ binaryNumber bs / 2 ^ k =
+    ap (λ (m : ℕ). (binaryNumber bs * 2 + bit b) / 2 ^ m) (sym (one-add k))
+    ∙ sym (shr-shr (binaryNumber bs * 2 + bit b) 1 k)
     ∙ ap (λ (m : ℕ). m / 2 ^ k) half in
     rw e (digit bs k)
 
 -- bit 2 × column + h of a plane's mark is set exactly where octet h of the column is used
-pub mark-bit : (plane : List Float) (column h : ℕ) → column < 16 → h < 2 → markOf plane / 2 ^ (2 * column + h) % 2 ≡ bit (isUsed plane column h)
+pub mark-bit : (plane : List Float) (column h : ℕ) → column < 16 → h < 2 → markOf plane / 2 ^ (2 * column + h) % 2 ≡ bit (isOctetUsed plane column h)
 unfolding markOf
 mark-bit plane column h p q =
     let o = 2 * column + h in
     let d : o / 2 ≡ column = omega arith in
     let m : o % 2 ≡ h = omega arith in
-    digit (usedOctets plane) o ∙ ap bit (used-at plane o (omega arith) ∙ ap₂ (isUsed plane) d m)
+    digit (usedOctets plane) o ∙ ap bit (used-at plane o (omega arith) ∙ ap₂ (isOctetUsed plane) d m)
 
 bit-ones : (b : Bool) → ones (bit b) ≡ bit b
 unfolding ones
@@ -105,10 +105,10 @@ bit-ones true = refl
 bit-ones false = refl
 
 -- the ones of a number made of flags are the flags that are set
-ones-number : (bs : List Bool) → ones (numberOf bs) ≡ countTrue bs
-unfolding numberOf countTrue ones
+ones-number : (bs : List Bool) → ones (binaryNumber bs) ≡ countTrue bs
+unfolding binaryNumber countTrue ones
 ones-number [] = refl
-ones-number (b ∷ bs) = ones-cat 1 (numberOf bs) (bit b) (bit-lt b) ∙ ap₂ (λ (x y : ℕ). x + y) (ones-number bs) (bit-ones b) ∙ omega arith
+ones-number (b ∷ bs) = ones-cat 1 (binaryNumber bs) (bit b) (bit-lt b) ∙ ap₂ (λ (x y : ℕ). x + y) (ones-number bs) (bit-ones b) ∙ omega arith
 
 -- the ones of a plane's mark are its used octets
 pub ones-mark : (plane : List Float) → ones (markOf plane) ≡ octetsOf plane
@@ -131,7 +131,7 @@ offset-is k zero = omega arith
 offset-is k (suc i) = refl
 
 -- octet 2 × column + h is the eight numbers from 8 times it on
-pub used-eight : (plane : List Float) (octet : ℕ) → some 8 (λ i. isAbove (getD plane (offset (8 * octet) i) nan)) ≡ isUsed plane (octet / 2) (octet % 2)
+pub used-eight : (plane : List Float) (octet : ℕ) → some 8 (λ i. isAbove (getD plane (offset (8 * octet) i) nan)) ≡ isOctetUsed plane (octet / 2) (octet % 2)
 used-eight plane octet =
     some-ext 8 (λ i. isAbove (getD plane (offset (8 * octet) i) nan)) (aboveAt plane (octet / 2) (octet % 2))
     (λ i l. ap (λ (k : ℕ). isAbove (getD plane k nan)) (omega (arith, offset-is (8 * octet) i)))
@@ -140,15 +140,15 @@ used-eight plane octet =
 pub mark-same : (p q : List Float) → ((k : ℕ) → k < 256 → getD p k nan ≡ getD q k nan) → markOf p ≡ markOf q
 unfolding markOf usedOctets
 mark-same p q h =
-    ap numberOf
-    (is-tabulate 32 (λ o. isUsed q (o / 2) (o % 2)) false (usedOctets p) (used-length p)
+    ap binaryNumber
+    (is-tabulate 32 (λ o. isOctetUsed q (o / 2) (o % 2)) false (usedOctets p) (used-length p)
     (λ o l. used-at p o l ∙ some-ext 8 (aboveAt p (o / 2) (o % 2)) (aboveAt q (o / 2) (o % 2)) (λ i t. ap isAbove (h _ (omega arith)))))
 
 -- coverage 0 everywhere uses no octet, and coverage 1 everywhere all 32
 pub mark-empty : markOf (inPlaces 16 (λ column row. coverageOf 0)) ≡ 0
-unfolding markOf usedOctets numberOf inPlaces coverageOf odd ofBits lt
+unfolding markOf usedOctets binaryNumber inPlaces coverageOf odd ofBits lt
 mark-empty = refl
 
 pub mark-full : markOf (inPlaces 16 (λ column row. coverageOf 512)) ≡ 2 ^ 32 - 1
-unfolding markOf usedOctets numberOf inPlaces coverageOf odd ofBits lt
+unfolding markOf usedOctets binaryNumber inPlaces coverageOf odd ofBits lt
 mark-full = refl

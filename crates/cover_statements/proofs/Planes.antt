@@ -19,7 +19,7 @@ use Rattle.cover_statements.specs.Carry.{isLight}
 use Rattle.cover_statements.specs.Coverage.{areaCoverage}
 use Rattle.cover_statements.specs.Cover.{coverAt}
 use Rattle.cover_statements.specs.Mark.{markOf}
-use Rattle.cover_statements.specs.Paint.{partPlane, InRange}
+use Rattle.cover_statements.specs.Paint.{partPlane, AreasInRange}
 use Rattle.cover_statements.specs.Plane.{placeOf, columnOf, rowOf, sizeOf, inPlaces, pixelOf, planeOf, coveragesOf}
 use Rattle.cover_statements.proofs.Areas.{area-bound}
 use Rattle.cover_statements.proofs.Carries.{light}
@@ -85,7 +85,7 @@ plane-of-areas ws n rule incoming part =
     ∙ sym (places-at n (pixelOf ws rule incoming part) z k p))
 
 -- what number 9 leaves is in range
-pub areas-in-range : (covers : List ℤ) (part : List ℕ) → isLight cpu 16 covers part ≡ true → InRange (areasOf cpu 16 (coverAt covers) part)
+pub areas-in-range : (covers : List ℤ) (part : List ℕ) → isLight cpu 16 covers part ≡ true → AreasInRange (areasOf cpu 16 (coverAt covers) part)
 areas-in-range covers part e =
     record {
       long = areas-length cpu 16 (coverAt covers) part;

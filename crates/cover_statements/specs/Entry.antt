@@ -6,8 +6,8 @@ use lib.ListN.{take, drop}
 use Rattle.laws.specs.Lists.{over}
 
 -- the cover at a place
-unfoldable pub entryOf : ℕ → ℕ → List ℤ → List ℤ
-entryOf n place covers = take n (drop (place * n) covers)
+unfoldable pub coverEntry : ℕ → ℕ → List ℤ → List ℤ
+coverEntry n place covers = take n (drop (place * n) covers)
 
 -- the list with a cover written at a place, and all else as it was
 unfoldable pub putEntry : ℕ → ℕ → List ℤ → List ℤ → List ℤ

@@ -26,21 +26,21 @@ some zero f = false
 some (suc n) f = some n f || f n
 
 -- some coverage of octet h of a column is above 0
-abbrev pub isUsed : List Float → ℕ → ℕ → Bool
-isUsed plane column h = some 8 (aboveAt plane column h)
+abbrev pub isOctetUsed : List Float → ℕ → ℕ → Bool
+isOctetUsed plane column h = some 8 (aboveAt plane column h)
 
 -- the 32 octets, at 2 × column + h: which are used
 unfoldable pub usedOctets : List Float → List Bool
-usedOctets plane = tabulate 32 (λ octet. isUsed plane (octet / 2) (octet % 2))
+usedOctets plane = tabulate 32 (λ octet. isOctetUsed plane (octet / 2) (octet % 2))
 
 -- 1 for true and 0 for false
 abbrev pub bit : Bool → ℕ
 bit b = boolByte b
 
 -- the number whose binary digits are the flags, the first the lowest
-unfoldable pub numberOf : List Bool → ℕ
-numberOf [] = 0
-numberOf (b ∷ bs) = numberOf bs * 2 + bit b
+unfoldable pub binaryNumber : List Bool → ℕ
+binaryNumber [] = 0
+binaryNumber (b ∷ bs) = binaryNumber bs * 2 + bit b
 
 -- how many flags are set
 unfoldable pub countTrue : List Bool → ℕ
@@ -48,7 +48,7 @@ countTrue [] = 0
 countTrue (b ∷ bs) = bit b + countTrue bs
 
 unfoldable pub markOf : List Float → ℕ
-markOf plane = numberOf (usedOctets plane)
+markOf plane = binaryNumber (usedOctets plane)
 
 unfoldable pub octetsOf : List Float → ℕ
 octetsOf plane = countTrue (usedOctets plane)

@@ -22,8 +22,8 @@ abbrev pub partPlane : List ℕ → FillRule → List ℤ → List ℕ → List 
 partPlane ws rule covers part = planeOf ws 16 rule (coverAt covers) part
 
 -- the lowest refusal that applies, or the mark
-abbrev pub paintOf : List ℕ → FillRule → List ℤ → List ℕ → List Float → Answer ℕ
-paintOf ws rule covers part old =
+abbrev pub partAnswer : List ℕ → FillRule → List ℤ → List ℕ → List Float → Answer ℕ
+partAnswer ws rule covers part old =
     cond (ltb (length old) (sizeOf 16)) (refused 1)
     (cond (isLight ws 16 covers part) (given (markOf (partPlane ws rule covers part)))
     (refused 9))
@@ -35,10 +35,10 @@ paintedAnswer CoverTooLarge = refused 9
 
 -- a refusal leaves the plane as it was; else what lies past the 256 numbers stays
 pub record Painting (ws : List ℕ) (rule : FillRule) (covers : List ℤ) (part : List ℕ) (old : List Float) (r : Painted) (new : List Float) : Type 0 where
-  pub answer : paintedAnswer r ≡ paintOf ws rule covers part old
+  pub answer : paintedAnswer r ≡ partAnswer ws rule covers part old
   pub plane-is : new ≡ cond (leb (sizeOf 16) (length old) && isLight ws 16 covers part) (over (partPlane ws rule covers part) old) old
 
 -- 256 doubled areas in the range that number 9 leaves
-pub record InRange (areas : List ℤ) : Type 0 where
+pub record AreasInRange (areas : List ℤ) : Type 0 where
   pub long : length areas ≡ 256
   pub small : (k : ℕ) → k < 256 → natAbs (coverAt areas k) ≤ 8001

@@ -27,12 +27,12 @@ leftOfTile ws tile layer w = ltb (tileXOf ws w) tile && eqb (layerIdOf ws w) lay
 abbrev pub partOf : List ℕ → ℕ → ℕ → List ℕ → List ℕ
 partOf ws tile layer row = filter (inTile ws tile layer) row
 
-abbrev pub leftPart : List ℕ → ℕ → ℕ → List ℕ → List ℕ
-leftPart ws tile layer row = filter (leftOfTile ws tile layer) row
+abbrev pub segmentsLeft : List ℕ → ℕ → ℕ → List ℕ → List ℕ
+segmentsLeft ws tile layer row = filter (leftOfTile ws tile layer) row
 
 -- the incoming cover of pixel row y
 unfoldable pub leftCover : List ℕ → ℕ → ℕ → List ℕ → ℕ → ℤ
-leftCover ws tile layer row y = coverIn ws y (leftPart ws tile layer row)
+leftCover ws tile layer row y = coverIn ws y (segmentsLeft ws tile layer row)
 
 -- d and the weight of the pixel in column c and row y, and the plane
 abbrev pub rowArea : List ℕ → ℕ → ℕ → List ℕ → ℕ → ℕ → ℤ

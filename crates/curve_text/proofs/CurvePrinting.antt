@@ -1,4 +1,4 @@
--- The curve printed: how long its lines are, and its names before them.
+-- The curve printed: how long its lines are, and its curveNames before them.
 -- Assumes nothing.
 use mathlib.Core.Path.{_≡_, ap}
 use mathlib.Core.List.{List}
@@ -17,7 +17,7 @@ use Rattle.lines.specs.Text.{lineText}
 use Rattle.lines.proofs.LinesPrinting.{LinesPrinting, end-of, block}
 use Rattle.report.specs.Put.{LineWritten}
 use Rattle.report.proofs.Lines.{at-front}
-use Rattle.curve_text.specs.Curve.{names, curveLine, curveText}
+use Rattle.curve_text.specs.Curve.{curveNames, curveLine, curveText}
 
 -- four digits, a space, three digits and LF
 pub line-long : (rest : ℕ) → rest < 1024 → length (lineText (curveLine rest)) ≤ 9
@@ -32,9 +32,9 @@ pub two : (rest : ℕ) {line : List ℤ} → line ≡ curveLine rest → 12 * le
 unfolding curveLine
 two rest e = ap (λ (l : List ℤ). 12 * length l) e
 
-pub written : {out out₀ out′ : List ℕ} {at end rest : ℕ} → 9252 ≤ length out → Printing names out 0 at out₀ → LinesPrinting curveLine 1024 9 out₀ at end rest out′
+pub written : {out out₀ out′ : List ℕ} {at end rest : ℕ} → 9252 ≤ length out → Printing curveNames out 0 at out₀ → LinesPrinting curveLine 1024 9 out₀ at end rest out′
     → 1024 ≤ rest → LineWritten curveText out end out′
 unfolding curveText
 written h p v l =
     let q = end-of v l in
-    at-front (block names (tabulate 1024 curveLine) p (q .0)) (omega (arith, q .1, p .answer))
+    at-front (block curveNames (tabulate 1024 curveLine) p (q .0)) (omega (arith, q .1, p .answer))

@@ -1,4 +1,4 @@
--- The even-odd curve as text. Stands for 'a line of names, `rest weight`, then 1,024 lines: the remainder of d by 1,024 and its EvenOdd
+-- The even-odd curve as text. Stands for 'a line of curveNames, `rest weight`, then 1,024 lines: the remainder of d by 1,024 and its EvenOdd
 -- weight, ascending'. Its form is that of a block of a job text.
 use mathlib.Core.List.{List, [], _∷_}
 use Prim.Native.Nat.{ℕ}
@@ -9,12 +9,12 @@ use Rattle.cover_statements.specs.Weight.{weightOf}
 use Rattle.lines.specs.Bytes.{bytes}
 use Rattle.lines.specs.Text.{blockText}
 
-abbrev pub names : List ℕ
-names = bytes "rest weight\n"
+abbrev pub curveNames : List ℕ
+curveNames = bytes "rest weight\n"
 
 -- the line of a remainder: itself, and the EvenOdd weight of every d that has it
 unfoldable pub curveLine : ℕ → List ℤ
 curveLine rest = pos rest ∷ pos (weightOf EvenOdd (pos rest)) ∷ []
 
 unfoldable pub curveText : List ℕ
-curveText = blockText names (tabulate 1024 curveLine)
+curveText = blockText curveNames (tabulate 1024 curveLine)

@@ -19,11 +19,11 @@ use Rattle.decimal.specs.declared.Signed.the-variants.{Integer, Malforme
 use Rattle.laws.proofs.Machine.{small}
 use Rattle.decimal.specs.Decimal.{Short}
 use Rattle.decimal.specs.Parse.{parsed, parseℕ, positive, negative, parseℤ}
-use Rattle.decimal.specs.Read.{UnsignedRead, SignedRead, signedOf, afterSigned}
+use Rattle.decimal.specs.Read.{UnsignedRead, SignedRead, signedLeft, afterSigned}
 use Rattle.decimal.proofs.Laws.{never, parseℤ-positive, parseℤ-negative, parseℤ-sound, parseℤ-complete}
 
 -- an answer that the parser gives is one that the printer gives
-answered : (s : List ℕ) (at : ℕ) (r : Signed) → afterSigned r ≤ length s → signedOf s r ≡ parseℤ 10000000 (drop at s) → SignedRead s at r
+answered : (s : List ℕ) (at : ℕ) (r : Signed) → afterSigned r ≤ length s → signedLeft s r ≡ parseℤ 10000000 (drop at s) → SignedRead s at r
 answered s at (Integer v next) h e =
     let q = parseℤ-sound 10000000 (drop at s) v (drop next s) (omega arith) (sym e) in
     record { answer = e; stands = (h, q .text, q .below, q .stops) }

@@ -29,9 +29,9 @@ pub record UnsignedRead (limit : ℕ) (s : List ℕ) (at : ℕ) (r : Unsigned) :
   pub within : afterUnsigned r ≤ length s
   pub below : valueOf r < limit
 
-abbrev pub signedOf : List ℕ → Signed → Parsed ℤ
-signedOf s (Integer v next) = parsed v (drop next s)
-signedOf s Malformed = failed
+abbrev pub signedLeft : List ℕ → Signed → Parsed ℤ
+signedLeft s (Integer v next) = parsed v (drop next s)
+signedLeft s Malformed = failed
 
 abbrev pub afterSigned : Signed → ℕ
 afterSigned (Integer v next) = next
@@ -43,5 +43,5 @@ Stands s at (Integer v next) = (next ≤ length s) × (drop at s ≡ decimalℤ 
 Stands s at Malformed = (v : ℤ) (t : List ℕ) → Short v → Stops t → drop at s ≡ decimalℤ v ++ t → ⊥
 
 pub record SignedRead (s : List ℕ) (at : ℕ) (r : Signed) : Type 0 where
-  pub answer : signedOf s r ≡ parseℤ 10000000 (drop at s)
+  pub answer : signedLeft s r ≡ parseℤ 10000000 (drop at s)
   pub stands : Stands s at r

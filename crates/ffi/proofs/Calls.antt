@@ -24,10 +24,10 @@ use Rattle.pass_statements.specs.Decision as decision
 use Rattle.pass_statements.specs.Decision.{TileDecision, solid, paint, decisionIn}
 use Rattle.pass_statements.specs.declared.decide.Decision.{Decision}
 use Rattle.pass_statements.specs.declared.decide.Decision.the-variants.{None, Solid, Paint}
-use Rattle.row_statements.specs.Lent.{Columns, isQueueShort, isListShort, isTableShort, isTable}
+use Rattle.row_statements.specs.Lent.{Columns, isQueueShort, isListShort, isLentShort, isLentTable}
 use Rattle.row_statements.specs.State.{State, stateIn}
-use Rattle.row_statements.specs.Opening.{OpenCall, leftOf, hasBadEnds, openVerdict, countBy, stateBy, openOf, OpensRow}
-use Rattle.row_statements.specs.TileWork.{TileTold, WorkLent, WorkGiven, toldIn, toldBy, listVerdict, workOut, workOf, GivesWork}
+use Rattle.row_statements.specs.Opening.{OpenCall, leftOf, hasBadEnds, openVerdict, openCount, stateBy, openOf, OpensRow}
+use Rattle.row_statements.specs.TileWork.{TileAnswer, WorkLent, WorkGiven, tileAnswerIn, tileAnswer, listVerdict, workOut, workOf, GivesWork}
 use Rattle.row_statements.specs.Painting.{PaintGiven, paintOut, paintOf}
 use Rattle.row_statements.specs.Due.{OpenRow, Past, atFirst, tableOn, layersOn, WorkChoice, isNotDue, workDueVerdict, saysOn, stateOn, workDue, pastWork, PaintChoice, paintDueVerdict, paintOn, paintDue, pastPaint}
 use Rattle.row_statements.specs.Run.{openRow, SameCarries, workOn, paintOnto}
@@ -40,11 +40,11 @@ use Rattle.row_statements.specs.declared.Opened.the-variants as opened
 use Rattle.row_statements.proofs.WorkSteps.{work-due, right-work}
 use Rattle.row_statements.proofs.PaintSteps.{paint-due}
 use Rattle.row_statements.proofs.Run.{accepted, is-open, held-first}
-use Rattle.ffi_numbers.specs.Numbers.{numberOf}
-use Rattle.ffi_numbers.specs.Rows.{clipFlag, clipLast, clipOf, wordsOf, countsOf, stateFrom, StateNumbers, openNumbers, OpenTold}
+use Rattle.ffi_numbers.specs.Numbers.{refusalNumber}
+use Rattle.ffi_numbers.specs.Rows.{clipFlag, clipLast, clipOf, stateWords, countsOf, stateFrom, StateNumbers, openNumbers, OpenTold}
 use Rattle.ffi.specs.Work.{WorkNumbers, workedNumbers, WorkTold}
 use Rattle.ffi.specs.Painting.{PaintNumbers, paintedNumbers, PaintTold}
-use Rattle.ffi.specs.Calls.{HeldNumbers, heldIn, heldOpened, heldWorked, Told, Call, Calls, RightTold, pastTold, AllTold, CallsClaim}
+use Rattle.ffi.specs.Calls.{HeldNumbers, heldFrom, heldOpened, heldWorked, NumbersTold, Call, Calls, RightTold, pastTold, AllTold, CallsClaim}
 
 -- ---- a state written as numbers and read again
 
@@ -55,7 +55,7 @@ clip-again (some last) = refl
 abbrev withClipOf : State → Option ℕ → State
 withClipOf s clip = record { tileY = s .tileY; from = s .from; to = s .to; next = s .next; left = s .left; taken = s .taken; clip = clip }
 
-pub state-again : (s : State) → stateFrom (wordsOf s) (countsOf s) ≡ s
+pub state-again : (s : State) → stateFrom (stateWords s) (countsOf s) ≡ s
 state-again s = ap (withClipOf s) (clip-again (s .clip))
 
 -- ---- values of the code that stand for a state and an answer
@@ -84,10 +84,10 @@ decision-back decision.none = refl
 decision-back (solid bottom before) = refl
 decision-back paint = refl
 
-abbrev toldOut : TileTold → TileDone
+abbrev toldOut : TileAnswer → TileDone
 toldOut t = record { decision = decisionOut (t .decision); listed = t .listed; skipped = record { 0 = t .skipped } }
 
-told-back : (t : TileTold) → toldIn (toldOut t) ≡ t
+told-back : (t : TileAnswer) → tileAnswerIn (toldOut t) ≡ t
 told-back t = ap (λ (d : TileDecision). record { decision = d; listed = t .listed; skipped = t .skipped }) (decision-back (t .decision))
 
 -- ---- the number of a refusal is not 0
@@ -133,63 +133,63 @@ work-not-zero o n c =
 open-not-zero : (c : OpenCall) (lent : Columns) → NotZero (openVerdict c lent)
 unfolding openVerdict
 open-not-zero c lent =
-    let four = unless (not (isTable (c .table))) 4 pass in
+    let four = unless (not (isLentTable (c .table))) 4 pass in
     let three = unless (not (isRow cpu (suc (plus (c .tileY))) (c .row))) 3 four in
     let two = unless (hasBadEnds (c .tileY) (c .from) (c .to)) 2 three in
-    not-zero (isQueueShort lent || isTableShort (c .table)) 1 two (one-up 0)
+    not-zero (isQueueShort lent || isLentShort (c .table)) 1 two (one-up 0)
     (not-zero (hasBadEnds (c .tileY) (c .from) (c .to)) 2 three (one-up 1)
     (not-zero (not (isRow cpu (suc (plus (c .tileY))) (c .row))) 3 four (one-up 2)
-    (not-zero (not (isTable (c .table))) 4 pass (one-up 3) pass-not-zero)))
+    (not-zero (not (isLentTable (c .table))) 4 pass (one-up 3) pass-not-zero)))
 
 -- ---- tile work and painting
 
-module _ {o : OpenRow} (open-row : IsOpen o) {p : Past} (k : HeldNumbers) (holds : Holds o p (heldIn k)) where
+module _ {o : OpenRow} (open-row : IsOpen o) {p : Past} (k : HeldNumbers) (holds : Holds o p (heldFrom k)) where
   -- other numbers of the same state
-  holds-still : {s : State} → s ≡ heldIn k .state → Holds o p (record { state = s; queue = k .queue; taken = k .taken })
+  holds-still : {s : State} → s ≡ heldFrom k .state → Holds o p (record { state = s; queue = k .queue; taken = k .taken })
   holds-still e = record { state = e ∙ holds .state; inside = holds .inside; queue = holds .queue; taken-long = holds .taken-long; took = holds .took }
 
   -- a number other than 0: the caller goes on with what it held
-  refused-held : (r : ℕ) (new : WorkNumbers) (queue : Columns) (back : WorkLent) → 0 < r → stateFrom (new .words) (new .counts) ≡ heldIn k .state → Holds o p (heldIn (heldWorked r k new queue back))
+  refused-held : (r : ℕ) (new : WorkNumbers) (queue : Columns) (back : WorkLent) → 0 < r → stateFrom (new .words) (new .counts) ≡ heldFrom k .state → Holds o p (heldFrom (heldWorked r k new queue back))
   refused-held zero new queue back h e = absurd (omega (arith, h))
   refused-held (suc r) new queue back h e = holds-still e
 
-  module _ (c : WorkChoice) (same : SameCarries (heldIn k .state .left) (k .queue) (c .queue)) where
+  module _ (c : WorkChoice) (same : SameCarries (heldFrom k .state .left) (k .queue) (c .queue)) where
     abbrev out : Judgement → WorkGiven
     out v = workOut v (saysOn o (p .tiles) c) (stateOn o p) (c .kept) (c .lent)
 
     -- the code's answer to an accepted work
     abbrev done : TileWorked
-    done = record { state = stateOut (out pass .state); kept = out pass .kept; answer = Done (toldOut (toldBy (saysOn o (p .tiles) c))) }
+    done = record { state = stateOut (out pass .state); kept = out pass .kept; answer = Done (toldOut (tileAnswer (saysOn o (p .tiles) c))) }
 
     done-held : (back : WorkLent) → workDueVerdict o (p .tiles) c ≡ pass → back ≡ out pass .lent → Holds o (pastWork pass p) (record { state = out pass .state; queue = back .queue; taken = c .queue })
     unfolding workOut
     done-held back e el =
-        let g : GivesWork (out pass) done back = record { answer = ap given (told-back (toldBy (saysOn o (p .tiles) c))); state = state-back (out pass .state); kept = refl; lent-is = el } in
-        let d : GivesWork (workOf (workOn o (heldIn k) c) (c .lent)) done back = subst (λ (x : WorkGiven). GivesWork x done back) (sym (work-due open-row holds c same ∙ ap out e)) g in
+        let g : GivesWork (out pass) done back = record { answer = ap given (told-back (tileAnswer (saysOn o (p .tiles) c))); state = state-back (out pass .state); kept = refl; lent-is = el } in
+        let d : GivesWork (workOf (workOn o (heldFrom k) c) (c .lent)) done back = subst (λ (x : WorkGiven). GivesWork x done back) (sym (work-due open-row holds c same ∙ ap out e)) g in
         let h : Holds o (pastWork pass p) (record { state = stateIn (stateOut (out pass .state)); queue = back .queue; taken = c .queue }) =
         subst (λ (v : Judgement). Holds o (pastWork v p) (record { state = stateIn (stateOut (out pass .state)); queue = back .queue; taken = c .queue })) e (right-work open-row holds c same d .1) in
         subst (λ (s : State). Holds o (pastWork pass p) (record { state = s; queue = back .queue; taken = c .queue })) (state-back (out pass .state)) h
 
-    after : (old : WorkNumbers) (r : ℕ) (new : WorkNumbers) (back : WorkLent) → stateFrom (old .words) (old .counts) ≡ heldIn k .state → (v : Judgement) → workDueVerdict o (p .tiles) c ≡ v → r ≡ numberOf (out v .answer) → new ≡ workedNumbers (out v .answer) (out v .state) (out v .kept) old → back ≡ out v .lent → Holds o (pastWork v p) (heldIn (heldWorked r k new (c .queue) back))
+    after : (old : WorkNumbers) (r : ℕ) (new : WorkNumbers) (back : WorkLent) → stateFrom (old .words) (old .counts) ≡ heldFrom k .state → (v : Judgement) → workDueVerdict o (p .tiles) c ≡ v → r ≡ refusalNumber (out v .answer) → new ≡ workedNumbers (out v .answer) (out v .state) (out v .kept) old → back ≡ out v .lent → Holds o (pastWork v p) (heldFrom (heldWorked r k new (c .queue) back))
     unfolding workOut
     after old r new back eo (refuse n) e er en el =
         let positive : 0 < n = work-not-zero o (p .tiles) c .is n e in
         refused-held r new (c .queue) back (omega (arith, er, positive)) (ap (λ (m : WorkNumbers). stateFrom (m .words) (m .counts)) en ∙ eo)
     after old r new back eo pass e er en el =
         let read : stateFrom (new .words) (new .counts) ≡ out pass .state = ap (λ (m : WorkNumbers). stateFrom (m .words) (m .counts)) en ∙ state-again (out pass .state) in
-        subst (λ (m : ℕ). Holds o (pastWork pass p) (heldIn (heldWorked m k new (c .queue) back))) (sym er)
+        subst (λ (m : ℕ). Holds o (pastWork pass p) (heldFrom (heldWorked m k new (c .queue) back))) (sym er)
         (subst (λ (s : State). Holds o (pastWork pass p) (record { state = s; queue = back .queue; taken = c .queue })) (sym read) (done-held back e el))
 
-    worked-right : (old : WorkNumbers) (r : ℕ) (new : WorkNumbers) (back : WorkLent) → stateFrom (old .words) (old .counts) ≡ heldIn k .state → WorkTold (workOf (workOn o (heldIn k) c) (c .lent)) old r new back → WorkTold (workDue o p c) old r new back × Holds o (pastWork (workDueVerdict o (p .tiles) c) p) (heldIn (heldWorked r k new (c .queue) back))
+    worked-right : (old : WorkNumbers) (r : ℕ) (new : WorkNumbers) (back : WorkLent) → stateFrom (old .words) (old .counts) ≡ heldFrom k .state → WorkTold (workOf (workOn o (heldFrom k) c) (c .lent)) old r new back → WorkTold (workDue o p c) old r new back × Holds o (pastWork (workDueVerdict o (p .tiles) c) p) (heldFrom (heldWorked r k new (c .queue) back))
     worked-right old r new back eo t =
         let d : WorkTold (workDue o p c) old r new back = subst (λ (g : WorkGiven). WorkTold g old r new back) (work-due open-row holds c same) t in
         (d, after old r new back eo (workDueVerdict o (p .tiles) c) refl (d .number) (d .numbers) (d .lent-is))
 
-  module _ (c : PaintChoice) (same : SameCarries (heldIn k .state .taken) (k .taken) (c .queue)) where
+  module _ (c : PaintChoice) (same : SameCarries (heldFrom k .state .taken) (k .taken) (c .queue)) where
     abbrev painted : Judgement → PaintGiven
     painted v = paintOut v (paintOn o (p .tiles - 1) (c .layer) (p .clip)) (stateOn o p) (c .plane)
 
-    after-paint : (old new : PaintNumbers) → stateFrom (old .words) (old .counts) ≡ heldIn k .state → (v : Judgement) → new ≡ paintedNumbers (painted v .answer) (painted v .state) old → Holds o (pastPaint v o (c .layer) p) (record { state = stateFrom (new .words) (new .counts); queue = k .queue; taken = k .taken })
+    after-paint : (old new : PaintNumbers) → stateFrom (old .words) (old .counts) ≡ heldFrom k .state → (v : Judgement) → new ≡ paintedNumbers (painted v .answer) (painted v .state) old → Holds o (pastPaint v o (c .layer) p) (record { state = stateFrom (new .words) (new .counts); queue = k .queue; taken = k .taken })
     unfolding paintOut
     after-paint old new eo (refuse n) en = holds-still (ap (λ (m : PaintNumbers). stateFrom (m .words) (m .counts)) en ∙ eo)
     after-paint old new eo pass en =
@@ -201,18 +201,18 @@ module _ {o : OpenRow} (open-row : IsOpen o) {p : Past} (k : HeldNumbers) (holds
           took = holds .took;
         }
 
-    painted-right : (old : PaintNumbers) (r : ℕ) (new : PaintNumbers) (back : List Float) → stateFrom (old .words) (old .counts) ≡ heldIn k .state → PaintTold (paintOf (paintOnto o (heldIn k) c) (c .plane)) old r new back → PaintTold (paintDue o p c) old r new back × Holds o (pastPaint (paintDueVerdict o (p .tiles) c) o (c .layer) p) (record { state = stateFrom (new .words) (new .counts); queue = k .queue; taken = k .taken })
+    painted-right : (old : PaintNumbers) (r : ℕ) (new : PaintNumbers) (back : List Float) → stateFrom (old .words) (old .counts) ≡ heldFrom k .state → PaintTold (paintOf (paintOnto o (heldFrom k) c) (c .plane)) old r new back → PaintTold (paintDue o p c) old r new back × Holds o (pastPaint (paintDueVerdict o (p .tiles) c) o (c .layer) p) (record { state = stateFrom (new .words) (new .counts); queue = k .queue; taken = k .taken })
     painted-right old r new back eo t =
         let d : PaintTold (paintDue o p c) old r new back = subst (λ (g : PaintGiven). PaintTold g old r new back) (paint-due open-row holds c same) t in
         (d, after-paint old new eo (paintDueVerdict o (p .tiles) c) (d .numbers))
 
 -- ---- one call, and any list of them
 
-call-right : {o : OpenRow} {p : Past} {k k′ : HeldNumbers} {t : Told} → IsOpen o → Holds o p (heldIn k) → Call o k t k′ → RightTold o p t × Holds o (pastTold o t p) (heldIn k′)
+call-right : {o : OpenRow} {p : Past} {k k′ : HeldNumbers} {t : NumbersTold} → IsOpen o → Holds o p (heldFrom k) → Call o k t k′ → RightTold o p t × Holds o (pastTold o t p) (heldFrom k′)
 call-right {k = k} open-row holds (Call.work {c = c} same t) = worked-right open-row k holds c same _ _ _ _ refl t
 call-right {k = k} open-row holds (Call.paint {c = c} same t) = painted-right open-row k holds c same _ _ _ _ refl t
 
-calls-right : {o : OpenRow} {p : Past} {k k′ : HeldNumbers} {ts : List Told} → IsOpen o → Holds o p (heldIn k) → Calls o k ts k′ → AllTold o p ts
+calls-right : {o : OpenRow} {p : Past} {k k′ : HeldNumbers} {ts : List NumbersTold} → IsOpen o → Holds o p (heldFrom k) → Calls o k ts k′ → AllTold o p ts
 calls-right open-row holds Calls.none = tt
 calls-right open-row holds (Calls.next c rest) =
     let u = call-right open-row holds c in
@@ -227,12 +227,12 @@ isRefused (given s) = 0
 module _ (c : OpenCall) (lent : Columns) where
   -- 7 and 9, of a verdict that passes
   by-queue : (many light : Bool) (count n : ℕ) → stateBy (c .tileY) (c .from) (c .to) (cond many (refused 7) (cond light (given count) (refused 9))) ≡ refused n → 0 < n
-  by-queue true light count n e = omega (arith, ap numberOf e)
+  by-queue true light count n e = omega (arith, ap refusalNumber e)
   by-queue false true count n e = absurd (omega (arith, ap isRefused e))
-  by-queue false false count n e = omega (arith, ap numberOf e)
+  by-queue false false count n e = omega (arith, ap refusalNumber e)
 
-  by-verdict : (v : Judgement) → NotZero v → (n : ℕ) → stateBy (c .tileY) (c .from) (c .to) (countBy v (leftOf c)) ≡ refused n → 0 < n
-  by-verdict (refuse m) h n e = let positive : 0 < m = h .is m refl in omega (arith, positive, ap numberOf e)
+  by-verdict : (v : Judgement) → NotZero v → (n : ℕ) → stateBy (c .tileY) (c .from) (c .to) (openCount v (leftOf c)) ≡ refused n → 0 < n
+  by-verdict (refuse m) h n e = let positive : 0 < m = h .is m refl in omega (arith, positive, ap refusalNumber e)
   by-verdict pass h n e = by-queue (ltb 256 (length (openQueue (leftOf c)))) (isLightOpening (leftOf c)) (length (openQueue (leftOf c))) n e
 
   refused-by : (n : ℕ) → openOf c lent .answer ≡ refused n → 0 < n
@@ -240,10 +240,10 @@ module _ (c : OpenCall) (lent : Columns) where
   refused-by n e = by-verdict (openVerdict c lent) (open-not-zero c lent) n e
 
   module _ (w : Words (c .row)) {back : Columns} {old new : StateNumbers} (t : OpenTold (openOf c lent) old 0 new back) where
-    opened-held : IsOpen (openRow c) × Holds (openRow c) atFirst (heldIn (heldOpened new back))
+    opened-held : IsOpen (openRow c) × Holds (openRow c) atFirst (heldFrom (heldOpened new back))
     opened-held = by (openOf c lent .answer) refl (t .number) (t .numbers)
       where
-        by : (a : Answer State) → openOf c lent .answer ≡ a → 0 ≡ numberOf a → new ≡ openNumbers a old → IsOpen (openRow c) × Holds (openRow c) atFirst (heldIn (heldOpened new back))
+        by : (a : Answer State) → openOf c lent .answer ≡ a → 0 ≡ refusalNumber a → new ≡ openNumbers a old → IsOpen (openRow c) × Holds (openRow c) atFirst (heldFrom (heldOpened new back))
         by (refused n) e number numbers = let positive : 0 < n = refused-by n e in absurd (omega (arith, positive, number))
         by (given s) e number numbers =
             let g : OpensRow (openOf c lent) (opened.Row (stateOut s)) back = record { answer = ap given (state-back s) ∙ sym e; lent-is = t .lent-is } in

@@ -17,53 +17,53 @@ use Rattle.row_statements.specs.TileWork.{WorkCall, WorkLent, workOf, workAnswe
 use Rattle.row_statements.specs.Painting.{PaintCall, paintOf, paintAnswer, PaintsLayer}
 use Rattle.row_statements.specs.declared.TileWorked.{TileWorked}
 use Rattle.row_statements.specs.declared.Painted.{Painted}
-use Rattle.ffi_numbers.specs.Numbers.{numberOf, valueOr, isFound, placeOf}
-use Rattle.ffi_numbers.specs.Cached.{isGiven, givenOr, colorOr, writtenOr, settledBytes}
+use Rattle.ffi_numbers.specs.Numbers.{refusalNumber, valueOr, isFound, placeNumber}
+use Rattle.ffi_numbers.specs.Cached.{isSome, givenOr, colorOr, writtenOr, settledBytes}
 use Rattle.ffi_numbers.specs.Rows.{StateNumbers, openNumbers, OpenTold}
 use Rattle.ffi.specs.Work.{WorkNumbers, workedNumbers, WorkTold}
 use Rattle.ffi.specs.Painting.{PaintNumbers, paintedNumbers, PaintTold}
 
 -- a search: whether the key was found, and the place
-pub searched : {f g : Place} {r : Bool} {p : ℕ} → f ≡ g → (r ≡ isFound f) × (p ≡ placeOf f) → (r ≡ isFound g) × (p ≡ placeOf g)
-searched {r = r} {p = p} e told = subst (λ (h : Place). (r ≡ isFound h) × (p ≡ placeOf h)) e told
+pub searched : {f g : Place} {r : Bool} {p : ℕ} → f ≡ g → (r ≡ isFound f) × (p ≡ placeNumber f) → (r ≡ isFound g) × (p ≡ placeNumber g)
+searched {r = r} {p = p} e told = subst (λ (h : Place). (r ≡ isFound h) × (p ≡ placeNumber h)) e told
 
 -- an operation that gives a value: the refusal, and what the lent value is, which was `old`
-pub answered : {A : Type 0} {a b : Answer A} {r : ℕ} {p : A} (old : A) → a ≡ b → (r ≡ numberOf a) × (p ≡ valueOr a old) → (r ≡ numberOf b) × (p ≡ valueOr b old)
-answered {A = A} {r = r} {p = p} old e told = subst (λ (h : Answer A). (r ≡ numberOf h) × (p ≡ valueOr h old)) e told
+pub answered : {A : Type 0} {a b : Answer A} {r : ℕ} {p : A} (old : A) → a ≡ b → (r ≡ refusalNumber a) × (p ≡ valueOr a old) → (r ≡ refusalNumber b) × (p ≡ valueOr b old)
+answered {A = A} {r = r} {p = p} old e told = subst (λ (h : Answer A). (r ≡ refusalNumber h) × (p ≡ valueOr h old)) e told
 
 -- a value that may be given
-pub optional : {A : Type 0} {a b : Option A} {r : Bool} {p : A} (old : A) → a ≡ b → (r ≡ isGiven a) × (p ≡ givenOr a old) → (r ≡ isGiven b) × (p ≡ givenOr b old)
-optional {A = A} {r = r} {p = p} old e told = subst (λ (h : Option A). (r ≡ isGiven h) × (p ≡ givenOr h old)) e told
+pub optional : {A : Type 0} {a b : Option A} {r : Bool} {p : A} (old : A) → a ≡ b → (r ≡ isSome a) × (p ≡ givenOr a old) → (r ≡ isSome b) × (p ≡ givenOr b old)
+optional {A = A} {r = r} {p = p} old e told = subst (λ (h : Option A). (r ≡ isSome h) × (p ≡ givenOr h old)) e told
 
 -- a colour that may be given
 pub colored : {a b : SolidColor} {r : Bool} {p : List ℕ} (old : List ℕ) → a ≡ b → (r ≡ a .given) × (p ≡ colorOr a old) → (r ≡ b .given) × (p ≡ colorOr b old)
 colored {r = r} {p = p} old e told = subst (λ (h : SolidColor). (r ≡ h .given) × (p ≡ colorOr h old)) e told
 
 -- settling: the refusal, whether to write, and the tile's bytes
-pub settled : {a b : Answer Writing} {j k : Kept} {r : ℕ} {p : Bool} {bytes : List ℕ} (old : Bool) (oldBytes : List ℕ) → a ≡ b → j ≡ k → (r ≡ numberOf a) × ((p ≡ writtenOr a old) × (bytes ≡ settledBytes a j oldBytes)) → (r ≡ numberOf b) × ((p ≡ writtenOr b old) × (bytes ≡ settledBytes b k oldBytes))
+pub settled : {a b : Answer Writing} {j k : Kept} {r : ℕ} {p : Bool} {bytes : List ℕ} (old : Bool) (oldBytes : List ℕ) → a ≡ b → j ≡ k → (r ≡ refusalNumber a) × ((p ≡ writtenOr a old) × (bytes ≡ settledBytes a j oldBytes)) → (r ≡ refusalNumber b) × ((p ≡ writtenOr b old) × (bytes ≡ settledBytes b k oldBytes))
 settled old oldBytes e f told =
-    (told .0 ∙ ap numberOf e, (told .1 .0 ∙ ap (λ (h : Answer Writing). writtenOr h old) e, told .1 .1 ∙ λ i. settledBytes (e i) (f i) oldBytes))
+    (told .0 ∙ ap refusalNumber e, (told .1 .0 ∙ ap (λ (h : Answer Writing). writtenOr h old) e, told .1 .1 ∙ λ i. settledBytes (e i) (f i) oldBytes))
 
 -- an opening
-pub opened : {g : OpenGiven} {a : Answer State} {old new : StateNumbers} {r : ℕ} {back : Columns} → a ≡ g .answer → back ≡ g .lent → (r ≡ numberOf a) × (new ≡ openNumbers a old) → OpenTold g old r new back
-opened {old = old} e l told = record { number = told .0 ∙ ap numberOf e; numbers = told .1 ∙ ap (λ (h : Answer State). openNumbers h old) e; lent-is = l }
+pub opened : {g : OpenGiven} {a : Answer State} {old new : StateNumbers} {r : ℕ} {back : Columns} → a ≡ g .answer → back ≡ g .lent → (r ≡ refusalNumber a) × (new ≡ openNumbers a old) → OpenTold g old r new back
+opened {old = old} e l told = record { number = told .0 ∙ ap refusalNumber e; numbers = told .1 ∙ ap (λ (h : Answer State). openNumbers h old) e; lent-is = l }
 
 -- tile work from a state that is read of numbers: the state and the cached tile stand beside the answer
-pub worked : (call : State → WorkCall) (lent : WorkLent) {s t : State} {w : TileWorked} {old new : WorkNumbers} {r : ℕ} {back : WorkLent} → s ≡ t → GivesWork (workOf (call s) lent) w back → (r ≡ numberOf (workAnswer (w .answer))) × (new ≡ workedNumbers (workAnswer (w .answer)) (stateIn (w .state)) (w .kept) old) → WorkTold (workOf (call t) lent) old r new back
+pub worked : (call : State → WorkCall) (lent : WorkLent) {s t : State} {w : TileWorked} {old new : WorkNumbers} {r : ℕ} {back : WorkLent} → s ≡ t → GivesWork (workOf (call s) lent) w back → (r ≡ refusalNumber (workAnswer (w .answer))) × (new ≡ workedNumbers (workAnswer (w .answer)) (stateIn (w .state)) (w .kept) old) → WorkTold (workOf (call t) lent) old r new back
 worked call lent {w = w} {old = old} {back = back} e given told =
     let works = subst (λ (x : State). GivesWork (workOf (call x) lent) w back) e given in
     record {
-      number = told .0 ∙ ap numberOf (works .answer);
+      number = told .0 ∙ ap refusalNumber (works .answer);
       numbers = told .1 ∙ λ i. workedNumbers (works .answer i) (works .state i) (works .kept i) old;
       lent-is = works .lent-is;
     }
 
 -- painting, the same
-pub painted : (call : State → PaintCall) (plane : List Float) {s t : State} {p : Painted} {old new : PaintNumbers} {r : ℕ} {back : List Float} → s ≡ t → PaintsLayer (paintOf (call s) plane) p back → (r ≡ numberOf (paintAnswer (p .answer))) × (new ≡ paintedNumbers (paintAnswer (p .answer)) (stateIn (p .state)) old) → PaintTold (paintOf (call t) plane) old r new back
+pub painted : (call : State → PaintCall) (plane : List Float) {s t : State} {p : Painted} {old new : PaintNumbers} {r : ℕ} {back : List Float} → s ≡ t → PaintsLayer (paintOf (call s) plane) p back → (r ≡ refusalNumber (paintAnswer (p .answer))) × (new ≡ paintedNumbers (paintAnswer (p .answer)) (stateIn (p .state)) old) → PaintTold (paintOf (call t) plane) old r new back
 painted call plane {p = p} {old = old} {back = back} e given told =
     let paints = subst (λ (x : State). PaintsLayer (paintOf (call x) plane) p back) e given in
     record {
-      number = told .0 ∙ ap numberOf (paints .answer);
+      number = told .0 ∙ ap refusalNumber (paints .answer);
       numbers = told .1 ∙ λ i. paintedNumbers (paints .answer i) (paints .state i) old;
       plane-is = paints .plane;
     }

@@ -12,13 +12,13 @@ use Rattle.layer_workbench.specs.declared.PreviousClear.{PreviousClear}
 use Rattle.layer_workbench.specs.declared.PreviousClear.the-variants.{Absent, Given}
 
 -- red, green, blue and alpha
-abbrev pub colorOf : List Float → Color
-colorOf l = record { r = getD l 0 nan; g = getD l 1 nan; b = getD l 2 nan; a = getD l 3 nan }
+abbrev pub colorFrom : List Float → Color
+colorFrom l = record { r = getD l 0 nan; g = getD l 1 nan; b = getD l 2 nan; a = getD l 3 nan }
 
 -- the clear colour of the frame before, where one is given
 abbrev pub previousOf : Bool → List Float → PreviousClear
-previousOf is l = cond is (Given (colorOf l)) Absent
+previousOf is l = cond is (Given (colorFrom l)) Absent
 
 abbrev pub drawOf : ℕ → ℕ → List Float → Func
 drawOf fill mode color =
-    Draw (record { «is_clipped» = false; fill = fillOf fill (colorOf color); «blend_mode» = modeOf mode })
+    Draw (record { «is_clipped» = false; fill = fillOf fill (colorFrom color); «blend_mode» = modeOf mode })

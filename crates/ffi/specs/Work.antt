@@ -8,10 +8,10 @@ use Rattle.laws.specs.Answer.{Answer, refused, given}
 use Rattle.cached_tile.specs.declared.kept.Kept.{Kept}
 use Rattle.pass_statements.specs.Decision.{TileDecision, none, solid, paint, codeOf}
 use Rattle.row_statements.specs.State.{State}
-use Rattle.row_statements.specs.TileWork.{TileTold, WorkLent, WorkGiven}
-use Rattle.ffi_numbers.specs.Numbers.{numberOf}
+use Rattle.row_statements.specs.TileWork.{TileAnswer, WorkLent, WorkGiven}
+use Rattle.ffi_numbers.specs.Numbers.{refusalNumber}
 use Rattle.ffi_numbers.specs.Cached.{bytesBy}
-use Rattle.ffi_numbers.specs.Rows.{wordsOf, countsOf}
+use Rattle.ffi_numbers.specs.Rows.{stateWords, countsOf}
 
 abbrev pub beforeOf : TileDecision → ℕ
 beforeOf none = 0
@@ -24,7 +24,7 @@ bottomBy none old = old
 bottomBy (solid bottom before) old = bottom .r ∷ bottom .g ∷ bottom .b ∷ bottom .a ∷ []
 bottomBy paint old = old
 
-abbrev pub toldOf : TileTold → List ℕ
+abbrev pub toldOf : TileAnswer → List ℕ
 toldOf t = codeOf (t .decision) ∷ beforeOf (t .decision) ∷ t .listed ∷ t .skipped ∷ []
 
 -- the numbers that are lent: the state's, the cached tile's bytes, the answer's, and the bottom colour
@@ -39,13 +39,13 @@ abbrev pub workNumbers : List ℕ → List ℕ → List ℕ → List ℕ → Lis
 workNumbers words counts k told bottom = record { words = words; counts = counts; kept = k; told = told; bottom = bottom }
 
 -- what they are after a work; a refusal leaves every one as it was
-abbrev pub workedNumbers : Answer TileTold → State → Kept → WorkNumbers → WorkNumbers
+abbrev pub workedNumbers : Answer TileAnswer → State → Kept → WorkNumbers → WorkNumbers
 workedNumbers (refused number) s k old = old
 workedNumbers (given t) s k old =
-    record { words = wordsOf s; counts = countsOf s; kept = bytesBy k (old .kept); told = toldOf t; bottom = bottomBy (t .decision) (old .bottom) }
+    record { words = stateWords s; counts = countsOf s; kept = bytesBy k (old .kept); told = toldOf t; bottom = bottomBy (t .decision) (old .bottom) }
 
 -- all that a work gives and leaves
 pub record WorkTold (g : WorkGiven) (old : WorkNumbers) (r : ℕ) (new : WorkNumbers) (back : WorkLent) : Type 0 where
-  pub number : r ≡ numberOf (g .answer)
+  pub number : r ≡ refusalNumber (g .answer)
   pub numbers : new ≡ workedNumbers (g .answer) (g .state) (g .kept) old
   pub lent-is : back ≡ g .lent

@@ -5,17 +5,17 @@ use cached_tile::kept;
 use cached_tile::kept::Kept;
 use ffi_numbers::cached;
 ghost use mathlib.Core.Path.{_≡_};
-ghost use Rattle.cached_tile.specs.Tile.{layerCountOf, solidColorOf, updateCount, updateColor, countOf};
+ghost use Rattle.cached_tile.specs.Tile.{layerCountOf, solidColorOf, updateCount, updateColor, countIn};
 ghost use Rattle.cached_tile.specs.Kept.{settleOf, settledKept};
-ghost use Rattle.ffi_numbers.specs.Numbers.{numberOf};
-ghost use Rattle.ffi_numbers.specs.Cached.{tileOf, bytesOf, keptOf, isGiven, givenOr, countIf, colorIf, colorOr};
+ghost use Rattle.ffi_numbers.specs.Numbers.{refusalNumber};
+ghost use Rattle.ffi_numbers.specs.Cached.{tileFrom, tileBytes, keptOf, isSome, givenOr, countIf, colorIf, colorOr};
 ghost use Rattle.ffi_numbers.specs.Cached.{writtenOr, settledBytes};
 
 // Whether the tile keeps a layer count; where it does, the count in `count`.
 #[no_mangle]
 pub extern "C" fn ffi_layer_count(tile: &[u8; 8], count: &mut u32) -> bool
-    ensures { λ r. ⌜ r ≡ isGiven (layerCountOf (tileOf (now (tile .entry)))) ⌝ }
-    ensures { λ _. ⌜ now (count .exit) ≡ givenOr (layerCountOf (tileOf (now (tile .entry)))) (now (count .entry)) ⌝ }
+    ensures { λ r. ⌜ r ≡ isSome (layerCountOf (tileFrom (now (tile .entry)))) ⌝ }
+    ensures { λ _. ⌜ now (count .exit) ≡ givenOr (layerCountOf (tileFrom (now (tile .entry)))) (now (count .entry)) ⌝ }
 {
     let bytes = *tile;
     cached::put_count(cached::to_tile(bytes).layer_count(), count)
@@ -24,8 +24,8 @@ pub extern "C" fn ffi_layer_count(tile: &[u8; 8], count: &mut u32) -> bool
 // Whether the tile keeps a solid colour; where it does, its bytes in `color`.
 #[no_mangle]
 pub extern "C" fn ffi_solid_color(tile: &[u8; 8], color: &mut [u8; 4]) -> bool
-    ensures { λ r. ⌜ r ≡ solidColorOf (tileOf (now (tile .entry))) .given ⌝ }
-    ensures { λ _. ⌜ now (color .exit) ≡ colorOr (solidColorOf (tileOf (now (tile .entry)))) (now (color .entry)) ⌝ }
+    ensures { λ r. ⌜ r ≡ solidColorOf (tileFrom (now (tile .entry))) .given ⌝ }
+    ensures { λ _. ⌜ now (color .exit) ≡ colorOr (solidColorOf (tileFrom (now (tile .entry)))) (now (color .entry)) ⌝ }
 {
     let bytes = *tile;
     cached::put_color(cached::to_tile(bytes).solid_color(), color)
@@ -40,10 +40,10 @@ pub extern "C" fn ffi_update_layer_count(
     count: u32,
     previous: &mut u32,
 ) -> bool
-    ensures { λ r. ⌜ r ≡ isGiven (layerCountOf (tileOf (now (tile .entry)))) ⌝ }
+    ensures { λ r. ⌜ r ≡ isSome (layerCountOf (tileFrom (now (tile .entry)))) ⌝ }
     ensures { λ _. ⌜ now (previous .exit)
-        ≡ givenOr (layerCountOf (tileOf (now (tile .entry)))) (now (previous .entry)) ⌝ }
-    ensures { λ _. ⌜ now (tile .exit) ≡ bytesOf (updateCount (tileOf (now (tile .entry))) (countIf given count)) ⌝ }
+        ≡ givenOr (layerCountOf (tileFrom (now (tile .entry)))) (now (previous .entry)) ⌝ }
+    ensures { λ _. ⌜ now (tile .exit) ≡ tileBytes (updateCount (tileFrom (now (tile .entry))) (countIf given count)) ⌝ }
 {
     let bytes = *tile;
     let updated = cached::to_tile(bytes).update_layer_count(count_if(given, count));
@@ -54,7 +54,7 @@ pub extern "C" fn ffi_update_layer_count(
 }
 
 fn count_if(given: bool, count: u32) -> LayerCount
-    ensures { λ r. ⌜ countOf r ≡ countIf given count ⌝ }
+    ensures { λ r. ⌜ countIn r ≡ countIf given count ⌝ }
 {
     if given {
         LayerCount::Count(count)
@@ -72,11 +72,11 @@ pub extern "C" fn ffi_update_solid_color(
     color: &[u8; 4],
     previous: &mut [u8; 4],
 ) -> bool
-    ensures { λ r. ⌜ r ≡ solidColorOf (tileOf (now (tile .entry))) .given ⌝ }
+    ensures { λ r. ⌜ r ≡ solidColorOf (tileFrom (now (tile .entry))) .given ⌝ }
     ensures { λ _. ⌜ now (previous .exit)
-        ≡ colorOr (solidColorOf (tileOf (now (tile .entry)))) (now (previous .entry)) ⌝ }
+        ≡ colorOr (solidColorOf (tileFrom (now (tile .entry)))) (now (previous .entry)) ⌝ }
     ensures { λ _. ⌜ now (tile .exit)
-        ≡ bytesOf (updateColor (tileOf (now (tile .entry))) (colorIf given (now (color .entry)))) ⌝ }
+        ≡ tileBytes (updateColor (tileFrom (now (tile .entry))) (colorIf given (now (color .entry)))) ⌝ }
 {
     let bytes = *tile;
     let color = *color;
@@ -100,7 +100,7 @@ pub extern "C" fn ffi_settle(
     color: &[u8; 4],
     is_written: &mut bool,
 ) -> u32
-    ensures { λ r. ⌜ r ≡ numberOf (settleOf (keptOf given (now (tile .entry))) (now (color .entry))) ⌝ }
+    ensures { λ r. ⌜ r ≡ refusalNumber (settleOf (keptOf given (now (tile .entry))) (now (color .entry))) ⌝ }
     ensures { λ _. ⌜ now («is_written» .exit)
         ≡ writtenOr (settleOf (keptOf given (now (tile .entry))) (now (color .entry))) (now («is_written» .entry)) ⌝ }
     ensures { λ _. ⌜ now (tile .exit)

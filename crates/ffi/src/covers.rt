@@ -13,8 +13,8 @@ ghost use Rattle.cover_statements.specs.Carry.{addOf};
 ghost use Rattle.cover.specs.Adding.{carriedAnswer};
 ghost use Rattle.cover_statements.specs.Coverage.{areaCoverage};
 ghost use Rattle.cover_statements.specs.Mark.{marked, markedAnswer, Counted};
-ghost use Rattle.cover_statements.specs.Paint.{paintOf, paintedAnswer};
-ghost use Rattle.ffi_numbers.specs.Numbers.{numberOf, valueOr};
+ghost use Rattle.cover_statements.specs.Paint.{partAnswer, paintedAnswer};
+ghost use Rattle.ffi_numbers.specs.Numbers.{refusalNumber, valueOr};
 ghost use Rattle.ffi.specs.Covers.{planeAfter};
 
 #[no_mangle]
@@ -36,7 +36,7 @@ pub extern "C" fn ffi_is_full(covers: &[i8; 16], rule: u32) -> bool
 // 0 and the covers of the part added to those in `covers`, or the number of the refusal.
 #[no_mangle]
 pub extern "C" fn ffi_carry(part: &[u64], covers: &mut [i8; 16]) -> u32
-    ensures { λ r. ⌜ r ≡ numberOf (addOf cpu 16 (now (covers .entry)) (now (part .entry))) ⌝ }
+    ensures { λ r. ⌜ r ≡ refusalNumber (addOf cpu 16 (now (covers .entry)) (now (part .entry))) ⌝ }
     ensures { λ _. ⌜ now (covers .exit)
         ≡ valueOr (addOf cpu 16 (now (covers .entry)) (now (part .entry))) (now (covers .entry)) ⌝ }
 {
@@ -45,7 +45,7 @@ pub extern "C" fn ffi_carry(part: &[u64], covers: &mut [i8; 16]) -> u32
 }
 
 fn put_carried(carried: Carried, covers: &mut [i8; 16]) -> u32
-    ensures { λ r. ⌜ r ≡ numberOf (carriedAnswer carried) ⌝ }
+    ensures { λ r. ⌜ r ≡ refusalNumber (carriedAnswer carried) ⌝ }
     ensures { λ _. ⌜ now (covers .exit) ≡ valueOr (carriedAnswer carried) (now (covers .entry)) ⌝ }
 {
     if carried.accepted {
@@ -76,9 +76,9 @@ pub extern "C" fn ffi_paint_part(
     mark: &mut u32,
 ) -> u32
     ensures { λ r. ⌜ r
-        ≡ numberOf (paintOf cpu (ruleOf rule) (now (covers .entry)) (now (part .entry)) (now (plane .entry))) ⌝ }
+        ≡ refusalNumber (partAnswer cpu (ruleOf rule) (now (covers .entry)) (now (part .entry)) (now (plane .entry))) ⌝ }
     ensures { λ _. ⌜ now (mark .exit)
-        ≡ valueOr (paintOf cpu (ruleOf rule) (now (covers .entry)) (now (part .entry)) (now (plane .entry)))
+        ≡ valueOr (partAnswer cpu (ruleOf rule) (now (covers .entry)) (now (part .entry)) (now (plane .entry)))
         (now (mark .entry)) ⌝ }
     ensures { λ _. ⌜ now (plane .exit)
         ≡ planeAfter cpu (ruleOf rule) (now (covers .entry)) (now (part .entry)) (now (plane .entry)) ⌝ }
@@ -89,7 +89,7 @@ pub extern "C" fn ffi_paint_part(
 }
 
 fn put_painted(painted: Painted, mark: &mut u32) -> u32
-    ensures { λ r. ⌜ r ≡ numberOf (paintedAnswer painted) ⌝ }
+    ensures { λ r. ⌜ r ≡ refusalNumber (paintedAnswer painted) ⌝ }
     ensures { λ _. ⌜ now (mark .exit) ≡ valueOr (paintedAnswer painted) (now (mark .entry)) ⌝ }
 {
     match painted {
@@ -105,14 +105,14 @@ fn put_painted(painted: Painted, mark: &mut u32) -> u32
 // 0 and the mark of any plane in `mark`, or the number of the refusal.
 #[no_mangle]
 pub extern "C" fn ffi_mark_plane(plane: &[f32], mark: &mut u32) -> u32
-    ensures { λ r. ⌜ r ≡ numberOf (marked (now (plane .entry))) ⌝ }
+    ensures { λ r. ⌜ r ≡ refusalNumber (marked (now (plane .entry))) ⌝ }
     ensures { λ _. ⌜ now (mark .exit) ≡ valueOr (marked (now (plane .entry))) (now (mark .entry)) ⌝ }
 {
     put_marked(mark::mark_plane(plane), mark)
 }
 
 fn put_marked(marked: Marked, mark: &mut u32) -> u32
-    ensures { λ r. ⌜ r ≡ numberOf (markedAnswer marked) ⌝ }
+    ensures { λ r. ⌜ r ≡ refusalNumber (markedAnswer marked) ⌝ }
     ensures { λ _. ⌜ now (mark .exit) ≡ valueOr (markedAnswer marked) (now (mark .entry)) ⌝ }
 {
     match marked {

@@ -8,11 +8,11 @@ ghost use mathlib.Core.Path.{_≡_};
 ghost use Rattle.styling.specs.Codes.{modeCode, modeOf};
 ghost use Rattle.styling.specs.Color.{sameColor};
 ghost use Rattle.styling.specs.Style.{isOpaque};
-ghost use Rattle.layer_table.specs.Table.{isShort, isTable};
-ghost use Rattle.ffi.specs.Layers.{colorOf, previousOf, drawOf};
+ghost use Rattle.layer_table.specs.Table.{isTableShort, isTable};
+ghost use Rattle.ffi.specs.Layers.{colorFrom, previousOf, drawOf};
 
 pub fn to_color(numbers: [f32; 4]) -> Color
-    ensures { λ r. ⌜ r ≡ colorOf numbers ⌝ }
+    ensures { λ r. ⌜ r ≡ colorFrom numbers ⌝ }
 {
     Color {
         r: numbers[0],
@@ -35,7 +35,7 @@ pub fn to_previous(given: bool, numbers: [f32; 4]) -> PreviousClear
 
 #[no_mangle]
 pub extern "C" fn ffi_color_eq(color: &[f32; 4], other: &[f32; 4]) -> bool
-    ensures { λ r. ⌜ r ≡ sameColor (colorOf (now (color .entry))) (colorOf (now (other .entry))) ⌝ }
+    ensures { λ r. ⌜ r ≡ sameColor (colorFrom (now (color .entry))) (colorFrom (now (other .entry))) ⌝ }
 {
     let first = *color;
     let second = *other;
@@ -68,7 +68,7 @@ pub extern "C" fn ffi_blend_mode(code: u32) -> u32
 // Whether the table is shorter than its count.
 #[no_mangle]
 pub extern "C" fn ffi_is_short(layers: &[u32], colors: &[f32], count: usize) -> bool
-    ensures { λ r. ⌜ r ≡ isShort (now (layers .entry)) (now (colors .entry)) count ⌝ }
+    ensures { λ r. ⌜ r ≡ isTableShort (now (layers .entry)) (now (colors .entry)) count ⌝ }
 {
     layer_table::is_short(layers, colors, count)
 }

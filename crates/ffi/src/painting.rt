@@ -6,7 +6,7 @@ ghost use mathlib.Core.Path.{_≡_};
 ghost use Rattle.row_statements.specs.Lent.{columns, lentTable};
 ghost use Rattle.row_statements.specs.State.{stateIn};
 ghost use Rattle.row_statements.specs.Painting.{paintCall, paintOf, paintAnswer};
-ghost use Rattle.ffi_numbers.specs.Numbers.{numberOf};
+ghost use Rattle.ffi_numbers.specs.Numbers.{refusalNumber};
 ghost use Rattle.ffi_numbers.specs.Rows.{stateFrom};
 ghost use Rattle.ffi.specs.Painting.{paintNumbers, paintedNumbers, PaintTold};
 
@@ -17,7 +17,7 @@ fn put_painted(
     counts: &mut [usize; 2],
     mark: &mut u32,
 ) -> u32
-    ensures { λ r. ⌜ r ≡ numberOf (paintAnswer answer) ⌝ }
+    ensures { λ r. ⌜ r ≡ refusalNumber (paintAnswer answer) ⌝ }
     ensures { λ _. ⌜ paintNumbers (now (words .exit)) (now (counts .exit)) (now (mark .exit))
         ≡ paintedNumbers (paintAnswer answer) (stateIn state)
         (paintNumbers (now (words .entry)) (now (counts .entry)) (now (mark .entry))) ⌝ }

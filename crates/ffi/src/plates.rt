@@ -2,7 +2,7 @@
 use ffi_numbers::plates;
 use plate::Crop;
 ghost use mathlib.Core.Path.{_≡_};
-ghost use Rattle.plate.specs.Rows.{castOf, startOf, placeOf};
+ghost use Rattle.plate.specs.Rows.{castOf, startOf, rowPlace};
 ghost use Rattle.plate.specs.Crop.{isInCrop};
 ghost use Rattle.ffi.specs.Plates.{cropOf};
 
@@ -17,8 +17,8 @@ pub extern "C" fn ffi_find_not_negative(segments: &[u64]) -> usize
 // Where row j starts; in `end` where it ends, one past its last segment.
 #[no_mangle]
 pub extern "C" fn ffi_find_row(segments: &[u64], j: usize, end: &mut usize) -> usize
-    ensures { λ r. ⌜ r ≡ (placeOf (castOf j) (now (segments .entry))) .start ⌝ }
-    ensures { λ _. ⌜ now (end .exit) ≡ (placeOf (castOf j) (now (segments .entry))) .end ⌝ }
+    ensures { λ r. ⌜ r ≡ (rowPlace (castOf j) (now (segments .entry))) .start ⌝ }
+    ensures { λ _. ⌜ now (end .exit) ≡ (rowPlace (castOf j) (now (segments .entry))) .end ⌝ }
 {
     plates::put_part(plate::find_row(segments, j), end)
 }

@@ -12,7 +12,7 @@ ghost use Rattle.pixel_segment.specs.Order.{rank, orderKey, compareOf};
 ghost use Rattle.segment_rows.specs.Rows.{ascends, isRow};
 ghost use Rattle.segment_rows.specs.Search.{searchOf, orderAt};
 ghost use Rattle.segment_rows.specs.declared.search.Key.{Key};
-ghost use Rattle.ffi_numbers.specs.Numbers.{numberOf, valueOr, isFound, placeOf};
+ghost use Rattle.ffi_numbers.specs.Numbers.{refusalNumber, valueOr, isFound, placeNumber};
 
 #[no_mangle]
 pub extern "C" fn ffi_pack(
@@ -26,7 +26,7 @@ pub extern "C" fn ffi_pack(
     word: &mut u64,
 ) -> u32
     ensures { λ r. ⌜ r
-        ≡ numberOf (packOf «layer_id» «tile_x» «tile_y» «local_x» «local_y» «double_area_multiplier» cover) ⌝ }
+        ≡ refusalNumber (packOf «layer_id» «tile_x» «tile_y» «local_x» «local_y» «double_area_multiplier» cover) ⌝ }
     ensures { λ _. ⌜ now (word .exit)
         ≡ valueOr (packOf «layer_id» «tile_x» «tile_y» «local_x» «local_y» «double_area_multiplier» cover)
         (now (word .entry)) ⌝ }
@@ -139,7 +139,7 @@ pub extern "C" fn ffi_search_last_by_tile_y(
     place: &mut usize,
 ) -> bool
     ensures { λ r. ⌜ r ≡ isFound (searchOf (orderAt (Key.TileY «tile_y»)) (now (segments .entry))) ⌝ }
-    ensures { λ _. ⌜ now (place .exit) ≡ placeOf (searchOf (orderAt (Key.TileY «tile_y»)) (now (segments .entry))) ⌝ }
+    ensures { λ _. ⌜ now (place .exit) ≡ placeNumber (searchOf (orderAt (Key.TileY «tile_y»)) (now (segments .entry))) ⌝ }
 {
     words::put_found(search::search_last_by_tile_y(segments, tile_y), place)
 }
@@ -151,7 +151,7 @@ pub extern "C" fn ffi_search_last_by_tile_x(
     place: &mut usize,
 ) -> bool
     ensures { λ r. ⌜ r ≡ isFound (searchOf (orderAt (Key.TileX «tile_x»)) (now (segments .entry))) ⌝ }
-    ensures { λ _. ⌜ now (place .exit) ≡ placeOf (searchOf (orderAt (Key.TileX «tile_x»)) (now (segments .entry))) ⌝ }
+    ensures { λ _. ⌜ now (place .exit) ≡ placeNumber (searchOf (orderAt (Key.TileX «tile_x»)) (now (segments .entry))) ⌝ }
 {
     words::put_found(search::search_last_by_tile_x(segments, tile_x), place)
 }
@@ -164,7 +164,7 @@ pub extern "C" fn ffi_search_last_by_layer_id(
 ) -> bool
     ensures { λ r. ⌜ r ≡ isFound (searchOf (orderAt (Key.LayerId «layer_id»)) (now (segments .entry))) ⌝ }
     ensures { λ _. ⌜ now (place .exit)
-        ≡ placeOf (searchOf (orderAt (Key.LayerId «layer_id»)) (now (segments .entry))) ⌝ }
+        ≡ placeNumber (searchOf (orderAt (Key.LayerId «layer_id»)) (now (segments .entry))) ⌝ }
 {
     words::put_found(search::search_last_by_layer_id(segments, layer_id), place)
 }
@@ -178,7 +178,7 @@ pub extern "C" fn ffi_search_last_by_tile_x_at_least(
 ) -> bool
     ensures { λ r. ⌜ r ≡ isFound (searchOf (orderAt (Key.TileXAtLeast start wanted)) (now (segments .entry))) ⌝ }
     ensures { λ _. ⌜ now (place .exit)
-        ≡ placeOf (searchOf (orderAt (Key.TileXAtLeast start wanted)) (now (segments .entry))) ⌝ }
+        ≡ placeNumber (searchOf (orderAt (Key.TileXAtLeast start wanted)) (now (segments .entry))) ⌝ }
 {
     words::put_found(
         search::search_last_by_tile_x_at_least(segments, start, wanted),
@@ -194,7 +194,7 @@ pub extern "C" fn ffi_search_last_by_tile_y_not_negative(
 ) -> bool
     ensures { λ r. ⌜ r ≡ isFound (searchOf (orderAt (Key.TileYNotNegative wanted)) (now (segments .entry))) ⌝ }
     ensures { λ _. ⌜ now (place .exit)
-        ≡ placeOf (searchOf (orderAt (Key.TileYNotNegative wanted)) (now (segments .entry))) ⌝ }
+        ≡ placeNumber (searchOf (orderAt (Key.TileYNotNegative wanted)) (now (segments .entry))) ⌝ }
 {
     words::put_found(
         search::search_last_by_tile_y_not_negative(segments, wanted),

@@ -14,10 +14,10 @@ ghost use mathlib.Core.Path.{_≡_};
 ghost use Rattle.pass_statements.specs.Decision.{codeOf, decisionIn};
 ghost use Rattle.row_statements.specs.Lent.{columns, listColumns, lentTable};
 ghost use Rattle.row_statements.specs.State.{stateIn};
-ghost use Rattle.row_statements.specs.TileWork.{workCall, workLent, workOf, toldIn, workAnswer};
-ghost use Rattle.ffi_numbers.specs.Numbers.{numberOf};
+ghost use Rattle.row_statements.specs.TileWork.{workCall, workLent, workOf, tileAnswerIn, workAnswer};
+ghost use Rattle.ffi_numbers.specs.Numbers.{refusalNumber};
 ghost use Rattle.ffi_numbers.specs.Cached.{keptOf};
-ghost use Rattle.ffi.specs.Layers.{colorOf, previousOf};
+ghost use Rattle.ffi.specs.Layers.{colorFrom, previousOf};
 ghost use Rattle.ffi_numbers.specs.Rows.{stateFrom};
 ghost use Rattle.ffi.specs.Work.{beforeOf, bottomBy, toldOf, workNumbers, workedNumbers, WorkTold};
 
@@ -50,7 +50,7 @@ fn put_bottom(decision: Decision, bottom: &mut [f32; 4])
 }
 
 fn put_done(done: TileDone, told: &mut [usize; 4], bottom: &mut [f32; 4])
-    ensures { λ _. ⌜ now (told .exit) ≡ toldOf (toldIn done) ⌝ }
+    ensures { λ _. ⌜ now (told .exit) ≡ toldOf (tileAnswerIn done) ⌝ }
     ensures { λ _. ⌜ now (bottom .exit) ≡ bottomBy (decisionIn (done .decision)) (now (bottom .entry)) ⌝ }
 {
     let decision = done.decision;
@@ -74,7 +74,7 @@ fn put_worked(
     told: &mut [usize; 4],
     bottom: &mut [f32; 4],
 ) -> u32
-    ensures { λ r. ⌜ r ≡ numberOf (workAnswer answer) ⌝ }
+    ensures { λ r. ⌜ r ≡ refusalNumber (workAnswer answer) ⌝ }
     ensures { λ _. ⌜ workNumbers (now (words .exit)) (now (counts .exit)) (now (kept .exit))
         (now (told .exit)) (now (bottom .exit))
         ≡ workedNumbers (workAnswer answer) (stateIn state) after
@@ -123,7 +123,7 @@ pub extern "C" fn ffi_work_tile(
         (workOf
         (workCall (stateFrom (now (words .entry)) (now (counts .entry))) tile (now (row .entry))
         (lentTable (now (layers .entry)) (now (colors .entry)) count)
-        (keptOf «is_kept» (now (kept .entry))) (colorOf (now (clear .entry)))
+        (keptOf «is_kept» (now (kept .entry))) (colorFrom (now (clear .entry)))
         (previousOf «is_previous» (now (previous .entry))) (columns (now (ids .entry)) (now (covers .entry))))
         (workLent (columns (now («next_ids» .entry)) (now («next_covers» .entry)))
         (listColumns (now («list_ids» .entry)) (now («list_covers» .entry))

@@ -10,32 +10,32 @@ use Rattle.cached_tile.specs.declared.SolidColor.{SolidColor}
 use Rattle.cached_tile.specs.declared.kept.Kept.{Kept}
 use Rattle.cached_tile.specs.Kept.{Writing, write, keep}
 
-abbrev pub tileOf : List ℕ → CachedTile
-tileOf b =
+abbrev pub tileFrom : List ℕ → CachedTile
+tileFrom b =
     record {
       tags = getD b 0 0;
       «layer_count» = getD b 1 0 ∷ getD b 2 0 ∷ getD b 3 0 ∷ [];
       «solid_color» = getD b 4 0 ∷ getD b 5 0 ∷ getD b 6 0 ∷ getD b 7 0 ∷ [];
     }
 
-abbrev pub bytesOf : CachedTile → List ℕ
-bytesOf t =
+abbrev pub tileBytes : CachedTile → List ℕ
+tileBytes t =
     let count = t .«layer_count» in
     let color = t .«solid_color» in
     t .tags ∷ getD count 0 0 ∷ getD count 1 0 ∷ getD count 2 0 ∷ getD color 0 0 ∷ getD color 1 0 ∷ getD color 2 0 ∷ getD color 3 0 ∷ []
 
 -- a tile that may be given
 abbrev pub keptOf : Bool → List ℕ → Kept
-keptOf is b = record { given = is; tile = tileOf b }
+keptOf is b = record { given = is; tile = tileFrom b }
 
 -- the bytes of a tile that is given; where none is, the lent ones stay as they were
 abbrev pub bytesBy : Kept → List ℕ → List ℕ
-bytesBy k old = cond (k .given) (bytesOf (k .tile)) old
+bytesBy k old = cond (k .given) (tileBytes (k .tile)) old
 
 -- whether there is a value, and the value that a lent one then is
-abbrev pub isGiven : {A : Type 0} → Option A → Bool
-isGiven (some v) = true
-isGiven none = false
+abbrev pub isSome : {A : Type 0} → Option A → Bool
+isSome (some v) = true
+isSome none = false
 
 abbrev pub givenOr : {A : Type 0} → Option A → A → A
 givenOr (some v) old = v

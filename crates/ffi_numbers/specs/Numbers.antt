@@ -5,9 +5,9 @@ use Rattle.laws.specs.Answer.{Answer, refused, given}
 use Rattle.segment_rows.specs.Search.{Place, found, absent}
 
 -- the number of a refusal in the table of refusals ('Turned down'), 0 where it is none
-abbrev pub numberOf : {A : Type 0} → Answer A → ℕ
-numberOf (refused n) = n
-numberOf (given v) = 0
+abbrev pub refusalNumber : {A : Type 0} → Answer A → ℕ
+refusalNumber (refused n) = n
+refusalNumber (given v) = 0
 
 -- what a lent value is after: the one that is given, and after a refusal what it was
 abbrev pub valueOr : {A : Type 0} → Answer A → A → A
@@ -19,6 +19,6 @@ abbrev pub isFound : Place → Bool
 isFound (found i) = true
 isFound (absent i) = false
 
-abbrev pub placeOf : Place → ℕ
-placeOf (found i) = i
-placeOf (absent i) = i
+abbrev pub placeNumber : Place → ℕ
+placeNumber (found i) = i
+placeNumber (absent i) = i

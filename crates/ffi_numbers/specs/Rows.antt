@@ -10,7 +10,7 @@ use Rattle.laws.specs.Answer.{Answer, refused, given}
 use Rattle.row_statements.specs.Lent.{Columns}
 use Rattle.row_statements.specs.State.{State}
 use Rattle.row_statements.specs.Opening.{OpenGiven}
-use Rattle.ffi_numbers.specs.Numbers.{numberOf}
+use Rattle.ffi_numbers.specs.Numbers.{refusalNumber}
 
 -- ---- a state
 
@@ -24,8 +24,8 @@ clipLast none = 0
 clipLast (some last) = last
 
 -- tile y, from, to, the next tile, and the clip
-abbrev pub wordsOf : State → List ℕ
-wordsOf s = s .tileY ∷ s .from ∷ s .to ∷ s .next ∷ clipFlag (s .clip) ∷ clipLast (s .clip) ∷ []
+abbrev pub stateWords : State → List ℕ
+stateWords s = s .tileY ∷ s .from ∷ s .to ∷ s .next ∷ clipFlag (s .clip) ∷ clipLast (s .clip) ∷ []
 
 -- how many carries are left, and how many were taken in
 abbrev pub countsOf : State → List ℕ
@@ -60,10 +60,10 @@ stateNumbers words counts = record { words = words; counts = counts }
 -- what they are after an opening: those of its state, and after a refusal what they were
 abbrev pub openNumbers : Answer State → StateNumbers → StateNumbers
 openNumbers (refused number) old = old
-openNumbers (given s) old = record { words = wordsOf s; counts = countsOf s }
+openNumbers (given s) old = record { words = stateWords s; counts = countsOf s }
 
 -- all that an opening gives and leaves
 pub record OpenTold (g : OpenGiven) (old : StateNumbers) (r : ℕ) (new : StateNumbers) (back : Columns) : Type 0 where
-  pub number : r ≡ numberOf (g .answer)
+  pub number : r ≡ refusalNumber (g .answer)
   pub numbers : new ≡ openNumbers (g .answer) old
   pub lent-is : back ≡ g .lent

@@ -5,14 +5,14 @@ use cached_tile::SolidColor;
 use cached_tile::kept::Kept;
 use cached_tile::kept::Settlement;
 ghost use mathlib.Core.Path.{_≡_};
-ghost use Rattle.cached_tile.specs.Tile.{countOf};
+ghost use Rattle.cached_tile.specs.Tile.{countIn};
 ghost use Rattle.cached_tile.specs.Kept.{settlementOf};
-ghost use Rattle.ffi_numbers.specs.Numbers.{numberOf};
-ghost use Rattle.ffi_numbers.specs.Cached.{tileOf, bytesOf, bytesBy, isGiven, givenOr, colorOr};
+ghost use Rattle.ffi_numbers.specs.Numbers.{refusalNumber};
+ghost use Rattle.ffi_numbers.specs.Cached.{tileFrom, tileBytes, bytesBy, isSome, givenOr, colorOr};
 ghost use Rattle.ffi_numbers.specs.Cached.{writtenOr, settledBytes};
 
 pub fn to_tile(bytes: [u8; 8]) -> CachedTile
-    ensures { λ r. ⌜ r ≡ tileOf bytes ⌝ }
+    ensures { λ r. ⌜ r ≡ tileFrom bytes ⌝ }
 {
     CachedTile {
         tags: bytes[0],
@@ -22,7 +22,7 @@ pub fn to_tile(bytes: [u8; 8]) -> CachedTile
 }
 
 pub fn to_bytes(tile: CachedTile) -> [u8; 8]
-    ensures { λ r. ⌜ r ≡ bytesOf tile ⌝ }
+    ensures { λ r. ⌜ r ≡ tileBytes tile ⌝ }
 {
     let count = tile.layer_count;
     let color = tile.solid_color;
@@ -50,8 +50,8 @@ pub fn put_kept(kept: Kept, bytes: &mut [u8; 8])
 
 // Whether there is a count; where there is one, it is written.
 pub fn put_count(previous: LayerCount, count: &mut u32) -> bool
-    ensures { λ r. ⌜ r ≡ isGiven (countOf previous) ⌝ }
-    ensures { λ _. ⌜ now (count .exit) ≡ givenOr (countOf previous) (now (count .entry)) ⌝ }
+    ensures { λ r. ⌜ r ≡ isSome (countIn previous) ⌝ }
+    ensures { λ _. ⌜ now (count .exit) ≡ givenOr (countIn previous) (now (count .entry)) ⌝ }
 {
     match previous {
         LayerCount::Count(n) => {
@@ -82,7 +82,7 @@ pub fn put_settlement(
     tile: &mut [u8; 8],
     is_written: &mut bool,
 ) -> u32
-    ensures { λ r. ⌜ r ≡ numberOf (settlementOf settlement) ⌝ }
+    ensures { λ r. ⌜ r ≡ refusalNumber (settlementOf settlement) ⌝ }
     ensures { λ _. ⌜ now («is_written» .exit) ≡ writtenOr (settlementOf settlement) (now («is_written» .entry)) ⌝ }
     ensures { λ _. ⌜ now (tile .exit) ≡ settledBytes (settlementOf settlement) after (now (tile .entry)) ⌝ }
 {

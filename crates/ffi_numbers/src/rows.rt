@@ -8,8 +8,8 @@ ghost use mathlib.Core.Path.{_≡_};
 ghost use Rattle.painter.specs.Clip.{clipIn};
 ghost use Rattle.row_statements.specs.State.{stateIn};
 ghost use Rattle.row_statements.specs.Opening.{openedAnswer};
-ghost use Rattle.ffi_numbers.specs.Numbers.{numberOf};
-ghost use Rattle.ffi_numbers.specs.Rows.{clipFlag, clipLast, clipOf, stateFrom, wordsOf, countsOf};
+ghost use Rattle.ffi_numbers.specs.Numbers.{refusalNumber};
+ghost use Rattle.ffi_numbers.specs.Rows.{clipFlag, clipLast, clipOf, stateFrom, stateWords, countsOf};
 ghost use Rattle.ffi_numbers.specs.Rows.{stateNumbers, openNumbers};
 
 fn clip_flag(clip: Clip) -> u32
@@ -55,7 +55,7 @@ pub fn to_state(words: [u32; 6], counts: [usize; 2]) -> RowState
 }
 
 pub fn put_state(from: RowState, words: &mut [u32; 6], counts: &mut [usize; 2])
-    ensures { λ _. ⌜ now (words .exit) ≡ wordsOf (stateIn from) ⌝ }
+    ensures { λ _. ⌜ now (words .exit) ≡ stateWords (stateIn from) ⌝ }
     ensures { λ _. ⌜ now (counts .exit) ≡ countsOf (stateIn from) ⌝ }
 {
     let clip = from.clip;
@@ -71,7 +71,7 @@ pub fn put_state(from: RowState, words: &mut [u32; 6], counts: &mut [usize; 2])
 }
 
 pub fn put_opened(opened: Opened, words: &mut [u32; 6], counts: &mut [usize; 2]) -> u32
-    ensures { λ r. ⌜ r ≡ numberOf (openedAnswer opened) ⌝ }
+    ensures { λ r. ⌜ r ≡ refusalNumber (openedAnswer opened) ⌝ }
     ensures { λ _. ⌜ stateNumbers (now (words .exit)) (now (counts .exit))
         ≡ openNumbers (openedAnswer opened) (stateNumbers (now (words .entry)) (now (counts .entry))) ⌝ }
 {

@@ -9,7 +9,7 @@ use pass_statements::item::Item;
 use styling::Color;
 use styling::Paint;
 ghost use mathlib.Core.Path.{_≡_};
-ghost use Rattle.styling.specs.Style.{paintOf};
+ghost use Rattle.styling.specs.Style.{colorIn};
 ghost use Rattle.pass_statements.specs.Covered.{firstOf, opaqueOf, isPartial, hides as hidesOf, tells as tellsOf};
 ghost use Rattle.pass_statements.specs.Covered.{skipTo, lookAt};
 ghost use Rattle.pass_statements.specs.Decide.{bottomOf};
@@ -25,7 +25,7 @@ fn first_of(first: InterestingCover, next: InterestingCover) -> InterestingCover
 }
 
 fn to_opaque(paint: Paint) -> InterestingCover
-    ensures { λ r. ⌜ r ≡ opaqueOf (paintOf paint) ⌝ }
+    ensures { λ r. ⌜ r ≡ opaqueOf (colorIn paint) ⌝ }
 {
     match paint {
         Paint::Color(color) => InterestingCover::Opaque(color),

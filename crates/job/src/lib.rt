@@ -2,7 +2,7 @@
 use job_statements::Reading;
 use job_text_statements::Head;
 use job_text_statements::Numbers;
-ghost use Rattle.job_statements.specs.Read.{Judged, outcomeOn, Left, JobRead};
+ghost use Rattle.job_statements.specs.Read.{LinesJudged, jobOutcomeOn, Left, JobRead};
 
 // Writes a job whose numbers are read and judged: the table and the row, where there is room for both.
 fn write_job(
@@ -16,8 +16,8 @@ fn write_job(
     colors: &mut [f32],
     row: &mut [u64],
 ) -> Reading
-    requires { ⌜ Judged (now «layer_numbers») n (now «segment_numbers») m count ⌝ }
-    ensures { λ r. ⌜ Left (outcomeOn head (now («layer_numbers» .entry)) n (now («segment_numbers» .entry)) m
+    requires { ⌜ LinesJudged (now «layer_numbers») n (now «segment_numbers») m count ⌝ }
+    ensures { λ r. ⌜ Left (jobOutcomeOn head (now («layer_numbers» .entry)) n (now («segment_numbers» .entry)) m
         (now (layers .entry)) (now (colors .entry)) (now (row .entry)))
         (now (layers .entry)) (now (colors .entry)) (now (row .entry)) r (now (layers .exit)) (now (colors .exit))
         (now (row .exit)) ⌝ }

@@ -6,11 +6,11 @@ ghost use Prim.Native.Nat.{_+_, _*_, _≤_};
 ghost use lib.ListN.{length};
 ghost use Rattle.laws.specs.Lists.{all};
 ghost use Rattle.job_lines.specs.Rules.{layerRule};
-ghost use Rattle.job_text_statements.specs.Numbers.{layerAt, layersIn};
+ghost use Rattle.job_text_statements.specs.Numbers.{layerLineAt, layerLines};
 
 fn layer_at(numbers: &[i32], i: usize) -> LayerLine
     requires { ⌜ 8 * i + 8 ≤ length (now numbers) ⌝ }
-    ensures { λ r. ⌜ r ≡ layerAt (now (numbers .entry)) i ⌝ }
+    ensures { λ r. ⌜ r ≡ layerLineAt (now (numbers .entry)) i ⌝ }
 {
     let at = 8 * i;
     LayerLine {
@@ -27,7 +27,7 @@ fn layer_at(numbers: &[i32], i: usize) -> LayerLine
 
 pub fn are_layers(numbers: &[i32], n: usize) -> bool
     requires { ⌜ 8 * n ≤ length (now numbers) ⌝ }
-    ensures { λ r. ⌜ r ≡ all layerRule (layersIn (now (numbers .entry)) n) ⌝ }
+    ensures { λ r. ⌜ r ≡ all layerRule (layerLines (now (numbers .entry)) n) ⌝ }
 {
     let mut ok = true;
     let mut i: usize = 0;

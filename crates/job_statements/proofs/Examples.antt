@@ -6,7 +6,7 @@ use mathlib.Core.List.{List, [], _∷_, flatten}
 use lib.Ieee.{odd, ofBits, binary32}
 use lib.IntN.{pos, negsuc}
 use Rattle.job_lines.specs.declared.segment.SegmentLine.{SegmentLine}
-use Rattle.job_text_statements.specs.Parse.{layerOf, segmentOf}
+use Rattle.job_text_statements.specs.Parse.{layerLineOf, segmentOf}
 use Rattle.job_statements.specs.Table.{alphaOf, tableWords}
 use Rattle.job_statements.specs.Row.{segmentWord, rowWords}
 
@@ -39,7 +39,7 @@ unfolding rowWords flatten segmentWord
 past-it = refl
 
 -- `-1 0 1 7 0 0 0 0`: a negative id is its 32-bit pattern
-pub negative-id : tableWords (layerOf (negsuc 0 ∷ pos 0 ∷ pos 1 ∷ pos 7 ∷ pos 0 ∷ pos 0 ∷ pos 0 ∷ pos 0 ∷ []) ∷ []) ≡ 4294967295 ∷ 0 ∷ 1 ∷ 7 ∷ 0 ∷ 0 ∷ 0 ∷ 0 ∷ []
+pub negative-id : tableWords (layerLineOf (negsuc 0 ∷ pos 0 ∷ pos 1 ∷ pos 7 ∷ pos 0 ∷ pos 0 ∷ pos 0 ∷ pos 0 ∷ []) ∷ []) ≡ 4294967295 ∷ 0 ∷ 1 ∷ 7 ∷ 0 ∷ 0 ∷ 0 ∷ 0 ∷ []
 unfolding tableWords flatten
 negative-id = refl
 

@@ -19,25 +19,25 @@ use Rattle.job_text_statements.specs.declared.Head.{Head}
 use Rattle.job_text_statements.specs.Job.{Job, isAllowed}
 use Rattle.job_lines.specs.Rules.{layerRule, segmentRule, segmentCount}
 use Rattle.job_text_statements.specs.Parse.{headOf, parse}
-use Rattle.job_text_statements.specs.Numbers.{layerAt, layersIn, segmentsIn, jobIn}
+use Rattle.job_text_statements.specs.Numbers.{layerLineAt, layerLines, segmentsIn, jobIn}
 use Rattle.job_text_statements.specs.Read.{NumbersStored}
 use Rattle.job_text_statements.proofs.Laws.{sound, refused}
 use Rattle.job_statements.specs.declared.Reading.{Reading}
 use Rattle.job_statements.specs.declared.Reading.the-variants.{Accepted, NoRoom, Malformed}
 use Rattle.job_statements.specs.Table.{tableWords, tableColors}
 use Rattle.job_statements.specs.Row.{rowWords}
-use Rattle.job_statements.specs.Read.{hasRoom, outcomeBy, outcomeOf, outcomeOn, Says, Left, JobRead, Judged}
+use Rattle.job_statements.specs.Read.{hasRoom, outcomeBy, jobOutcome, jobOutcomeOn, Says, Left, JobRead, LinesJudged}
 
 -- ---- the writer
 
-module _ (head : Head) {ls : List ℤ} {n : ℕ} {ss : List ℤ} {m count : ℕ} (j : Judged ls n ss m count) (layers : List ℕ) (colors : List Float) (row : List ℕ) where
-  room-is : hasRoom layers colors row (record { head = head; layers = layersIn ls n; segments = segmentsIn ss m })
+module _ (head : Head) {ls : List ℤ} {n : ℕ} {ss : List ℤ} {m count : ℕ} (j : LinesJudged ls n ss m count) (layers : List ℕ) (colors : List Float) (row : List ℕ) where
+  room-is : hasRoom layers colors row (record { head = head; layers = layerLines ls n; segments = segmentsIn ss m })
       ≡ (leb n (length layers / 8) && leb n (length colors / 4) && leb count (length row))
   unfolding hasRoom
-  room-is = rw (length-tabulate n (layerAt ls), ← j .counted)
+  room-is = rw (length-tabulate n (layerLineAt ls), ← j .counted)
 
   pub no-room : (leb n (length layers / 8) && leb n (length colors / 4) && leb count (length row)) ≡ false
-      → Left (outcomeOn head ls n ss m layers colors row) layers colors row NoRoom layers colors row
+      → Left (jobOutcomeOn head ls n ss m layers colors row) layers colors row NoRoom layers colors row
   unfolding over
   no-room e = rw (room-is ∙ e) (record { answer = refl; words-written = refl; colors-written = refl; row-written = refl })
 
@@ -52,22 +52,22 @@ module _ (head : Head) {ls : List ℤ} {n : ℕ} {ss : List ℤ} {m count : ℕ}
         let q = leb-true n (length colors / 4) (right a b ab) in
         (omega arith, omega arith, leb-true count (length row) (right (a && b) c e))
 
-    pub written : {layers′ : List ℕ} {colors′ : List Float} {row′ : List ℕ} → layers′ ≡ over (tableWords (layersIn ls n)) layers
-        → colors′ ≡ over (tableColors (layersIn ls n)) colors → row′ ≡ over (rowWords (head .row) (segmentsIn ss m)) row
-        → Left (outcomeOn head ls n ss m layers colors row) layers colors row (Accepted head n count) layers′ colors′ row′
+    pub written : {layers′ : List ℕ} {colors′ : List Float} {row′ : List ℕ} → layers′ ≡ over (tableWords (layerLines ls n)) layers
+        → colors′ ≡ over (tableColors (layerLines ls n)) colors → row′ ≡ over (rowWords (head .row) (segmentsIn ss m)) row
+        → Left (jobOutcomeOn head ls n ss m layers colors row) layers colors row (Accepted head n count) layers′ colors′ row′
     written w c r =
         rw (room-is ∙ e)
-        (record { answer = rw (length-tabulate n (layerAt ls), ← j .counted); words-written = w; colors-written = c; row-written = r })
+        (record { answer = rw (length-tabulate n (layerLineAt ls), ← j .counted); words-written = w; colors-written = c; row-written = r })
 
 -- ---- the reader
 
 -- the numbers of a text that is read are judged
 pub judged : {text : List ℕ} {n m count : ℕ} {hs ls ss : List ℤ} → NumbersStored text n m count hs ls ss → length ls ≡ 512 → length ss ≡ 3584
-    → Judged ls n ss m count
+    → LinesJudged ls n ss m count
 unfolding isAllowed
 judged {text} {n} {m} {hs = hs} {ls = ls} {ss = ss} x e f =
     let ok = sound text (jobIn hs ls n ss m) (x .parsed) .form .rules in
-    let a = all layerRule (layersIn ls n) in
+    let a = all layerRule (layerLines ls n) in
     let b = all segmentRule (segmentsIn ss m) in
     let c = leb (segmentCount (segmentsIn ss m)) 2048 in
     let ab = left (a && b) c ok in
@@ -81,8 +81,8 @@ judged {text} {n} {m} {hs = hs} {ls = ls} {ss = ss} x e f =
 
 module _ (text layers : List ℕ) (colors : List Float) (row : List ℕ) where
   -- what the outcome says, in terms of the printer
-  says : Says text layers colors row (outcomeOf text layers colors row)
-  unfolding outcomeOf
+  says : Says text layers colors row (jobOutcome text layers colors row)
+  unfolding jobOutcome
   says = by (parse text) refl
     where
       by : (o : Option Job) → parse text ≡ o → Says text layers colors row (outcomeBy layers colors row o)
@@ -94,13 +94,13 @@ module _ (text layers : List ℕ) (colors : List Float) (row : List ℕ) where
 
   read-as : (o : Option Job) → parse text ≡ o → {r : Reading} {layers′ : List ℕ} {colors′ : List Float} {row′ : List ℕ}
       → Left (outcomeBy layers colors row o) layers colors row r layers′ colors′ row′ → JobRead text layers colors row r layers′ colors′ row′
-  unfolding outcomeOf
+  unfolding jobOutcome
   read-as o e l = record { says = says; left = rw e l }
 
   -- the writer's outcome is that of the text whose numbers it was handed
   pub reads : {n m count : ℕ} {hs ls ss : List ℤ} → NumbersStored text n m count hs ls ss → {head : Head} → head ≡ headOf hs
       → {r : Reading} {layers′ : List ℕ} {colors′ : List Float} {row′ : List ℕ}
-      → Left (outcomeOn head ls n ss m layers colors row) layers colors row r layers′ colors′ row′ → JobRead text layers colors row r layers′ colors′ row′
+      → Left (jobOutcomeOn head ls n ss m layers colors row) layers colors row r layers′ colors′ row′ → JobRead text layers colors row r layers′ colors′ row′
   reads {n} {m} {hs = hs} {ls = ls} {ss = ss} x e l = read-as (some (jobIn hs ls n ss m)) (x .parsed) (rw e at l)
 
   pub refuses : parse text ≡ none → JobRead text layers colors row Malformed layers colors row

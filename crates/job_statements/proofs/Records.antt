@@ -14,7 +14,7 @@ use Rattle.styling.specs.declared.Layer.{Layer}
 use Rattle.layer_table.specs.Record.{layerOf}
 use Rattle.layer_table.specs.Table.{wordsAt, colorAt, layerAt, tableOf}
 use Rattle.job_lines.specs.declared.layer.LayerLine.{LayerLine}
-use Rattle.job_statements.specs.Table.{layerWords, layerColors, tableWords, tableColors, wordsOf, colorOf}
+use Rattle.job_statements.specs.Table.{layerWords, layerColors, tableWords, tableColors, lineRecord, lineColor}
 
 -- parts of one width, one after another
 module _ {A B : Type 0} (w : ℕ) (part : B → List A) (wide : (b : B) → length (part b) ≡ w) where
@@ -53,7 +53,7 @@ module _ {A B : Type 0} (w : ℕ) (part : B → List A) (wide : (b : B) → leng
       inside e q = omega arith
 
 module _ (ls : List LayerLine) (d : LayerLine) (i : ℕ) (h : i < length ls) where
-  pub words-read : (old : List ℕ) → wordsAt (over (tableWords ls) old) i ≡ wordsOf (getD ls i d)
+  pub words-read : (old : List ℕ) → wordsAt (over (tableWords ls) old) i ≡ lineRecord (getD ls i d)
   unfolding tableWords
   words-read old =
       let at : (j : ℕ) → j < 8 → getD (over (flatten (map layerWords ls)) old) (8 * i + j) 0 ≡ getD (layerWords (getD ls i d)) j 0
@@ -70,7 +70,7 @@ module _ (ls : List LayerLine) (d : LayerLine) (i : ℕ) (h : i < length ls) whe
         at 7 (omega arith),
       )
 
-  pub color-read : (old : List Float) → colorAt (over (tableColors ls) old) i ≡ colorOf (getD ls i d)
+  pub color-read : (old : List Float) → colorAt (over (tableColors ls) old) i ≡ lineColor (getD ls i d)
   unfolding tableColors
   color-read old =
       let at : (j : ℕ) → j < 4 → getD (over (flatten (map layerColors ls)) old) (4 * i + j) nan ≡ getD (layerColors (getD ls i d)) j nan
@@ -80,7 +80,7 @@ module _ (ls : List LayerLine) (d : LayerLine) (i : ℕ) (h : i < length ls) whe
 
 -- the layers of the table
 abbrev pub layerSaid : LayerLine → Layer
-layerSaid l = layerOf (wordsOf l) (colorOf l)
+layerSaid l = layerOf (lineRecord l) (lineColor l)
 
 pub table-read : (ls : List LayerLine) (words : List ℕ) (floats : List Float) → tableOf (over (tableWords ls) words) (over (tableColors ls) floats) (length ls) ≡ map layerSaid ls
 unfolding tableOf layerAt

@@ -20,8 +20,8 @@ use Rattle.job_statements.specs.Row.{segmentWords}
 unfoldable pub wordAt : List ℤ → ℕ → ℕ
 wordAt ns k = cond (eqb (k % 8) 7) 0 (pattern (numberAt ns k))
 
-unfoldable pub colorAt : List ℤ → ℕ → Float
-colorAt ns k = cond (eqb (k % 4) 3) (alphaOf (plus (numberAt ns (8 * (k / 4) + 7)))) zeroFloat
+unfoldable pub jobColorAt : List ℤ → ℕ → Float
+jobColorAt ns k = cond (eqb (k % 4) 3) (alphaOf (plus (numberAt ns (8 * (k / 4) + 7)))) zeroFloat
 
 abbrev pub fieldsOf : SegmentLine → Fields
 fieldsOf s =

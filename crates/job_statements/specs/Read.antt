@@ -16,7 +16,7 @@ use Rattle.job_statements.specs.declared.Reading.the-variants.{Accepted,
 use Rattle.job_lines.specs.Rules.{layerRule, segmentRule, segmentCount}
 use Rattle.job_text_statements.specs.Job.{Job, render, WellFormed, Prints}
 use Rattle.job_text_statements.specs.Parse.{parse}
-use Rattle.job_text_statements.specs.Numbers.{layersIn, segmentsIn}
+use Rattle.job_text_statements.specs.Numbers.{layerLines, segmentsIn}
 use Rattle.job_statements.specs.Table.{tableWords, tableColors}
 use Rattle.job_statements.specs.Row.{rowWords}
 
@@ -26,17 +26,17 @@ hasRoom layers colors row j =
     leb (length (j .layers)) (length layers / 8) && leb (length (j .layers)) (length colors / 4) && leb (segmentCount (j .segments)) (length row)
 
 -- the three outcomes: a job to be written, a job that the lent arrays can't hold, a malformed text
-pub data Outcome : Type 0 where
-  accepted : Job → Outcome
-  noRoom : Job → Outcome
-  malformed : Outcome
+pub data JobOutcome : Type 0 where
+  accepted : Job → JobOutcome
+  noRoom : Job → JobOutcome
+  malformed : JobOutcome
 
-abbrev pub outcomeBy : List ℕ → List Float → List ℕ → Option Job → Outcome
+abbrev pub outcomeBy : List ℕ → List Float → List ℕ → Option Job → JobOutcome
 outcomeBy layers colors row none = malformed
 outcomeBy layers colors row (some j) = cond (hasRoom layers colors row j) (accepted j) (noRoom j)
 
-unfoldable pub outcomeOf : List ℕ → List ℕ → List Float → List ℕ → Outcome
-outcomeOf text layers colors row = outcomeBy layers colors row (parse text)
+unfoldable pub jobOutcome : List ℕ → List ℕ → List Float → List ℕ → JobOutcome
+jobOutcome text layers colors row = outcomeBy layers colors row (parse text)
 
 -- ---- the answer
 
@@ -47,36 +47,36 @@ pub record Numbers : Type 0 where
   pub segments : ℕ
 
 -- the cases of the code's answer: the numbers, none where a lent array is too short, or refusal 10
-abbrev pub answerOf : Reading → Answer (Option Numbers)
-answerOf (Accepted h n m) = given (some (record { head = h; layers = n; segments = m }))
-answerOf NoRoom = given none
-answerOf Malformed = refused 10
+abbrev pub readingAnswer : Reading → Answer (Option Numbers)
+readingAnswer (Accepted h n m) = given (some (record { head = h; layers = n; segments = m }))
+readingAnswer NoRoom = given none
+readingAnswer Malformed = refused 10
 
-abbrev pub answerTo : Outcome → Answer (Option Numbers)
+abbrev pub answerTo : JobOutcome → Answer (Option Numbers)
 answerTo (accepted j) = given (some (record { head = j .head; layers = length (j .layers); segments = segmentCount (j .segments) }))
 answerTo (noRoom j) = given none
 answerTo malformed = refused 10
 
 -- ---- what is written to each array
 
-abbrev pub wordsTo : Outcome → List ℕ
+abbrev pub wordsTo : JobOutcome → List ℕ
 wordsTo (accepted j) = tableWords (j .layers)
 wordsTo (noRoom j) = []
 wordsTo malformed = []
 
-abbrev pub colorsTo : Outcome → List Float
+abbrev pub colorsTo : JobOutcome → List Float
 colorsTo (accepted j) = tableColors (j .layers)
 colorsTo (noRoom j) = []
 colorsTo malformed = []
 
-abbrev pub rowTo : Outcome → List ℕ
+abbrev pub rowTo : JobOutcome → List ℕ
 rowTo (accepted j) = rowWords (j .head .row) (j .segments)
 rowTo (noRoom j) = []
 rowTo malformed = []
 
 -- ---- the outcome in terms of the printer: the text is that of a well-formed job, which is the one that is read, or of none
 
-abbrev pub Says : List ℕ → List ℕ → List Float → List ℕ → Outcome → Type 0
+abbrev pub Says : List ℕ → List ℕ → List Float → List ℕ → JobOutcome → Type 0
 Says text layers colors row (accepted j) = Prints text j × (hasRoom layers colors row j ≡ true)
 Says text layers colors row (noRoom j) = Prints text j × (hasRoom layers colors row j ≡ false)
 Says text layers colors row malformed = (j : Job) → WellFormed j → text ≡ render j → ⊥
@@ -84,26 +84,26 @@ Says text layers colors row malformed = (j : Job) → WellFormed j → text ≡ 
 -- ---- the promises
 
 -- what an outcome leaves: the answer, and each array
-pub record Left (o : Outcome) (layers : List ℕ) (colors : List Float) (row : List ℕ) (r : Reading) (layers′ : List ℕ) (colors′ : List Float) (row′ : List ℕ) : Type 0 where
-  pub answer : answerOf r ≡ answerTo o
+pub record Left (o : JobOutcome) (layers : List ℕ) (colors : List Float) (row : List ℕ) (r : Reading) (layers′ : List ℕ) (colors′ : List Float) (row′ : List ℕ) : Type 0 where
+  pub answer : readingAnswer r ≡ answerTo o
   pub words-written : layers′ ≡ over (wordsTo o) layers
   pub colors-written : colors′ ≡ over (colorsTo o) colors
   pub row-written : row′ ≡ over (rowTo o) row
 
 pub record JobRead (text layers : List ℕ) (colors : List Float) (row : List ℕ) (r : Reading) (layers′ : List ℕ) (colors′ : List Float) (row′ : List ℕ) : Type 0 where
-  pub says : Says text layers colors row (outcomeOf text layers colors row)
-  pub left : Left (outcomeOf text layers colors row) layers colors row r layers′ colors′ row′
+  pub says : Says text layers colors row (jobOutcome text layers colors row)
+  pub left : Left (jobOutcome text layers colors row) layers colors row r layers′ colors′ row′
 
 -- ---- what the inner writer asks, and its outcome
 
 -- lines that keep the rules, and how many segments they stand for
-pub record Judged (layers : List ℤ) (n : ℕ) (segments : List ℤ) (m count : ℕ) : Type 0 where
+pub record LinesJudged (layers : List ℤ) (n : ℕ) (segments : List ℤ) (m count : ℕ) : Type 0 where
   pub layers-long : 8 * n ≤ length layers
   pub segments-long : 7 * m ≤ length segments
-  pub layer-rules : all layerRule (layersIn layers n) ≡ true
+  pub layer-rules : all layerRule (layerLines layers n) ≡ true
   pub segment-rules : all segmentRule (segmentsIn segments m) ≡ true
   pub counted : count ≡ segmentCount (segmentsIn segments m)
 
-abbrev pub outcomeOn : Head → List ℤ → ℕ → List ℤ → ℕ → List ℕ → List Float → List ℕ → Outcome
-outcomeOn head ls n ss m layers colors row =
-    outcomeBy layers colors row (some (record { head = head; layers = layersIn ls n; segments = segmentsIn ss m }))
+abbrev pub jobOutcomeOn : Head → List ℤ → ℕ → List ℤ → ℕ → List ℕ → List Float → List ℕ → JobOutcome
+jobOutcomeOn head ls n ss m layers colors row =
+    outcomeBy layers colors row (some (record { head = head; layers = layerLines ls n; segments = segmentsIn ss m }))

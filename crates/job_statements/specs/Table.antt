@@ -39,8 +39,8 @@ tableColors ls = flatten (map layerColors ls)
 
 -- ---- the same records as `styling` reads them (proofs/Records)
 
-abbrev pub wordsOf : LayerLine → Words
-wordsOf l =
+abbrev pub lineRecord : LayerLine → Words
+lineRecord l =
     record {
       id = pattern (l .layer);
       rule = pattern (l .rule);
@@ -52,5 +52,5 @@ wordsOf l =
       unchanged = 0;
     }
 
-abbrev pub colorOf : LayerLine → Color
-colorOf l = record { r = zeroFloat; g = zeroFloat; b = zeroFloat; a = alphaOf (plus (l .alpha)) }
+abbrev pub lineColor : LayerLine → Color
+lineColor l = record { r = zeroFloat; g = zeroFloat; b = zeroFloat; a = alphaOf (plus (l .alpha)) }

@@ -7,9 +7,9 @@ ghost use lib.ListN.{length};
 ghost use Rattle.laws.specs.Integer.{plus, minus};
 ghost use Rattle.laws.specs.Lists.{over, all};
 ghost use Rattle.job_lines.specs.Rules.{layerRule};
-ghost use Rattle.job_text_statements.specs.Numbers.{numberAt, layersIn};
+ghost use Rattle.job_text_statements.specs.Numbers.{numberAt, layerLines};
 ghost use Rattle.job_statements.specs.Table.{pattern, alphaOf, tableWords, tableColors};
-ghost use Rattle.job_statements.specs.Entries.{wordAt, colorAt};
+ghost use Rattle.job_statements.specs.Entries.{wordAt, jobColorAt};
 
 // A number as a word, a negative one as its 32-bit pattern.
 fn to_word(v: i32) -> u32
@@ -28,7 +28,7 @@ fn word_at(numbers: &[i32], k: usize) -> u32
 
 pub fn write_words(numbers: &[i32], n: usize, layers: &mut [u32])
     requires { ⌜ (8 * n ≤ length (now numbers)) × (8 * n ≤ length (now layers)) ⌝ }
-    ensures { λ _. ⌜ now (layers .exit) ≡ over (tableWords (layersIn (now (numbers .entry)) n))
+    ensures { λ _. ⌜ now (layers .exit) ≡ over (tableWords (layerLines (now (numbers .entry)) n))
         (now (layers .entry)) ⌝ }
 {
     let mut k: usize = 0;
@@ -50,7 +50,7 @@ fn to_alpha(v: i32) -> f32
 fn color_at(numbers: &[i32], k: usize) -> f32
     requires { ⌜ (8 * (k / 4) + 7 < length (now numbers)) × (minus (numberAt (now numbers) (8 * (k / 4) + 7)) ≡ 0)
         × (plus (numberAt (now numbers) (8 * (k / 4) + 7)) ≤ 256) ⌝ }
-    ensures { λ r. ⌜ r ≡ colorAt (now (numbers .entry)) k ⌝ }
+    ensures { λ r. ⌜ r ≡ jobColorAt (now (numbers .entry)) k ⌝ }
 {
     if k % 4 == 3 {
         to_alpha(numbers[8 * (k / 4) + 7])
@@ -61,8 +61,8 @@ fn color_at(numbers: &[i32], k: usize) -> f32
 
 pub fn write_colors(numbers: &[i32], n: usize, colors: &mut [f32])
     requires { ⌜ (8 * n ≤ length (now numbers)) × (4 * n ≤ length (now colors))
-        × (all layerRule (layersIn (now numbers) n) ≡ true) ⌝ }
-    ensures { λ _. ⌜ now (colors .exit) ≡ over (tableColors (layersIn (now (numbers .entry)) n))
+        × (all layerRule (layerLines (now numbers) n) ≡ true) ⌝ }
+    ensures { λ _. ⌜ now (colors .exit) ≡ over (tableColors (layerLines (now (numbers .entry)) n))
         (now (colors .entry)) ⌝ }
 {
     let mut k: usize = 0;

@@ -16,12 +16,12 @@ use Rattle.lines.specs.Parse.{stripPrefix, parseLine, parseLines, parseBlock}
 use Rattle.job_text_statements.specs.Text.{blocksText, layerNames, segmentNames}
 use Rattle.job_lines.specs.Rules.{isWithin, layerRule, segmentRule, segmentCount}
 use Rattle.job_text_statements.specs.Job.{Job, render, isAllowed}
-use Rattle.job_text_statements.specs.Parse.{headOf, layerOf, segmentOf, parseBlocks, parse}
+use Rattle.job_text_statements.specs.Parse.{headOf, layerLineOf, segmentOf, parseBlocks, parse}
 
 abbrev example : Job
 example = record {
   head = headOf (pos 0 ∷ pos 4 ∷ pos 0 ∷ pos 4 ∷ []);
-  layers = layerOf (pos 1 ∷ pos 0 ∷ pos 0 ∷ pos 0 ∷ pos 0 ∷ pos 0 ∷ pos 0 ∷ pos 256 ∷ []) ∷ [];
+  layers = layerLineOf (pos 1 ∷ pos 0 ∷ pos 0 ∷ pos 0 ∷ pos 0 ∷ pos 0 ∷ pos 0 ∷ pos 256 ∷ []) ∷ [];
   segments =
       segmentOf (pos 0 ∷ pos 1 ∷ pos 0 ∷ pos 0 ∷ pos 16 ∷ pos 32 ∷ pos 16 ∷ [])
       ∷ segmentOf (pos 2 ∷ pos 1 ∷ pos 8 ∷ pos 0 ∷ pos 16 ∷ pos 32 ∷ negsuc 15 ∷ [])

@@ -16,13 +16,13 @@ use Rattle.job_lines.specs.declared.layer.LayerLine.{LayerLine}
 use Rattle.job_lines.specs.declared.segment.SegmentLine.{SegmentLine}
 use Rattle.job_text_statements.specs.Text.{Blocks, Formed}
 use Rattle.job_text_statements.specs.Job.{Job, headValues, layerValues, segmentValues, blocksOf, render, isAllowed, WellFormed, Prints}
-use Rattle.job_text_statements.specs.Parse.{headOf, layerOf, segmentOf, jobOf, judged, parseBlocks, parse}
+use Rattle.job_text_statements.specs.Parse.{headOf, layerLineOf, segmentOf, jobOf, judged, parseBlocks, parse}
 use Rattle.job_text_statements.proofs.Forms as forms
 use Rattle.job_text_statements.proofs.Forms.{never}
 
 -- ---- lines and their values
 
-layers-back : (ls : List LayerLine) → map layerOf (map layerValues ls) ≡ ls
+layers-back : (ls : List LayerLine) → map layerLineOf (map layerValues ls) ≡ ls
 layers-back [] = refl
 layers-back (l ∷ ls) = ap (λ (x : List LayerLine). l ∷ x) (layers-back ls)
 
@@ -37,7 +37,7 @@ job-back j = rw (layers-back (j .layers), segments-back (j .segments))
 head-values : (vs : List ℤ) → Fields 4 vs → headValues (headOf vs) ≡ vs
 head-values vs f = sym (is-tabulate 4 (λ i. getD vs i (pos 0)) (pos 0) vs (f .count) (λ i h. refl))
 
-layer-values : (vs : List ℤ) → Fields 8 vs → layerValues (layerOf vs) ≡ vs
+layer-values : (vs : List ℤ) → Fields 8 vs → layerValues (layerLineOf vs) ≡ vs
 layer-values vs f = sym (is-tabulate 8 (λ i. getD vs i (pos 0)) (pos 0) vs (f .count) (λ i h. refl))
 
 segment-values : (vs : List ℤ) → Fields 7 vs → segmentValues (segmentOf vs) ≡ vs
@@ -57,7 +57,7 @@ blocks-back : (b : Blocks) → Formed b → blocksOf (jobOf b) ≡ b
 blocks-back b w =
     rw (
       one-back (b .head) (w .head) (w .one-head),
-      lines-back 8 layerValues layerOf layer-values (b .layers) (w .layers),
+      lines-back 8 layerValues layerLineOf layer-values (b .layers) (w .layers),
       lines-back 7 segmentValues segmentOf segment-values (b .segments) (w .segments),
     )
 

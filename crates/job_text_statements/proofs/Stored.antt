@@ -11,8 +11,8 @@ use Rattle.laws.specs.Lists.{tabulate}
 use Rattle.laws.proofs.Rows.{is-tabulate}
 use Rattle.lines.specs.Text.{AllFields}
 use Rattle.lines.proofs.Stored.{length-flatten, flatten-at, stored-at}
-use Rattle.job_text_statements.specs.Parse.{headOf, layerOf, segmentOf}
-use Rattle.job_text_statements.specs.Numbers.{numberAt, layerAt, segmentAt, layersIn, segmentsIn}
+use Rattle.job_text_statements.specs.Parse.{headOf, layerLineOf, segmentOf}
+use Rattle.job_text_statements.specs.Numbers.{numberAt, layerLineAt, segmentAt, layerLines, segmentsIn}
 
 -- lines of k numbers, stored from the front on
 module _ (k : ℕ) (ls : List (List ℤ)) (out : List ℤ) (fields : AllFields k ls) (room : length ls * k ≤ length out) where
@@ -31,8 +31,8 @@ module _ (ls : List (List ℤ)) (out : List ℤ) where
       = λ f l. field-at 4 ls out fields (omega arith) 0 f f (omega arith) l (omega arith) (omega arith) in
       rw (at 0 (omega arith), at 1 (omega arith), at 2 (omega arith), at 3 (omega arith))
 
-  layer-at : AllFields 8 ls → length ls * 8 ≤ length out → (i : ℕ) → i < length ls → layerAt (sets out 0 (flatten ls)) i ≡ layerOf (getD ls i [])
-  unfolding layerAt
+  layer-at : AllFields 8 ls → length ls * 8 ≤ length out → (i : ℕ) → i < length ls → layerLineAt (sets out 0 (flatten ls)) i ≡ layerLineOf (getD ls i [])
+  unfolding layerLineAt
   layer-at fields room i h =
       let at : (f : ℕ) → f < 8 → numberAt (sets out 0 (flatten ls)) (8 * i + f) ≡ numberAt (getD ls i []) f
       = λ f l. field-at 8 ls out fields room i f (8 * i + f) h l (omega arith) (omega arith) in
@@ -74,8 +74,8 @@ lines-are of ls n f e h =
     (λ i l. List·getD-map of ls i [] ∙ sym (h i (omega arith)))
 
 pub layers-are : (ls : List (List ℤ)) (out : List ℤ) (n : ℕ) → n ≡ length ls → AllFields 8 ls → length ls * 8 ≤ length out
-    → map layerOf ls ≡ layersIn (sets out 0 (flatten ls)) n
-layers-are ls out n e fields room = lines-are layerOf ls n (layerAt (sets out 0 (flatten ls))) e (layer-at ls out fields room)
+    → map layerLineOf ls ≡ layerLines (sets out 0 (flatten ls)) n
+layers-are ls out n e fields room = lines-are layerLineOf ls n (layerLineAt (sets out 0 (flatten ls))) e (layer-at ls out fields room)
 
 pub segments-are : (ls : List (List ℤ)) (out : List ℤ) (n : ℕ) → n ≡ length ls → AllFields 7 ls → length ls * 7 ≤ length out
     → map segmentOf ls ≡ segmentsIn (sets out 0 (flatten ls)) n

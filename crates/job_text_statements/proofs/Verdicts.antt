@@ -16,7 +16,7 @@ use Rattle.job_text_statements.specs.Text.{Formed}
 use Rattle.job_lines.specs.Rules.{layerRule, segmentRule, segmentCount}
 use Rattle.job_text_statements.specs.Job.{Job, isAllowed}
 use Rattle.job_text_statements.specs.Parse.{parseBlocks, headOf, jobOf, judged, parse}
-use Rattle.job_text_statements.specs.Numbers.{layersIn, segmentsIn, jobIn}
+use Rattle.job_text_statements.specs.Numbers.{layerLines, segmentsIn, jobIn}
 use Rattle.job_text_statements.specs.Read.{BlocksStored, NumbersStored}
 use Rattle.job_text_statements.proofs.Forms.{sound}
 use Rattle.job_text_statements.proofs.Stored.{head-at, layers-are, segments-are}
@@ -54,8 +54,8 @@ module _ {s : List ℕ} {head layers segments : List ℤ} {n m : ℕ} {head′ l
   job-is =
       let q = b .blocks in
       let h : headOf head′ ≡ (jobOf q) .head = ap headOf (b .head-stored) ∙ head-at (q .head) head (form .head) (form .one-head) head-room in
-      let ls : layersIn layers′ n ≡ (jobOf q) .layers =
-      ap (λ (ns : List ℤ). layersIn ns n) (b .layers-stored) ∙ sym (layers-are (q .layers) layers n (b .layer-lines) (form .layers) (omega (arith, few-layers, b .layer-lines))) in
+      let ls : layerLines layers′ n ≡ (jobOf q) .layers =
+      ap (λ (ns : List ℤ). layerLines ns n) (b .layers-stored) ∙ sym (layers-are (q .layers) layers n (b .layer-lines) (form .layers) (omega (arith, few-layers, b .layer-lines))) in
       let ss : segmentsIn segments′ m ≡ (jobOf q) .segments =
       ap (λ (ns : List ℤ). segmentsIn ns m) (b .segments-stored) ∙ sym (segments-are (q .segments) segments m (b .segment-lines) (form .segments) (omega (arith, few-lines, b .segment-lines))) in
       sym (rw (h, ls, ss))
@@ -65,21 +65,21 @@ module _ {s : List ℕ} {head layers segments : List ℤ} {n m : ℕ} {head′ l
   parse-is = ap judged (b .parsed) ∙ ap (λ (j : Job). cond (isAllowed j) (some j) none) job-is
 
   -- the three tests of the rules
-  refused-by : (all layerRule (layersIn layers′ n) && all segmentRule (segmentsIn segments′ m) && leb (segmentCount (segmentsIn segments′ m)) 2048) ≡ false → parse s ≡ none
+  refused-by : (all layerRule (layerLines layers′ n) && all segmentRule (segmentsIn segments′ m) && leb (segmentCount (segmentsIn segments′ m)) 2048) ≡ false → parse s ≡ none
   unfolding isAllowed
   refused-by e = parse-is ∙ refused (jobIn head′ layers′ n segments′ m) e
 
-  pub bad-layers : all layerRule (layersIn layers′ n) ≡ false → parse s ≡ none
+  pub bad-layers : all layerRule (layerLines layers′ n) ≡ false → parse s ≡ none
   bad-layers e = refused-by (rw e)
 
-  pub bad-segments : all layerRule (layersIn layers′ n) ≡ true → all segmentRule (segmentsIn segments′ m) ≡ false → parse s ≡ none
+  pub bad-segments : all layerRule (layerLines layers′ n) ≡ true → all segmentRule (segmentsIn segments′ m) ≡ false → parse s ≡ none
   bad-segments l e = refused-by (rw (l, e))
 
-  pub too-many : {count : ℕ} → all layerRule (layersIn layers′ n) ≡ true → all segmentRule (segmentsIn segments′ m) ≡ true
+  pub too-many : {count : ℕ} → all layerRule (layerLines layers′ n) ≡ true → all segmentRule (segmentsIn segments′ m) ≡ true
       → count ≡ segmentCount (segmentsIn segments′ m) → 2048 < count → parse s ≡ none
   too-many l e c h = refused-by (rw (l, e) (lt-leb (segmentCount (segmentsIn segments′ m)) 2048 (omega arith)))
 
-  pub good : {count : ℕ} → all layerRule (layersIn layers′ n) ≡ true → all segmentRule (segmentsIn segments′ m) ≡ true
+  pub good : {count : ℕ} → all layerRule (layerLines layers′ n) ≡ true → all segmentRule (segmentsIn segments′ m) ≡ true
       → count ≡ segmentCount (segmentsIn segments′ m) → count ≤ 2048 → NumbersStored s n m count head′ layers′ segments′
   unfolding isAllowed
   good {count} ls ss c h =

@@ -12,8 +12,8 @@ use Rattle.job_text_statements.specs.Parse.{headOf}
 abbrev pub numberAt : List ℤ → ℕ → ℤ
 numberAt ns k = getD ns k (pos 0)
 
-unfoldable pub layerAt : List ℤ → ℕ → LayerLine
-layerAt ns i =
+unfoldable pub layerLineAt : List ℤ → ℕ → LayerLine
+layerLineAt ns i =
     record {
       layer = numberAt ns (8 * i);
       rule = numberAt ns (8 * i + 1);
@@ -38,11 +38,11 @@ segmentAt ns i =
     }
 
 -- the first n lines
-abbrev pub layersIn : List ℤ → ℕ → List LayerLine
-layersIn ns n = tabulate n (layerAt ns)
+abbrev pub layerLines : List ℤ → ℕ → List LayerLine
+layerLines ns n = tabulate n (layerLineAt ns)
 
 abbrev pub segmentsIn : List ℤ → ℕ → List SegmentLine
 segmentsIn ns n = tabulate n (segmentAt ns)
 
 abbrev pub jobIn : List ℤ → List ℤ → ℕ → List ℤ → ℕ → Job
-jobIn head layers n segments m = record { head = headOf head; layers = layersIn layers n; segments = segmentsIn segments m }
+jobIn head layers n segments m = record { head = headOf head; layers = layerLines layers n; segments = segmentsIn segments m }

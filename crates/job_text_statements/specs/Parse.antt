@@ -38,8 +38,8 @@ parseBlocks s = cond (ltb 65536 (length s)) none (afterHead ((parseBlock headNam
 abbrev pub headOf : List ℤ → Head
 headOf vs = record { row = getD vs 0 (pos 0); tiles = getD vs 1 (pos 0); from = getD vs 2 (pos 0); to = getD vs 3 (pos 0) }
 
-abbrev pub layerOf : List ℤ → LayerLine
-layerOf vs =
+abbrev pub layerLineOf : List ℤ → LayerLine
+layerLineOf vs =
     record {
       layer = getD vs 0 (pos 0);
       rule = getD vs 1 (pos 0);
@@ -64,7 +64,7 @@ segmentOf vs =
     }
 
 abbrev pub jobOf : Blocks → Job
-jobOf b = record { head = headOf (getD (b .head) 0 []); layers = map layerOf (b .layers); segments = map segmentOf (b .segments) }
+jobOf b = record { head = headOf (getD (b .head) 0 []); layers = map layerLineOf (b .layers); segments = map segmentOf (b .segments) }
 
 -- the job, where the rules on its values hold
 abbrev pub judged : Option Blocks → Option Job

@@ -15,13 +15,13 @@ use Rattle.laws.proofs.Rows.{filled, filled-more, filled-all, length-filled}
 use Rattle.pixel_segment.specs.Field.{cpu}
 use Rattle.segment_rows.specs.Search.{between}
 use Rattle.cover_statements.specs.Carry.{isLight, carryOf}
-use Rattle.cover_statements.specs.Entry.{entryOf, putEntry}
+use Rattle.cover_statements.specs.Entry.{coverEntry, putEntry}
 use Rattle.styling.specs.declared.Layer.{Layer}
 use Rattle.queue_statements.specs.Queue.{Carry, queueOf, idsIn, coversIn, zeros}
 use Rattle.queue_statements.proofs.Columns.{isWide, areWide, length-covers}
 use Rattle.tile_layers.specs.Listing.{Listed, layersIn, areLight}
-use Rattle.layer_carrying.specs.Carrying.{carryFor, isKept, handedOn, Hands, Puts, QueueRoom}
-use Rattle.tile_layers.specs.Walk.{listedAt, leftOf, Stepped, Moved}
+use Rattle.layer_carrying.specs.Carrying.{carryFor, isCarried, handedOn, Hands, Puts, QueueRoom}
+use Rattle.tile_layers.specs.Walk.{listedAt, layersLeft, Stepped, Moved}
 use Rattle.tile_layers.specs.declared.walk.Next.{Next}
 use Rattle.tile_layers.proofs.Walking.{Walking, walk-start, walk-here, walk-next, walk-end}
 use Rattle.tile_layers.proofs.Filling.{put-filled}
@@ -34,20 +34,20 @@ carries-wide (l ∷ ls) =
 
 pub handed-wide : (table : List Layer) (ls : List Listed) → areWide (handedOn table ls) ≡ true
 unfolding handedOn
-handed-wide table ls = all-kept (isKept table) isWide (map carryFor ls) (carries-wide ls)
+handed-wide table ls = all-kept (isCarried table) isWide (map carryFor ls) (carries-wide ls)
 
 pub handed-few : (table : List Layer) (ls : List Listed) → length (handedOn table ls) ≤ length ls
 unfolding handedOn
-handed-few table ls = omega (arith, length-filter (isKept table) (map carryFor ls), length-map ls carryFor)
+handed-few table ls = omega (arith, length-filter (isCarried table) (map carryFor ls), length-map ls carryFor)
 
 none : (table : List Layer) → handedOn table [] ≡ []
 unfolding handedOn
 none table = refl
 
 -- one more layer in front
-handed-cons : (table : List Layer) (l : Listed) (ls : List Listed) (keep : Bool) → isKept table (carryFor l) ≡ keep → handedOn table (l ∷ ls) ≡ cond keep (carryFor l ∷ handedOn table ls) (handedOn table ls)
+handed-cons : (table : List Layer) (l : Listed) (ls : List Listed) (keep : Bool) → isCarried table (carryFor l) ≡ keep → handedOn table (l ∷ ls) ≡ cond keep (carryFor l ∷ handedOn table ls) (handedOn table ls)
 unfolding handedOn
-handed-cons table l ls keep e = ap (λ (t : Bool). cond t (carryFor l ∷ filter (isKept table) (map carryFor ls)) (filter (isKept table) (map carryFor ls))) e
+handed-cons table l ls keep e = ap (λ (t : Bool). cond t (carryFor l ∷ filter (isCarried table) (map carryFor ls)) (filter (isCarried table) (map carryFor ls))) e
 
 module _ (n : ℕ) (ids : List ℕ) (covers : List ℤ) (part : List ℕ) (table : List Layer) (oldIds : List ℕ) (oldCovers : List ℤ) where
   abbrev whole : List Listed
@@ -93,18 +93,18 @@ module _ (n : ℕ) (ids : List ℕ) (covers : List ℤ) (part : List ℕ) (table
     hand-room s r p = omega (arith, cons-lt whole (s .k) (walk-here n ids covers part (s .walking) r p), s .few)
 
     -- number 9 does not apply to the next layer
-    pub hand-light : {newIds : List ℕ} {newCovers : List ℤ} {m i j : ℕ} → Handing newIds newCovers m i j → areLight whole ≡ true → (r : Next) → Stepped n ids covers part i j r → isLight cpu 16 (cond (r .carried) (entryOf 16 i covers) zeros) (between j (r .end) part) ≡ true
+    pub hand-light : {newIds : List ℕ} {newCovers : List ℤ} {m i j : ℕ} → Handing newIds newCovers m i j → areLight whole ≡ true → (r : Next) → Stepped n ids covers part i j r → isLight cpu 16 (cond (r .carried) (coverEntry 16 i covers) zeros) (between j (r .end) part) ≡ true
     hand-light {i = i} {j = j} s light r p =
         let e = walk-here n ids covers part (s .walking) r p in
         let x = listedAt covers part i j r in
         ap (λ (l : Listed). isLight cpu 16 (l .cover) (l .own)) (sym (cons-at whole (s .k) e x))
         ∙ all-at (λ l. isLight cpu 16 (l .cover) (l .own)) whole light (s .k) x (cons-lt whole (s .k) e)
 
-    pub hand-next : {newIds : List ℕ} {newCovers : List ℤ} {m i j : ℕ} → Handing newIds newCovers m i j → (r : Next) → Stepped n ids covers part i j r → Moved n part i j r → (keep : Bool) (m′ : ℕ) (nextIds : List ℕ) (nextCovers : List ℤ) → isKept table (carryFor (listedAt covers part i j r)) ≡ keep → Puts m (r .id) (carryOf cpu 16 (cond (r .carried) (entryOf 16 i covers) zeros) (between j (r .end) part)) keep newIds newCovers m′ nextIds nextCovers → Handing nextIds nextCovers m′ (r .i) (r .end)
+    pub hand-next : {newIds : List ℕ} {newCovers : List ℤ} {m i j : ℕ} → Handing newIds newCovers m i j → (r : Next) → Stepped n ids covers part i j r → Moved n part i j r → (keep : Bool) (m′ : ℕ) (nextIds : List ℕ) (nextCovers : List ℤ) → isCarried table (carryFor (listedAt covers part i j r)) ≡ keep → Puts m (r .id) (carryOf cpu 16 (cond (r .carried) (coverEntry 16 i covers) zeros) (between j (r .end) part)) keep newIds newCovers m′ nextIds nextCovers → Handing nextIds nextCovers m′ (r .i) (r .end)
     hand-next {newIds} {newCovers} {m} {i} {j} s r p moved true m′ nextIds nextCovers ek put =
         let x = listedAt covers part i j r in
         let e = walk-here n ids covers part (s .walking) r p in
-        let rest = leftOf n ids covers part (r .i) (r .end) in
+        let rest = layersLeft n ids covers part (r .i) (r .end) in
         let here : drop m queue ≡ carryFor x ∷ handedOn table rest = s .left ∙ ap (handedOn table) e ∙ handed-cons table x rest true ek in
         let at = cons-lt queue m here in
         let few = handed-few table whole in
@@ -128,7 +128,7 @@ module _ (n : ℕ) (ids : List ℕ) (covers : List ℤ) (part : List ℕ) (table
     hand-next {newIds} {newCovers} {m} {i} {j} s r p moved false m′ nextIds nextCovers ek put =
         let x = listedAt covers part i j r in
         let e = walk-here n ids covers part (s .walking) r p in
-        let rest = leftOf n ids covers part (r .i) (r .end) in
+        let rest = layersLeft n ids covers part (r .i) (r .end) in
         rw (put .place)
         (record {
           k = s .k + 1;

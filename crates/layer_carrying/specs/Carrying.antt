@@ -30,11 +30,11 @@ ruleIn table id = ruleFrom (lookup table id)
 abbrev pub carryFor : Listed → Carry
 carryFor l = record { id = l .id; cover = carryOf cpu 16 (l .cover) (l .own) }
 
-abbrev pub isKept : List Layer → Carry → Bool
-isKept table c = not (isEmpty (ruleIn table (c .id)) (c .cover))
+abbrev pub isCarried : List Layer → Carry → Bool
+isCarried table c = not (isEmpty (ruleIn table (c .id)) (c .cover))
 
 unfoldable pub handedOn : List Layer → List Listed → List Carry
-handedOn table ls = filter (isKept table) (map carryFor ls)
+handedOn table ls = filter (isCarried table) (map carryFor ls)
 
 -- what handing on promises: how many carries, and the two columns
 pub record Hands (q : List Carry) (oldIds : List ℕ) (oldCovers : List ℤ) (r : ℕ) (ids : List ℕ) (covers : List ℤ) : Type 0 where

@@ -5,15 +5,16 @@ use mathlib.Core.List.{List}
 use Prim.Native.Nat.{ℕ, _+_, _≤_}
 use lib.IntN.{ℤ}
 use lib.ListN.{length, drop}
+use Rattle.laws.specs.Answer.{isGiven}
 use Rattle.laws.proofs.Drops.{all-again, all-end}
 use Rattle.pixel_segment.specs.Field.{cpu}
 use Rattle.segment_rows.specs.Search.{between}
 use Rattle.cover_statements.specs.Carry.{isLight}
-use Rattle.cover_statements.specs.Entry.{entryOf}
+use Rattle.cover_statements.specs.Entry.{coverEntry}
 use Rattle.layer_table.specs.Lookup.{lookup}
 use Rattle.styling.specs.declared.Layer.{Layer}
 use Rattle.queue_statements.specs.Queue.{queueOf, zeros}
-use Rattle.tile_layers.specs.Listing.{Listed, layersIn, isGiven, areKnown, areLight}
+use Rattle.tile_layers.specs.Listing.{Listed, layersIn, areKnown, areLight}
 use Rattle.layer_listing.specs.Survey.{Surveyed}
 use Rattle.tile_layers.specs.Walk.{Stepped, Moved}
 use Rattle.tile_layers.specs.declared.walk.Next.{Next}
@@ -31,7 +32,7 @@ module _ (n : ℕ) (ids : List ℕ) (covers : List ℤ) (part : List ℕ) (table
   pub survey-start : Surveying 0 true true 0 0
   survey-start = record { walking = walk-start n ids covers part; known-is = refl; light-is = refl }
 
-  pub survey-next : {total i j : ℕ} {known light : Bool} → Surveying total known light i j → (r : Next) → Stepped n ids covers part i j r → Moved n part i j r → (is-known is-light : Bool) (cover : List ℤ) → is-known ≡ isGiven (lookup table (r .id)) → cover ≡ cond (r .carried) (entryOf 16 i covers) zeros → is-light ≡ isLight cpu 16 cover (between j (r .end) part) → Surveying (total + 1) (known && is-known) (light && is-light) (r .i) (r .end)
+  pub survey-next : {total i j : ℕ} {known light : Bool} → Surveying total known light i j → (r : Next) → Stepped n ids covers part i j r → Moved n part i j r → (is-known is-light : Bool) (cover : List ℤ) → is-known ≡ isGiven (lookup table (r .id)) → cover ≡ cond (r .carried) (coverEntry 16 i covers) zeros → is-light ≡ isLight cpu 16 cover (between j (r .end) part) → Surveying (total + 1) (known && is-known) (light && is-light) (r .i) (r .end)
   survey-next {total} {i} {j} {known} {light} s r p m is-known is-light cover ek ec el =
       let e = walk-here n ids covers part (s .walking) r p in
       record {

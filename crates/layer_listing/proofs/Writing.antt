@@ -9,11 +9,11 @@ use lib.IntN.{ℤ}
 use lib.ListN.{length, set, length-map}
 use Rattle.laws.proofs.Drops.{cons-lt, map-at, map-drop}
 use Rattle.laws.proofs.Rows.{filled, filled-more, filled-all, length-filled}
-use Rattle.cover_statements.specs.Entry.{entryOf, putEntry}
+use Rattle.cover_statements.specs.Entry.{coverEntry, putEntry}
 use Rattle.queue_statements.specs.Queue.{Carry, queueOf, idsIn, coversIn, zeros}
 use Rattle.queue_statements.proofs.Columns.{areWide, length-covers}
 use Rattle.tile_layers.specs.Groups.{groupsOf}
-use Rattle.tile_layers.specs.Listing.{Listed, layersIn, incomingOf, segmentsOf, hasAny, Lists, Room}
+use Rattle.tile_layers.specs.Listing.{Listed, layersIn, incomingOf, segmentsOf, hasAny, Lists, ListRoom}
 use Rattle.tile_layers.specs.Walk.{Stepped, Moved}
 use Rattle.tile_layers.specs.declared.walk.Next.{Next}
 use Rattle.tile_layers.proofs.Walking.{Walking, walk-start, walk-here, walk-next, walk-all}
@@ -37,7 +37,7 @@ module _ (n : ℕ) (ids : List ℕ) (covers : List ℤ) (part : List ℕ) (oldId
   pub write-start : Writing oldIds oldCovers oldSegments 0 0 0
   write-start = record { walking = walk-start n ids covers part; ids-are = refl; covers-are = refl; segments-are = refl }
 
-  module _ (room : Room whole oldIds oldCovers oldSegments) (long : 16 * n ≤ length covers) where
+  module _ (room : ListRoom whole oldIds oldCovers oldSegments) (long : 16 * n ≤ length covers) where
     wide : areWide (incomingOf whole) ≡ true
     wide = list-wide (queueOf n ids covers) (groupsOf part) (queue-wide n ids covers long)
 
@@ -69,7 +69,7 @@ module _ (n : ℕ) (ids : List ℕ) (covers : List ℤ) (part : List ℕ) (oldId
     pub write-room : {newIds : List ℕ} {newCovers : List ℤ} {newSegments : List Bool} {k i j : ℕ} → Writing newIds newCovers newSegments k i j → (r : Next) → Stepped n ids covers part i j r → k < length whole
     write-room {k = k} s r p = cons-lt whole k (walk-here n ids covers part (s .walking) r p)
 
-    pub write-next : {newIds : List ℕ} {newCovers : List ℤ} {newSegments : List Bool} {k i j : ℕ} → Writing newIds newCovers newSegments k i j → (r : Next) → Stepped n ids covers part i j r → Moved n part i j r → (cover nextCovers : List ℤ) → cover ≡ cond (r .carried) (entryOf 16 i covers) zeros → nextCovers ≡ putEntry 16 k cover newCovers → Writing (set newIds k (r .id)) nextCovers (set newSegments k (ltb j (r .end))) (k + 1) (r .i) (r .end)
+    pub write-next : {newIds : List ℕ} {newCovers : List ℤ} {newSegments : List Bool} {k i j : ℕ} → Writing newIds newCovers newSegments k i j → (r : Next) → Stepped n ids covers part i j r → Moved n part i j r → (cover nextCovers : List ℤ) → cover ≡ cond (r .carried) (coverEntry 16 i covers) zeros → nextCovers ≡ putEntry 16 k cover newCovers → Writing (set newIds k (r .id)) nextCovers (set newSegments k (ltb j (r .end))) (k + 1) (r .i) (r .end)
     write-next {newIds} {newCovers} {newSegments} {k} {i} {j} s r p m cover nextCovers ec ep =
         let e = walk-here n ids covers part (s .walking) r p in
         let at = cons-lt whole k e in
@@ -83,7 +83,7 @@ module _ (n : ℕ) (ids : List ℕ) (covers : List ℤ) (part : List ℕ) (oldId
           covers-are =
               ep
               ∙ ap (λ (l : List ℤ). putEntry 16 k l newCovers) ec
-              ∙ ap (putEntry 16 k (cond (r .carried) (entryOf 16 i covers) zeros)) (s .covers-are)
+              ∙ ap (putEntry 16 k (cond (r .carried) (coverEntry 16 i covers) zeros)) (s .covers-are)
               ∙ put-filled (incomingOf whole) oldCovers k wide q (omega (arith, room .covers-long, length-map whole incoming));
           segments-are =
               ap (λ (l : List Bool). set l k (ltb j (r .end))) (s .segments-are)

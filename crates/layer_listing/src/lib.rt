@@ -7,10 +7,11 @@ ghost use mathlib.Core.Path.{_≡_};
 ghost use mathlib.Core.Bool.{true};
 ghost use Prim.Native.Nat.{_*_, _+_, _≤_, _<_};
 ghost use lib.ListN.{length};
+ghost use Rattle.laws.specs.Answer.{isGiven};
 ghost use Rattle.layer_table.specs.Lookup.{lookup};
 ghost use Rattle.layer_table.specs.Table.{Table, tableOf};
 ghost use Rattle.queue_statements.specs.Queue.{queueOf};
-ghost use Rattle.tile_layers.specs.Listing.{layersIn, isGiven, Lists, Room};
+ghost use Rattle.tile_layers.specs.Listing.{layersIn, Lists, ListRoom};
 ghost use Rattle.tile_layers.specs.Walk.{Walks};
 ghost use Rattle.layer_listing.specs.Survey.{Surveyed};
 
@@ -79,7 +80,7 @@ pub fn list_layers(
     list_segments: &mut [bool],
 )
     requires { ⌜ Walks n (now ids) (now part) × (16 * n ≤ length (now covers))
-        × Room (layersIn (queueOf n (now ids) (now covers)) (now part)) (now «list_ids») (now «list_covers»)
+        × ListRoom (layersIn (queueOf n (now ids) (now covers)) (now part)) (now «list_ids») (now «list_covers»)
         (now «list_segments») ⌝ }
     ensures { λ _. ⌜ Lists (layersIn (queueOf n (now (ids .entry)) (now (covers .entry))) (now (part .entry)))
         (now («list_ids» .entry)) (now («list_covers» .entry)) (now («list_segments» .entry)) (now («list_ids» .exit))

@@ -7,7 +7,7 @@ use Prim.Native.Nat.{ℕ, _-_, _^_}
 use lib.Ieee.{Float, eq, ofBits, binary32}
 use Rattle.styling.specs.Ascending.{strictlyAscendsFrom}
 use Rattle.styling.specs.Style.{isOpaque}
-use Rattle.layer_table.specs.Table.{isShort, isValid, isTable, layerAt}
+use Rattle.layer_table.specs.Table.{isTableShort, isValid, isTable, layerAt}
 
 -- ---- tables of one or two draws in black, each of an id and a blend mode
 
@@ -18,37 +18,37 @@ abbrev pub black : List Float
 black = ofBits binary32 0 ∷ ofBits binary32 0 ∷ ofBits binary32 0 ∷ ofBits binary32 0x3F800000 ∷ []
 
 pub equal-ids : isTable (draw 4 0 ++ draw 4 0) (black ++ black) 2 ≡ false
-unfolding isTable isShort isValid strictlyAscendsFrom ofBits
+unfolding isTable isTableShort isValid strictlyAscendsFrom ofBits
 equal-ids = refl
 
 pub ascending-ids : isTable (draw 4 0 ++ draw 5 0) (black ++ black) 2 ≡ true
-unfolding isTable isShort isValid strictlyAscendsFrom ofBits
+unfolding isTable isTableShort isValid strictlyAscendsFrom ofBits
 ascending-ids = refl
 
 pub mode-15 : isTable (draw 4 15) black 1 ≡ true
-unfolding isTable isShort isValid strictlyAscendsFrom ofBits
+unfolding isTable isTableShort isValid strictlyAscendsFrom ofBits
 mode-15 = refl
 
 pub mode-16 : isTable (draw 4 16) black 1 ≡ false
-unfolding isTable isShort isValid strictlyAscendsFrom ofBits
+unfolding isTable isTableShort isValid strictlyAscendsFrom ofBits
 mode-16 = refl
 
 pub id-at-the-limit : isTable (draw 2097151 0) black 1 ≡ true
-unfolding isTable isShort isValid strictlyAscendsFrom ofBits
+unfolding isTable isTableShort isValid strictlyAscendsFrom ofBits
 id-at-the-limit = refl
 
 pub id-past-the-limit : isTable (draw 2097152 0) black 1 ≡ false
-unfolding isTable isShort isValid strictlyAscendsFrom ofBits
+unfolding isTable isTableShort isValid strictlyAscendsFrom ofBits
 id-past-the-limit = refl
 
 -- however large the count
-pub short : isShort (draw 4 0) black (2 ^ 64 - 1) ≡ true
-unfolding isShort ofBits
+pub short : isTableShort (draw 4 0) black (2 ^ 64 - 1) ≡ true
+unfolding isTableShort ofBits
 short = refl
 
 -- four floats short of the second record
-pub short-of-floats : isShort (draw 4 0 ++ draw 5 0) black 2 ≡ true
-unfolding isShort ofBits
+pub short-of-floats : isTableShort (draw 4 0 ++ draw 5 0) black 2 ≡ true
+unfolding isTableShort ofBits
 short-of-floats = refl
 
 pub opaque-draw : isOpaque (layerAt (draw 4 0) black 0 .props .func) ≡ true

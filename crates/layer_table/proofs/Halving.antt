@@ -10,8 +10,8 @@ use native.Mathlib.Omega.{arith}
 use Rattle.laws.specs.Answer.{refused, given}
 use Rattle.laws.proofs.Orders.{le-or-lt}
 use Rattle.styling.specs.Ascending.{strictlyAscends}
-use Rattle.layer_table.specs.Table.{idAt, idsOf}
-use Rattle.layer_table.specs.Lookup.{placeOf}
+use Rattle.layer_table.specs.Table.{idAt, tableIds}
+use Rattle.layer_table.specs.Lookup.{recordPlace}
 use Rattle.layer_table.proofs.Listed.{length-ids, getD-ids, ids-lt}
 use Rattle.layer_table.proofs.Places.{place-at, place-none}
 
@@ -30,7 +30,7 @@ begin words count id h =
       above = λ i p q. absurd (omega arith);
     }
 
-module _ {words : List ℕ} {count id start len : ℕ} (left : Halving words count id start len) (asc : strictlyAscends (idsOf words count) ≡ true) where
+module _ {words : List ℕ} {count id start len : ℕ} (left : Halving words count id start len) (asc : strictlyAscends (tableIds words count) ≡ true) where
   -- an element is at most another if it stands no later
   ordered : (i j : ℕ) → i ≤ j → j < count → idAt words i ≤ idAt words j
   ordered i j p q = ⊎-elim (λ e. omega (arith, ap (idAt words) e)) (λ l. omega (arith, ids-lt words count asc i j l q)) (eq-or-lt-of-le p)
@@ -53,13 +53,13 @@ module _ {words : List ℕ} {count id start len : ℕ} (left : Halving words cou
         above = λ i p q. omega (arith, ordered (start + len / 2) i p q);
       }
 
-  pub found : idAt words start ≡ id → given start ≡ placeOf (idsOf words count) id
+  pub found : idAt words start ≡ id → given start ≡ recordPlace (tableIds words count) id
   found e =
       ap given (sym (zero-add start))
-      ∙ sym (place-at 0 0 (idsOf words count) start id asc (rw (length-ids words count) (omega arith)) (getD-ids words count start (omega arith) ∙ e))
+      ∙ sym (place-at 0 0 (tableIds words count) start id asc (rw (length-ids words count) (omega arith)) (getD-ids words count start (omega arith) ∙ e))
 
-  pub absent : len ≤ 1 → (idAt words start ≡ id → ⊥) → refused 8 ≡ placeOf (idsOf words count) id
-  absent h e = sym (place-none 0 (idsOf words count) id (λ i p q. not-at i (rw (length-ids words count) at p) (sym (getD-ids words count i (rw (length-ids words count) at p)) ∙ q)))
+  pub absent : len ≤ 1 → (idAt words start ≡ id → ⊥) → refused 8 ≡ recordPlace (tableIds words count) id
+  absent h e = sym (place-none 0 (tableIds words count) id (λ i p q. not-at i (rw (length-ids words count) at p) (sym (getD-ids words count i (rw (length-ids words count) at p)) ∙ q)))
     where
       not-at : (i : ℕ) → i < count → idAt words i ≡ id → ⊥
       not-at i p q =
@@ -69,5 +69,5 @@ module _ {words : List ℕ} {count id start len : ℕ} (left : Halving words cou
           (le-or-lt start i)
 
 -- a table of no records has no place
-pub none : (words : List ℕ) {count : ℕ} (id : ℕ) → count ≡ 0 → refused 8 ≡ placeOf (idsOf words count) id
-none words {count} id e = sym (place-none 0 (idsOf words count) id (λ i p q. absurd (omega (arith, p, e, length-ids words count))))
+pub none : (words : List ℕ) {count : ℕ} (id : ℕ) → count ≡ 0 → refused 8 ≡ recordPlace (tableIds words count) id
+none words {count} id e = sym (place-none 0 (tableIds words count) id (λ i p q. absurd (omega (arith, p, e, length-ids words count))))

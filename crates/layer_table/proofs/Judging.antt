@@ -16,7 +16,7 @@ use Rattle.laws.proofs.Rows.{length-tabulate, getD-tabulate}
 use Rattle.layer_table.specs.declared.Words.{Words}
 use Rattle.styling.specs.Ascending.{strictlyAscendsFrom, strictlyAscends}
 use Rattle.layer_table.specs.Record.{inRange}
-use Rattle.layer_table.specs.Table.{idAt, wordsAt, idsOf, isShort, isValid, isTable, Table}
+use Rattle.layer_table.specs.Table.{idAt, wordsAt, tableIds, isTableShort, isValid, isTable, Table}
 use Rattle.layer_table.proofs.Listed.{drop-tabulate, map-tabulate}
 
 -- ---- refusal 1
@@ -35,8 +35,8 @@ pub record Long (words : List ℕ) (floats : List Float) (count : ℕ) : Type 0 
   pub words-long : 8 * count ≤ length words
   pub floats-long : 4 * count ≤ length floats
 
-pub long : {words : List ℕ} {floats : List Float} {count : ℕ} → isShort words floats count ≡ false → Long words floats count
-unfolding isShort
+pub long : {words : List ℕ} {floats : List Float} {count : ℕ} → isTableShort words floats count ≡ false → Long words floats count
+unfolding isTableShort
 long {words} {floats} {count} h = omega (arith, ltb-false (min (length words / 8) (length floats / 4)) count h)
 
 -- ---- refusal 4
@@ -78,8 +78,8 @@ end {words} {count} {i} {low} {ok} v h =
 
 -- ---- a table that passes
 
-ids-valid : (words : List ℕ) (count : ℕ) → isValid (tabulate count (wordsAt words)) ≡ true → strictlyAscends (idsOf words count) ≡ true
-unfolding isValid idsOf
+ids-valid : (words : List ℕ) (count : ℕ) → isValid (tabulate count (wordsAt words)) ≡ true → strictlyAscends (tableIds words count) ≡ true
+unfolding isValid tableIds
 ids-valid words count h =
     let records = tabulate count (wordsAt words) in
     rw map-tabulate at (right (all inRange records) (strictlyAscends (map (λ (w : Words). w .id) records)) h)
@@ -94,8 +94,8 @@ range-valid words count h i p =
 pub table : {words : List ℕ} {floats : List Float} {count : ℕ} → isTable words floats count ≡ true → Table words floats count
 unfolding isTable
 table {words} {floats} {count} h =
-    let fits : Long words floats count = long (not-true (isShort words floats count) (left (not (isShort words floats count)) (isValid (tabulate count (wordsAt words))) h)) in
-    let valid = right (not (isShort words floats count)) (isValid (tabulate count (wordsAt words))) h in
+    let fits : Long words floats count = long (not-true (isTableShort words floats count) (left (not (isTableShort words floats count)) (isValid (tabulate count (wordsAt words))) h)) in
+    let valid = right (not (isTableShort words floats count)) (isValid (tabulate count (wordsAt words))) h in
     record {
       words-long = fits .words-long;
       floats-long = fits .floats-long;
@@ -105,10 +105,10 @@ table {words} {floats} {count} h =
 
 -- ---- where 1 applies and where it does not
 
-pub table-short : (words : List ℕ) (floats : List Float) (count : ℕ) → isShort words floats count ≡ true → isTable words floats count ≡ false
+pub table-short : (words : List ℕ) (floats : List Float) (count : ℕ) → isTableShort words floats count ≡ true → isTable words floats count ≡ false
 unfolding isTable
 table-short words floats count h = rw h refl
 
-pub table-long : (words : List ℕ) (floats : List Float) (count : ℕ) → isShort words floats count ≡ false → isTable words floats count ≡ isValid (tabulate count (wordsAt words))
+pub table-long : (words : List ℕ) (floats : List Float) (count : ℕ) → isTableShort words floats count ≡ false → isTable words floats count ≡ isValid (tabulate count (wordsAt words))
 unfolding isTable
 table-long words floats count h = rw h refl

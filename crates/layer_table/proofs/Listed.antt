@@ -11,7 +11,7 @@ use Rattle.laws.specs.Lists.{tabulate}
 use Rattle.laws.proofs.Rows.{length-tabulate, getD-tabulate}
 use Rattle.styling.specs.declared.Layer.{Layer}
 use Rattle.styling.specs.Ascending.{strictlyAscends}
-use Rattle.layer_table.specs.Table.{idAt, layerAt, tableOf, idsOf}
+use Rattle.layer_table.specs.Table.{idAt, layerAt, tableOf, tableIds}
 use Rattle.styling.proofs.Ascents.{ascends-lt}
 
 -- what is left of a list that is given by its elements, one element at a time: how a loop over places goes
@@ -24,12 +24,12 @@ pub map-tabulate {ℓ κ} : {A : Type ℓ} {B : Type κ} (g : A → B) (n : ℕ)
 map-tabulate {B} g zero f = refl
 map-tabulate {B} g (suc n) f = ap (λ (xs : List B). g (f 0) ∷ xs) (map-tabulate g n (λ i. f (suc i)))
 
-pub length-ids : (words : List ℕ) (count : ℕ) → length (idsOf words count) ≡ count
-unfolding idsOf
+pub length-ids : (words : List ℕ) (count : ℕ) → length (tableIds words count) ≡ count
+unfolding tableIds
 length-ids words count = length-tabulate count (idAt words)
 
-pub getD-ids : (words : List ℕ) (count i : ℕ) → i < count → getD (idsOf words count) i 0 ≡ idAt words i
-unfolding idsOf
+pub getD-ids : (words : List ℕ) (count i : ℕ) → i < count → getD (tableIds words count) i 0 ≡ idAt words i
+unfolding tableIds
 getD-ids words count i h = getD-tabulate count (idAt words) 0 i h
 
 pub length-table : (words : List ℕ) (floats : List Float) (count : ℕ) → length (tableOf words floats count) ≡ count
@@ -46,11 +46,11 @@ unfolding layerAt
 layer-id words floats i = refl
 
 -- the ids of the layers are the ids of the records
-pub ids-table : (words : List ℕ) (floats : List Float) (count : ℕ) → map (λ (l : Layer). l .id) (tableOf words floats count) ≡ idsOf words count
-unfolding tableOf idsOf layerAt
+pub ids-table : (words : List ℕ) (floats : List Float) (count : ℕ) → map (λ (l : Layer). l .id) (tableOf words floats count) ≡ tableIds words count
+unfolding tableOf tableIds layerAt
 ids-table words floats count = map-tabulate (λ (l : Layer). l .id) count (layerAt words floats)
 
 -- in an ascending table a later record has a greater id
-pub ids-lt : (words : List ℕ) (count : ℕ) → strictlyAscends (idsOf words count) ≡ true → (i j : ℕ) → i < j → j < count → idAt words i < idAt words j
+pub ids-lt : (words : List ℕ) (count : ℕ) → strictlyAscends (tableIds words count) ≡ true → (i j : ℕ) → i < j → j < count → idAt words i < idAt words j
 ids-lt words count h i j p q =
-    omega (arith, ascends-lt 0 (idsOf words count) h i j p (rw (length-ids words count) q), getD-ids words count i (omega arith), getD-ids words count j q)
+    omega (arith, ascends-lt 0 (tableIds words count) h i j p (rw (length-ids words count) q), getD-ids words count i (omega arith), getD-ids words count j q)

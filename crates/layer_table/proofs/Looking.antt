@@ -17,8 +17,8 @@ use Rattle.styling.specs.declared.Layer.{Layer}
 use Rattle.layer_table.specs.declared.Found.{Found}
 use Rattle.layer_table.specs.declared.Found.the-variants.{At, Absent}
 use Rattle.styling.specs.Ascending.{strictlyAscendsFrom, strictlyAscends}
-use Rattle.layer_table.specs.Table.{idAt, layerAt, tableOf, idsOf}
-use Rattle.layer_table.specs.Lookup.{lookup, placeOf, foundOf}
+use Rattle.layer_table.specs.Table.{idAt, layerAt, tableOf, tableIds}
+use Rattle.layer_table.specs.Lookup.{lookup, recordPlace, foundOf}
 use Rattle.styling.proofs.Ascents.{ascends-tail, ascends-low}
 use Rattle.layer_table.proofs.Listed.{length-ids, getD-ids, length-table, getD-table, layer-id, ids-table, ids-lt}
 use Rattle.layer_table.proofs.Places.{Sought, held, missed, sought}
@@ -80,7 +80,7 @@ module _ (words : List ℕ) (floats : List Float) (count id : ℕ) where
     pub looked : lookup (tableOf words floats count) id ≡ refused 8
 
 module _ {words : List ℕ} {floats : List Float} {count id : ℕ} where
-  pub place : {i : ℕ} → strictlyAscends (idsOf words count) ≡ true → i < count → idAt words i ≡ id → Place words floats count id i
+  pub place : {i : ℕ} → strictlyAscends (tableIds words count) ≡ true → i < count → idAt words i ≡ id → Place words floats count id i
   place {i} h p e =
       let table = tableOf words floats count in
       let d = layerAt words floats i in
@@ -105,20 +105,20 @@ module _ {words : List ℕ} {floats : List Float} {count id : ℕ} where
 
   -- ---- what `find` answers
 
-  pub at-place : {r : Found} {i : ℕ} → r ≡ At i → foundOf r ≡ placeOf (idsOf words count) id → strictlyAscends (idsOf words count) ≡ true → Place words floats count id i
-  at-place {r} {i} e f h = by (sought 0 (idsOf words count) id)
+  pub at-place : {r : Found} {i : ℕ} → r ≡ At i → foundOf r ≡ recordPlace (tableIds words count) id → strictlyAscends (tableIds words count) ≡ true → Place words floats count id i
+  at-place {r} {i} e f h = by (sought 0 (tableIds words count) id)
     where
-      by : Sought 0 (idsOf words count) id → Place words floats count id i
+      by : Sought 0 (tableIds words count) id → Place words floats count id i
       by (held j p q g) =
           let same : 0 + j ≡ i = cc in
           let at : i < count = omega (arith, p, length-ids words count) in
           place h at (sym (getD-ids words count i at) ∙ rw (← same, zero-add) q)
       by (missed n g) = let clash : _≡_ {A = ℕ} 0 1 = cc in absurd (omega arith)
 
-  pub at-none : {r : Found} → r ≡ Absent → foundOf r ≡ placeOf (idsOf words count) id → Missing words floats count id
-  at-none {r} e f = by (sought 0 (idsOf words count) id)
+  pub at-none : {r : Found} → r ≡ Absent → foundOf r ≡ recordPlace (tableIds words count) id → Missing words floats count id
+  at-none {r} e f = by (sought 0 (tableIds words count) id)
     where
-      by : Sought 0 (idsOf words count) id → Missing words floats count id
+      by : Sought 0 (tableIds words count) id → Missing words floats count id
       by (held j p q g) = let clash : _≡_ {A = ℕ} 0 1 = cc in absurd (omega arith)
       by (missed n g) = missing (λ i p q. n i (rw (length-ids words count) p) (getD-ids words count i p ∙ q))
 
@@ -141,7 +141,7 @@ module _ {words : List ℕ} {count id p : ℕ} (walk : Walk words count id p) wh
   walk-past h e = record { within = omega arith; passed = λ i q. ⊎-elim (λ s. omega (arith, ap (idAt words) s)) (walk .passed i) (eq-or-lt-of-le {n = i} {m = p} (omega arith)) }
 
   -- a record with a greater id, or the end: the id is missing
-  pub walk-missed : {floats : List Float} → strictlyAscends (idsOf words count) ≡ true → (p < count → id < idAt words p) → Missing words floats count id
+  pub walk-missed : {floats : List Float} → strictlyAscends (tableIds words count) ≡ true → (p < count → id < idAt words p) → Missing words floats count id
   walk-missed h e = missing not-at
     where
       not-at : (i : ℕ) → i < count → idAt words i ≡ id → ⊥

@@ -18,8 +18,8 @@ unfoldable pub placeFrom : ℕ → List ℕ → ℕ → Answer ℕ
 placeFrom i [] id = refused 8
 placeFrom i (x ∷ xs) id = cond (eqb x id) (given i) (placeFrom (suc i) xs id)
 
-abbrev pub placeOf : List ℕ → ℕ → Answer ℕ
-placeOf ids id = placeFrom 0 ids id
+abbrev pub recordPlace : List ℕ → ℕ → Answer ℕ
+recordPlace ids id = placeFrom 0 ids id
 
 -- the cases of the code's answer
 abbrev pub foundOf : Found → Answer ℕ

@@ -45,16 +45,16 @@ unfoldable pub tableOf : List ℕ → List Float → ℕ → List Layer
 tableOf words floats count = tabulate count (layerAt words floats)
 
 -- their ids
-unfoldable pub idsOf : List ℕ → ℕ → List ℕ
-idsOf words count = tabulate count (idAt words)
+unfoldable pub tableIds : List ℕ → ℕ → List ℕ
+tableIds words count = tabulate count (idAt words)
 
 -- how many records the lent memory holds
-abbrev pub roomOf : List ℕ → List Float → ℕ
-roomOf words floats = min (length words / 8) (length floats / 4)
+abbrev pub tableRoom : List ℕ → List Float → ℕ
+tableRoom words floats = min (length words / 8) (length floats / 4)
 
 -- refusal 1: the table is shorter than its count
-unfoldable pub isShort : List ℕ → List Float → ℕ → Bool
-isShort words floats count = ltb (roomOf words floats) count
+unfoldable pub isTableShort : List ℕ → List Float → ℕ → Bool
+isTableShort words floats count = ltb (tableRoom words floats) count
 
 -- what refusal 4 asks of the records: each in range, and their ids strictly ascending
 unfoldable pub isValid : List Words → Bool
@@ -62,11 +62,11 @@ isValid records = all inRange records && strictlyAscends (map (λ w. w .id) reco
 
 -- neither 1 nor 4 applies. Where 1 does not, 4 is that this does not hold
 unfoldable pub isTable : List ℕ → List Float → ℕ → Bool
-isTable words floats count = not (isShort words floats count) && isValid (tabulate count (wordsAt words))
+isTable words floats count = not (isTableShort words floats count) && isValid (tabulate count (wordsAt words))
 
 -- what holds where neither applies (proofs/Judging), as inner functions ask it
 pub record Table (words : List ℕ) (floats : List Float) (count : ℕ) : Type 0 where
   pub words-long : 8 * count ≤ length words
   pub floats-long : 4 * count ≤ length floats
-  pub ascending : strictlyAscends (idsOf words count) ≡ true
+  pub ascending : strictlyAscends (tableIds words count) ≡ true
   pub in-range : (i : ℕ) → i < count → inRange (wordsAt words i) ≡ true

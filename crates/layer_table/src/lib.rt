@@ -11,8 +11,8 @@ ghost use Prim.Native.Nat.{_*_, _+_, _≤_, _<_};
 ghost use mathlib.Core.Bool.{true};
 ghost use lib.ListN.{length};
 ghost use Rattle.layer_table.specs.Record.{inRange, funcOf, layerOf};
-ghost use Rattle.layer_table.specs.Table.{idAt, wordsAt, colorAt, layerAt, idsOf, isShort, isTable};
-ghost use Rattle.layer_table.specs.Lookup.{placeOf, foundOf};
+ghost use Rattle.layer_table.specs.Table.{idAt, wordsAt, colorAt, layerAt, tableIds, isTableShort, isTable};
+ghost use Rattle.layer_table.specs.Lookup.{recordPlace, foundOf};
 ghost use Rattle.styling.specs.Ascending.{strictlyAscends};
 
 // The largest layer id, and the longest span.
@@ -116,7 +116,7 @@ pub fn layer_at(layers: &[u32], colors: &[f32], i: usize) -> Layer
 
 // Refusal 1: whether the table is shorter than its count.
 pub fn is_short(layers: &[u32], colors: &[f32], count: usize) -> bool
-    ensures { λ r. ⌜ r ≡ isShort (now (layers .entry)) (now (colors .entry)) count ⌝ }
+    ensures { λ r. ⌜ r ≡ isTableShort (now (layers .entry)) (now (colors .entry)) count ⌝ }
 {
     (layers.len() / 8 < count) | (colors.len() / 4 < count)
 }
@@ -157,8 +157,8 @@ pub fn is_table(layers: &[u32], colors: &[f32], count: usize) -> bool
 
 // The place of a layer in an ascending table, by halving.
 pub fn find(layers: &[u32], count: usize, id: u32) -> Found
-    requires { ⌜ (8 * count ≤ length (now layers)) × (strictlyAscends (idsOf (now layers) count) ≡ true) ⌝ }
-    ensures { λ r. ⌜ foundOf r ≡ placeOf (idsOf (now (layers .entry)) count) id ⌝ }
+    requires { ⌜ (8 * count ≤ length (now layers)) × (strictlyAscends (tableIds (now layers) count) ≡ true) ⌝ }
+    ensures { λ r. ⌜ foundOf r ≡ recordPlace (tableIds (now (layers .entry)) count) id ⌝ }
 {
     if count == 0 {
         return Found::Absent;

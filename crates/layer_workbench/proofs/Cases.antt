@@ -23,7 +23,7 @@ use Rattle.pass_statements.specs.Clips.{stepOf, clipsFrom}
 use Rattle.pass_statements.specs.Covered.{coveredFrom}
 use Rattle.pass_statements.specs.Decide.{Outcome, outcomeOf}
 use Rattle.cached_tile.specs.Kept.{noTile}
-use Rattle.layer_workbench.specs.Work.{outcomeOn, outcomeIn, carriesAfter}
+use Rattle.layer_workbench.specs.Work.{outcomeByEntries, outcomeIn, carriesAfter}
 use Rattle.layer_workbench.specs.declared.PreviousClear.the-variants.{Absent}
 
 -- 'A carry is incoming cover plus segment covers, painted or not': whatever the outcome
@@ -57,12 +57,12 @@ outcome = outcomeIn table noTile black Absent layers
 
 -- layer 1 is passed over as covered
 pub one-skipped : outcome .skipped ≡ 1
-unfolding outcomeOn outcomeOf clipsFrom stepOf coveredFrom lookup eq ofBits isFull
+unfolding outcomeByEntries outcomeOf clipsFrom stepOf coveredFrom lookup eq ofBits isFull
 one-skipped = refl
 
 -- layer 3 is masked off
 pub one-masked-off : outcome .unmasked ≡ true ∷ true ∷ false ∷ []
-unfolding outcomeOn outcomeOf clipsFrom stepOf lookup
+unfolding outcomeByEntries outcomeOf clipsFrom stepOf lookup
 one-masked-off = refl
 
 -- and all three carries are handed on

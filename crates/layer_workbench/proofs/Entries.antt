@@ -8,7 +8,7 @@ use lib.IntN.{ℤ}
 use lib.ListN.{length, getD, drop, length-map, length-append, List·getD-append, List·getD-map}
 use Rattle.laws.specs.Lists.{over}
 use Rattle.laws.proofs.Rows.{is-tabulate, getD-tabulate}
-use Rattle.cover_statements.specs.Entry.{entryOf}
+use Rattle.cover_statements.specs.Entry.{coverEntry}
 use Rattle.queue_statements.specs.Queue.{Carry, carryAt, queueOf, idsIn, coversIn}
 use Rattle.queue_statements.proofs.Columns.{areWide, length-covers, reads-back}
 use Rattle.tile_layers.specs.Listing.{Listed, noListed, hasAny, incomingOf, segmentsOf}

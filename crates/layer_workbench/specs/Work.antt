@@ -46,12 +46,12 @@ countFrom none = counts.Absent
 -- ---- what the work gives
 
 -- from the entries of a list, whoever made it
-unfoldable pub outcomeOn : List Layer → kept.Kept → Color → PreviousClear → List Entry → Outcome
-outcomeOn table k clear previous entries = outcomeOf clear (clearUnchanged previous clear) (countFrom (previousCount k)) (itemsOf table entries)
+unfoldable pub outcomeByEntries : List Layer → kept.Kept → Color → PreviousClear → List Entry → Outcome
+outcomeByEntries table k clear previous entries = outcomeOf clear (clearUnchanged previous clear) (countFrom (previousCount k)) (itemsOf table entries)
 
 -- from the layers of a tile
 abbrev pub outcomeIn : List Layer → kept.Kept → Color → PreviousClear → List Listed → Outcome
-outcomeIn table k clear previous ls = outcomeOn table k clear previous (map entryOf ls)
+outcomeIn table k clear previous ls = outcomeByEntries table k clear previous (map entryOf ls)
 
 -- the cached tile afterwards: any work updates the count, paint clears tag 1, and nothing else changes
 abbrev pub keptBy : TileDecision → kept.Kept → kept.Kept

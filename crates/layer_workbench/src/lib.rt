@@ -15,11 +15,11 @@ ghost use Rattle.layer_table.specs.Table.{Table, tableOf};
 ghost use Rattle.queue_statements.specs.Queue.{queueOf};
 ghost use Rattle.tile_layers.specs.Listing.{layersIn, areLight};
 ghost use Rattle.tile_layers.specs.Walk.{Walks};
-ghost use Rattle.cached_tile.specs.Tile.{countOf};
+ghost use Rattle.cached_tile.specs.Tile.{countIn};
 ghost use Rattle.pass_statements.specs.Entry.{entriesOf};
 ghost use Rattle.pass_statements.specs.Decision.{decisionIn};
-ghost use Rattle.pass_statements.specs.Item.{Columns};
-ghost use Rattle.layer_workbench.specs.Work.{clearUnchanged, countFrom, keptBy, outcomeOn, outcomeIn};
+ghost use Rattle.pass_statements.specs.Item.{EntryColumns};
+ghost use Rattle.layer_workbench.specs.Work.{clearUnchanged, countFrom, keptBy, outcomeByEntries, outcomeIn};
 ghost use Rattle.layer_workbench.specs.Work.{carriesAfter, Decides, Works, ListWritten, QueueWritten, Rooms};
 
 // The clear colour of the frame before, where one is given.
@@ -55,7 +55,7 @@ pub fn is_clear_unchanged(previous: PreviousClear, clear: Color) -> bool
 }
 
 fn previous_count(count: LayerCount) -> PreviousCount
-    ensures { λ r. ⌜ r ≡ countFrom (countOf count) ⌝ }
+    ensures { λ r. ⌜ r ≡ countFrom (countIn count) ⌝ }
 {
     match count {
         LayerCount::Count(n) => PreviousCount::Kept(n),
@@ -88,9 +88,9 @@ pub fn decide_tile(
     previous: PreviousClear,
     unmasked: &mut [bool],
 ) -> DecidedTile
-    requires { ⌜ Columns n (now ids) (now covers) (now segments) × Table (now layers) (now colors) count
+    requires { ⌜ EntryColumns n (now ids) (now covers) (now segments) × Table (now layers) (now colors) count
         × (n ≤ length (now unmasked)) ⌝ }
-    ensures { λ r. ⌜ Decides (outcomeOn (tableOf (now (layers .entry)) (now (colors .entry)) count) kept clear previous
+    ensures { λ r. ⌜ Decides (outcomeByEntries (tableOf (now (layers .entry)) (now (colors .entry)) count) kept clear previous
         (entriesOf n (now (ids .entry)) (now (covers .entry)) (now (segments .entry)))) kept n (now (unmasked .entry)) r
         (now (unmasked .exit)) ⌝ }
 {

@@ -13,21 +13,21 @@ use Rattle.lines.specs.declared.Block.the-variants.{Lines, Cut}
 use Rattle.lines.specs.Parse.{ParsedLines, stripPrefix, parseLine}
 
 -- an answer as the text that it leaves
-abbrev pub placeOf : List ℕ → Place → Option (List ℕ)
-placeOf s (At i) = some (drop i s)
-placeOf s Broken = none
+abbrev pub textLeft : List ℕ → Place → Option (List ℕ)
+textLeft s (At i) = some (drop i s)
+textLeft s Broken = none
 
 abbrev pub reached : Place → ℕ
 reached (At i) = i
 reached Broken = 0
 
 pub record PrefixRead (prefix s : List ℕ) (at : ℕ) (r : Place) : Type 0 where
-  pub answer : placeOf s r ≡ stripPrefix prefix (drop at s)
+  pub answer : textLeft s r ≡ stripPrefix prefix (drop at s)
   pub within : reached r ≤ length s
 
 -- the numbers of the line, up to where its form is broken, stand from place o on, and the other entries are as they were
 pub record LineRead (k : ℕ) (s : List ℕ) (at : ℕ) (out : List ℤ) (o : ℕ) (r : Place) (out′ : List ℤ) : Type 0 where
-  pub answer : placeOf s r ≡ (parseLine k (drop at s)) .rest
+  pub answer : textLeft s r ≡ (parseLine k (drop at s)) .rest
   pub within : reached r ≤ length s
   pub stored : out′ ≡ sets out o ((parseLine k (drop at s)) .numbers)
 

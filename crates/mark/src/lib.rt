@@ -3,12 +3,12 @@ use cover_statements::mark::Marked;
 ghost use mathlib.Core.Path.{_≡_};
 ghost use Prim.Native.Nat.{_<_, _≤_, _/_, _%_};
 ghost use lib.ListN.{length};
-ghost use Rattle.cover_statements.specs.Mark.{isUsed, markOf, marked, markedAnswer, Counted};
+ghost use Rattle.cover_statements.specs.Mark.{isOctetUsed, markOf, marked, markedAnswer, Counted};
 
 // Octet h of a column is rows 8h to 8h + 7, so octet 2 × column + h is the eight numbers from 8 times it on.
 fn is_used(plane: &[f32], octet: usize) -> bool
     requires { ⌜ (octet < 32) × (256 ≤ length (now plane)) ⌝ }
-    ensures { λ r. ⌜ r ≡ isUsed (now (plane .entry)) (octet / 2) (octet % 2) ⌝ }
+    ensures { λ r. ⌜ r ≡ isOctetUsed (now (plane .entry)) (octet / 2) (octet % 2) ⌝ }
 {
     let a = 8 * octet;
     (plane[a] > 0.0)

@@ -7,22 +7,22 @@ use Prim.Native.Nat.{ℕ, _+_, _≤_}
 use lib.Dec.{ltb, leb}
 use lib.IntN.{ℤ}
 use lib.ListN.{length, drop}
-use Rattle.laws.specs.Answer.{Answer, refused, given}
+use Rattle.laws.specs.Answer.{Answer, refused, given, isGiven}
 use Rattle.laws.proofs.Drops.{cons-rest}
 use Rattle.laws.specs.Lists.{filter}
 use Rattle.layer_table.specs.Lookup.{lookup}
 use Rattle.styling.specs.declared.Layer.{Layer}
 use Rattle.cover_statements.specs.Entry as entries
 use Rattle.queue_statements.specs.Queue.{queueOf, zeros}
-use Rattle.tile_layers.specs.Listing.{Listed, layersIn, isGiven}
-use Rattle.tile_layers.specs.Walk.{listedAt, leftOf, Stepped, Moved}
+use Rattle.tile_layers.specs.Listing.{Listed, layersIn}
+use Rattle.tile_layers.specs.Walk.{listedAt, layersLeft, Stepped, Moved}
 use Rattle.tile_layers.specs.declared.walk.Next.{Next}
 use Rattle.tile_layers.proofs.Walking.{Walking, walk-start, walk-here, walk-next, walk-end}
 use Rattle.tile_layers.proofs.Filling.{has-between}
 use Rattle.pass_statements.specs.Clips.{isClip}
 use Rattle.pass_statements.specs.Entry.{Entry}
 use Rattle.pass_statements.specs.Item.{itemFor, itemFrom, itemOf, itemsOf}
-use Rattle.pass_statements.specs.Rules.{lastOf, latestClip, isFreed}
+use Rattle.pass_statements.specs.Rules.{lastReached, latestClip, isFreed}
 use Rattle.pass_statements.specs.declared.item.Item.{Item}
 use Rattle.layer_workbench.specs.Work.{entryOf}
 use Rattle.painter.specs.Freed.{freedAfter, freedBy}
@@ -54,7 +54,7 @@ module _ (table : List Layer) (id : ℕ) where
   freed-with : (x : Item) (found : Option Item) (freed : Bool) → freed ≡ isFreed found id → freedAfter x id freed ≡ isFreed (latestWith x found) id
   freed-with x found freed e = by (isClip (x .func) && ltb (x .id) id)
     where
-      by : (t : Bool) → cond t (leb id (lastOf (x .id) (x .func)) && x .full) freed ≡ isFreed (cond t (some x) found) id
+      by : (t : Bool) → cond t (leb id (lastReached (x .id) (x .func)) && x .full) freed ≡ isFreed (cond t (some x) found) id
       by true = refl
       by false = e
 
@@ -76,11 +76,11 @@ module _ (n : ℕ) (ids : List ℕ) (covers : List ℤ) (part : List ℕ) (table
   pub free-start : Freeing false 0 0
   free-start = record { k = 0; walking = walk-start n ids covers part; found = none; freed-is = refl; left = refl }
 
-  pub free-next : {i j : ℕ} {freed : Bool} → Freeing freed i j → (r : Next) → Stepped n ids covers part i j r → Moved n part i j r → (cover : List ℤ) (freed′ : Bool) → cover ≡ cond (r .carried) (entries.entryOf 16 i covers) zeros → freed′ ≡ freedBy (lookup table (r .id)) (record { id = r .id; cover = cover; segments = ltb j (r .end) }) id freed → Freeing freed′ (r .i) (r .end)
+  pub free-next : {i j : ℕ} {freed : Bool} → Freeing freed i j → (r : Next) → Stepped n ids covers part i j r → Moved n part i j r → (cover : List ℤ) (freed′ : Bool) → cover ≡ cond (r .carried) (entries.coverEntry 16 i covers) zeros → freed′ ≡ freedBy (lookup table (r .id)) (record { id = r .id; cover = cover; segments = ltb j (r .end) }) id freed → Freeing freed′ (r .i) (r .end)
   free-next {i} {j} {freed} s r p m cover freed′ ec ef =
       let x = listedAt covers part i j r in
       let e = walk-here n ids covers part (s .walking) r p in
-      let rest = leftOf n ids covers part (r .i) (r .end) in
+      let rest = layersLeft n ids covers part (r .i) (r .end) in
       record {
         k = s .k + 1;
         walking = walk-next n ids covers part (s .walking) r p m;

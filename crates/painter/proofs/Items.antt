@@ -3,10 +3,11 @@
 use mathlib.Core.Path.{_≡_, ap}
 use mathlib.Core.Bool.{true}
 use mathlib.Core.List.{List, map}
+use Rattle.laws.specs.Answer.{isGiven}
 use Rattle.laws.proofs.Filtered.{filter-all}
 use Rattle.layer_table.specs.Lookup.{lookup}
 use Rattle.styling.specs.declared.Layer.{Layer}
-use Rattle.tile_layers.specs.Listing.{Listed, isGiven, areKnown}
+use Rattle.tile_layers.specs.Listing.{Listed, areKnown}
 use Rattle.pass_statements.specs.Item.{itemsOf}
 use Rattle.layer_workbench.specs.Work.{entryOf}
 use Rattle.painter.specs.Painting.{itemsIn}

@@ -21,13 +21,13 @@ use Rattle.layer_table.proofs.Ranges.{id-le, span-le}
 use Rattle.styling.specs.declared.Func.{Func}
 use Rattle.styling.specs.declared.Func.the-variants.{Draw, Clip}
 use Rattle.styling.specs.declared.Layer.{Layer}
-use Rattle.pass_statements.specs.Rules.{lastOf}
+use Rattle.pass_statements.specs.Rules.{lastReached}
 
 -- where a function is a clip, its last layer id is a sum
-pub last-sum : (id span : ℕ) (func : Func) → func ≡ Clip span → lastOf id func ≤ 4294967295 → id + span ≤ 4294967295
+pub last-sum : (id span : ℕ) (func : Func) → func ≡ Clip span → lastReached id func ≤ 4294967295 → id + span ≤ 4294967295
 last-sum id span func e h = rw e at h
 
-last-le : (id : ℕ) (func : Func) → id ≤ 2097151 → ((n : ℕ) → func ≡ Clip n → n ≤ 2097151) → lastOf id func ≤ 4294967295
+last-le : (id : ℕ) (func : Func) → id ≤ 2097151 → ((n : ℕ) → func ≡ Clip n → n ≤ 2097151) → lastReached id func ≤ 4294967295
 last-le id (Draw style) h k = omega arith
 last-le id (Clip span) h k = omega (arith, k span refl)
 
@@ -42,15 +42,15 @@ looked-passes p (x ∷ ls) id l h e =
     (eq-or-ne (x .id) id)
 
 -- the last layer id of the layer that is found
-pub last-small : {words : List ℕ} {floats : List Float} {count : ℕ} → Table words floats count → (id : ℕ) (layer : Layer) → lookup (tableOf words floats count) id ≡ given layer → lastOf id (layer .props .func) ≤ 4294967295
+pub last-small : {words : List ℕ} {floats : List Float} {count : ℕ} → Table words floats count → (id : ℕ) (layer : Layer) → lookup (tableOf words floats count) id ≡ given layer → lastReached id (layer .props .func) ≤ 4294967295
 last-small {words} {floats} {count} t id layer e =
     let table = tableOf words floats count in
-    let test : Layer → Bool = λ l. leb (lastOf (l .id) (l .props .func)) 4294967295 in
+    let test : Layer → Bool = λ l. leb (lastReached (l .id) (l .props .func)) 4294967295 in
     let each : all test table ≡ true =
     all-intro test table (layerAt words floats 0)
     (λ i h.
     let at : i < count = rw (length-table words floats count) at h in
     ap test (getD-table words floats count (layerAt words floats 0) i at)
-    ∙ le-leb (lastOf (layerAt words floats i .id) (layerAt words floats i .props .func)) 4294967295
+    ∙ le-leb (lastReached (layerAt words floats i .id) (layerAt words floats i .props .func)) 4294967295
     (last-le (layerAt words floats i .id) (layerAt words floats i .props .func) (rw (layer-id words floats i) (id-le t at)) (λ n q. span-le t at q))) in
-    rw (← lookup-id table id layer e) (leb-true (lastOf (layer .id) (layer .props .func)) 4294967295 (looked-passes test table id layer each e))
+    rw (← lookup-id table id layer e) (leb-true (lastReached (layer .id) (layer .props .func)) 4294967295 (looked-passes test table id layer each e))

@@ -29,10 +29,10 @@ abbrev pub clipAfter : Func → ℕ → Option ℕ → Option ℕ
 clipAfter (Draw style) id clip = aliveAt clip id
 clipAfter (Clip span) id clip = keptOr (aliveAt clip id) (id + span)
 
-abbrev pub isAbsent : Option ℕ → Bool
-isAbsent none = true
-isAbsent (some last) = false
+abbrev pub hasNoClip : Option ℕ → Bool
+hasNoClip none = true
+hasNoClip (some last) = false
 
 -- a clip is needed, and none is alive
 abbrev pub lacksClip : Bool → Option ℕ → Bool
-lacksClip needs alive = isAbsent alive && needs
+lacksClip needs alive = hasNoClip alive && needs

@@ -7,12 +7,12 @@ use Rattle.styling.specs.declared.Layer.{Layer}
 use Rattle.pass_statements.specs.Clips.{isClip}
 use Rattle.pass_statements.specs.Entry.{Entry}
 use Rattle.pass_statements.specs.Item.{itemFor}
-use Rattle.pass_statements.specs.Rules.{lastOf}
+use Rattle.pass_statements.specs.Rules.{lastReached}
 use Rattle.pass_statements.specs.declared.item.Item.{Item}
 
 -- once the listed layer x is met: a clip below the layer id decides anew
 abbrev pub freedAfter : Item → ℕ → Bool → Bool
-freedAfter x id freed = cond (isClip (x .func) && ltb (x .id) id) (leb id (lastOf (x .id) (x .func)) && x .full) freed
+freedAfter x id freed = cond (isClip (x .func) && ltb (x .id) id) (leb id (lastReached (x .id) (x .func)) && x .full) freed
 
 -- by what the table has for an entry
 abbrev pub freedBy : Answer Layer → Entry → ℕ → Bool → Bool

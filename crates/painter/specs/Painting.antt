@@ -9,6 +9,7 @@ use Prim.Native.Nat.{ℕ, _≤_}
 use lib.Ieee.{Float}
 use lib.IntN.{ℤ}
 use lib.ListN.{length}
+use Rattle.laws.specs.Answer.{isGiven}
 use Rattle.laws.specs.Lists.{over, filter}
 use Rattle.pixel_segment.specs.Field.{cpu}
 use Rattle.segment_rows.specs.Search.{layerPart}
@@ -21,7 +22,7 @@ use Rattle.cover_statements.specs.Carry.{isLight}
 use Rattle.cover_statements.specs.Mark.{markOf}
 use Rattle.cover_statements.specs.Paint.{partPlane}
 use Rattle.queue_statements.specs.Queue.{Carry, heldIn, Queued}
-use Rattle.tile_layers.specs.Listing.{Listed, layersIn, isGiven}
+use Rattle.tile_layers.specs.Listing.{Listed, layersIn}
 use Rattle.tile_layers.specs.Walk.{Walks}
 use Rattle.pass_statements.specs.Item.{itemsOf}
 use Rattle.pass_statements.specs.Rules.{needsClip}

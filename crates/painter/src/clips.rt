@@ -3,7 +3,7 @@ use crate::Clip;
 use styling::Func;
 ghost use mathlib.Core.Path.{_≡_};
 ghost use Prim.Native.Nat.{_≤_};
-ghost use Rattle.pass_statements.specs.Rules.{lastOf};
+ghost use Rattle.pass_statements.specs.Rules.{lastReached};
 ghost use Rattle.painter.specs.Clip.{clipIn, aliveAt, keptOr, clipAfter, lacksClip};
 
 // A clip that ended below the painted layer is dropped.
@@ -34,7 +34,7 @@ fn kept_or(alive: Clip, last: u32) -> Clip
 
 // The clip after a layer is painted.
 pub fn clip_after(func: Func, id: u32, clip: Clip) -> Clip
-    requires { ⌜ lastOf id func ≤ 4294967295 ⌝ }
+    requires { ⌜ lastReached id func ≤ 4294967295 ⌝ }
     ensures { λ r. ⌜ clipIn r ≡ clipAfter func id (clipIn clip) ⌝ }
 {
     let alive = alive_at(clip, id);

@@ -19,7 +19,7 @@ use Rattle.pass_statements.specs.declared.clips.Current.the-variants.{Ac
 use Rattle.pass_statements.specs.declared.clips.Step.{Step}
 use Rattle.pass_statements.specs.Clips.{place, isClip, stepOf, maskOff, unmaskedAfter, clipsFrom}
 use Rattle.pass_statements.specs.Covered.{itemAt}
-use Rattle.pass_statements.specs.Rules.{lastOf, meetsClip}
+use Rattle.pass_statements.specs.Rules.{lastReached, meetsClip}
 use Rattle.pass_statements.proofs.Turns.{opened, kept, Turn, opens, bare, past, within, turn}
 use Rattle.pass_statements.proofs.Clipping.{Below, below-up, behind, at-kept, length-off, length-after}
 use Rattle.pass_statements.proofs.Marks.{below-apart, after-other, off-other, off-own, unmasked-before}
@@ -137,7 +137,7 @@ waits (y ∷ ys) k i s u a e h l =
 
 -- what a clip is judged by
 abbrev pub judgedBy : Item → List Item → Bool
-judgedBy c above = not (c .full) && (meetsClip (lastOf (c .id) (c .func)) above || meetsUser (lastOf (c .id) (c .func)) above)
+judgedBy c above = not (c .full) && (meetsClip (lastReached (c .id) (c .func)) above || meetsUser (lastReached (c .id) (c .func)) above)
 
 pub judged : (xs : List Item) (i : ℕ) (cur : Current) (s u : List Bool) (p j : ℕ) → Below cur i → p < length xs → isClip (itemAt xs p .func) ≡ true
     → i + length xs ≤ length s → j ≡ i + p → getD s j false ≡ true → getD (clipsFrom xs i cur s u .unmasked) j false ≡ judgedBy (itemAt xs p) (drop (suc p) xs)
@@ -158,7 +158,7 @@ judged (x ∷ xs) i cur s u zero j b h c o e f = by (turn x cur i)
     by : Turn x cur i → getD (clipsFrom (x ∷ xs) i cur s u .unmasked) j false ≡ judgedBy x xs
     by (opens span g t) =
         let k = opened x span i in
-        let reach : lastOf (x .id) (x .func) ≡ x .id + span = rw g in
+        let reach : lastReached (x .id) (x .func) ≡ x .id + span = rw g in
         let room : i < length s = omega arith in
         let fresh : getD (maskOff s i (x .full)) j false ≡ not (x .full) = rw here (off-own s i (x .full) room (rw here at f)) in
         ap (λ (z : Step). rest xs i s u z j) t

@@ -8,7 +8,7 @@ use lib.IntN.{ℤ, pos}
 use lib.ListN.{length, getD, drop}
 use Rattle.laws.specs.Lists.{tabulate}
 use Rattle.laws.proofs.Rows.{is-tabulate, length-tabulate, getD-tabulate}
-use Rattle.cover_statements.specs.Entry.{entryOf}
+use Rattle.cover_statements.specs.Entry.{coverEntry}
 use Rattle.cover_statements.proofs.Entries.{entry-length, entry-at}
 use Rattle.laws.specs.Answer.{given, refused}
 use Rattle.styling.specs.declared.Layer.{Layer}
@@ -21,11 +21,11 @@ use Rattle.pass_statements.specs.Item.{itemFor, itemOf, itemsOf}
 use Rattle.pass_statements.specs.declared.item.Item.{Item}
 
 -- the cover of an entry, as `read_cover` gives it
-pub cover-entry : (covers : List ℤ) (i : ℕ) → i * 16 + 16 ≤ length covers → coverFrom covers i ≡ entryOf 16 i covers
+pub cover-entry : (covers : List ℤ) (i : ℕ) → i * 16 + 16 ≤ length covers → coverFrom covers i ≡ coverEntry 16 i covers
 unfolding coverFrom
 cover-entry covers i h =
     sym
-    (is-tabulate 16 (λ y. getD covers (16 * i + y) (pos 0)) (pos 0) (entryOf 16 i covers) (entry-length 16 i covers h)
+    (is-tabulate 16 (λ y. getD covers (16 * i + y) (pos 0)) (pos 0) (coverEntry 16 i covers) (entry-length 16 i covers h)
     (λ y p. entry-at 16 i covers y p ∙ ap (λ (k : ℕ). getD covers k (pos 0)) (omega arith)))
 
 -- ---- the item of an entry: its layer is found in the table, or missing

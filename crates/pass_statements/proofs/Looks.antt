@@ -3,7 +3,7 @@ use mathlib.Core.Path.{_≡_}
 use mathlib.Core.Bool.{Bool, true, false, _&&_}
 use Prim.Native.Nat.{ℕ}
 use Rattle.styling.specs.declared.Paint.{Paint}
-use Rattle.styling.specs.Style.{paintOf, isOpaque, solidColor}
+use Rattle.styling.specs.Style.{colorIn, isOpaque, solidColor}
 use Rattle.pass_statements.specs.declared.Index.{Index}
 use Rattle.pass_statements.specs.declared.item.Item.{Item}
 use Rattle.pass_statements.specs.declared.covered.InterestingCover.{InterestingCover}
@@ -15,7 +15,7 @@ module _ (x : Item) (unclipped : Bool) where
   pub tells-partial : {p : Bool} → p ≡ isPartial x unclipped → p ≡ true → Incomplete ≡ tells x unclipped
   tells-partial e h = rw (← e, h)
 
-  pub tells-opaque : {p o : Bool} (paint : Paint) {r : InterestingCover} → p ≡ isPartial x unclipped → p ≡ false → o ≡ isOpaque (x .func) → o ≡ true → paintOf paint ≡ solidColor (x .func) → r ≡ opaqueOf (paintOf paint) → r ≡ tells x unclipped
+  pub tells-opaque : {p o : Bool} (paint : Paint) {r : InterestingCover} → p ≡ isPartial x unclipped → p ≡ false → o ≡ isOpaque (x .func) → o ≡ true → colorIn paint ≡ solidColor (x .func) → r ≡ opaqueOf (colorIn paint) → r ≡ tells x unclipped
   tells-opaque paint e h f k s q = rw (← e, h, ← f, k, ← s) q
 
   pub tells-nothing : {p o : Bool} → p ≡ isPartial x unclipped → p ≡ false → o ≡ isOpaque (x .func) → o ≡ false → Absent ≡ tells x unclipped

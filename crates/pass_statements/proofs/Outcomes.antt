@@ -21,7 +21,7 @@ use Rattle.pass_statements.specs.Unchanged.{isKept, wereRemoved}
 use Rattle.pass_statements.specs.Clips.{isClip, marksOf}
 use Rattle.pass_statements.specs.Covered.{isPartial, itemAt}
 use Rattle.pass_statements.specs.Decide.{passedOf, outcomeOf}
-use Rattle.pass_statements.specs.Rules.{needsClip, isAscending, isUnmasked, isFree, latestBelow, isFreed, DrawAt, ClipAt, isFollowed, isUsed, Hides, Over}
+use Rattle.pass_statements.specs.Rules.{needsClip, isAscending, isUnmasked, isFree, latestBelow, isFreed, DrawAt, ClipAt, isFollowed, isClipUsed, Hides, Over}
 use Rattle.pass_statements.proofs.Covering.{Hiding}
 use Rattle.pass_statements.proofs.Judged.{judgedBy, judged}
 use Rattle.pass_statements.proofs.Users.{used-at}
@@ -92,7 +92,7 @@ module _ (items : List Item) where
     higher : (i p : ℕ) → i < p → p < length items → itemAt items i .id < itemAt items p .id
     higher i p h l = omega (arith, ascends-lt 0 (map idOf items) ascending i p h (rw length-map l), id-at items i, id-at items p)
 
-    pub clip-rule : {i : ℕ} → ClipAt items i → isUnmasked items i ≡ (not (itemAt items i .full) && (isFollowed items i || isUsed items i))
+    pub clip-rule : {i : ℕ} → ClipAt items i → isUnmasked items i ≡ (not (itemAt items i .full) && (isFollowed items i || isClipUsed items i))
     clip-rule {i} c =
         judged-at c
         ∙ ap (λ (t : Bool). not (itemAt items i .full) && (isFollowed items i || t)) (sym (used-at items i 0 none ascending (omega arith) (c .listed) (c .clips)))

@@ -19,7 +19,7 @@ use Rattle.pass_statements.specs.declared.clips.Current.{Current}
 use Rattle.pass_statements.specs.declared.clips.Current.the-variants.{Nothing, Active}
 use Rattle.pass_statements.specs.Clips.{isClip, stepOf, unmaskedAfter, clipsFrom}
 use Rattle.pass_statements.specs.Covered.{itemAt}
-use Rattle.pass_statements.specs.Rules.{latestClip, lastOf, isUnder, isFreed}
+use Rattle.pass_statements.specs.Rules.{latestClip, lastReached, isUnder, isFreed}
 use Rattle.pass_statements.proofs.Turns.{kept, Turn, opens, bare, past, within, turn}
 use Rattle.pass_statements.proofs.Clipping.{Below, below-up, behind, length-after}
 use Rattle.pass_statements.proofs.Marks.{below-apart, after-other, unmasked-draw, unclipped-own}
@@ -70,9 +70,9 @@ latest-own low x xs found a =
 
 abbrev pub Agree : Current → Option Item → ℕ → Type 0
 Agree Nothing none low = 0 ≤ low
-Agree Nothing (some c) low = lastOf (c .id) (c .func) < low
+Agree Nothing (some c) low = lastReached (c .id) (c .func) < low
 Agree (Active k) none low = ⊥
-Agree (Active k) (some c) low = (k .last ≡ lastOf (c .id) (c .func)) × (k .full ≡ c .full)
+Agree (Active k) (some c) low = (k .last ≡ lastReached (c .id) (c .func)) × (k .full ≡ c .full)
 
 agree-none : (found : Option Item) (low low′ : ℕ) → Agree Nothing found low → low ≤ low′ → Agree Nothing found low′
 agree-none none low low′ a h = omega arith
@@ -94,7 +94,7 @@ agree-step x cur i found low a h = by (turn x cur i)
     by : Turn x cur i → Agree (stepOf x cur i .cur) (cond (isClip (x .func)) (some x) found) (suc (x .id))
     by (opens span e s) =
         let is : isClip (x .func) ≡ true = rw e in
-        let reach : x .id + span ≡ lastOf (x .id) (x .func) = rw e in
+        let reach : x .id + span ≡ lastReached (x .id) (x .func) = rw e in
         rw (s, is) (reach, refl)
     by (bare e q s) = rw (s, e) (agree-none found low (suc (x .id)) (rw q at a) (omega arith))
     by (past k e q l s) = rw (s, e) (agree-ended k found low (x .id) (rw q at a) l)
@@ -106,10 +106,10 @@ record Marked (clipped : Bool) (found : Option Item) (id : ℕ) (masked unclippe
   unmasked : not masked ≡ (not clipped || isUnder found id)
   free : unclipped ≡ (clipped && isFreed found id)
 
-marked-past : (b : Bool) (c : Item) (id : ℕ) → lastOf (c .id) (c .func) < id → Marked b (some c) id b false
+marked-past : (b : Bool) (c : Item) (id : ℕ) → lastReached (c .id) (c .func) < id → Marked b (some c) id b false
 marked-past false c id h = record { unmasked = refl; free = refl }
 marked-past true c id h =
-    let past : leb id (lastOf (c .id) (c .func)) ≡ false = lt-leb id (lastOf (c .id) (c .func)) h in record {
+    let past : leb id (lastReached (c .id) (c .func)) ≡ false = lt-leb id (lastReached (c .id) (c .func)) h in record {
       unmasked = rw past;
       free = rw past;
     }
@@ -127,7 +127,7 @@ marked-within : (b : Bool) (k : ActiveClip) (found : Option Item) (low id : ℕ)
 marked-within b k none low id a h = absurd a
 marked-within false k (some c) low id a h = record { unmasked = refl; free = refl }
 marked-within true k (some c) low id a h =
-    let reach : leb id (lastOf (c .id) (c .func)) ≡ true = le-leb id (lastOf (c .id) (c .func)) (omega (arith, a .0)) in record {
+    let reach : leb id (lastReached (c .id) (c .func)) ≡ true = le-leb id (lastReached (c .id) (c .func)) (omega (arith, a .0)) in record {
       unmasked = rw reach;
       free = rw reach (a .1);
     }

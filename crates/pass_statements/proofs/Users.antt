@@ -20,7 +20,7 @@ use Rattle.styling.proofs.Ascents.{ascends-head, ascends-tail}
 use Rattle.pass_statements.specs.declared.item.Item.{Item}
 use Rattle.pass_statements.specs.Clips.{isClip}
 use Rattle.pass_statements.specs.Covered.{itemAt}
-use Rattle.pass_statements.specs.Rules.{latestClip, lastOf, isLatest, uses}
+use Rattle.pass_statements.specs.Rules.{latestClip, lastReached, isLatest, uses}
 use Rattle.pass_statements.proofs.Under.{idOf, low-at, latest-past, latest-own}
 use Rattle.pass_statements.proofs.Judged.{meetsUser}
 
@@ -71,14 +71,14 @@ module _ (c : Item) where
       by false = e
 
   -- past its end
-  meets-past : (low : ℕ) (xs : List Item) → strictlyAscendsFrom low (map idOf xs) ≡ true → lastOf (c .id) (c .func) < low → meetsUser (lastOf (c .id) (c .func)) xs ≡ false
+  meets-past : (low : ℕ) (xs : List Item) → strictlyAscendsFrom low (map idOf xs) ≡ true → lastReached (c .id) (c .func) < low → meetsUser (lastReached (c .id) (c .func)) xs ≡ false
   unfolding meetsUser
   meets-past low [] a h = refl
   meets-past low (x ∷ xs) a h =
-      rw (lt-leb (x .id) (lastOf (c .id) (c .func)) (omega (arith, ascends-head low (x .id) (map idOf xs) a))) (and-false (not (isClip (x .func))))
+      rw (lt-leb (x .id) (lastReached (c .id) (c .func)) (omega (arith, ascends-head low (x .id) (map idOf xs) a))) (and-false (not (isClip (x .func))))
 
   -- above c, while it is the latest clip
-  used-own : (low : ℕ) (xs : List Item) (found : Option Item) → strictlyAscendsFrom low (map idOf xs) ≡ true → c .id < low → isLatest c found ≡ true → used found xs ≡ meetsUser (lastOf (c .id) (c .func)) xs
+  used-own : (low : ℕ) (xs : List Item) (found : Option Item) → strictlyAscendsFrom low (map idOf xs) ≡ true → c .id < low → isLatest c found ≡ true → used found xs ≡ meetsUser (lastReached (c .id) (c .func)) xs
   unfolding meetsUser
   used-own low [] found a h e = refl
   used-own low (x ∷ xs) found a h e =
@@ -87,7 +87,7 @@ module _ (c : Item) where
       used-step low x xs found a ∙ by tail higher (used-own (suc (x .id)) xs found tail (omega arith) e) (isClip (x .func)) refl
     where
       last : ℕ
-      last = lastOf (c .id) (c .func)
+      last = lastReached (c .id) (c .func)
 
       within : (clipped : Bool) (m : Bool) (t : Bool) → (t ≡ false → m ≡ false) → (clipped && true && t || m) ≡ (t && (clipped || m))
       within true m true q = refl
@@ -113,7 +113,7 @@ lower-not c (some x) low l h = ne-eqb (x .id) (c .id) (λ q. omega arith)
 
 -- the clip in place p of the list
 pub used-at : (xs : List Item) (p low : ℕ) (found : Option Item) → strictlyAscendsFrom low (map idOf xs) ≡ true → Lower found low → p < length xs → isClip (itemAt xs p .func) ≡ true
-    → used (itemAt xs p) found xs ≡ meetsUser (lastOf (itemAt xs p .id) (itemAt xs p .func)) (drop (suc p) xs)
+    → used (itemAt xs p) found xs ≡ meetsUser (lastReached (itemAt xs p .id) (itemAt xs p .func)) (drop (suc p) xs)
 used-at [] p low found a l h e = absurd (not-suc-le-zero h)
 used-at (x ∷ xs) zero low found a l h e =
     used-step x low x xs found a

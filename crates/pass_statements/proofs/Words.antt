@@ -20,7 +20,7 @@ use Rattle.pass_statements.specs.Unchanged.{isKept, wereRemoved}
 use Rattle.pass_statements.specs.Clips.{Marks, marksOf}
 use Rattle.pass_statements.specs.Covered.{itemAt, coveredFrom, coveredOf}
 use Rattle.pass_statements.specs.Decide.{shownFrom, shownOf, decisionBy, passedOf, Outcome, outcomeOf}
-use Rattle.pass_statements.specs.Rules.{isUnder, needsClip, isAscending, latestBelow, isUnmasked, isFree, DrawAt, ClipAt, isFollowed, isUsed, Hides, Over, Alike}
+use Rattle.pass_statements.specs.Rules.{isUnder, needsClip, isAscending, latestBelow, isUnmasked, isFree, DrawAt, ClipAt, isFollowed, isClipUsed, Hides, Over, Alike}
 use Rattle.pass_statements.proofs.Covering.{skipped-by, hidden-skipped, unseen}
 use Rattle.pass_statements.proofs.Deciding.{unmasked-long, unclipped-long}
 use Rattle.pass_statements.proofs.Seen.{shown-alike}
@@ -43,7 +43,7 @@ module _ (items : List Item) where
 
   module _ (ascending : isAscending items ≡ true) where
     -- a clip is not masked off exactly where it is not full, and is followed or used
-    pub unmasked-clip : {i : ℕ} → ClipAt items i → isUnmasked items i ≡ (not (itemAt items i .full) && (isFollowed items i || isUsed items i))
+    pub unmasked-clip : {i : ℕ} → ClipAt items i → isUnmasked items i ≡ (not (itemAt items i .full) && (isFollowed items i || isClipUsed items i))
     unmasked-clip c = clip-rule items ascending c
 
     -- a draw is masked off exactly where it is clipped and does not lie within the span of the latest clip

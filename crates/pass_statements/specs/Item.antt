@@ -36,7 +36,7 @@ itemsOf table entries = map (itemOf table) entries
 
 -- ---- what functions over the lent columns ask: n entries, and a judged table
 
-pub record Columns (n : ℕ) (ids : List ℕ) (covers : List ℤ) (segments : List Bool) : Type 0 where
+pub record EntryColumns (n : ℕ) (ids : List ℕ) (covers : List ℤ) (segments : List Bool) : Type 0 where
   pub few : n ≤ 256
   pub ids-long : n ≤ length ids
   pub covers-long : 16 * n ≤ length covers

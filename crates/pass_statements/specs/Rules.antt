@@ -25,19 +25,19 @@ latestClip [] id found = found
 latestClip (x ∷ xs) id found = latestClip xs id (cond (isClip (x .func) && ltb (x .id) id) (some x) found)
 
 -- the last layer id that a clip reaches
-abbrev pub lastOf : ℕ → Func → ℕ
-lastOf id (Clip span) = id + span
-lastOf id (Draw style) = id
+abbrev pub lastReached : ℕ → Func → ℕ
+lastReached id (Clip span) = id + span
+lastReached id (Draw style) = id
 
 -- the layer lies within the span of the clip
 abbrev pub isUnder : Option Item → ℕ → Bool
 isUnder none id = false
-isUnder (some c) id = leb id (lastOf (c .id) (c .func))
+isUnder (some c) id = leb id (lastReached (c .id) (c .func))
 
 -- a full clip, within whose span the layer lies
 abbrev pub isFreed : Option Item → ℕ → Bool
 isFreed none id = false
-isFreed (some c) id = leb id (lastOf (c .id) (c .func)) && c .full
+isFreed (some c) id = leb id (lastReached (c .id) (c .func)) && c .full
 
 -- a draw of the layer id needs a clip
 abbrev pub needsClip : List Item → Func → ℕ → Bool
@@ -70,7 +70,7 @@ pub record ClipAt (items : List Item) (i : ℕ) : Type 0 where
 
 -- the last layer id that the layer in place i reaches
 abbrev pub reachOf : List Item → ℕ → ℕ
-reachOf items i = lastOf (itemAt items i .id) (itemAt items i .func)
+reachOf items i = lastReached (itemAt items i .id) (itemAt items i .func)
 
 -- going up from the lowest of these layers, a clip comes before any layer past the id `last`
 unfoldable pub meetsClip : ℕ → List Item → Bool
@@ -88,11 +88,11 @@ isLatest c (some x) = eqb (x .id) (c .id)
 
 -- x is a clipped draw that has the clip c as its latest one and lies within its span
 abbrev pub uses : Item → Option Item → Item → Bool
-uses c latest x = isClipped (x .func) && isLatest c latest && leb (x .id) (lastOf (c .id) (c .func))
+uses c latest x = isClipped (x .func) && isLatest c latest && leb (x .id) (lastReached (c .id) (c .func))
 
 -- some listed draw uses the clip in place i
-abbrev pub isUsed : List Item → ℕ → Bool
-isUsed items i = any (λ x. uses (itemAt items i) (latestClip items (x .id) none) x) items
+abbrev pub isClipUsed : List Item → ℕ → Bool
+isClipUsed items i = any (λ x. uses (itemAt items i) (latestClip items (x .id) none) x) items
 
 -- the layer in place p hides what is under it: it is listed and not masked off, full and opaque, and needs no clip
 pub record Hides (items : List Item) (unmasked : List Bool) (p : ℕ) : Type 0 where

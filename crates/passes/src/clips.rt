@@ -9,7 +9,7 @@ ghost use lib.ListN.{length, set, replicate};
 ghost use Rattle.laws.specs.Lists.{over};
 ghost use Rattle.layer_table.specs.Table.{Table, tableOf};
 ghost use Rattle.pass_statements.specs.Entry.{entriesOf};
-ghost use Rattle.pass_statements.specs.Item.{itemsOf, Columns};
+ghost use Rattle.pass_statements.specs.Item.{itemsOf, EntryColumns};
 ghost use Rattle.pass_statements.specs.Clips.{maskOff, unmaskedAfter, lastClip, Marking};
 
 // Masks off the entry i, if there is one, where `off` says so.
@@ -74,7 +74,7 @@ pub fn skip_trivial_clips_pass(
     unmasked: &mut [bool],
     unclipped: &mut [bool],
 )
-    requires { ⌜ Columns n (now ids) (now covers) (now segments) × Table (now layers) (now colors) count
+    requires { ⌜ EntryColumns n (now ids) (now covers) (now segments) × Table (now layers) (now colors) count
         × (n ≤ length (now unmasked)) × (n ≤ length (now unclipped)) ⌝ }
     ensures { λ _. ⌜ Marking (itemsOf (tableOf (now (layers .entry)) (now (colors .entry)) count)
         (entriesOf n (now (ids .entry)) (now (covers .entry)) (now (segments .entry)))) (now (unmasked .entry))

@@ -8,7 +8,7 @@ ghost use Prim.Native.Nat.{_≤_};
 ghost use lib.ListN.{length};
 ghost use Rattle.layer_table.specs.Table.{Table, tableOf};
 ghost use Rattle.pass_statements.specs.Entry.{entriesOf};
-ghost use Rattle.pass_statements.specs.Item.{itemsOf, Columns};
+ghost use Rattle.pass_statements.specs.Item.{itemsOf, EntryColumns};
 ghost use Rattle.pass_statements.specs.Covered.{coveredOf};
 
 // The pass, over the layers that the second one did not mask off.
@@ -24,7 +24,7 @@ pub fn skip_fully_covered_layers_pass(
     unclipped: &[bool],
     removed: bool,
 ) -> Covered
-    requires { ⌜ Columns n (now ids) (now covers) (now segments) × Table (now layers) (now colors) count
+    requires { ⌜ EntryColumns n (now ids) (now covers) (now segments) × Table (now layers) (now colors) count
         × (n ≤ length (now unmasked)) × (n ≤ length (now unclipped)) ⌝ }
     ensures { λ r. ⌜ r ≡ coveredOf (itemsOf (tableOf (now (layers .entry)) (now (colors .entry)) count)
         (entriesOf n (now (ids .entry)) (now (covers .entry)) (now (segments .entry)))) (now (unmasked .entry))

@@ -12,10 +12,10 @@ use tile_unchanged::item;
 ghost use mathlib.Core.Path.{_≡_};
 ghost use Prim.Native.Nat.{_≤_};
 ghost use lib.ListN.{length};
-ghost use Rattle.styling.specs.Style.{paintOf};
+ghost use Rattle.styling.specs.Style.{colorIn};
 ghost use Rattle.layer_table.specs.Table.{Table, tableOf};
 ghost use Rattle.pass_statements.specs.Entry.{entriesOf};
-ghost use Rattle.pass_statements.specs.Item.{itemsOf, Columns};
+ghost use Rattle.pass_statements.specs.Item.{itemsOf, EntryColumns};
 ghost use Rattle.pass_statements.specs.Covered.{coveredOf};
 ghost use Rattle.pass_statements.specs.Decision.{codeOf, decisionIn};
 ghost use Rattle.pass_statements.specs.Decide.{hasColor, shownOf, areSolid, mixedOf, DecidedBy, passedOf, outcomeOf};
@@ -32,7 +32,7 @@ pub fn code_of(decision: Decision) -> u32
 }
 
 fn is_color(paint: Paint) -> bool
-    ensures { λ r. ⌜ r ≡ hasColor (paintOf paint) ⌝ }
+    ensures { λ r. ⌜ r ≡ hasColor (colorIn paint) ⌝ }
 {
     match paint {
         Paint::Color(_) => true,
@@ -53,7 +53,7 @@ fn are_solid(
     skipped: Index,
     below: usize,
 ) -> bool
-    requires { ⌜ Columns n (now ids) (now covers) (now segments) × Table (now layers) (now colors) count
+    requires { ⌜ EntryColumns n (now ids) (now covers) (now segments) × Table (now layers) (now colors) count
         × (n ≤ length (now unmasked)) ⌝ }
     ensures { λ r. ⌜ r ≡ areSolid below (shownOf (skipped .0)
         (itemsOf (tableOf (now (layers .entry)) (now (colors .entry)) count)
@@ -90,7 +90,7 @@ fn mix(
     unmasked: &[bool],
     skipped: Index,
 ) -> Decision
-    requires { ⌜ Columns n (now ids) (now covers) (now segments) × Table (now layers) (now colors) count
+    requires { ⌜ EntryColumns n (now ids) (now covers) (now segments) × Table (now layers) (now colors) count
         × (n ≤ length (now unmasked)) ⌝ }
     ensures { λ r. ⌜ decisionIn r ≡ mixedOf bottom (shownOf (skipped .0)
         (itemsOf (tableOf (now (layers .entry)) (now (colors .entry)) count)
@@ -133,7 +133,7 @@ fn decide_unmasked(
     unmasked: &[bool],
     unclipped: &[bool],
 ) -> Decided
-    requires { ⌜ Columns n (now ids) (now covers) (now segments) × Table (now layers) (now colors) count
+    requires { ⌜ EntryColumns n (now ids) (now covers) (now segments) × Table (now layers) (now colors) count
         × (n ≤ length (now unmasked)) × (n ≤ length (now unclipped)) ⌝ }
     ensures { λ r. ⌜ DecidedBy (coveredOf (itemsOf (tableOf (now (layers .entry)) (now (colors .entry)) count)
         (entriesOf n (now (ids .entry)) (now (covers .entry)) (now (segments .entry)))) (now (unmasked .entry))
@@ -186,7 +186,7 @@ fn run_passes(
     count: usize,
     unmasked: &mut [bool],
 ) -> Decided
-    requires { ⌜ Columns n (now ids) (now covers) (now segments) × Table (now layers) (now colors) count
+    requires { ⌜ EntryColumns n (now ids) (now covers) (now segments) × Table (now layers) (now colors) count
         × (n ≤ length (now unmasked)) ⌝ }
     ensures { λ r. ⌜ Deciding (passedOf clear removed (itemsOf
         (tableOf (now (layers .entry)) (now (colors .entry)) count)
@@ -234,7 +234,7 @@ pub fn decide(
     count: usize,
     unmasked: &mut [bool],
 ) -> Decided
-    requires { ⌜ Columns n (now ids) (now covers) (now segments) × Table (now layers) (now colors) count
+    requires { ⌜ EntryColumns n (now ids) (now covers) (now segments) × Table (now layers) (now colors) count
         × (n ≤ length (now unmasked)) ⌝ }
     ensures { λ r. ⌜ Deciding (outcomeOf clear «clear_unchanged» previous
         (itemsOf (tableOf (now (layers .entry)) (now (colors .entry)) count)

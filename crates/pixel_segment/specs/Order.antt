@@ -50,5 +50,5 @@ compareBool true false = 2
 compareBool true true = 1
 
 -- the first rank, unless it says equal: then the next
-abbrev pub andThen : ℕ → ℕ → ℕ
-andThen r s = cond (isEq r) s r
+abbrev pub thenBy : ℕ → ℕ → ℕ
+thenBy r s = cond (isEq r) s r

@@ -27,9 +27,9 @@ abbrev pub wordOf : List ℕ → ℕ → ℤ → ℤ → ℕ → ℕ → ℕ →
 wordOf ws layer tx ty x y m c = join ws (storedOf ty ∷ storedOf tx ∷ layer ∷ x ∷ y ∷ m ∷ modℤ (2 ^ widthOf ws 6) c ∷ []) 0
 
 -- what packing answers, in the numbers of the table of refusals
-abbrev pub answerOf : Packed → Answer ℕ
-answerOf (Segment s) = given (s .0)
-answerOf TileOutOfRange = refused 2
+abbrev pub packedAnswer : Packed → Answer ℕ
+packedAnswer (Segment s) = given (s .0)
+packedAnswer TileOutOfRange = refused 2
 
 abbrev pub packOf : ℕ → ℤ → ℤ → ℕ → ℕ → ℕ → ℤ → Answer ℕ
 packOf layer tx ty x y m c = cond (leZ (pos 32767) tx || leZ (pos 32767) ty) (refused 2) (given (wordOf cpu layer tx ty x y m c))

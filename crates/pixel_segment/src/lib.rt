@@ -9,7 +9,7 @@ ghost use Prim.Native.Nat.{_^_};
 ghost use Rattle.laws.specs.Integer.{modℤ};
 ghost use Rattle.pixel_segment.specs.Field.{cpu, widthOf, layerIdOf, tileXOf, tileYOf, tileOf};
 ghost use Rattle.pixel_segment.specs.Field.{localXOf, localYOf, multiplierOf, doubleAreaOf, coverOf};
-ghost use Rattle.pixel_segment.specs.Pack.{storedOf, packOf, answerOf};
+ghost use Rattle.pixel_segment.specs.Pack.{storedOf, packOf, packedAnswer};
 ghost use Rattle.pixel_segment.specs.Order.{rank, orderKey, compareOf};
 
 // A packed word. Any 64 bits are a segment.
@@ -46,7 +46,7 @@ impl PixelSegment {
         double_area_multiplier: u8,
         cover: i8,
     ) -> Packed
-        ensures { λ r. ⌜ answerOf r
+        ensures { λ r. ⌜ packedAnswer r
             ≡ packOf «layer_id» «tile_x» «tile_y» «local_x» «local_y» «double_area_multiplier» cover ⌝ }
     {
         if 32767 <= tile_x {

@@ -19,7 +19,7 @@ use Rattle.segment_rows.proofs.Halving.{after-le, found-lt, found-equal}
 use Rattle.plate.specs.declared.Part.{Part}
 use Rattle.plate.specs.declared.Crop.{Crop}
 use Rattle.plate.specs.Crop.{isInCrop}
-use Rattle.plate.specs.Rows.{castOf, pastOf, startOf, placeBy, placeOf}
+use Rattle.plate.specs.Rows.{castOf, pastOf, startOf, placeBy, rowPlace}
 use Rattle.plate.specs.Print.{skipped, row, printRow}
 use Rattle.plate.proofs.Neighbours.{compared}
 
@@ -36,20 +36,20 @@ above-fits t l i e = subst (λ (z : ℤ). SFits w16 (z -ℤ pos 1)) (found-tile 
     fits n h = sfits w16 (subℕ n 1 -ℤ pos 1) (omega (arith, difference n 1, taken (subℕ n 1) (pos 1)))
 
 module _ (t : ℤ) (l : List ℕ) where
-  pub row-found : (last start : ℕ) → searchOf (orderAt (TileY t)) l ≡ found last → start ≡ afterOf (searchOf (orderAt (TileY (t -ℤ pos 1))) (take last l)) → record { start = start; end = last + 1 } ≡ placeOf t l
-  unfolding placeOf placeBy
+  pub row-found : (last start : ℕ) → searchOf (orderAt (TileY t)) l ≡ found last → start ≡ afterOf (searchOf (orderAt (TileY (t -ℤ pos 1))) (take last l)) → record { start = start; end = last + 1 } ≡ rowPlace t l
+  unfolding rowPlace placeBy
   row-found last start e h = ap₂ part h (add-one last) ∙ sym (ap (placeBy t l) e)
     where
       part : ℕ → ℕ → Part
       part start end = record { start = start; end = end }
 
-  pub row-absent : (i : ℕ) → searchOf (orderAt (TileY t)) l ≡ absent i → record { start = 0; end = 0 } ≡ placeOf t l
-  unfolding placeOf placeBy
+  pub row-absent : (i : ℕ) → searchOf (orderAt (TileY t)) l ≡ absent i → record { start = 0; end = 0 } ≡ rowPlace t l
+  unfolding rowPlace placeBy
   row-absent i e = sym (ap (placeBy t l) e)
 
   -- a row stands inside the segments
-  pub place-inside : ((placeOf t l) .start ≤ (placeOf t l) .end) × ((placeOf t l) .end ≤ length l)
-  unfolding placeOf placeBy
+  pub place-inside : ((rowPlace t l) .start ≤ (rowPlace t l) .end) × ((rowPlace t l) .end ≤ length l)
+  unfolding rowPlace placeBy
   place-inside = by (searchOf (orderAt (TileY t)) l) refl
     where
       by : (p : Place) → searchOf (orderAt (TileY t)) l ≡ p → ((placeBy t l p) .start ≤ (placeBy t l p) .end) × ((placeBy t l p) .end ≤ length l)
@@ -70,9 +70,9 @@ start-le l = by (searchOf (orderAt (TileYNotNegative false)) l) refl
 pub printed-inside : (crop : Crop) (j : ℕ) (l : List ℕ) (start end : ℕ) → row start end ≡ printRow crop j l → (start ≤ end) × (end ≤ length l)
 printed-inside crop j l start end e = by (isInCrop crop j) e
   where
-    by : (t : Bool) → row start end ≡ cond t (row ((placeOf (castOf j) l) .start) ((placeOf (castOf j) l) .end)) skipped → (start ≤ end) × (end ≤ length l)
+    by : (t : Bool) → row start end ≡ cond t (row ((rowPlace (castOf j) l) .start) ((rowPlace (castOf j) l) .end)) skipped → (start ≤ end) × (end ≤ length l)
     by true p =
-        let a : start ≡ (placeOf (castOf j) l) .start = cc in
-        let b : end ≡ (placeOf (castOf j) l) .end = cc in
+        let a : start ≡ (rowPlace (castOf j) l) .start = cc in
+        let b : end ≡ (rowPlace (castOf j) l) .end = cc in
         rw (a, b) (place-inside (castOf j) l)
     by false p = absurd (let z : _≡_ {A = ℕ} 0 1 = cc in omega arith)

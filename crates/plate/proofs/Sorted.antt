@@ -17,12 +17,12 @@ use Rattle.laws.proofs.Filtered.{filter-ext}
 use Rattle.pixel_segment.specs.Field.{cpu, tileOf, tileYOf}
 use Rattle.pixel_segment.specs.Order.{isLt, isEq, isGt, compareBool}
 use Rattle.segment_rows.specs.Rows.{Ordered}
-use Rattle.segment_rows.specs.Search.{Place, searchOf, orderAt, afterOf, between, lastOf}
+use Rattle.segment_rows.specs.Search.{Place, searchOf, orderAt, afterOf, between, lastPlace}
 use Rattle.segment_rows.specs.declared.search.Key.the-variants.{TileY, TileYNotNegative}
 use Rattle.segment_rows.proofs.Sorted.{Split, splits, sorted-search, above-from, below-to}
 use Rattle.segment_rows.proofs.Keys.{tile-suc, le-tile}
 use Rattle.segment_rows.proofs.TileParts.{after-search, having-part, search-below, from-part}
-use Rattle.plate.specs.Rows.{castOf, pastOf, startOf, notNegative, placeBy, placeOf, rowPart}
+use Rattle.plate.specs.Rows.{castOf, pastOf, startOf, notNegative, placeBy, rowPlace, rowPart}
 use Rattle.plate.proofs.Neighbours.{neighbours, rank-up, tile-order, is-row}
 
 -- ---- two keys, of which `before` is the one before `at`: an element is below the one exactly where it is not above the other
@@ -91,8 +91,8 @@ module _ (l : List ℕ) (o : Ordered (tileYOf cpu) l) where
       }
 
   -- the part from the place of tile row t on is the segments that have it
-  tile-row : (t : ℤ) → between ((placeOf t l) .start) ((placeOf t l) .end) l ≡ filter (λ w. isEq (orderAt (TileY t) w)) l
-  unfolding placeOf placeBy
+  tile-row : (t : ℤ) → between ((rowPlace t l) .start) ((rowPlace t l) .end) l ≡ filter (λ w. isEq (orderAt (TileY t) w)) l
+  unfolding rowPlace placeBy
   tile-row t =
       ap (λ (p : Place). between ((placeBy t l p) .start) ((placeBy t l p) .end) l) (sorted-search at l s)
       ∙ by (countBy (λ w. isEq (at w)) l) refl
@@ -106,7 +106,7 @@ module _ (l : List ℕ) (o : Ordered (tileYOf cpu) l) where
       a : ℕ
       a = countBy (λ w. isLt (at w)) l
 
-      by : (b : ℕ) → countBy (λ w. isEq (at w)) l ≡ b → between ((placeBy t l (lastOf a b)) .start) ((placeBy t l (lastOf a b)) .end) l ≡ filter (λ w. isEq (at w)) l
+      by : (b : ℕ) → countBy (λ w. isEq (at w)) l ≡ b → between ((placeBy t l (lastPlace a b)) .start) ((placeBy t l (lastPlace a b)) .end) l ≡ filter (λ w. isEq (at w)) l
       by zero e = sym (having-part at l s ∙ ap (λ (n : ℕ). take n (drop a l)) e)
       by (suc n) e =
           let split : Split at l a (suc n) = subst (λ (b : ℕ). Split at l a b) e (splits at l s) in
@@ -136,6 +136,6 @@ module _ (l : List ℕ) (o : Ordered (tileYOf cpu) l) where
       ∙ ap (λ (n : ℕ). drop n l) (past-last (countBy (λ w. ltb (f w) 1) l))
       ∙ from-part f 1 l o
     where
-      past-last : (n : ℕ) → pastOf (lastOf 0 n) ≡ n
+      past-last : (n : ℕ) → pastOf (lastPlace 0 n) ≡ n
       past-last zero = refl
       past-last (suc n) = ap suc (omega arith)

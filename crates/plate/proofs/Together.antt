@@ -23,10 +23,10 @@ use Rattle.segment_rows.proofs.Ascending.{from-ordered, from-intro}
 use Rattle.segment_rows.proofs.Rows.{tile-y-ordered}
 use Rattle.segment_rows.proofs.TileLayers.{filter-ascends}
 use Rattle.plate.specs.Crop.{isInCrop}
-use Rattle.plate.specs.Rows.{castOf, placeBy, placeOf, notNegative, rowPart}
+use Rattle.plate.specs.Rows.{castOf, placeBy, rowPlace, notNegative, rowPart}
 use Rattle.plate.specs.Print as printing
 use Rattle.plate.specs.Print.{skipped, partIn, printedPart, printedBelow}
-use Rattle.plate.specs.Sorted.{isPrinted, RowsOf, InRows, Edges}
+use Rattle.plate.specs.Sorted.{isPrinted, RowsOf, InRows, RowEdges}
 use Rattle.plate.specs.declared.Crop.{Crop}
 use Rattle.plate.specs.declared.Crop.the-variants.{Absent}
 use Rattle.plate.proofs.Finding.{found-tile}
@@ -118,7 +118,7 @@ module _ (crop : Crop) (l : List ℕ) (o : Ordered (tileYOf cpu) l) where
       inside w =
           ap (λ (t : Bool). t && eqb (tileYOf cpu w) (suc j)) (sym (and-true (leb 1 (tileYOf cpu w)))) ∙ picked Absent (tileYOf cpu w) j
 
-      by : (t : Bool) → partIn (cond t (printing.row ((placeOf (castOf j) rest) .start) ((placeOf (castOf j) rest) .end)) skipped) rest ≡ filter (λ w. t && eqb (tileYOf cpu w) (suc j)) l
+      by : (t : Bool) → partIn (cond t (printing.row ((rowPlace (castOf j) rest) .start) ((rowPlace (castOf j) rest) .end)) skipped) rest ≡ filter (λ w. t && eqb (tileYOf cpu w) (suc j)) l
       by true =
           part-is rest (filter-ordered (tileYOf cpu) (λ w. leb 1 (tileYOf cpu w)) l o) j h
           ∙ filter-twice (λ w. leb 1 (tileYOf cpu w)) (λ w. eqb (tileYOf cpu w) (suc j)) l
@@ -195,14 +195,14 @@ module _ (l : List ℕ) (s : Words l) (h : ascends (orderKey cpu) l ≡ true) wh
 
 -- ---- every plate
 
-pub edges : (l : List ℕ) → Edges l
-unfolding rowPart placeOf placeBy
+pub edges : (l : List ℕ) → RowEdges l
+unfolding rowPart rowPlace placeBy
 edges l =
     record {
       outside = λ crop j e. rw e;
       inside = λ crop j e. rw e;
       empty = λ j g h. by j g h (searchOf (orderAt (TileY (castOf j))) l) refl;
-      again = λ j. ap (λ (t : ℤ). between ((placeOf t l) .start) ((placeOf t l) .end) l) (cast-again j);
+      again = λ j. ap (λ (t : ℤ). between ((rowPlace t l) .start) ((rowPlace t l) .end) l) (cast-again j);
     }
   where
     by : (j : ℕ) → 2047 ≤ j → j < 65535 → (p : Place) → searchOf (orderAt (TileY (castOf j))) l ≡ p → between ((placeBy (castOf j) l p) .start) ((placeBy (castOf j) l p) .end) l ≡ []

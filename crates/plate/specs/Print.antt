@@ -5,27 +5,27 @@ use mathlib.Core.List.{List, [], _++_}
 use Prim.Native.Nat.{ℕ, zero, suc}
 use Rattle.segment_rows.specs.Search.{between}
 use Rattle.plate.specs.Crop.{isInCrop}
-use Rattle.plate.specs.Rows.{castOf, placeOf}
+use Rattle.plate.specs.Rows.{castOf, rowPlace}
 use Rattle.plate.specs.declared.Crop.{Crop}
 use Rattle.plate.specs.declared.Printed.{Printed}
 use Rattle.plate.specs.declared.Printed.the-variants.{Skipped, Row}
 
 -- a row is skipped, or printed from the segments from one place up to another, of which there may be none
-pub data Printing : Type 0 where
-  skipped : Printing
-  row : ℕ → ℕ → Printing
+pub data RowPrinting : Type 0 where
+  skipped : RowPrinting
+  row : ℕ → ℕ → RowPrinting
 
 -- what an answer of the code stands for
-abbrev pub printingIn : Printed → Printing
+abbrev pub printingIn : Printed → RowPrinting
 printingIn Skipped = skipped
 printingIn (Row part) = row (part .start) (part .end)
 
 -- row j: skipped where it is outside the crop, else printed from its place
-abbrev pub printRow : Crop → ℕ → List ℕ → Printing
-printRow crop j l = cond (isInCrop crop j) (row ((placeOf (castOf j) l) .start) ((placeOf (castOf j) l) .end)) skipped
+abbrev pub printRow : Crop → ℕ → List ℕ → RowPrinting
+printRow crop j l = cond (isInCrop crop j) (row ((rowPlace (castOf j) l) .start) ((rowPlace (castOf j) l) .end)) skipped
 
 -- the segments that a row is printed from
-abbrev pub partIn : Printing → List ℕ → List ℕ
+abbrev pub partIn : RowPrinting → List ℕ → List ℕ
 partIn skipped l = []
 partIn (row start end) l = between start end l
 

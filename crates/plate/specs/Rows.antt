@@ -33,9 +33,9 @@ unfoldable pub placeBy : ℤ → List ℕ → Place → Part
 placeBy t l (found last) = record { start = afterOf (searchOf (orderAt (TileY (t -ℤ pos 1))) (take last l)); end = suc last }
 placeBy t l (absent i) = record { start = 0; end = 0 }
 
-unfoldable pub placeOf : ℤ → List ℕ → Part
-placeOf t l = placeBy t l (searchOf (orderAt (TileY t)) l)
+unfoldable pub rowPlace : ℤ → List ℕ → Part
+rowPlace t l = placeBy t l (searchOf (orderAt (TileY t)) l)
 
 -- the segments of row j
 unfoldable pub rowPart : ℕ → List ℕ → List ℕ
-rowPart j l = between ((placeOf (castOf j) l) .start) ((placeOf (castOf j) l) .end) l
+rowPart j l = between ((rowPlace (castOf j) l) .start) ((rowPlace (castOf j) l) .end) l

@@ -9,7 +9,7 @@ use Rattle.laws.specs.Lists.{filter}
 use Rattle.pixel_segment.specs.Field.{cpu, tileYOf}
 use Rattle.segment_rows.specs.Rows.{isRow}
 use Rattle.plate.specs.Crop.{isInCrop}
-use Rattle.plate.specs.Rows.{castOf, notNegative, placeOf, rowPart}
+use Rattle.plate.specs.Rows.{castOf, notNegative, rowPlace, rowPart}
 use Rattle.plate.specs.Print.{skipped, row, printRow, printedPart, printedBelow}
 use Rattle.plate.specs.declared.Crop.{Crop}
 use Rattle.plate.specs.declared.Crop.the-variants.{Absent}
@@ -39,8 +39,8 @@ pub record InRows (l : List ℕ) : Type 0 where
 
 -- what holds of all segments, in order or not: rows outside the crop are skipped and no others, rows 2,047 to 65,534 are empty, and from
 -- 65,536 on the rows come again
-pub record Edges (l : List ℕ) : Type 0 where
+pub record RowEdges (l : List ℕ) : Type 0 where
   pub outside : (crop : Crop) (j : ℕ) → isInCrop crop j ≡ false → printRow crop j l ≡ skipped
-  pub inside : (crop : Crop) (j : ℕ) → isInCrop crop j ≡ true → printRow crop j l ≡ row ((placeOf (castOf j) l) .start) ((placeOf (castOf j) l) .end)
+  pub inside : (crop : Crop) (j : ℕ) → isInCrop crop j ≡ true → printRow crop j l ≡ row ((rowPlace (castOf j) l) .start) ((rowPlace (castOf j) l) .end)
   pub empty : (j : ℕ) → 2047 ≤ j → j < 65535 → rowPart j l ≡ []
   pub again : (j : ℕ) → rowPart (j + 65536) l ≡ rowPart j l

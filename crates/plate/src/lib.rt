@@ -7,7 +7,7 @@ ghost use mathlib.Core.Path.{_≡_};
 ghost use Prim.Native.Nat.{_≤_};
 ghost use lib.ListN.{length};
 ghost use Rattle.segment_rows.specs.Search.{between};
-ghost use Rattle.plate.specs.Rows.{castOf, startOf, notNegative, placeOf, rowPart};
+ghost use Rattle.plate.specs.Rows.{castOf, startOf, notNegative, rowPlace, rowPart};
 ghost use Rattle.plate.specs.Crop.{isInCrop};
 ghost use Rattle.plate.specs.Print.{printingIn, printRow, printedPart};
 
@@ -58,7 +58,7 @@ pub fn skip_negative(segments: &[u64]) -> &[u64]
 // Where row j stands, as `print_row` finds it: its last segment, and before that the last one of the row above. Nothing
 // where it has none.
 pub fn find_row(segments: &[u64], j: usize) -> Part
-    ensures { λ r. ⌜ r ≡ placeOf (castOf j) (now (segments .entry)) ⌝ }
+    ensures { λ r. ⌜ r ≡ rowPlace (castOf j) (now (segments .entry)) ⌝ }
 {
     let tile_y = cast(j);
     match search::search_last_by_tile_y(segments, tile_y) {

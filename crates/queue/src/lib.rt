@@ -6,14 +6,14 @@ use cover::Cover;
 use cover::entry;
 ghost use mathlib.Core.Path.{_≡_};
 ghost use Prim.Native.Nat.{min};
-ghost use Rattle.queue_statements.specs.Queue.{isShort, isQueue, queueOf, heldIn, Queued};
+ghost use Rattle.queue_statements.specs.Queue.{areColumnsShort, isQueue, queueOf, heldIn, Queued};
 
 // The most carries that a queue has.
 const LIMIT: usize = 256;
 
 // Refusal 1: whether a lent queue has fewer than 256 entries.
 pub fn is_short(ids: &[u32], covers: &[i8]) -> bool
-    ensures { λ r. ⌜ r ≡ isShort (now (ids .entry)) (now (covers .entry)) ⌝ }
+    ensures { λ r. ⌜ r ≡ areColumnsShort (now (ids .entry)) (now (covers .entry)) ⌝ }
 {
     (ids.len() < LIMIT) | (covers.len() / 16 < LIMIT)
 }

@@ -7,13 +7,13 @@ ghost use mathlib.Core.Path.{_≡_};
 ghost use Prim.Native.Nat.{_≤_};
 ghost use lib.ListN.{length, take};
 ghost use Rattle.laws.specs.Lists.{over};
-ghost use Rattle.queue_statements.specs.Queue.{Room};
+ghost use Rattle.queue_statements.specs.Queue.{LentQueueRoom};
 ghost use Rattle.queue_statements.specs.Opening.{openingAnswer, Opens};
-ghost use Rattle.queue_statements.specs.Gather.{countOf, Clear, Gathered};
+ghost use Rattle.queue_statements.specs.Gather.{writtenCount, Clear, Gathered};
 
 // How many carries an opening writes: none where it is refused.
 fn count_of(opening: Opening) -> usize
-    ensures { λ r. ⌜ r ≡ countOf (openingAnswer opening) ⌝ }
+    ensures { λ r. ⌜ r ≡ writtenCount (openingAnswer opening) ⌝ }
 {
     match opening {
         Opening::Count(n) => n,
@@ -65,7 +65,7 @@ fn copy_covers(from: &[i8], n: usize, to: &mut [i8])
 // The queue that a row opens with, of its segments left of the first tile. A refusal leaves the lent columns as they
 // were.
 pub fn open_queue(left: &[u64], ids: &mut [u32], covers: &mut [i8]) -> Opening
-    requires { ⌜ Room (now ids) (now covers) ⌝ }
+    requires { ⌜ LentQueueRoom (now ids) (now covers) ⌝ }
     ensures { λ r. ⌜ Opens (now (left .entry)) (now (ids .entry)) (now (covers .entry)) (openingAnswer r)
         (now (ids .exit)) (now (covers .exit)) ⌝ }
 {

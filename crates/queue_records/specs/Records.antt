@@ -11,18 +11,18 @@ use Rattle.queue_records.specs.declared.CarryRecord.{CarryRecord}
 use Rattle.queue_records.specs.declared.Columns.{Columns}
 
 -- a record's id, and its cover at each of the 16 pixel rows
-abbrev pub carryOf : CarryRecord → Carry
-carryOf r = record { id = r .id; cover = tabulate 16 (λ y. coverAt (r .covers) y) }
+abbrev pub recordCarry : CarryRecord → Carry
+recordCarry r = record { id = r .id; cover = tabulate 16 (λ y. coverAt (r .covers) y) }
 
 abbrev pub carriesOf : List CarryRecord → List Carry
-carriesOf q = map carryOf q
+carriesOf q = map recordCarry q
 
 -- the two columns of the carries
-abbrev pub idsOf : List CarryRecord → List ℕ
-idsOf q = idsIn (carriesOf q)
+abbrev pub recordIds : List CarryRecord → List ℕ
+recordIds q = idsIn (carriesOf q)
 
-abbrev pub coversOf : List CarryRecord → List ℤ
-coversOf q = coversIn (carriesOf q)
+abbrev pub recordCovers : List CarryRecord → List ℤ
+recordCovers q = coversIn (carriesOf q)
 
 -- ---- reading
 
@@ -40,6 +40,6 @@ columnsOf q count =
     let n = readable count (length q) 256 4096 in
     record {
       entries = min (length q) 256;
-      ids = over (idsOf (take n q)) (replicate 256 0);
-      covers = over (coversOf (take n q)) (replicate 4096 (pos 0));
+      ids = over (recordIds (take n q)) (replicate 256 0);
+      covers = over (recordCovers (take n q)) (replicate 4096 (pos 0));
     }

@@ -8,7 +8,7 @@ ghost use lib.IntN.{pos};
 ghost use lib.ListN.{length, getD, set, take, replicate};
 ghost use Rattle.laws.specs.Lists.{over};
 ghost use Rattle.cover_statements.specs.Entry.{putEntry};
-ghost use Rattle.queue_records.specs.Records.{noRecord, idsOf, coversOf, readable, columnsOf};
+ghost use Rattle.queue_records.specs.Records.{noRecord, recordIds, recordCovers, readable, columnsOf};
 
 pub struct CarryRecord {
     pub id: u32,
@@ -59,8 +59,8 @@ pub fn record_at(queue: &[CarryRecord], i: usize) -> CarryRecord
 pub fn read_queue(queue: &[CarryRecord], count: usize, ids: &mut [u32], covers: &mut [i8]) -> usize
     ensures { λ r. ⌜ (r ≡ readable count (length (now (queue .entry))) (length (now (ids .entry)))
         (length (now (covers .entry))))
-        × (now (ids .exit) ≡ over (idsOf (take r (now (queue .entry)))) (now (ids .entry)))
-        × (now (covers .exit) ≡ over (coversOf (take r (now (queue .entry)))) (now (covers .entry))) ⌝ }
+        × (now (ids .exit) ≡ over (recordIds (take r (now (queue .entry)))) (now (ids .entry)))
+        × (now (covers .exit) ≡ over (recordCovers (take r (now (queue .entry)))) (now (covers .entry))) ⌝ }
 {
     let n = count_readable(count, queue.len(), ids.len(), covers.len());
     let mut i = 0;

@@ -15,7 +15,7 @@ use Rattle.laws.proofs.Bools.{left, right, both}
 use Rattle.laws.proofs.Rows.{is-tabulate}
 use Rattle.styling.specs.Ascending.{strictlyAscends}
 use Rattle.cover_statements.specs.Cover.{coverAt}
-use Rattle.cover_statements.specs.Entry.{entryOf}
+use Rattle.cover_statements.specs.Entry.{coverEntry}
 use Rattle.cover_statements.proofs.Entries.{entry-at}
 use Rattle.queue_statements.specs.Queue.{Carry, carryAt, queueOf, idsIn, coversIn, isQueue}
 use Rattle.queue_statements.proofs.Queues.{noCarry, length-ids, getD-ids}
@@ -55,7 +55,7 @@ entry (c ∷ q) more (suc i) h p =
 
 -- the covers, number by number
 pub covers-at : (q : List Carry) (i y : ℕ) → areWide q ≡ true → i < length q → y < 16 → coverAt (coversIn q) (i * 16 + y) ≡ coverAt (getD q i noCarry .cover) y
-unfolding entryOf
+unfolding coverEntry
 covers-at q i y h p l =
     sym (entry-at 16 i (coversIn q) y l)
     ∙ ap (λ (c : List ℤ). coverAt (take 16 (drop (i * 16) c)) y) (sym (append-nil (coversIn q)))
@@ -69,7 +69,7 @@ module _ (q : List Carry) (ids : List ℕ) (covers : List ℤ) where
   take-ids = take-at (idsIn q) _ (length q) (length-ids q)
 
   carry-at : areWide q ≡ true → (i : ℕ) → i < length q → carryAt (over (idsIn q) ids) (over (coversIn q) covers) i ≡ getD q i noCarry
-  unfolding over entryOf
+  unfolding over coverEntry
   carry-at h i p =
       ap₂ (λ (x : ℕ) (c : List ℤ). record { id = x; cover = c })
       (List·getD-append (idsIn q) _ 0 i (rw (length-ids q) p) ∙ getD-ids q i)

@@ -11,7 +11,7 @@ use Rattle.laws.specs.Answer.{Answer, refused, given}
 use Rattle.laws.specs.Lists.{over}
 use Rattle.queue_statements.specs.Queue.{idsIn, coversIn}
 use Rattle.queue_statements.specs.Opening.{openQueue, writtenIf, Opens}
-use Rattle.queue_statements.specs.Gather.{countOf, listIf, Clear, Gathered}
+use Rattle.queue_statements.specs.Gather.{writtenCount, listIf, Clear, Gathered}
 use Rattle.queue_statements.specs.Insert.{Collected}
 use Rattle.queue_statements.specs.Sums.{Summing, Summed}
 
@@ -58,7 +58,7 @@ unfolding over
 written (refused n) new old = refl
 written (given n) new old = refl
 
-pub opens : {left oldIds ids : List ℕ} {oldCovers covers : List ℤ} {r : Answer ℕ} {n : ℕ} {column : List ℕ} {sums : List ℤ} → Gathered left r column sums → n ≡ countOf r → ids ≡ over (take n column) oldIds → covers ≡ over (take (n * 16) sums) oldCovers → Opens left oldIds oldCovers r ids covers
+pub opens : {left oldIds ids : List ℕ} {oldCovers covers : List ℤ} {r : Answer ℕ} {n : ℕ} {column : List ℕ} {sums : List ℤ} → Gathered left r column sums → n ≡ writtenCount r → ids ≡ over (take n column) oldIds → covers ≡ over (take (n * 16) sums) oldCovers → Opens left oldIds oldCovers r ids covers
 opens {left} {oldIds} {ids} {oldCovers} {covers} {r} {n} {column} {sums} g e p q =
     record {
       answer = g .answer;

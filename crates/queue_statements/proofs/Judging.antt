@@ -12,11 +12,11 @@ use lib.ListN.{length, getD, take, drop, drop-of-length-le, length-take}
 use lib.Seq.{drop-cons, getD-take}
 use Rattle.laws.proofs.Bools.{left, right}
 use Rattle.styling.specs.Ascending.{strictlyAscendsFrom, strictlyAscends}
-use Rattle.queue_statements.specs.Queue.{isShort, isQueue, Room, Queued}
+use Rattle.queue_statements.specs.Queue.{areColumnsShort, isQueue, LentQueueRoom, Queued}
 
 -- ---- refusal 1
 
-pub room : {ids : List ℕ} {covers : List ℤ} → isShort ids covers ≡ false → Room ids covers
+pub room : {ids : List ℕ} {covers : List ℤ} → areColumnsShort ids covers ≡ false → LentQueueRoom ids covers
 room {ids} {covers} h =
     let enough : 256 ≤ min (length ids) (length covers / 16) = ltb-false (min (length ids) (length covers / 16)) 256 h in
     record { ids-long = omega arith; covers-long = omega arith }
@@ -71,9 +71,9 @@ ordered n ids h =
       ascending = right (leb n 256) (strictlyAscends (take n ids)) h;
     }
 
-pub queued : {n : ℕ} {ids : List ℕ} {covers : List ℤ} → isShort ids covers ≡ false → isQueue n ids ≡ true → Queued n ids covers
+pub queued : {n : ℕ} {ids : List ℕ} {covers : List ℤ} → areColumnsShort ids covers ≡ false → isQueue n ids ≡ true → Queued n ids covers
 queued {n} {ids} {covers} s h =
-    let space : Room ids covers = room s in
+    let space : LentQueueRoom ids covers = room s in
     let q = ordered n ids h in
     record {
       ids-long = omega arith;

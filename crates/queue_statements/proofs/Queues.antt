@@ -13,7 +13,7 @@ use Rattle.laws.proofs.Rows.{length-tabulate, getD-tabulate, is-tabulate}
 use Rattle.styling.specs.Ascending.{strictlyAscendsFrom}
 use Rattle.styling.proofs.Ascents.{ascends-tail, ascends-low}
 use Rattle.layer_table.proofs.Listed.{map-tabulate}
-use Rattle.cover_statements.specs.Entry.{entryOf}
+use Rattle.cover_statements.specs.Entry.{coverEntry}
 use Rattle.queue_statements.specs.Queue.{Carry, carryAt, queueOf, idsIn, zeros, heldIn, Queued}
 use Rattle.queue_statements.specs.Rank.{rankOf, holdsAt}
 use Rattle.queue_statements.proofs.Ranks.{Held, missed}
@@ -72,7 +72,7 @@ ids-queue n ids covers h =
     ∙ sym (is-tabulate n (λ i. getD ids i 0) 0 (take n ids) (length-take-le n ids h) (λ i p. getD-take n ids i 0 p))
 
 module _ {n : ℕ} {ids : List ℕ} {covers : List ℤ} (q : Queued n ids covers) (id : ℕ) where
-  pub held-lent : {place : ℕ} → Held id place (take n ids) → entryOf 16 place covers ≡ heldIn (queueOf n ids covers) id
+  pub held-lent : {place : ℕ} → Held id place (take n ids) → coverEntry 16 place covers ≡ heldIn (queueOf n ids covers) id
   held-lent {place} h =
       let all = queueOf n ids covers in
       let within : place < n = omega (arith, h .within, length-take-le n ids (q .ids-long)) in

@@ -10,9 +10,9 @@ use Rattle.queue_statements.specs.Queue.{idsIn, coversIn}
 use Rattle.queue_statements.specs.Opening.{openQueue, openAnswer}
 
 -- how many carries are written
-abbrev pub countOf : Answer ℕ → ℕ
-countOf (refused n) = 0
-countOf (given n) = n
+abbrev pub writtenCount : Answer ℕ → ℕ
+writtenCount (refused n) = 0
+writtenCount (given n) = n
 
 -- a column that is written, or nothing
 abbrev pub listIf {ℓ} : {A : Type ℓ} → Answer ℕ → List A → List A
@@ -26,6 +26,6 @@ pub record Clear (covers : List ℤ) : Type 0 where
 -- the answer, and the columns as far as they are written
 pub record Gathered (left : List ℕ) (r : Answer ℕ) (ids : List ℕ) (covers : List ℤ) : Type 0 where
   pub answer : r ≡ openAnswer left
-  pub few : countOf r ≤ 256
-  pub ids-are : take (countOf r) ids ≡ listIf r (idsIn (openQueue left))
-  pub covers-are : take (countOf r * 16) covers ≡ listIf r (coversIn (openQueue left))
+  pub few : writtenCount r ≤ 256
+  pub ids-are : take (writtenCount r) ids ≡ listIf r (idsIn (openQueue left))
+  pub covers-are : take (writtenCount r * 16) covers ≡ listIf r (coversIn (openQueue left))

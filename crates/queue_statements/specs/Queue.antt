@@ -8,7 +8,7 @@ use lib.Dec.{eqb, leb, ltb}
 use lib.IntN.{ℤ, pos}
 use lib.ListN.{length, getD, take, replicate}
 use Rattle.laws.specs.Lists.{tabulate}
-use Rattle.cover_statements.specs.Entry.{entryOf}
+use Rattle.cover_statements.specs.Entry.{coverEntry}
 use Rattle.styling.specs.Ascending.{strictlyAscends}
 
 pub record Carry : Type 0 where
@@ -16,7 +16,7 @@ pub record Carry : Type 0 where
   pub cover : List ℤ
 
 abbrev pub carryAt : List ℕ → List ℤ → ℕ → Carry
-carryAt ids covers i = record { id = getD ids i 0; cover = entryOf 16 i covers }
+carryAt ids covers i = record { id = getD ids i 0; cover = coverEntry 16 i covers }
 
 -- the first n entries
 unfoldable pub queueOf : ℕ → List ℕ → List ℤ → List Carry
@@ -42,19 +42,19 @@ heldIn (c ∷ q) id = cond (eqb (c .id) id) (c .cover) (heldIn q id)
 -- ---- refusals of a lent queue
 
 -- how many entries the lent memory has
-abbrev pub roomOf : List ℕ → List ℤ → ℕ
-roomOf ids covers = min (length ids) (length covers / 16)
+abbrev pub queueRoom : List ℕ → List ℤ → ℕ
+queueRoom ids covers = min (length ids) (length covers / 16)
 
 -- refusal 1: below 256 entries
-abbrev pub isShort : List ℕ → List ℤ → Bool
-isShort ids covers = ltb (roomOf ids covers) 256
+abbrev pub areColumnsShort : List ℕ → List ℤ → Bool
+areColumnsShort ids covers = ltb (queueRoom ids covers) 256
 
 -- refusal 5 does not apply: at most 256 entries, and their ids strictly ascend
 unfoldable pub isQueue : ℕ → List ℕ → Bool
 isQueue n ids = leb n 256 && strictlyAscends (take n ids)
 
 -- what holds where they do not apply (proofs/Judging), as inner functions ask it: room for 256 entries, and n entries in order
-pub record Room (ids : List ℕ) (covers : List ℤ) : Type 0 where
+pub record LentQueueRoom (ids : List ℕ) (covers : List ℤ) : Type 0 where
   pub ids-long : 256 ≤ length ids
   pub covers-long : 4096 ≤ length covers
 

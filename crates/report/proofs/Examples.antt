@@ -7,13 +7,13 @@ use Rattle.decimal.specs.Decimal.{decimal, decimalIn}
 use Rattle.lines.specs.Bytes.{bytes}
 use Rattle.report.specs.declared.Op.{Op}
 use Rattle.report.specs.declared.Op.the-variants.{None, Solid, Paint}
-use Rattle.report.specs.Text.{names, tileText, refusalText}
+use Rattle.report.specs.Text.{tileNames, tileText, refusalText}
 
 abbrev line : ℕ → Op → ℕ → ℕ → ℕ → ℕ → List ℕ
 line tile op listed shown octets carried =
     tileText (record { tile = tile; op = op; listed = listed; shown = shown; octets = octets; carried = carried })
 
-pub printed : names ++ line 0 Paint 1 1 32 1 ++ line 1 Solid 1 1 0 1 ++ line 2 Paint 1 1 16 0 ++ line 3 Solid 0 0 0 0
+pub printed : tileNames ++ line 0 Paint 1 1 32 1 ++ line 1 Solid 1 1 0 1 ++ line 2 Paint 1 1 16 0 ++ line 3 Solid 0 0 0 0
     ≡ bytes "tile op listed shown octets carried\n0 paint 1 1 32 1\n1 solid 1 1 0 1\n2 paint 1 1 16 0\n3 solid 0 0 0 0\n"
 unfolding tileText decimal decimalIn
 printed = refl

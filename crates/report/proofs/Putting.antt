@@ -12,7 +12,7 @@ use Rattle.decimal.specs.Print.{Printing}
 use Rattle.decimal.proofs.Steps.{cases}
 use Rattle.report.specs.declared.Printed.{Printed}
 use Rattle.report.specs.declared.Printed.the-variants.{Next, Full}
-use Rattle.report.specs.Put.{hasRoom, Put, LineWritten}
+use Rattle.report.specs.Put.{hasRoomAt, Put, LineWritten}
 
 pub full : {text out : List ℕ} {at : ℕ} → length out < at + length text → Put text out at Full out
 full {text} {out} {at} h = let e = lt-leb (at + length text) (length out) h in record { answer = rw e; printed = rw e }
@@ -25,7 +25,7 @@ next {text} {out} {out′} {at} h p =
 -- the place after the text lies in the buffer
 pub within : {text out out′ : List ℕ} {at i : ℕ} → Put text out at (Next i) out′ → i ≤ length out
 within {text} {out} {at = at} {i = i} p =
-    cases (hasRoom text out at)
+    cases (hasRoomAt text out at)
     (λ e. let q : i ≡ at + length text = let a = rw e at (p .answer) in cc in omega (arith, leb-true (at + length text) (length out) e))
     (λ e. let a = rw e at (p .answer) in let z : _≡_ {A = ℕ} 0 1 = cc in absurd (omega arith))
 

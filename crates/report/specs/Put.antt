@@ -11,17 +11,17 @@ use lib.Seq.{sets}
 use Rattle.report.specs.declared.Printed.{Printed}
 use Rattle.report.specs.declared.Printed.the-variants.{Next, Full}
 
-abbrev pub hasRoom : List ℕ → List ℕ → ℕ → Bool
-hasRoom text out at = leb (at + length text) (length out)
+abbrev pub hasRoomAt : List ℕ → List ℕ → ℕ → Bool
+hasRoomAt text out at = leb (at + length text) (length out)
 
 -- the cases of the answer
-abbrev pub placeOf : Printed → Option ℕ
-placeOf (Next i) = some i
-placeOf Full = none
+abbrev pub placeAfter : Printed → Option ℕ
+placeAfter (Next i) = some i
+placeAfter Full = none
 
 pub record Put (text out : List ℕ) (at : ℕ) (r : Printed) (out′ : List ℕ) : Type 0 where
-  pub answer : placeOf r ≡ cond (hasRoom text out at) (some (at + length text)) none
-  pub printed : out′ ≡ cond (hasRoom text out at) (sets out at text) out
+  pub answer : placeAfter r ≡ cond (hasRoomAt text out at) (some (at + length text)) none
+  pub printed : out′ ≡ cond (hasRoomAt text out at) (sets out at text) out
 
 -- what the inner writers promise: the line stands at the front, and its length is answered
 pub record LineWritten (text out : List ℕ) (r : ℕ) (out′ : List ℕ) : Type 0 where

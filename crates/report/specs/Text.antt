@@ -8,8 +8,8 @@ use Rattle.report.specs.declared.Op.{Op}
 use Rattle.report.specs.declared.Op.the-variants.{None, Solid, Paint}
 use Rattle.report.specs.declared.TileLine.{TileLine}
 
-abbrev pub names : List ℕ
-names = bytes "tile op listed shown octets carried\n"
+abbrev pub tileNames : List ℕ
+tileNames = bytes "tile op listed shown octets carried\n"
 
 -- a decision's word, with the space after it
 abbrev pub opField : Op → List ℕ

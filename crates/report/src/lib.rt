@@ -1,7 +1,7 @@
 // The lines that the row program prints, written into a lent buffer. `fields` prints the parts of a line.
 pub mod fields;
 
-ghost use Rattle.report.specs.Text.{names, tileText, refusalText};
+ghost use Rattle.report.specs.Text.{tileNames, tileText, refusalText};
 ghost use Rattle.report.specs.Put.{Put};
 
 // The word for the decision about a tile.
@@ -44,7 +44,7 @@ pub fn put(out: &mut [u8], at: usize, text: &[u8]) -> Printed
 
 // The line of names.
 pub fn print_names(out: &mut [u8], at: usize) -> Printed
-    ensures { λ r. ⌜ Put names (now (out .entry)) at r (now (out .exit)) ⌝ }
+    ensures { λ r. ⌜ Put tileNames (now (out .entry)) at r (now (out .exit)) ⌝ }
 {
     put(out, at, b"tile op listed shown octets carried\n")
 }

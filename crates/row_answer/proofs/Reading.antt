@@ -24,7 +24,7 @@ use Rattle.job_lines.specs.declared.layer.LayerLine.{LayerLine}
 use Rattle.job_text_statements.proofs.Laws.{complete, sound}
 use Rattle.job_statements.specs.Table.{layerWords, layerColors, tableWords, tableColors}
 use Rattle.job_statements.specs.Row.{rowWords}
-use Rattle.job_statements.specs.Read.{Outcome, accepted, noRoom, malformed, Numbers, hasRoom, outcomeOf, answerOf, answerTo, Says, Left, JobRead}
+use Rattle.job_statements.specs.Read.{JobOutcome, accepted, noRoom, malformed, Numbers, hasRoom, jobOutcome, readingAnswer, answerTo, Says, Left, JobRead}
 use Rattle.job_statements.specs.declared.Reading.{Reading}
 use Rattle.job_statements.specs.declared.Reading.the-variants.{Accepted, NoRoom, Malformed}
 use Rattle.job_statements.proofs.Records.{length-parts}
@@ -71,16 +71,16 @@ pub record Accepts (text : List ℕ) (h : Head) (n m : ℕ) (layers : List ℕ) 
   pub answer : answerText text ≡ frontsText h n m layers colors row
 
 module _ {text layers : List ℕ} {colors : List Float} {row : List ℕ} {r : Reading} {layers′ : List ℕ} {colors′ : List Float} {row′ : List ℕ} (g : JobRead text layers colors row r layers′ colors′ row′) (l : length layers ≡ 512) (c : length colors ≡ 256) (w : length row ≡ 2048) where
-  same-case : {x : Reading} {o : Outcome} → r ≡ x → Left o layers colors row r layers′ colors′ row′ → caseOf (answerOf x) ≡ caseOf (answerTo o)
-  same-case e f = ap caseOf (sym (ap answerOf e) ∙ f .answer)
+  same-case : {x : Reading} {o : JobOutcome} → r ≡ x → Left o layers colors row r layers′ colors′ row′ → caseOf (readingAnswer x) ≡ caseOf (answerTo o)
+  same-case e f = ap caseOf (sym (ap readingAnswer e) ∙ f .answer)
 
   pub accepts : {h : Head} {n m : ℕ} → r ≡ Accepted h n m → Accepts text h n m layers′ colors′ row′
   unfolding hasRoom answerText jobDriving
-  accepts {h} {n} {m} e = by (outcomeOf text layers colors row) (g .says) (g .left)
+  accepts {h} {n} {m} e = by (jobOutcome text layers colors row) (g .says) (g .left)
     where
-      by : (o : Outcome) → Says text layers colors row o → Left o layers colors row r layers′ colors′ row′ → Accepts text h n m layers′ colors′ row′
+      by : (o : JobOutcome) → Says text layers colors row o → Left o layers colors row r layers′ colors′ row′ → Accepts text h n m layers′ colors′ row′
       by (accepted j) s f =
-          let given-same : given (some (record { head = h; layers = n; segments = m })) ≡ answerTo (accepted j) = sym (ap answerOf e) ∙ f .answer in
+          let given-same : given (some (record { head = h; layers = n; segments = m })) ≡ answerTo (accepted j) = sym (ap readingAnswer e) ∙ f .answer in
           let same : _≡_ {A = Numbers} (record { head = h; layers = n; segments = m }) (record { head = j .head; layers = length (j .layers); segments = segmentCount (j .segments) }) = cc in
           let head = ap (λ (x : Numbers). x .head) same in
           let many : n ≡ length (j .layers) = ap (λ (x : Numbers). x .layers) same in
@@ -108,9 +108,9 @@ module _ {text layers : List ℕ} {colors : List Float} {row : List ℕ} {r : Re
       by malformed s f = absurd (omega (arith, same-case e f))
 
   pub has-room : r ≡ NoRoom → ⊥
-  has-room e = by (outcomeOf text layers colors row) (g .says) (g .left)
+  has-room e = by (jobOutcome text layers colors row) (g .says) (g .left)
     where
-      by : (o : Outcome) → Says text layers colors row o → Left o layers colors row r layers′ colors′ row′ → ⊥
+      by : (o : JobOutcome) → Says text layers colors row o → Left o layers colors row r layers′ colors′ row′ → ⊥
       by (accepted j) s f = omega (arith, same-case e f)
       by (noRoom j) s f =
           let room = always-room j layers colors row (s .0 .form) (omega arith) (omega arith) (omega arith) in
@@ -121,13 +121,13 @@ module _ {text layers : List ℕ} {colors : List Float} {row : List ℕ} {r : Re
 
   pub refuses : r ≡ Malformed → answerText text ≡ refusalText 10
   unfolding answerText
-  refuses e = by (outcomeOf text layers colors row) (g .says) (g .left)
+  refuses e = by (jobOutcome text layers colors row) (g .says) (g .left)
     where
       not-parsed : ((j : Job) → WellFormed j → text ≡ render j → ⊥) → (o : Option Job) → parse text ≡ o → answerText text ≡ refusalText 10
       not-parsed s none p = ap answerBy p
       not-parsed s (some j) p = absurd (s j (sound text j p .form) (sound text j p .printed))
 
-      by : (o : Outcome) → Says text layers colors row o → Left o layers colors row r layers′ colors′ row′ → answerText text ≡ refusalText 10
+      by : (o : JobOutcome) → Says text layers colors row o → Left o layers colors row r layers′ colors′ row′ → answerText text ≡ refusalText 10
       by (accepted j) s f = absurd (omega (arith, same-case e f))
       by (noRoom j) s f = absurd (omega (arith, same-case e f))
       by malformed s f = not-parsed s (parse text) refl

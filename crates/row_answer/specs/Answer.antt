@@ -1,5 +1,5 @@
 -- The whole text that the row program prints for a job text. Stands for 'A refusal prints `refused` and its number as the last line, after the
--- names and the tiles already worked; number 10 prints only that.'
+-- tileNames and the tiles already worked; number 10 prints only that.'
 use mathlib.Core.Bool.{cond}
 use mathlib.Core.List.{List, [], _∷_, _++_}
 use mathlib.Core.Option.{Option, some, none}
@@ -17,7 +17,7 @@ use Rattle.job_text_statements.specs.Parse.{parse}
 use Rattle.job_text_statements.specs.declared.Head.{Head}
 use Rattle.job_statements.specs.Table.{tableWords, tableColors}
 use Rattle.job_statements.specs.Row.{rowWords}
-use Rattle.report.specs.Text.{names, tileText, refusalText}
+use Rattle.report.specs.Text.{tileNames, tileText, refusalText}
 use Rattle.report.specs.declared.Op.{Op}
 use Rattle.report.specs.declared.Op.the-variants.{None, Solid, Paint}
 
@@ -27,21 +27,21 @@ use Rattle.report.specs.declared.Op.the-variants.{None, Solid, Paint}
 abbrev pub opOf : ℕ → Op
 opOf code = cond (eqb code 0) None (cond (eqb code 1) Solid Paint)
 
-abbrev pub lineText : ℕ → Line → List ℕ
-lineText tile l =
+abbrev pub tileLineText : ℕ → Line → List ℕ
+tileLineText tile l =
     tileText (record { tile = tile; op = opOf (l .decision); listed = l .listed; shown = l .shown; octets = l .octets; carried = l .carried })
 
 -- one after another, the first that of the given tile
-unfoldable pub linesText : ℕ → List Line → List ℕ
-linesText tile [] = []
-linesText tile (l ∷ ls) = lineText tile l ++ linesText (suc tile) ls
+unfoldable pub tileLinesText : ℕ → List Line → List ℕ
+tileLinesText tile [] = []
+tileLinesText tile (l ∷ ls) = tileLineText tile l ++ tileLinesText (suc tile) ls
 
 abbrev pub lastText : Option ℕ → List ℕ
 lastText none = []
 lastText (some number) = refusalText number
 
 unfoldable pub drivingText : ℕ → Driving → List ℕ
-drivingText first d = names ++ linesText first (d .lines) ++ lastText (d .refusal)
+drivingText first d = tileNames ++ tileLinesText first (d .lines) ++ lastText (d .refusal)
 
 -- ---- the answer to a text
 
@@ -59,6 +59,6 @@ answerBy (some j) = drivingText (plus (j .head .from)) (jobDriving j)
 unfoldable pub answerText : List ℕ → List ℕ
 answerText text = answerBy (parse text)
 
--- room for every answer: 36 bytes of names, 4,095 lines of at most 61 bytes, and 19 of a refusal
+-- room for every answer: 36 bytes of tileNames, 4,095 lines of at most 61 bytes, and 19 of a refusal
 abbrev pub answerRoom : ℕ
 answerRoom = 249850

@@ -24,10 +24,10 @@ use Rattle.pass_statements.specs.declared.item.Item.{Item}
 use Rattle.pass_statements.proofs.Words.{covered}
 use Rattle.cached_tile.specs.Kept.{previousCount}
 use Rattle.cached_tile.specs.declared.kept.Kept as kept
-use Rattle.layer_workbench.specs.Work.{entryOf, clearUnchanged, countFrom, outcomeOn, outcomeIn}
+use Rattle.layer_workbench.specs.Work.{entryOf, clearUnchanged, countFrom, outcomeByEntries, outcomeIn}
 use Rattle.layer_workbench.specs.declared.PreviousClear.{PreviousClear}
 use Rattle.row_carries.specs.Carries.{InOrder, layersAt}
-use Rattle.row_carries.specs.Covering.{itemsAt, idAt, CoveredUnder}
+use Rattle.row_carries.specs.Covering.{itemsAt, listedIdAt, CoveredUnder}
 use Rattle.row_carries.proofs.Carried.{layers-ascend}
 use Rattle.row_carries.proofs.Planes.{item-listed, full-ones}
 
@@ -52,10 +52,10 @@ module _ {ty : ℕ} {row : List ℕ} (r : InOrder ty row) (table : List Layer) (
   pub items-ascend : (n : ℕ) → isAscending (itemsAt table row from n) ≡ true
   items-ascend n = rw (item-ids table (layersAt table row from n)) (layers-ascend r table from n)
 
-  pub item-at-id : (n p : ℕ) → p < length (layersAt table row from n) → itemAt (itemsAt table row from n) p .id ≡ idAt table row from n p
+  pub item-at-id : (n p : ℕ) → p < length (layersAt table row from n) → itemAt (itemsAt table row from n) p .id ≡ listedIdAt table row from n p
   item-at-id n p h =
       ap (λ (x : Item). x .id) (item-listed table (layersAt table row from n) p h)
-      ∙ item-id (lookup table (idAt table row from n p)) (entryOf (getD (layersAt table row from n) p noListed))
+      ∙ item-id (lookup table (listedIdAt table row from n p)) (entryOf (getD (layersAt table row from n) p noListed))
 
   hidden : (n i p : ℕ) (o : Outcome) → i < p → p ≡ o .skipped → Over (itemsAt table row from n) (o .unmasked) i p → CoveredUnder table row from n o i
   hidden n i p o h s c =
@@ -77,7 +77,7 @@ module _ {ty : ℕ} {row : List ℕ} (r : InOrder ty row) (table : List Layer) (
       }
 
   pub covered-under : (n : ℕ) (k : kept.Kept) (clear : Color) (previous : PreviousClear) (i : ℕ) → i < outcomeIn table k clear previous (layersAt table row from n) .skipped → CoveredUnder table row from n (outcomeIn table k clear previous (layersAt table row from n)) i
-  unfolding outcomeOn
+  unfolding outcomeByEntries
   covered-under n k clear previous i h =
       let items = itemsAt table row from n in
       let o = outcomeIn table k clear previous (layersAt table row from n) in

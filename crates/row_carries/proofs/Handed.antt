@@ -23,7 +23,7 @@ use Rattle.cover_statements.proofs.Carries.{carry-none}
 use Rattle.queue_statements.specs.Queue.{Carry, idsIn, zeros, heldIn}
 use Rattle.queue_statements.proofs.Queues.{held-here, held-past}
 use Rattle.tile_layers.specs.Listing.{Listed, incomingOf}
-use Rattle.layer_carrying.specs.Carrying.{ruleIn, carryFor, isKept, handedOn}
+use Rattle.layer_carrying.specs.Carrying.{ruleIn, carryFor, isCarried, handedOn}
 use Rattle.tile_layers.proofs.Ordering.{listedIds}
 use Rattle.row_carries.proofs.Merged.{ownIn, own-past, unlisted-held, unlisted-own, low-unlisted, head-held, head-own}
 
@@ -33,13 +33,13 @@ pub handed-ascends : (table : List Layer) (low : ℕ) (ls : List Listed) → str
 unfolding handedOn strictlyAscendsFrom
 handed-ascends table low [] h = refl
 handed-ascends table low (l ∷ ls) h =
-    by (isKept table (carryFor l)) (handed-ascends table (suc (l .id)) ls (ascends-tail low (l .id) (listedIds ls) h))
+    by (isCarried table (carryFor l)) (handed-ascends table (suc (l .id)) ls (ascends-tail low (l .id) (listedIds ls) h))
   where
     above : low ≤ l .id
     above = ascends-head low (l .id) (listedIds ls) h
 
     rest : List Carry
-    rest = filter (isKept table) (map carryFor ls)
+    rest = filter (isCarried table) (map carryFor ls)
 
     by : (t : Bool) → strictlyAscendsFrom (suc (l .id)) (idsIn rest) ≡ true → strictlyAscendsFrom low (idsIn (cond t (carryFor l ∷ rest) rest)) ≡ true
     by true r = both (leb low (l .id)) (strictlyAscendsFrom (suc (l .id)) (idsIn rest)) (le-leb low (l .id) above) r
@@ -60,7 +60,7 @@ module _ (table : List Layer) where
   -- one more layer in front
   other : (l : Listed) (ls : List Listed) (id : ℕ) → (l .id ≡ id → ⊥) → heldIn (handedOn table (l ∷ ls)) id ≡ heldIn (handedOn table ls) id
   unfolding handedOn
-  other l ls id e = by (isKept table (carryFor l))
+  other l ls id e = by (isCarried table (carryFor l))
     where
       by : (t : Bool) → heldIn (cond t (carryFor l ∷ handedOn table ls) (handedOn table ls)) id ≡ heldIn (handedOn table ls) id
       by true = held-past (carryFor l) (handedOn table ls) id e

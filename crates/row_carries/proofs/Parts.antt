@@ -37,5 +37,5 @@ module _ {ty : ℕ} {row : List ℕ} (r : InOrder ty row) (t : ℕ) where
   layer-part-is id = layer-part id (tilePart (pos t) row) tile-ordered ∙ tile-layer id
 
   -- the layer's segments left of the tile
-  pub left-layer : (id : ℕ) → ofLayer id (leftPart (pos t) row) ≡ WholeRow.leftPart cpu (suc t) id row
+  pub left-layer : (id : ℕ) → ofLayer id (leftPart (pos t) row) ≡ WholeRow.segmentsLeft cpu (suc t) id row
   left-layer id = ap (ofLayer id) left-is ∙ filter-twice (λ w. ltb (tileXOf cpu w) (suc t)) (λ w. eqb (layerIdOf cpu w) id) row

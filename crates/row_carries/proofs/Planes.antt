@@ -37,7 +37,7 @@ use Rattle.pass_statements.specs.Entry.{Entry}
 use Rattle.pass_statements.specs.Item.{itemFrom, itemOf, itemsOf}
 use Rattle.layer_workbench.specs.Work.{entryOf}
 use Rattle.row_carries.specs.Carries.{InOrder, queueAfter, layersAt, isUnlisted}
-use Rattle.row_carries.specs.Covering.{itemsAt, idAt}
+use Rattle.row_carries.specs.Covering.{itemsAt, listedIdAt}
 use Rattle.row_carries.specs.Listed.{ListedIs, UnlistedIs}
 use Rattle.row_carries.proofs.Carried.{queue-wide, listed-is, unlisted-is, held-from-row}
 
@@ -106,7 +106,7 @@ module _ {ty : ℕ} {row : List ℕ} (r : InOrder ty row) (table : List Layer) (
       ∙ same-everywhere (coverageOf 0)
 
   -- a layer that the passes take for full has coverage 1 everywhere
-  pub full-ones : (n p : ℕ) → p < length (layersAt table row from n) → itemAt (itemsAt table row from n) p .full ≡ true → rowPlane cpu 16 (ruleIn table (idAt table row from n p)) (suc (from + n)) (idAt table row from n p) row ≡ replicate 256 (coverageOf 512)
+  pub full-ones : (n p : ℕ) → p < length (layersAt table row from n) → itemAt (itemsAt table row from n) p .full ≡ true → rowPlane cpu 16 (ruleIn table (listedIdAt table row from n p)) (suc (from + n)) (listedIdAt table row from n p) row ≡ replicate 256 (coverageOf 512)
   full-ones n p h f =
       let l = getD (layersAt table row from n) p noListed in
       let rule = ruleIn table (l .id) in

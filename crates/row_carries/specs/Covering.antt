@@ -26,8 +26,8 @@ abbrev pub itemsAt : List Layer → List ℕ → ℕ → ℕ → List Item
 itemsAt table row from n = itemsOf table (map entryOf (layersAt table row from n))
 
 -- the id of the layer that is listed in a place
-abbrev pub idAt : List Layer → List ℕ → ℕ → ℕ → ℕ → ℕ
-idAt table row from n i = getD (layersAt table row from n) i noListed .id
+abbrev pub listedIdAt : List Layer → List ℕ → ℕ → ℕ → ℕ → ℕ
+listedIdAt table row from n i = getD (layersAt table row from n) i noListed .id
 
 -- the layer in place i lies under a shown one with a higher id: a draw that is opaque, needs no clip, and has coverage 1 in all 256 pixels
 pub record CoveredUnder (table : List Layer) (row : List ℕ) (from n : ℕ) (o : Outcome) (i : ℕ) : Type 0 where
@@ -35,8 +35,8 @@ pub record CoveredUnder (table : List Layer) (row : List ℕ) (from n : ℕ) (o 
   pub listed : place < length (layersAt table row from n)
   pub not-skipped : o .skipped ≤ place
   pub is-unmasked : getD (o .unmasked) place false ≡ true
-  pub above : idAt table row from n i < idAt table row from n place
+  pub above : listedIdAt table row from n i < listedIdAt table row from n place
   pub draws : isClip (itemAt (itemsAt table row from n) place .func) ≡ false
   pub opaque : isOpaque (itemAt (itemsAt table row from n) place .func) ≡ true
-  pub unclipped : needsClip (itemsAt table row from n) (itemAt (itemsAt table row from n) place .func) (idAt table row from n place) ≡ false
-  pub ones : rowPlane cpu 16 (ruleIn table (idAt table row from n place)) (suc (from + n)) (idAt table row from n place) row ≡ replicate 256 (coverageOf 512)
+  pub unclipped : needsClip (itemsAt table row from n) (itemAt (itemsAt table row from n) place .func) (listedIdAt table row from n place) ≡ false
+  pub ones : rowPlane cpu 16 (ruleIn table (listedIdAt table row from n place)) (suc (from + n)) (listedIdAt table row from n place) row ≡ replicate 256 (coverageOf 512)

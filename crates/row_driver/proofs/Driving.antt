@@ -14,15 +14,15 @@ use Rattle.refusals.specs.Refusal.{Judgement, pass, refuse, numberOf}
 use Rattle.refusals.specs.declared.Refusal.{Refusal}
 use Rattle.row_statements.specs.TileWork.{listVerdict}
 use Rattle.row_statements.specs.Due.{OpenRow, tableOn, layersOn}
-use Rattle.row_lines.specs.Lines.{RowLines, linesBy, linesFrom, lineOn, lineWords, wordsOf}
+use Rattle.row_lines.specs.Lines.{RowLines, linesBy, linesFrom, lineOn, lineWords, linesWords}
 use Rattle.row_lines.specs.Driven.{drivingOf, refusalOf, Drives}
 use Rattle.row_lines.specs.declared.Line.{Line}
 use Rattle.row_lines.specs.declared.Driven.the-variants.{Done, Refused}
 
 -- ---- how many there are
 
-length-words : (ls : List Line) → length (wordsOf ls) ≡ length ls * 5
-unfolding wordsOf flatten
+length-words : (ls : List Line) → length (linesWords ls) ≡ length ls * 5
+unfolding linesWords flatten
 length-words [] = refl
 length-words (l ∷ ls) = let rest = length-words ls in omega (arith, rest)
 
@@ -43,7 +43,7 @@ pub record Driving (o : OpenRow) (k : ℕ) (old : List ℕ) (i : ℕ) (new : Lis
   pub long : length new ≡ length old
   pub count : i + length (linesFrom o (k - i) i .lines) ≡ length (linesFrom o k 0 .lines)
   pub end-is : linesFrom o (k - i) i .end ≡ linesFrom o k 0 .end
-  pub rest : sets new (i * 5) (wordsOf (linesFrom o (k - i) i .lines)) ≡ sets old 0 (wordsOf (linesFrom o k 0 .lines))
+  pub rest : sets new (i * 5) (linesWords (linesFrom o (k - i) i .lines)) ≡ sets old 0 (linesWords (linesFrom o k 0 .lines))
 
 module _ {o : OpenRow} {k : ℕ} {old : List ℕ} where
   pub start : k * 5 ≤ length old → Driving o k old 0 old
@@ -53,16 +53,16 @@ module _ {o : OpenRow} {k : ℕ} {old : List ℕ} where
 
   module _ {i : ℕ} {new : List ℕ} (v : Driving o k old i new) where
     -- where no line is left, the array holds all of them over what it held
-    finished : linesFrom o (k - i) i .lines ≡ [] → (i ≡ length (linesFrom o k 0 .lines)) × (new ≡ over (wordsOf (linesFrom o k 0 .lines)) old)
-    unfolding wordsOf over flatten
+    finished : linesFrom o (k - i) i .lines ≡ [] → (i ≡ length (linesFrom o k 0 .lines)) × (new ≡ over (linesWords (linesFrom o k 0 .lines)) old)
+    unfolding linesWords over flatten
     finished e =
         let ls = linesFrom o k 0 .lines in
         let none : length (linesFrom o (k - i) i .lines) ≡ 0 = ap length e in (
           omega (arith, none, v .count),
-          sym (ap (λ (l : List Line). sets new (i * 5) (wordsOf l)) e)
+          sym (ap (λ (l : List Line). sets new (i * 5) (linesWords l)) e)
               ∙ v .rest
-              ∙ sets-eq (wordsOf ls) old 0 (omega (arith, length-words ls, few-lines o k 0, v .room))
-              ∙ ap (λ (n : ℕ). wordsOf ls ++ drop n old) (zero-add (length (wordsOf ls))),
+              ∙ sets-eq (linesWords ls) old 0 (omega (arith, length-words ls, few-lines o k 0, v .room))
+              ∙ ap (λ (n : ℕ). linesWords ls ++ drop n old) (zero-add (length (linesWords ls))),
         )
 
     -- after the last tile
@@ -86,7 +86,7 @@ module _ {o : OpenRow} {k : ℕ} {old : List ℕ} where
 
       -- the line of a tile that is accepted
       pub next : {new′ : List ℕ} → listVerdict (tableOn o) (layersOn o i) ≡ pass → new′ ≡ sets new (i * 5) (lineWords (lineOn o i)) → Driving o k old (i + 1) new′
-      unfolding wordsOf flatten
+      unfolding linesWords flatten
       next {new′} e w =
           let after = linesFrom o (k - (i + 1)) (i + 1) in
           let is : linesFrom o (k - i) i ≡ record { lines = lineOn o i ∷ after .lines; end = after .end } = by-verdict ∙ ap (λ (x : Judgement). linesBy x (lineOn o i) after) e in
@@ -99,8 +99,8 @@ module _ {o : OpenRow} {k : ℕ} {old : List ℕ} where
             count = omega (arith, more, v .count);
             end-is = sym (ap (λ (x : RowLines). x .end) is) ∙ v .end-is;
             rest =
-                ap₂ (λ (l : List ℕ) (at : ℕ). sets l at (wordsOf (after .lines))) w five
-                ∙ sym (ap (λ (x : RowLines). sets new (i * 5) (wordsOf (x .lines))) is)
+                ap₂ (λ (l : List ℕ) (at : ℕ). sets l at (linesWords (after .lines))) w five
+                ∙ sym (ap (λ (x : RowLines). sets new (i * 5) (linesWords (x .lines))) is)
                 ∙ v .rest;
           }
 

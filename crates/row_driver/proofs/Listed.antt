@@ -8,7 +8,7 @@ use native.Mathlib.Nat.{le-of-suc-le-suc}
 use native.Mathlib.Omega.{arith}
 use lib.ListN.{length, take, drop, getD, length-map}
 use lib.Seq.{getD-take, take-append-seam}
-use Rattle.laws.specs.Answer.{refused, given}
+use Rattle.laws.specs.Answer.{refused, given, isGiven}
 use Rattle.laws.specs.Lists.{over}
 use Rattle.laws.proofs.Every.{all-at}
 use Rattle.laws.proofs.Rows.{length-over}
@@ -23,12 +23,12 @@ use Rattle.cover_statements.specs.Carry.{isLight}
 use Rattle.queue_statements.specs.Queue.{Carry, idsIn}
 use Rattle.queue_statements.proofs.Judging as queue-judging
 use Rattle.queue_statements.proofs.Queues.{ids-queue}
-use Rattle.tile_layers.specs.Listing.{Listed, noListed, layersIn, incomingOf, isGiven}
+use Rattle.tile_layers.specs.Listing.{Listed, noListed, layersIn, incomingOf}
 use Rattle.layer_carrying.proofs.Handing.{handed-few}
 use Rattle.pass_statements.specs.Item.{itemOf}
 use Rattle.pass_statements.proofs.Words.{outcome-long}
 use Rattle.pass_statements.specs.Decision.{codeOf, decisionIn}
-use Rattle.layer_workbench.specs.Work.{entryOf, outcomeOn, clearUnchanged, countFrom}
+use Rattle.layer_workbench.specs.Work.{entryOf, outcomeByEntries, clearUnchanged, countFrom}
 use Rattle.cached_tile.specs.Kept.{previousCount}
 use Rattle.row_carries.proofs.Merged.{listed-cover, listed-own}
 use Rattle.painter.specs.Painting.{isLightIn}
@@ -36,7 +36,7 @@ use Rattle.refusals.specs.Refusal.{Judgement, pass, refuse, numberOf}
 use Rattle.refusals.specs.declared.Refusal.{Refusal}
 use Rattle.row_statements.specs.Lent.{Columns, ListColumns, carriesIn, layersOf}
 use Rattle.row_statements.specs.State.{State, stateIn}
-use Rattle.row_statements.specs.TileWork.{WorkCall, WorkLent, TileTold, listedFor, saysFor, layersVerdict, toldIn, toldBy, workOut, workAnswer, GivesWork}
+use Rattle.row_statements.specs.TileWork.{WorkCall, WorkLent, TileAnswer, listedFor, saysFor, layersVerdict, tileAnswerIn, tileAnswer, workOut, workAnswer, GivesWork}
 use Rattle.row_statements.specs.InnerWork.{workedBy}
 use Rattle.row_statements.specs.declared.RowState.{RowState}
 use Rattle.row_statements.specs.declared.TileDone.{TileDone}
@@ -103,7 +103,7 @@ module _ (a : WorkCall) (lent : WorkLent) (ready : Workable a lent) where
   -- what an accepted work says and leaves
   pub record Accepted (d : TileDone) (s : RowState) (back : WorkLent) : Type 0 where
     pub passes : layersVerdict a ≡ pass
-    pub done : toldIn d ≡ toldBy (saysFor a)
+    pub done : tileAnswerIn d ≡ tileAnswer (saysFor a)
     pub left : s .left ≡ length (saysFor a .handed)
     pub list-ids : back .list .ids ≡ over (idsIn (incomingOf (listedFor a))) (lent .list .ids)
     pub list-unmasked : back .list .unmasked ≡ over (saysFor a .outcome .unmasked) (lent .list .unmasked)
@@ -112,7 +112,7 @@ module _ (a : WorkCall) (lent : WorkLent) (ready : Workable a lent) where
   unfolding workOut
   accepted {w} {back} {d} e g = by (layersVerdict a) refl (sym (ap workAnswer e) ∙ g .answer) (g .state) (g .lent-is)
     where
-      by : (v : Judgement) → layersVerdict a ≡ v → given (toldIn d) ≡ workOut v (saysFor a) (a .state) (a .kept) lent .answer → stateIn (w .state) ≡ workOut v (saysFor a) (a .state) (a .kept) lent .state → back ≡ workOut v (saysFor a) (a .state) (a .kept) lent .lent → Accepted d (w .state) back
+      by : (v : Judgement) → layersVerdict a ≡ v → given (tileAnswerIn d) ≡ workOut v (saysFor a) (a .state) (a .kept) lent .answer → stateIn (w .state) ≡ workOut v (saysFor a) (a .state) (a .kept) lent .state → back ≡ workOut v (saysFor a) (a .state) (a .kept) lent .lent → Accepted d (w .state) back
       by (refuse n) ev ea es el = absurd (let z : _≡_ {A = ℕ} 0 1 = cc in omega arith)
       by pass ev ea es el =
           record {
@@ -132,7 +132,7 @@ module _ (a : WorkCall) (lent : WorkLent) (ready : Workable a lent) where
 
   -- as many flags as layers
   flags-long : length (saysFor a .outcome .unmasked) ≡ length (listedFor a)
-  unfolding outcomeOn
+  unfolding outcomeByEntries
   flags-long =
       outcome-long (a .clear) (clearUnchanged (a .previous) (a .clear)) (countFrom (previousCount (a .kept))) (map (itemOf (layersOf (a .table))) (map entryOf (listedFor a)))
       ∙ length-map (map entryOf (listedFor a)) (itemOf (layersOf (a .table))) ∙ length-map (listedFor a) entryOf
@@ -145,7 +145,7 @@ module _ (a : WorkCall) (lent : WorkLent) (ready : Workable a lent) where
     listable = list-passed (layersOf (a .table)) (listedFor a) (t .passes)
 
     pub count : d .listed ≡ length (listedFor a)
-    count = ap (λ (x : TileTold). x .listed) (t .done)
+    count = ap (λ (x : TileAnswer). x .listed) (t .done)
 
     pub few : (d .listed ≤ 256) × (s .left ≤ 256)
     few = (omega (arith, count, listable .few), omega (arith, t .left, listable .few, handed-few (layersOf (a .table)) (listedFor a)))
@@ -180,7 +180,7 @@ module _ (a : WorkCall) (lent : WorkLent) (ready : Workable a lent) where
         let same : sumIn tally ≡ tallyAt a =
         e
         ∙ rw (ids-front, unmasked-front)
-        (ap (λ (x : TileTold). tallied (isPaint (x .decision)) (layersOf (a .table)) (carriesIn (a .state .left) (a .queue)) (tilePart (a .tile) (a .row)) atStart (shownIn (x .skipped) (saysFor a .outcome .unmasked) (idsIn (incomingOf (listedFor a))))) (t .done)) in
+        (ap (λ (x : TileAnswer). tallied (isPaint (x .decision)) (layersOf (a .table)) (carriesIn (a .state .left) (a .queue)) (tilePart (a .tile) (a .row)) atStart (shownIn (x .skipped) (saysFor a .outcome .unmasked) (idsIn (incomingOf (listedFor a))))) (t .done)) in
         el
         ∙ (λ i.
         record {

@@ -22,7 +22,7 @@ use Rattle.row_statements.specs.declared.RowState.{RowState}
 use Rattle.row_statements.specs.declared.Opened.the-variants as opened
 use Rattle.row_statements.proofs.Openings.{opening-passed}
 use Rattle.row_statements.proofs.Run.{Accepted, accepted, is-open, held-first}
-use Rattle.row_lines.specs.Lines.{linesFrom, wordsOf}
+use Rattle.row_lines.specs.Lines.{linesFrom, linesWords}
 use Rattle.row_lines.specs.Driven.{Driving, dueTiles, emptyQueue, openedDriving, drivingOf, rowDriving, Drives}
 use Rattle.row_driver.specs.InnerSteps.{rowBy, Opened, Drivable}
 use Rattle.row_lines.specs.declared.Driven.{Driven}
@@ -55,7 +55,7 @@ drivable w =
 -- ---- nothing written
 
 none-written : (old : List ℕ) (r : Refusal) (d : Driving) → d ≡ record { lines = []; refusal = some (numberOf r) } → Drives d old (Refused r 0) old
-unfolding over wordsOf flatten
+unfolding over linesWords flatten
 none-written old r d e = subst (λ (x : Driving). Drives x old (Refused r 0) old) (sym e) (record { answer = refl; long = refl; lines-are = refl })
 
 module _ (c : OpenCall) (tiles : ℤ) (lines : List ℕ) where

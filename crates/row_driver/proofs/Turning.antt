@@ -16,7 +16,7 @@ use Rattle.cached_tile.specs.Kept.{noTile}
 use Rattle.layer_workbench.specs.declared.PreviousClear.the-variants.{Absent}
 use Rattle.row_statements.specs.Lent.{Columns, ListColumns, carriesIn, isQueueShort, isListShort}
 use Rattle.row_statements.specs.State.{State, stateIn}
-use Rattle.row_statements.specs.TileWork.{WorkLent, workLent, listedFor, saysFor, listVerdict, argsVerdict, layersVerdict, workOut, workOf, workAnswer, toldIn, GivesWork}
+use Rattle.row_statements.specs.TileWork.{WorkLent, workLent, listedFor, saysFor, listVerdict, argsVerdict, layersVerdict, workOut, workOf, workAnswer, tileAnswerIn, GivesWork}
 use Rattle.row_statements.specs.Due.{OpenRow, Past, WorkChoice, tableOn, layersOn, saysOn, stateOn, isNotDue, workDueVerdict, workDue, pastWork}
 use Rattle.row_statements.specs.Run.{SameCarries, workOn}
 use Rattle.row_statements.specs.Claim.{RightWork}
@@ -104,7 +104,7 @@ module _ {o : OpenRow} {n : ℕ} (in-a : Bool) (s : RowState) (a b : Columns) (i
     unfolding workOut
     accepted {d} e = by (listVerdict (tableOn o) (layersOn o n)) (sym (ap workAnswer e) ∙ answer-is)
       where
-        by : (v : Judgement) → given (toldIn d) ≡ workOut v (saysOn o n choice) (stateOn o past) (choice .kept) (choice .lent) .answer → v ≡ pass
+        by : (v : Judgement) → given (tileAnswerIn d) ≡ workOut v (saysOn o n choice) (stateOn o past) (choice .kept) (choice .lent) .answer → v ≡ pass
         by (refuse k) h = absurd (let z : _≡_ {A = ℕ} 0 1 = cc in omega arith)
         by pass h = refl
 

@@ -16,7 +16,7 @@ use Rattle.row_statements.specs.State.{State}
 use Rattle.row_statements.specs.Opening.{OpenCall, openOf}
 use Rattle.row_statements.specs.Due.{OpenRow}
 use Rattle.row_statements.specs.Run.{openRow}
-use Rattle.row_lines.specs.Lines.{RowLines, linesFrom, wordsOf}
+use Rattle.row_lines.specs.Lines.{RowLines, linesFrom, linesWords}
 use Rattle.row_lines.specs.declared.Line.{Line}
 use Rattle.row_lines.specs.declared.Driven.{Driven}
 use Rattle.row_lines.specs.declared.Driven.the-variants.{Done, Refused}
@@ -50,17 +50,17 @@ rowDriving c tiles = openedDriving (openOf c emptyQueue .answer) (openRow c) (du
 
 -- ---- the answer
 
-pub record Told : Type 0 where
+pub record LinesWritten : Type 0 where
   pub written : ℕ
   pub refusal : Option ℕ
 
 -- the cases of the answer
-abbrev pub toldBy : Driven → Told
-toldBy (Done n) = record { written = n; refusal = none }
-toldBy (Refused r n) = record { written = n; refusal = some (numberOf r) }
+abbrev pub linesWritten : Driven → LinesWritten
+linesWritten (Done n) = record { written = n; refusal = none }
+linesWritten (Refused r n) = record { written = n; refusal = some (numberOf r) }
 
 -- how many lines are written and the refusal, and the lines over what the array held
 pub record Drives (d : Driving) (old : List ℕ) (r : Driven) (lines : List ℕ) : Type 0 where
-  pub answer : toldBy r ≡ record { written = length (d .lines); refusal = d .refusal }
+  pub answer : linesWritten r ≡ record { written = length (d .lines); refusal = d .refusal }
   pub long : length lines ≡ length old
-  pub lines-are : lines ≡ over (wordsOf (d .lines)) old
+  pub lines-are : lines ≡ over (linesWords (d .lines)) old

@@ -80,5 +80,5 @@ linesFrom o (suc k) n = linesBy (listVerdict (tableOn o) (layersOn o n)) (lineOn
 abbrev pub lineWords : Line → List ℕ
 lineWords l = l .decision ∷ l .listed ∷ l .shown ∷ l .octets ∷ l .carried ∷ []
 
-unfoldable pub wordsOf : List Line → List ℕ
-wordsOf ls = flatten (map lineWords ls)
+unfoldable pub linesWords : List Line → List ℕ
+linesWords ls = flatten (map lineWords ls)

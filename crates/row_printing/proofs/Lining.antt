@@ -10,10 +10,10 @@ use Rattle.decimal.specs.Print.{Printing}
 use Rattle.decimal.proofs.Print.{joined}
 use Rattle.refusals.specs.Refusal.{numberOf}
 use Rattle.refusals.specs.declared.Refusal.{Refusal}
-use Rattle.row_lines.specs.Driven.{Told, toldBy}
+use Rattle.row_lines.specs.Driven.{LinesWritten, linesWritten}
 use Rattle.row_lines.specs.declared.Driven.{Driven}
 use Rattle.row_lines.specs.declared.Driven.the-variants.{Done, Refused}
-use Rattle.report.specs.Text.{names, tileText, refusalText}
+use Rattle.report.specs.Text.{tileNames, tileText, refusalText}
 use Rattle.report.specs.Put.{LineWritten}
 use Rattle.report.proofs.Lines.{at-front}
 use Rattle.row_printing.specs.Told.{tileIn, toldLines, toldText, Lines, Tells}
@@ -68,12 +68,12 @@ module _ {told : List ℕ} {first n : ℕ} {out₀ : List ℕ} {at : ℕ} where
         let all : i ≡ n = omega (arith, v .within) in
         (subst (λ (k : ℕ). Printing (toldLines told first k) out₀ at end out) all (v .so-far), omega (arith, v .low))
 
--- ---- names, lines and the refusal
+-- ---- tileNames, lines and the refusal
 
-pub asks : {told : List ℕ} {first : ℕ} {out out₁ : List ℕ} {t u : Told} {a : ℕ} → Tells told first t out → t ≡ u → Printing names out 0 a out₁
+pub asks : {told : List ℕ} {first : ℕ} {out out₁ : List ℕ} {t u : LinesWritten} {a : ℕ} → Tells told first t out → t ≡ u → Printing tileNames out 0 a out₁
     → length out₁ ≡ length out → Lines told first (u .written) out₁ a
 asks {t = t} {u = u} w e p l =
-    let same : t .written ≡ u .written = ap (λ (x : Told). x .written) e in
+    let same : t .written ≡ u .written = ap (λ (x : LinesWritten). x .written) e in
     record {
       written = omega (arith, w .written, same);
       low = omega (arith, w .low, w .few, same);
@@ -81,24 +81,24 @@ asks {t = t} {u = u} w e p l =
     }
 
 -- the refusal has room after the lines
-pub last-room : {told : List ℕ} {first : ℕ} {out out₁ : List ℕ} {t u : Told} {a : ℕ} → Tells told first t out → t ≡ u → Printing names out 0 a out₁
+pub last-room : {told : List ℕ} {first : ℕ} {out out₁ : List ℕ} {t u : LinesWritten} {a : ℕ} → Tells told first t out → t ≡ u → Printing tileNames out 0 a out₁
     → a + u .written * 61 + 19 ≤ length out
 last-room {t = t} {u = u} w e p =
-    let same : t .written ≡ u .written = ap (λ (x : Told). x .written) e in
+    let same : t .written ≡ u .written = ap (λ (x : LinesWritten). x .written) e in
     omega (arith, w .room, w .few, same, p .answer)
 
 module _ (told : List ℕ) (first : ℕ) {out : List ℕ} where
-  pub done : {driven : Driven} {out₁ out₂ : List ℕ} {a n r : ℕ} → driven ≡ Done n → Printing names out 0 a out₁ → Printing (toldLines told first n) out₁ a r out₂
-      → r ≤ length out → LineWritten (toldText told first (toldBy driven)) out r out₂
+  pub done : {driven : Driven} {out₁ out₂ : List ℕ} {a n r : ℕ} → driven ≡ Done n → Printing tileNames out 0 a out₁ → Printing (toldLines told first n) out₁ a r out₂
+      → r ≤ length out → LineWritten (toldText told first (linesWritten driven)) out r out₂
   unfolding toldText
   done {out₂ = out₂} {r = r} e p q h =
       let none-after : Printing [] out₂ r r out₂ = record { answer = omega arith; printed = refl } in
-      subst (λ (x : Driven). LineWritten (toldText told first (toldBy x)) out r out₂) (sym e) (at-front (joined (joined p q) none-after) h)
+      subst (λ (x : Driven). LineWritten (toldText told first (linesWritten x)) out r out₂) (sym e) (at-front (joined (joined p q) none-after) h)
 
   pub refused : {driven : Driven} {out₁ out₂ out₃ : List ℕ} {a b n r number : ℕ} {refusal : Refusal} → driven ≡ Refused refusal n → number ≡ numberOf refusal
-      → Printing names out 0 a out₁ → Printing (toldLines told first n) out₁ a b out₂ → Printing (refusalText number) out₂ b r out₃ → r ≤ length out
-      → LineWritten (toldText told first (toldBy driven)) out r out₃
+      → Printing tileNames out 0 a out₁ → Printing (toldLines told first n) out₁ a b out₂ → Printing (refusalText number) out₂ b r out₃ → r ≤ length out
+      → LineWritten (toldText told first (linesWritten driven)) out r out₃
   unfolding toldText
   refused {out₂ = out₂} {out₃ = out₃} {b = b} {r = r} e f p q u h =
       let last = subst (λ (k : ℕ). Printing (refusalText k) out₂ b r out₃) f u in
-      subst (λ (x : Driven). LineWritten (toldText told first (toldBy x)) out r out₃) (sym e) (at-front (joined (joined p q) last) h)
+      subst (λ (x : Driven). LineWritten (toldText told first (linesWritten x)) out r out₃) (sym e) (at-front (joined (joined p q) last) h)

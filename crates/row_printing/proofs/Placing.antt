@@ -12,7 +12,7 @@ use mir.Val.{Fits}
 use Rattle.decimal.specs.Print.{Printing}
 use Rattle.decimal.proofs.Print.{ten}
 use Rattle.report.specs.Text.{opField, tileText, refusalText}
-use Rattle.report.specs.Put.{placeOf, Put}
+use Rattle.report.specs.Put.{placeAfter, Put}
 use Rattle.report.specs.declared.Op.{Op}
 use Rattle.report.specs.declared.Op.the-variants.{None, Solid, Paint}
 use Rattle.report.specs.declared.Printed.{Printed}
@@ -45,7 +45,7 @@ module _ {text out out′ : List ℕ} {at : ℕ} {p : Printed} (q : Put text out
       let room = le-leb (at + length text) (length out) h in
       record { answer = e ∙ by p (rw room at (q .answer)); printed = rw room at (q .printed) }
     where
-      by : (x : Printed) → placeOf x ≡ some (at + length text) → placeOr at x ≡ at + length text
+      by : (x : Printed) → placeAfter x ≡ some (at + length text) → placeOr at x ≡ at + length text
       by (Next i) z = cc
       by Full z = absurd (let o : _≡_ {A = ℕ} 0 1 = cc in omega arith)
 

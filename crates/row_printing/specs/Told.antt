@@ -3,13 +3,13 @@
 use mathlib.Core.List.{List, [], _++_}
 use Prim.Native.Nat.{ℕ, zero, suc, _+_, _*_, _≤_}
 use lib.ListN.{length, getD}
-use Rattle.row_lines.specs.Driven.{Told}
+use Rattle.row_lines.specs.Driven.{LinesWritten}
 use Rattle.row_lines.specs.declared.Line.{Line}
-use Rattle.report.specs.Text.{names}
+use Rattle.report.specs.Text.{tileNames}
 use Rattle.report.specs.declared.Printed.{Printed}
 use Rattle.report.specs.declared.Printed.the-variants.{Next, Full}
 use Rattle.report.specs.declared.TileLine.{TileLine}
-use Rattle.row_answer.specs.Answer.{opOf, lineText, lastText, answerRoom}
+use Rattle.row_answer.specs.Answer.{opOf, tileLineText, lastText, answerRoom}
 
 -- the place after a printed line, or another
 abbrev pub placeOr : ℕ → Printed → ℕ
@@ -42,10 +42,10 @@ tileIn told i tile =
 -- the first n lines
 unfoldable pub toldLines : List ℕ → ℕ → ℕ → List ℕ
 toldLines told first zero = []
-toldLines told first (suc n) = toldLines told first n ++ lineText (first + n) (lineIn told n)
+toldLines told first (suc n) = toldLines told first n ++ tileLineText (first + n) (lineIn told n)
 
-unfoldable pub toldText : List ℕ → ℕ → Told → List ℕ
-toldText told first t = names ++ toldLines told first (t .written) ++ lastText (t .refusal)
+unfoldable pub toldText : List ℕ → ℕ → LinesWritten → List ℕ
+toldText told first t = tileNames ++ toldLines told first (t .written) ++ lastText (t .refusal)
 
 -- what printing n lines asks
 pub record Lines (told : List ℕ) (first n : ℕ) (out : List ℕ) (at : ℕ) : Type 0 where
@@ -54,7 +54,7 @@ pub record Lines (told : List ℕ) (first n : ℕ) (out : List ℕ) (at : ℕ) :
   pub room : at + n * 61 ≤ length out
 
 -- what printing all of them asks
-pub record Tells (told : List ℕ) (first : ℕ) (t : Told) (out : List ℕ) : Type 0 where
+pub record Tells (told : List ℕ) (first : ℕ) (t : LinesWritten) (out : List ℕ) : Type 0 where
   pub written : t .written * 5 ≤ length told
   pub few : t .written ≤ 4095
   pub low : first ≤ 2147483647

@@ -7,9 +7,9 @@ ghost use mathlib.Core.Path.{_≡_};
 ghost use Prim.Native.Nat.{_+_, _*_, _≤_};
 ghost use lib.ListN.{length};
 ghost use Rattle.decimal.specs.Print.{Printing};
-ghost use Rattle.report.specs.Text.{names, tileText, refusalText};
+ghost use Rattle.report.specs.Text.{tileNames, tileText, refusalText};
 ghost use Rattle.report.specs.Put.{LineWritten};
-ghost use Rattle.row_lines.specs.Driven.{toldBy};
+ghost use Rattle.row_lines.specs.Driven.{linesWritten};
 ghost use Rattle.row_answer.specs.Answer.{opOf};
 ghost use Rattle.row_printing.specs.Told.{placeOr, tileIn, toldLines, toldText, Lines, Tells};
 
@@ -53,7 +53,7 @@ fn place_or(at: usize, printed: Printed) -> usize
 
 fn print_names(out: &mut [u8], at: usize) -> usize
     requires { ⌜ at + 36 ≤ length (now out) ⌝ }
-    ensures { λ r. ⌜ Printing names (now (out .entry)) at r (now (out .exit)) ⌝ }
+    ensures { λ r. ⌜ Printing tileNames (now (out .entry)) at r (now (out .exit)) ⌝ }
 {
     place_or(at, report::print_names(out, at))
 }
@@ -93,8 +93,8 @@ fn print_lines(told: &[u32], first: u32, n: usize, out: &mut [u8], at: usize) ->
 
 // Prints what a driver told: the names, its lines, and the refusal that ended it.
 pub fn print_driven(driven: Driven, told: &[u32], first: u32, out: &mut [u8]) -> usize
-    requires { ⌜ Tells (now told) first (toldBy driven) (now out) ⌝ }
-    ensures { λ r. ⌜ LineWritten (toldText (now (told .entry)) first (toldBy driven)) (now (out .entry)) r
+    requires { ⌜ Tells (now told) first (linesWritten driven) (now out) ⌝ }
+    ensures { λ r. ⌜ LineWritten (toldText (now (told .entry)) first (linesWritten driven)) (now (out .entry)) r
         (now (out .exit)) ⌝ }
 {
     let start = print_names(out, 0);

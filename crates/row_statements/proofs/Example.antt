@@ -18,7 +18,7 @@ use Rattle.segment_rows.specs.Rows.{Words, ascendsFrom}
 use Rattle.segment_rows.specs.Search.{halved, searchOf, leftPart, tilePart, layerPart}
 use Rattle.styling.specs.Ascending.{strictlyAscendsFrom}
 use Rattle.layer_table.specs.Lookup.{lookup}
-use Rattle.layer_table.specs.Table.{isShort, isValid, isTable, layerAt, tableOf}
+use Rattle.layer_table.specs.Table.{isTableShort, isValid, isTable, layerAt, tableOf}
 use Rattle.cover_statements.specs.Carry.{isLight, carryOf}
 use Rattle.cover_statements.specs.Cover.{isEmpty, isFull}
 use Rattle.queue_statements.specs.Queue.{Carry, idsIn, heldIn}
@@ -30,11 +30,11 @@ use Rattle.layer_carrying.specs.Carrying.{handedOn}
 use Rattle.pass_statements.specs.Clips.{stepOf, clipsFrom}
 use Rattle.pass_statements.specs.Covered.{coveredFrom}
 use Rattle.pass_statements.specs.Decide.{shownFrom, outcomeOf}
-use Rattle.layer_workbench.specs.Work.{outcomeOn}
+use Rattle.layer_workbench.specs.Work.{outcomeByEntries}
 use Rattle.row_carries.specs.Carries.{queueAfter}
 use Rattle.painter.specs.declared.Clip.the-variants.{Absent}
 use Rattle.row_statements.specs.Lent.{Columns, queueOver}
-use Rattle.row_statements.specs.Opening.{leftOf, openVerdict, countBy, openOf, OpensRow}
+use Rattle.row_statements.specs.Opening.{leftOf, openVerdict, openCount, openOf, OpensRow}
 use Rattle.row_statements.specs.TileWork.{listVerdict}
 use Rattle.row_statements.specs.Due.{atFirst, queueOn}
 use Rattle.row_statements.specs.Run.{openRow}
@@ -62,8 +62,8 @@ first = record { «tile_y» = 0; from = 0; to = 2; next = 0; left = 4; taken = 0
 held : Columns
 held = queueOver (openQueue (leftOf call)) (room 256)
 
-counted : countBy (openVerdict call (room 256)) (leftOf call) ≡ given 4
-unfolding openVerdict isShort isValid isTable strictlyAscendsFrom ascendsFrom layerAt isLightOpening isLight addTo addAll coverOf leftPart searchOf halved tileOf
+counted : openCount (openVerdict call (room 256)) (leftOf call) ≡ given 4
+unfolding openVerdict isTableShort isValid isTable strictlyAscendsFrom ascendsFrom layerAt isLightOpening isLight addTo addAll coverOf leftPart searchOf halved tileOf
 counted = refl
 
 opens : OpensRow (openOf call (room 256)) (opened.Row first) held
@@ -81,7 +81,7 @@ unfolding listOf groupsOf handedOn queueAfter addTo addAll leftPart tilePart sea
 lost = (refl, refl)
 
 pub ran : Ran
-unfolding outcomeOn outcomeOf clipsFrom stepOf coveredFrom shownFrom isFull eq ofBits odd listOf groupsOf queueAfter addTo addAll leftPart tilePart searchOf halved lookup tableOf layerAt coverOf tileOf
+unfolding outcomeByEntries outcomeOf clipsFrom stepOf coveredFrom shownFrom isFull eq ofBits odd listOf groupsOf queueAfter addTo addAll leftPart tilePart searchOf halved lookup tableOf layerAt coverOf tileOf
 ran =
     let a = accepted call (room 256) held first opens in
     let r = exists (is-open call (room 256) held first in-words a) (held-first call (room 256) held first in-words a) choices in

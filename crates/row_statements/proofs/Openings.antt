@@ -17,9 +17,9 @@ use Rattle.pixel_segment.specs.Field.{cpu}
 use Rattle.segment_rows.specs.Rows.{isRow}
 use Rattle.queue_statements.specs.Queue.{idsIn, coversIn}
 use Rattle.queue_statements.specs.Opening.{openQueue, openAnswer, writtenIf, Opens}
-use Rattle.row_statements.specs.Lent.{Columns, isQueueShort, isTableShort, isTable}
+use Rattle.row_statements.specs.Lent.{Columns, isQueueShort, isLentShort, isLentTable}
 use Rattle.row_statements.specs.State.{State}
-use Rattle.row_statements.specs.Opening.{OpenCall, leftOf, hasBadEnds, openVerdict, countBy, stateBy, openOut, openOf, openedAnswer, OpensRow}
+use Rattle.row_statements.specs.Opening.{OpenCall, leftOf, hasBadEnds, openVerdict, openCount, stateBy, openOut, openOf, openedAnswer, OpensRow}
 use Rattle.row_statements.specs.declared.Opened.{Opened}
 use Rattle.row_statements.specs.declared.Opened.the-variants as opened
 
@@ -50,7 +50,7 @@ module _ (c : OpenCall) (lent : Columns) where
     pub room : isQueueShort lent ≡ false
     pub ends : Ends (c .tileY) (c .from) (c .to)
     pub in-row : isRow cpu (suc (plus (c .tileY))) (c .row) ≡ true
-    pub in-table : isTable (c .table) ≡ true
+    pub in-table : isLentTable (c .table) ≡ true
 
   pub opening-passed : openVerdict c lent ≡ pass → Passed
   unfolding openVerdict
@@ -60,10 +60,10 @@ module _ (c : OpenCall) (lent : Columns) where
       let three = passed _ _ _ (two .1) in
       let four = passed _ _ _ (three .1) in
       record {
-        room = or-left (isQueueShort lent) (isTableShort (c .table)) (one .0);
+        room = or-left (isQueueShort lent) (isLentShort (c .table)) (one .0);
         ends = good-ends (c .tileY) (c .from) (c .to) (two .0);
         in-row = not-false (isRow cpu (suc (plus (c .tileY))) (c .row)) (three .0);
-        in-table = not-false (isTable (c .table)) (four .0);
+        in-table = not-false (isLentTable (c .table)) (four .0);
       }
 
   -- ---- the operation

@@ -12,9 +12,9 @@ use Rattle.pixel_segment.specs.Pack.{wordOf}
 use Rattle.segment_rows.specs.Search.{halved, searchOf, tilePart, layerPart}
 use Rattle.styling.specs.Ascending.{strictlyAscendsFrom}
 use Rattle.layer_table.specs.Lookup.{lookup}
-use Rattle.layer_table.specs.Table.{isShort, isValid, isTable, layerAt, tableOf}
+use Rattle.layer_table.specs.Table.{isTableShort, isValid, isTable, layerAt, tableOf}
 use Rattle.cover_statements.specs.Carry.{isLight}
-use Rattle.cover_statements.specs.Entry.{entryOf}
+use Rattle.cover_statements.specs.Entry.{coverEntry}
 use Rattle.queue_statements.specs.Queue.{isQueue, queueOf, heldIn}
 use Rattle.refusals.specs.Refusal.{Judgement, pass, refuse}
 use Rattle.row_statements.specs.Lent.{lentTable, columns}
@@ -43,37 +43,37 @@ segment = wordOf cpu 5 (pos 0) (pos 0) 3 0 32 (negsuc 7)
 
 -- a plane of 256 passes, one of 255 does not
 pub room-passes : verdict (after 1 0) (pos 0) 5 [] 0 0 (pos 0) 256 ≡ pass
-unfolding callVerdict isShort isValid isTable strictlyAscendsFrom isQueue ascendsFrom lookup tableOf layerAt queueOf heldIn entryOf isLight tilePart layerPart searchOf
+unfolding callVerdict isTableShort isValid isTable strictlyAscendsFrom isQueue ascendsFrom lookup tableOf layerAt queueOf heldIn coverEntry isLight tilePart layerPart searchOf
 room-passes = refl
 
 pub room-lacks : verdict (after 1 0) (pos 0) 5 [] 0 0 (pos 0) 255 ≡ refuse 1
-unfolding callVerdict isShort
+unfolding callVerdict isTableShort
 room-lacks = refl
 
 -- before the first work no tile was just worked, and after it tile 0 was, not tile 1
 pub before-work : verdict (after 0 0) (pos 0) 5 [] 0 0 (pos 0) 256 ≡ refuse 2
-unfolding callVerdict isShort
+unfolding callVerdict isTableShort
 before-work = refl
 
 pub next-tile : verdict (after 1 0) (pos 1) 5 [] 0 0 (pos 0) 256 ≡ refuse 2
-unfolding callVerdict isShort
+unfolding callVerdict isTableShort
 next-tile = refl
 
 -- ids 4, 4 in the queue that was taken in
 pub equal-ids : verdict (after 1 2) (pos 0) 5 [] 4 4 (pos 0) 256 ≡ refuse 5
-unfolding callVerdict isShort isValid isTable strictlyAscendsFrom isQueue ascendsFrom
+unfolding callVerdict isTableShort isValid isTable strictlyAscendsFrom isQueue ascendsFrom
 equal-ids = refl
 
 -- layer 6 is not in the table
 pub not-in-table : verdict (after 1 0) (pos 0) 6 [] 0 0 (pos 0) 256 ≡ refuse 8
-unfolding callVerdict isShort isValid isTable strictlyAscendsFrom isQueue ascendsFrom lookup tableOf layerAt
+unfolding callVerdict isTableShort isValid isTable strictlyAscendsFrom isQueue ascendsFrom lookup tableOf layerAt
 not-in-table = refl
 
 -- 120 and -8 are refused, 119 and -8 pass
 pub too-large : verdict (after 1 1) (pos 0) 5 (segment ∷ []) 5 0 (pos 120) 256 ≡ refuse 9
-unfolding callVerdict isShort isValid isTable strictlyAscendsFrom isQueue ascendsFrom lookup tableOf layerAt queueOf heldIn entryOf isLight coverOf tilePart layerPart searchOf halved tileOf
+unfolding callVerdict isTableShort isValid isTable strictlyAscendsFrom isQueue ascendsFrom lookup tableOf layerAt queueOf heldIn coverEntry isLight coverOf tilePart layerPart searchOf halved tileOf
 too-large = refl
 
 pub large : verdict (after 1 1) (pos 0) 5 (segment ∷ []) 5 0 (pos 119) 256 ≡ pass
-unfolding callVerdict isShort isValid isTable strictlyAscendsFrom isQueue ascendsFrom lookup tableOf layerAt queueOf heldIn entryOf isLight coverOf tilePart layerPart searchOf halved tileOf
+unfolding callVerdict isTableShort isValid isTable strictlyAscendsFrom isQueue ascendsFrom lookup tableOf layerAt queueOf heldIn coverEntry isLight coverOf tilePart layerPart searchOf halved tileOf
 large = refl

@@ -10,7 +10,7 @@ use lib.Ieee.{Float}
 use lib.IntN.{ℤ, pos}
 use lib.ListN.{length}
 use lib.Signed.{ltZ}
-use Rattle.laws.specs.Answer.{Answer, refused, given}
+use Rattle.laws.specs.Answer.{Answer, refused, given, isGiven}
 use Rattle.laws.specs.Integer.{plus, minus}
 use Rattle.laws.proofs.Parts.{whole, equal, lt-false}
 use Rattle.refusals.specs.Refusal.{Judgement, pass, refuse, numberOf}
@@ -24,11 +24,10 @@ use Rattle.styling.specs.declared.Layer.{Layer}
 use Rattle.layer_table.proofs.Judging as judged
 use Rattle.queue_statements.specs.Queue.{Carry, isQueue}
 use Rattle.queue_statements.proofs.Judging.{queued, ordered}
-use Rattle.tile_layers.specs.Listing.{isGiven}
 use Rattle.row_carries.proofs.Parts.{tile-ordered}
 use Rattle.painter.specs.Painting.{isLightIn, Ready, Paints}
 use Rattle.painter.specs.declared.painting.Painting as painting
-use Rattle.row_statements.specs.Lent.{isQueueShort, isTableShort, isTable, layersOf}
+use Rattle.row_statements.specs.Lent.{isQueueShort, isLentShort, isLentTable, layersOf}
 use Rattle.row_statements.specs.State.{State, stateIn, withClip, isStray, isNotWorked}
 use Rattle.row_statements.specs.Painting.{PaintCall, callVerdict, layerVerdict, layerFrom, layerIn, takenFor, partFor, PaintSays, paintSays, paintOut, PaintsLayer}
 use Rattle.row_statements.specs.InnerPaint.{paintedLayer}
@@ -66,14 +65,14 @@ module _ (c : PaintCall) (plane : List Float) where
     pub in-state : InRow (c .state)
     pub worked : Worked (c .state) (c .tile)
     pub ascends : isRow cpu (suc (c .state .tileY)) (c .row) ≡ true
-    pub in-table : isTable (c .table) ≡ true
+    pub in-table : isLentTable (c .table) ≡ true
     pub in-queue : isQueue (c .state .taken) (c .queue .ids) ≡ true
 
   pub call-passed : callVerdict c plane ≡ pass → Called
   unfolding callVerdict
   call-passed e =
       let q = isQueueShort (c .queue) in
-      let t = isTableShort (c .table) in
+      let t = isLentShort (c .table) in
       let f = ltb (length plane) 256 in
       let stray = isStray (c .state) in
       let other = isNotWorked (c .state) (c .tile) in
@@ -88,7 +87,7 @@ module _ (c : PaintCall) (plane : List Float) where
         in-state = in-row (c .state) (or-left stray other (two .0));
         worked = was-worked (c .state) (c .tile) (or-right stray other (two .0));
         ascends = not-false (isRow cpu (suc (c .state .tileY)) (c .row)) (three .0);
-        in-table = not-false (isTable (c .table)) (four .0);
+        in-table = not-false (isLentTable (c .table)) (four .0);
         in-queue = not-false (isQueue (c .state .taken) (c .queue .ids)) (five .0);
       }
 

@@ -15,7 +15,7 @@ use Rattle.pixel_segment.specs.Pack.{wordOf}
 use Rattle.styling.specs.Ascending.{strictlyAscendsFrom}
 use Rattle.layer_table.specs.Lookup.{lookup}
 use Rattle.layer_table.specs.Record.{layerOf}
-use Rattle.layer_table.specs.Table.{isShort, isValid, isTable, layerAt, tableOf}
+use Rattle.layer_table.specs.Table.{isTableShort, isValid, isTable, layerAt, tableOf}
 use Rattle.styling.specs.declared.Color.{Color}
 use Rattle.styling.specs.declared.Layer.{Layer}
 use Rattle.cover_statements.specs.Carry.{isLight}
@@ -40,41 +40,41 @@ opened tileY from to row entries = openVerdict (openCall tileY from to row (lent
 
 -- 1: 256 entries pass, 255 don't; an empty row passes, and so does from = to
 pub queue-passes : opened (pos 0) (pos 3) (pos 3) [] 256 ≡ pass
-unfolding openVerdict isShort isValid isTable ascendsFrom strictlyAscendsFrom
+unfolding openVerdict isTableShort isValid isTable ascendsFrom strictlyAscendsFrom
 queue-passes = refl
 
 pub queue-lacks : opened (pos 0) (pos 3) (pos 3) [] 255 ≡ refuse 1
-unfolding openVerdict isShort
+unfolding openVerdict isTableShort
 queue-lacks = refl
 
 -- 1: a table of one layer has eight words and four numbers
 pub words-lack : openVerdict (openCall (pos 0) (pos 0) (pos 4) [] (lentTable (replicate 7 0) (replicate 4 nan) 1)) (room 256) ≡ refuse 1
-unfolding openVerdict isShort
+unfolding openVerdict isTableShort
 words-lack = refl
 
 pub numbers-lack : openVerdict (openCall (pos 0) (pos 0) (pos 4) [] (lentTable (replicate 8 0) (replicate 3 nan) 1)) (room 256) ≡ refuse 1
-unfolding openVerdict isShort
+unfolding openVerdict isTableShort
 numbers-lack = refl
 
 -- 2: row 2,046 and tiles up to 4,095 pass; row 2,047, from -1, to 4,096 and from above to don't
 pub ends-pass : opened (pos 2046) (pos 0) (pos 4095) [] 256 ≡ pass
-unfolding openVerdict isShort isValid isTable ascendsFrom strictlyAscendsFrom
+unfolding openVerdict isTableShort isValid isTable ascendsFrom strictlyAscendsFrom
 ends-pass = refl
 
 pub row-past : opened (pos 2047) (pos 0) (pos 4095) [] 256 ≡ refuse 2
-unfolding openVerdict isShort
+unfolding openVerdict isTableShort
 row-past = refl
 
 pub from-below : opened (pos 0) (negsuc 0) (pos 4) [] 256 ≡ refuse 2
-unfolding openVerdict isShort
+unfolding openVerdict isTableShort
 from-below = refl
 
 pub to-past : opened (pos 0) (pos 0) (pos 4096) [] 256 ≡ refuse 2
-unfolding openVerdict isShort
+unfolding openVerdict isTableShort
 to-past = refl
 
 pub from-past : opened (pos 0) (pos 4) (pos 3) [] 256 ≡ refuse 2
-unfolding openVerdict isShort
+unfolding openVerdict isTableShort
 from-past = refl
 
 -- 3: layers 6, 7 in one tile pass, 7, 6 don't; nor does a segment of row 1 in row 0
@@ -82,15 +82,15 @@ abbrev segment : ℕ → ℤ → ℕ
 segment layer tileY = wordOf cpu layer (pos 0) tileY 0 0 32 (pos 16)
 
 pub ascending : opened (pos 0) (pos 0) (pos 4) (segment 6 (pos 0) ∷ segment 7 (pos 0) ∷ []) 256 ≡ pass
-unfolding openVerdict isShort isValid isTable ascendsFrom strictlyAscendsFrom
+unfolding openVerdict isTableShort isValid isTable ascendsFrom strictlyAscendsFrom
 ascending = refl
 
 pub descending : opened (pos 0) (pos 0) (pos 4) (segment 7 (pos 0) ∷ segment 6 (pos 0) ∷ []) 256 ≡ refuse 3
-unfolding openVerdict isShort ascendsFrom
+unfolding openVerdict isTableShort ascendsFrom
 descending = refl
 
 pub other-row : opened (pos 0) (pos 0) (pos 4) (segment 6 (pos 1) ∷ []) 256 ≡ refuse 3
-unfolding openVerdict isShort ascendsFrom
+unfolding openVerdict isTableShort ascendsFrom
 other-row = refl
 
 -- 4: blend mode 15 passes, 16 doesn't; ids 4, 5 pass, 4, 4 don't
@@ -104,24 +104,24 @@ abbrev tabled : List ℕ → ℕ → Judgement
 tabled words count = tabledWith [] words count
 
 pub mode-passes : tabled (draw 4 15 []) 1 ≡ pass
-unfolding openVerdict isShort isValid isTable ascendsFrom strictlyAscendsFrom
+unfolding openVerdict isTableShort isValid isTable ascendsFrom strictlyAscendsFrom
 mode-passes = refl
 
 pub mode-past : tabled (draw 4 16 []) 1 ≡ refuse 4
-unfolding openVerdict isShort isValid isTable ascendsFrom strictlyAscendsFrom
+unfolding openVerdict isTableShort isValid isTable ascendsFrom strictlyAscendsFrom
 mode-past = refl
 
 pub ids-pass : tabled (draw 4 0 (draw 5 0 [])) 2 ≡ pass
-unfolding openVerdict isShort isValid isTable ascendsFrom strictlyAscendsFrom
+unfolding openVerdict isTableShort isValid isTable ascendsFrom strictlyAscendsFrom
 ids-pass = refl
 
 pub ids-equal : tabled (draw 4 0 (draw 4 0 [])) 2 ≡ refuse 4
-unfolding openVerdict isShort isValid isTable ascendsFrom strictlyAscendsFrom
+unfolding openVerdict isTableShort isValid isTable ascendsFrom strictlyAscendsFrom
 ids-equal = refl
 
 -- 3 before 4: a row that descends, with ids 4, 4
 pub row-first : tabledWith (segment 7 (pos 0) ∷ segment 6 (pos 0) ∷ []) (draw 4 0 (draw 4 0 [])) 2 ≡ refuse 3
-unfolding openVerdict isShort isValid isTable ascendsFrom strictlyAscendsFrom
+unfolding openVerdict isTableShort isValid isTable ascendsFrom strictlyAscendsFrom
 row-first = refl
 
 -- ---- tile works: tiles 0 to 4, of which 2 is the next; two carries with the ids a and b are left
@@ -146,12 +146,12 @@ abbrev worked : ℤ → ℕ → ℕ → ℕ → Judgement
 worked tile a b tag = workedIn [] tile a b tag
 
 pub next-passes : worked (pos 2) 3 4 3 ≡ pass
-unfolding argsVerdict isShort isValid isTable ascendsFrom isQueue strictlyAscendsFrom
+unfolding argsVerdict isTableShort isValid isTable ascendsFrom isQueue strictlyAscendsFrom
 next-passes = refl
 
 -- 2: tile 3 after tile 1
 pub skips-one : worked (pos 3) 3 4 3 ≡ refuse 2
-unfolding argsVerdict isShort
+unfolding argsVerdict isTableShort
 skips-one = refl
 
 -- 2: tile 3 is the last of 0 to 4, and none follows
@@ -159,11 +159,11 @@ abbrev ending : ℕ → ℤ → Judgement
 ending next tile = argsVerdict (workCall (stateAt next 0) tile [] (lentTable [] [] 0) (tagged false 0) black Absent (room 256)) lent
 
 pub last-passes : ending 3 (pos 3) ≡ pass
-unfolding argsVerdict isShort isValid isTable ascendsFrom isQueue strictlyAscendsFrom
+unfolding argsVerdict isTableShort isValid isTable ascendsFrom isQueue strictlyAscendsFrom
 last-passes = refl
 
 pub none-follows : ending 4 (pos 4) ≡ refuse 2
-unfolding argsVerdict isShort
+unfolding argsVerdict isTableShort
 none-follows = refl
 
 -- 1: lists of 256 entries pass; 255 ids, or 4,095 covers, don't
@@ -190,17 +190,17 @@ queue-past = refl
 
 -- 5: ids 4, 4
 pub equal-ids : worked (pos 2) 4 4 3 ≡ refuse 5
-unfolding argsVerdict isShort isValid isTable ascendsFrom isQueue strictlyAscendsFrom
+unfolding argsVerdict isTableShort isValid isTable ascendsFrom isQueue strictlyAscendsFrom
 equal-ids = refl
 
 -- 6: tag 4
 pub tag-past : worked (pos 2) 3 4 4 ≡ refuse 6
-unfolding argsVerdict isShort isValid isTable ascendsFrom isQueue strictlyAscendsFrom
+unfolding argsVerdict isTableShort isValid isTable ascendsFrom isQueue strictlyAscendsFrom
 tag-past = refl
 
 -- 3: the whole lent row is judged, not the tile's part alone: layers 7, 6 in tile 0 while tile 2 is worked
 pub whole-row : workedIn (segment 7 (pos 0) ∷ segment 6 (pos 0) ∷ []) (pos 2) 3 4 3 ≡ refuse 3
-unfolding argsVerdict isShort ascendsFrom
+unfolding argsVerdict isTableShort ascendsFrom
 whole-row = refl
 
 -- ---- lists

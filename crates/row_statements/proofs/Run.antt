@@ -26,9 +26,9 @@ use Rattle.queue_statements.proofs.Columns.{areWide}
 use Rattle.row_carries.proofs.Carried.{queue-first, queue-ascends, queue-wide, held-from-row}
 use Rattle.row_carries.proofs.Planes.{unlisted-zeros, unknown-zeros}
 use Rattle.row_carries.proofs.Covered.{covered-under}
-use Rattle.row_statements.specs.Lent.{Columns, isTableShort, queueOver}
+use Rattle.row_statements.specs.Lent.{Columns, isLentShort, queueOver}
 use Rattle.row_statements.specs.State.{State, stateIn}
-use Rattle.row_statements.specs.Opening.{OpenCall, leftOf, openVerdict, countBy, openState, openOut, openOf, OpensRow}
+use Rattle.row_statements.specs.Opening.{OpenCall, leftOf, openVerdict, openCount, openState, openOut, openOf, OpensRow}
 use Rattle.row_statements.specs.TileWork.{WorkCall, WorkLent, workVerdict, saysFor, workOut, workOf, GivesWork}
 use Rattle.row_statements.specs.Painting.{PaintCall, paintVerdict, takenFor, partFor, paintSays, paintOut, paintOf, PaintsLayer}
 use Rattle.row_statements.specs.Due.{OpenRow, Past, atFirst, tableOn, queueOn, stateOn}
@@ -116,7 +116,7 @@ module _ (c : OpenCall) (lent back : Columns) (s : RowState) where
   unfolding openOf q
   accepted g = by (openVerdict c lent) refl (g .answer) (g .lent-is)
     where
-      by : (v : Judgement) → openVerdict c lent ≡ v → given (stateIn s) ≡ openOut (countBy v (leftOf c)) c lent .answer → back ≡ openOut (countBy v (leftOf c)) c lent .lent → Accepted
+      by : (v : Judgement) → openVerdict c lent ≡ v → given (stateIn s) ≡ openOut (openCount v (leftOf c)) c lent .answer → back ≡ openOut (openCount v (leftOf c)) c lent .lent → Accepted
       by (refuse n) e a l = absurd (let z : _≡_ {A = ℕ} 0 1 = cc in omega arith)
       by pass e a l =
           let t = given-state c lent (ltb 256 (length q)) (isLightOpening (leftOf c)) (length q) (stateIn s) a in
@@ -135,7 +135,7 @@ module _ (c : OpenCall) (lent back : Columns) (s : RowState) where
         last = t .ends .last .1;
         in-order = record { words = w; is-row = t .in-row };
         in-table = t .in-table;
-        table-long = not-true (isTableShort (c .table)) (λ e. clash (t .in-table) (table-short (c .table .words) (c .table .floats) (c .table .count) e));
+        table-long = not-true (isLentShort (c .table)) (λ e. clash (t .in-table) (table-short (c .table .words) (c .table .floats) (c .table .count) e));
       }
 
   -- the first tile is no negative one

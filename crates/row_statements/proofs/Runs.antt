@@ -8,14 +8,14 @@ use lib.Dec.{ltb}
 use lib.Ieee.{Float}
 use lib.IntN.{pos}
 use lib.ListN.{length}
-use Rattle.laws.specs.Answer.{Answer, refused, given}
+use Rattle.laws.specs.Answer.{Answer, refused, given, isGiven}
 use Rattle.refusals.specs.Refusal.{Judgement, pass, refuse, unless, numberOf}
 use Rattle.refusals.proofs.Naming.{refusalOf, Named, named}
 use Rattle.segment_rows.specs.Search.{tilePart}
 use Rattle.layer_table.specs.Lookup.{lookup}
 use Rattle.styling.specs.declared.Layer.{Layer}
 use Rattle.cached_tile.specs.Kept.{tagOutOfRange}
-use Rattle.tile_layers.specs.Listing.{Listed, isTooMany, areKnown, areLight, isGiven}
+use Rattle.tile_layers.specs.Listing.{Listed, isTooMany, areKnown, areLight}
 use Rattle.pass_statements.specs.Decision as decision
 use Rattle.pass_statements.specs.Decision.{TileDecision, solid, paint, decisionIn}
 use Rattle.pass_statements.specs.declared.decide.Decision.{Decision}
@@ -26,7 +26,7 @@ use Rattle.painter.specs.Clip.{clipIn}
 use Rattle.painter.specs.Painting.{isLightIn}
 use Rattle.row_statements.specs.Lent.{isQueueShort, isListShort}
 use Rattle.row_statements.specs.State.{State, stateIn}
-use Rattle.row_statements.specs.TileWork.{WorkGiven, TileTold, TileSays, listVerdict, workOut, workOf, workAnswer, GivesWork}
+use Rattle.row_statements.specs.TileWork.{WorkGiven, TileAnswer, TileSays, listVerdict, workOut, workOf, workAnswer, GivesWork}
 use Rattle.row_statements.specs.Painting.{PaintGiven, PaintSays, layerVerdict, paintOut, paintOf, paintAnswer, PaintsLayer}
 use Rattle.row_statements.specs.Due.{OpenRow, Past, tableOn, queueOn, layersOn, WorkChoice, isNotDue, workDueVerdict, saysOn, stateOn, workDue, PaintChoice, isNotLast, paintDueVerdict, paintOn, paintDue}
 use Rattle.row_statements.specs.Run.{Held, SameCarries, workOn, paintOnto, Event, Step, Run}
@@ -69,10 +69,10 @@ decision-back decision.none = refl
 decision-back (solid bottom before) = refl
 decision-back paint = refl
 
-abbrev toldOut : TileTold → TileDone
+abbrev toldOut : TileAnswer → TileDone
 toldOut t = record { decision = decisionOut (t .decision); listed = t .listed; skipped = record { 0 = t .skipped } }
 
-abbrev workedOut : Answer TileTold → WorkAnswer
+abbrev workedOut : Answer TileAnswer → WorkAnswer
 workedOut (refused n) = worked.Refused (refusalOf n)
 workedOut (given t) = worked.Done (toldOut t)
 

@@ -27,10 +27,10 @@ use Rattle.layer_carrying.proofs.Handing.{handed-few}
 use Rattle.tile_layers.proofs.Wide.{list-wide}
 use Rattle.pass_statements.specs.Item.{itemOf}
 use Rattle.pass_statements.proofs.Words.{outcome-long}
-use Rattle.layer_workbench.specs.Work.{entryOf, outcomeOn, outcomeIn, clearUnchanged, countFrom}
+use Rattle.layer_workbench.specs.Work.{entryOf, outcomeByEntries, outcomeIn, clearUnchanged, countFrom}
 use Rattle.layer_workbench.proofs.Entries.{entries-are}
 use Rattle.row_carries.proofs.Carried.{queue-next, queue-ascends, queue-wide}
-use Rattle.row_statements.specs.Lent.{Columns, carriesIn, isQueueShort, queueOver, isListShort, isTableShort, entriesIn}
+use Rattle.row_statements.specs.Lent.{Columns, carriesIn, isQueueShort, queueOver, isListShort, isLentShort, entriesIn}
 use Rattle.row_statements.specs.State.{State, nextState, stateIn, isStray, isNotNext}
 use Rattle.row_statements.specs.TileWork.{WorkLent, WorkGiven, TileSays, listedFor, isShortFor, argsVerdict, layersVerdict, listVerdict, workVerdict, saysFor, workOut, workOf, workAnswer, GivesWork}
 use Rattle.row_statements.specs.Due as due
@@ -145,7 +145,7 @@ module _ {o : OpenRow} {p : Past} {h : Held} (is-open : IsOpen o) (holds : Holds
         list-wide (queueOn o (p .tiles)) (groupsOf (tilePart (pos (o .from + p .tiles)) (o .row))) (queue-wide (is-open .in-order) (tableOn o) (o .from) (p .tiles))
 
     flags-long : length (saysOn o (p .tiles) c .outcome .unmasked) ≡ length (layersOn o (p .tiles))
-    unfolding outcomeOn
+    unfolding outcomeByEntries
     flags-long =
         outcome-long (c .clear) (clearUnchanged (c .previous) (c .clear)) (countFrom (previousCount (c .kept))) (map (itemOf (tableOn o)) (map entryOf (layersOn o (p .tiles))))
         ∙ length-map (map entryOf (layersOn o (p .tiles))) (itemOf (tableOn o))

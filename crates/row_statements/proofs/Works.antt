@@ -28,7 +28,7 @@ use Rattle.layer_carrying.specs.Carrying.{handedOn}
 use Rattle.row_carries.proofs.Parts.{tile-ordered}
 use Rattle.layer_workbench.specs.Work.{outcomeIn, Works, ListWritten, QueueWritten, Rooms}
 use Rattle.layer_workbench.specs.declared.Worked.{Worked}
-use Rattle.row_statements.specs.Lent.{Columns, ListColumns, carriesIn, isQueueShort, isListShort, layersOf, isTableShort, isTable}
+use Rattle.row_statements.specs.Lent.{Columns, ListColumns, carriesIn, isQueueShort, isListShort, layersOf, isLentShort, isLentTable}
 use Rattle.row_statements.specs.State.{State, nextState, isStray, isNotNext}
 use Rattle.row_statements.specs.TileWork.{WorkCall, WorkLent, TileSays, listVerdict, argsVerdict, isShortFor, saysFor, workOut, GivesWork}
 use Rattle.row_statements.specs.InnerWork.{judgedBy, refusedWork, doneWork, Judged}
@@ -104,7 +104,7 @@ module _ (c : WorkCall) (lent : WorkLent) where
     pub in-state : InRow (c .state)
     pub next : IsNext (c .state) (c .tile)
     pub ascends : isRow cpu (suc (c .state .tileY)) (c .row) ≡ true
-    pub in-table : isTable (c .table) ≡ true
+    pub in-table : isLentTable (c .table) ≡ true
     pub in-queue : isQueue (c .state .left) (c .queue .ids) ≡ true
 
   pub args-passed : argsVerdict c lent ≡ pass → Passed
@@ -112,7 +112,7 @@ module _ (c : WorkCall) (lent : WorkLent) where
   args-passed e =
       let q = isQueueShort (c .queue) in
       let n = isQueueShort (lent .queue) in
-      let t = isTableShort (c .table) in
+      let t = isLentShort (c .table) in
       let l = isListShort (lent .list) in
       let one = passed _ _ _ e in
       let two = passed _ _ _ (one .1) in

@@ -8,7 +8,7 @@ use lib.ListN.{length}
 use Rattle.queue_statements.specs.Queue.{Carry, isQueue}
 use Rattle.tile_layers.specs.Listing.{areKnown}
 use Rattle.row_carries.specs.Carries.{InOrder}
-use Rattle.row_statements.specs.Lent.{Columns, carriesIn, isQueueShort, isTableShort, isTable}
+use Rattle.row_statements.specs.Lent.{Columns, carriesIn, isQueueShort, isLentShort, isLentTable}
 use Rattle.row_statements.specs.Due.{OpenRow, Past, tableOn, queueOn, layersOn, stateOn}
 use Rattle.row_statements.specs.Run.{Held}
 
@@ -23,8 +23,8 @@ pub record IsOpen (o : OpenRow) : Type 0 where
   pub tile-y : o .tileY ≤ 2046
   pub last : o .to ≤ 4095
   pub in-order : InOrder (suc (o .tileY)) (o .row)
-  pub in-table : isTable (o .table) ≡ true
-  pub table-long : isTableShort (o .table) ≡ false
+  pub in-table : isLentTable (o .table) ≡ true
+  pub table-long : isLentShort (o .table) ≡ false
 
 -- the queue that the last of n tiles took in, whose layers the table has
 abbrev pub Took : OpenRow → ℕ → Columns → Type 0

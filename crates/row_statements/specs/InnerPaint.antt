@@ -6,14 +6,14 @@ use lib.Dec.{ltb}
 use lib.Ieee.{Float}
 use lib.ListN.{length}
 use Rattle.painter.specs.declared.Clip as painter
-use Rattle.row_statements.specs.Lent.{Columns, LentTable, isQueueShort, isTableShort}
+use Rattle.row_statements.specs.Lent.{Columns, LentTable, isQueueShort, isLentShort}
 use Rattle.row_statements.specs.declared.PaintAnswer.the-variants.{Mark}
 use Rattle.row_statements.specs.declared.Painted.{Painted}
 use Rattle.row_statements.specs.declared.RowState.{RowState}
 
 -- 1, by what is lent
 abbrev pub isShortWith : LentTable → Columns → List Float → Bool
-isShortWith table queue plane = isQueueShort queue || isTableShort table || ltb (length plane) 256
+isShortWith table queue plane = isQueueShort queue || isLentShort table || ltb (length plane) 256
 
 -- the state with the clip that painting left, and the mark
 abbrev pub paintedLayer : RowState → painter.Clip → ℕ → Painted

@@ -21,7 +21,7 @@ use Rattle.tile_layers.specs.Walk.{Walks}
 use Rattle.layer_workbench.specs.Work.{Rooms}
 use Rattle.layer_workbench.specs.declared.Worked.{Worked}
 use Rattle.painter.specs.declared.Clip.the-variants.{Absent}
-use Rattle.row_statements.specs.Lent.{LentTable, isTable}
+use Rattle.row_statements.specs.Lent.{LentTable, isLentTable}
 use Rattle.row_statements.specs.State.{State, isWrongNext}
 use Rattle.row_statements.specs.TileWork.{WorkCall, WorkLent, WorkGiven, listVerdict, layersVerdict, saysFor, workOut}
 use Rattle.row_statements.specs.declared.ListJudged.{ListJudged}
@@ -35,7 +35,7 @@ judgedBy short s tile row table k ids =
     unless short 1
     (unless (isWrongNext s tile) 2
     (unless (not (isRow cpu (suc (s .tileY)) row)) 3
-    (unless (not (isTable table)) 4
+    (unless (not (isLentTable table)) 4
     (unless (not (isQueue (s .left) ids)) 5
     (unless (tagOutOfRange k) 6
     pass)))))

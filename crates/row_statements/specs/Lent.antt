@@ -30,7 +30,7 @@ carriesIn n k = queueOf n (k .ids) (k .covers)
 
 -- 1: fewer than 256 entries
 abbrev pub isQueueShort : Columns → Bool
-isQueueShort k = queue.isShort (k .ids) (k .covers)
+isQueueShort k = queue.areColumnsShort (k .ids) (k .covers)
 
 -- carries written over what the columns held
 abbrev pub queueOver : List Carry → Columns → Columns
@@ -79,9 +79,9 @@ abbrev pub layersOf : LentTable → List Layer
 layersOf t = table.tableOf (t .words) (t .floats) (t .count)
 
 -- 1: shorter than its count
-abbrev pub isTableShort : LentTable → Bool
-isTableShort t = table.isShort (t .words) (t .floats) (t .count)
+abbrev pub isLentShort : LentTable → Bool
+isLentShort t = table.isTableShort (t .words) (t .floats) (t .count)
 
 -- neither 1 nor 4 applies
-abbrev pub isTable : LentTable → Bool
-isTable t = table.isTable (t .words) (t .floats) (t .count)
+abbrev pub isLentTable : LentTable → Bool
+isLentTable t = table.isTable (t .words) (t .floats) (t .count)

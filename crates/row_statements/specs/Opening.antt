@@ -16,7 +16,7 @@ use Rattle.segment_rows.specs.Rows.{isRow}
 use Rattle.segment_rows.specs.Search.{leftPart}
 use Rattle.queue_statements.specs.Queue.{Carry}
 use Rattle.queue_statements.specs.Opening.{openQueue, openAnswer}
-use Rattle.row_statements.specs.Lent.{Columns, LentTable, isQueueShort, isTableShort, isTable, queueOver}
+use Rattle.row_statements.specs.Lent.{Columns, LentTable, isQueueShort, isLentShort, isLentTable, queueOver}
 use Rattle.row_statements.specs.State.{State, stateIn}
 use Rattle.row_statements.specs.declared.Opened.{Opened}
 use Rattle.row_statements.specs.declared.Opened.the-variants as opened
@@ -45,16 +45,16 @@ hasBadEnds tileY from to = ltZ tileY (pos 0) || ltZ (pos 2046) tileY || ltZ from
 -- the lowest of 1 to 4 that applies
 unfoldable pub openVerdict : OpenCall → Columns → Judgement
 openVerdict c lent =
-    unless (isQueueShort lent || isTableShort (c .table)) 1
+    unless (isQueueShort lent || isLentShort (c .table)) 1
     (unless (hasBadEnds (c .tileY) (c .from) (c .to)) 2
     (unless (not (isRow cpu (suc (plus (c .tileY))) (c .row))) 3
-    (unless (not (isTable (c .table))) 4
+    (unless (not (isLentTable (c .table))) 4
     pass)))
 
 -- how many carries, or the number of the refusal: 7 and 9 are judged of the segments left of the first tile
-abbrev pub countBy : Judgement → List ℕ → Answer ℕ
-countBy (refuse number) left = refused number
-countBy pass left = openAnswer left
+abbrev pub openCount : Judgement → List ℕ → Answer ℕ
+openCount (refuse number) left = refused number
+openCount pass left = openAnswer left
 
 -- ---- what it gives: its answer, and the lent queue at exit
 
@@ -78,7 +78,7 @@ abbrev pub openOut : Answer ℕ → OpenCall → Columns → OpenGiven
 openOut count c lent = record { answer = stateBy (c .tileY) (c .from) (c .to) count; lent = queueBy count (openQueue (leftOf c)) lent }
 
 unfoldable pub openOf : OpenCall → Columns → OpenGiven
-openOf c lent = openOut (countBy (openVerdict c lent) (leftOf c)) c lent
+openOf c lent = openOut (openCount (openVerdict c lent) (leftOf c)) c lent
 
 -- ---- the promise
 

@@ -10,7 +10,7 @@ use lib.Dec.{ltb}
 use lib.Ieee.{Float}
 use lib.IntN.{ℤ}
 use lib.ListN.{length}
-use Rattle.laws.specs.Answer.{Answer, refused, given}
+use Rattle.laws.specs.Answer.{Answer, refused, given, isGiven}
 use Rattle.laws.specs.Lists.{over}
 use Rattle.refusals.specs.Refusal.{Judgement, pass, refuse, unless, andThen, numberOf}
 use Rattle.pixel_segment.specs.Field.{cpu}
@@ -21,10 +21,9 @@ use Rattle.styling.specs.declared.FillRule.the-variants.{NonZero}
 use Rattle.styling.specs.declared.Func.the-variants.{Clip}
 use Rattle.styling.specs.declared.Layer.{Layer}
 use Rattle.queue_statements.specs.Queue.{Carry, isQueue}
-use Rattle.tile_layers.specs.Listing.{isGiven}
 use Rattle.painter.specs.Clip.{clipAfter}
 use Rattle.painter.specs.Painting.{markIn, planeIn, isLightIn}
-use Rattle.row_statements.specs.Lent.{Columns, LentTable, carriesIn, isQueueShort, layersOf, isTableShort, isTable}
+use Rattle.row_statements.specs.Lent.{Columns, LentTable, carriesIn, isQueueShort, layersOf, isLentShort, isLentTable}
 use Rattle.row_statements.specs.State.{State, stateIn, withClip, isWrongWorked}
 use Rattle.row_statements.specs.declared.PaintAnswer.{PaintAnswer}
 use Rattle.row_statements.specs.declared.PaintAnswer.the-variants.{Mark, Refused}
@@ -46,7 +45,7 @@ paintCall state tile layer row table queue = record { state = state; tile = tile
 
 -- 1: a queue or a plane of fewer than 256 entries, or a table shorter than its count
 abbrev pub isPaintShort : PaintCall → List Float → Bool
-isPaintShort c plane = isQueueShort (c .queue) || isTableShort (c .table) || ltb (length plane) 256
+isPaintShort c plane = isQueueShort (c .queue) || isLentShort (c .table) || ltb (length plane) 256
 
 -- the lowest of 1 to 5 that applies
 unfoldable pub callVerdict : PaintCall → List Float → Judgement
@@ -54,7 +53,7 @@ callVerdict c plane =
     unless (isPaintShort c plane) 1
     (unless (isWrongWorked (c .state) (c .tile)) 2
     (unless (not (isRow cpu (suc (c .state .tileY)) (c .row))) 3
-    (unless (not (isTable (c .table))) 4
+    (unless (not (isLentTable (c .table))) 4
     (unless (not (isQueue (c .state .taken) (c .queue .ids))) 5
     pass))))
 

@@ -23,7 +23,7 @@ use Rattle.pass_statements.specs.Decision.{TileDecision, decisionIn}
 use Rattle.pass_statements.specs.Decide.{Outcome}
 use Rattle.layer_workbench.specs.Work.{outcomeIn, keptAfter}
 use Rattle.layer_workbench.specs.declared.PreviousClear.{PreviousClear}
-use Rattle.row_statements.specs.Lent.{Columns, ListColumns, LentTable, carriesIn, isQueueShort, queueOver, isListShort, listOver, layersOf, isTableShort, isTable}
+use Rattle.row_statements.specs.Lent.{Columns, ListColumns, LentTable, carriesIn, isQueueShort, queueOver, isListShort, listOver, layersOf, isLentShort, isLentTable}
 use Rattle.row_statements.specs.State.{State, stateIn, nextState, isWrongNext}
 use Rattle.row_statements.specs.declared.TileDone.{TileDone}
 use Rattle.row_statements.specs.declared.TileWorked.{TileWorked}
@@ -57,7 +57,7 @@ workLent queue list = record { queue = queue; list = list }
 
 -- 1: a lent queue or list below 256 entries, or a table shorter than its count
 abbrev pub isShortFor : WorkCall → WorkLent → Bool
-isShortFor c lent = isQueueShort (c .queue) || isQueueShort (lent .queue) || isTableShort (c .table) || isListShort (lent .list)
+isShortFor c lent = isQueueShort (c .queue) || isQueueShort (lent .queue) || isLentShort (c .table) || isListShort (lent .list)
 
 -- the lowest of 1 to 6 that applies
 unfoldable pub argsVerdict : WorkCall → WorkLent → Judgement
@@ -65,7 +65,7 @@ argsVerdict c lent =
     unless (isShortFor c lent) 1
     (unless (isWrongNext (c .state) (c .tile)) 2
     (unless (not (isRow cpu (suc (c .state .tileY)) (c .row))) 3
-    (unless (not (isTable (c .table))) 4
+    (unless (not (isLentTable (c .table))) 4
     (unless (not (isQueue (c .state .left) (c .queue .ids))) 5
     (unless (tagOutOfRange (c .kept)) 6
     pass)))))
@@ -106,19 +106,19 @@ saysFor c =
 -- ---- what a work gives: its answer, the state, the cached tile, and the lent lists at exit
 
 -- the answer of an accepted work: the decision, how many layers are listed, and how many of them are skipped
-pub record TileTold : Type 0 where
+pub record TileAnswer : Type 0 where
   pub decision : TileDecision
   pub listed : ℕ
   pub skipped : ℕ
 
 pub record WorkGiven : Type 0 where
-  pub answer : Answer TileTold
+  pub answer : Answer TileAnswer
   pub state : State
   pub kept : kept.Kept
   pub lent : WorkLent
 
-abbrev pub toldBy : TileSays → TileTold
-toldBy t = record { decision = t .outcome .decision; listed = length (t .layers); skipped = t .outcome .skipped }
+abbrev pub tileAnswer : TileSays → TileAnswer
+tileAnswer t = record { decision = t .outcome .decision; listed = length (t .layers); skipped = t .outcome .skipped }
 
 abbrev pub writtenBy : TileSays → WorkLent → WorkLent
 writtenBy t lent = record { queue = queueOver (t .handed) (lent .queue); list = listOver (t .layers) (t .outcome .unmasked) (lent .list) }
@@ -127,7 +127,7 @@ writtenBy t lent = record { queue = queueOver (t .handed) (lent .queue); list = 
 unfoldable pub workOut : Judgement → TileSays → State → kept.Kept → WorkLent → WorkGiven
 workOut (refuse number) t s k lent = record { answer = refused number; state = s; kept = k; lent = lent }
 workOut pass t s k lent =
-    record { answer = given (toldBy t); state = nextState s (length (t .handed)); kept = keptAfter (t .outcome) k (length (t .layers)); lent = writtenBy t lent }
+    record { answer = given (tileAnswer t); state = nextState s (length (t .handed)); kept = keptAfter (t .outcome) k (length (t .layers)); lent = writtenBy t lent }
 
 abbrev pub workOf : WorkCall → WorkLent → WorkGiven
 workOf c lent = workOut (workVerdict c lent) (saysFor c) (c .state) (c .kept) lent
@@ -135,12 +135,12 @@ workOf c lent = workOut (workVerdict c lent) (saysFor c) (c .state) (c .kept) le
 -- ---- the promise
 
 -- the cases of the code's answer
-abbrev pub toldIn : TileDone → TileTold
-toldIn d = record { decision = decisionIn (d .decision); listed = d .listed; skipped = d .skipped .0 }
+abbrev pub tileAnswerIn : TileDone → TileAnswer
+tileAnswerIn d = record { decision = decisionIn (d .decision); listed = d .listed; skipped = d .skipped .0 }
 
-abbrev pub workAnswer : WorkAnswer → Answer TileTold
+abbrev pub workAnswer : WorkAnswer → Answer TileAnswer
 workAnswer (Refused r) = refused (numberOf r)
-workAnswer (Done d) = given (toldIn d)
+workAnswer (Done d) = given (tileAnswerIn d)
 
 pub record GivesWork (g : WorkGiven) (r : TileWorked) (back : WorkLent) : Type 0 where
   pub answer : workAnswer (r .answer) ≡ g .answer

@@ -12,7 +12,7 @@ use Rattle.laws.proofs.Orders.{le-or-lt}
 use Rattle.laws.proofs.Bools.{either}
 use Rattle.pixel_segment.specs.Order.{isLt, isEq, isGt}
 use Rattle.segment_rows.specs.Rows.{Ordered}
-use Rattle.segment_rows.specs.Search.{found, absent, halved, ended, searchOf, lastOf}
+use Rattle.segment_rows.specs.Search.{found, absent, halved, ended, searchOf, lastPlace}
 use Rattle.segment_rows.proofs.Halving.{halved-left, halved-right, halved-end, search-is, search-empty}
 
 -- what the ranks tell
@@ -173,7 +173,7 @@ module _ (at : ℕ → ℕ) where
       (le-or-lt len 1)
 
   -- the answer at the place where the halving ends
-  answered : (l : List ℕ) (a b i : ℕ) → Split l a b → Ends l (a + b) i → ended (at (getD l i 0)) i ≡ lastOf a b
+  answered : (l : List ℕ) (a b i : ℕ) → Split l a b → Ends l (a + b) i → ended (at (getD l i 0)) i ≡ lastPlace a b
   answered l zero zero i s e =
       let z : i ≡ 0 = omega (arith, e .not-past) in
       ended-above (at (getD l i 0)) i (s .high i (omega arith) (e .inside)) ∙ ap absent z
@@ -184,7 +184,7 @@ module _ (at : ℕ → ℕ) where
       let z : i ≡ a + b = omega (arith, e .not-past, e .not-before) in
       rw (s .mid i (omega arith) (omega arith)) (ap found z)
 
-  pub sorted-search : (l : List ℕ) → Ordered at l → searchOf at l ≡ lastOf (countBy (λ w. isLt (at w)) l) (countBy (λ w. isEq (at w)) l)
+  pub sorted-search : (l : List ℕ) → Ordered at l → searchOf at l ≡ lastPlace (countBy (λ w. isLt (at w)) l) (countBy (λ w. isEq (at w)) l)
   sorted-search l s =
       let a = countBy (λ w. isLt (at w)) l in
       let b = countBy (λ w. isEq (at w)) l in
@@ -196,7 +196,7 @@ module _ (at : ℕ → ℕ) where
       ∙ answered l a b _ t (ends l a b (length l) 0 (length l) t (omega arith) some (omega arith) (omega arith) (omega (arith, t .within))))
       (le-or-lt (length l) 0)
     where
-      nothing : (a b : ℕ) → a ≡ 0 → b ≡ 0 → absent 0 ≡ lastOf a b
+      nothing : (a b : ℕ) → a ≡ 0 → b ≡ 0 → absent 0 ≡ lastPlace a b
       nothing zero zero p q = refl
       nothing (suc a) zero p q = absurd (omega arith)
       nothing a (suc b) p q = absurd (omega arith)
@@ -205,7 +205,7 @@ module _ (at : ℕ → ℕ) where
   pub absent-only : (l : List ℕ) (i : ℕ) → Ordered at l → searchOf at l ≡ absent i → (j : ℕ) → j < length l → at (getD l j 0) ≡ 1 → ⊥
   absent-only l i o e j h k = by (countBy (λ w. isLt (at w)) l) (countBy (λ w. isEq (at w)) l) (splits l o) (sym (sorted-search l o) ∙ e)
     where
-      by : (a b : ℕ) → Split l a b → lastOf a b ≡ absent i → ⊥
+      by : (a b : ℕ) → Split l a b → lastPlace a b ≡ absent i → ⊥
       by a zero s p =
           ⊎-elim (λ (q : a ≤ j). omega (arith, s .high j (omega arith) h)) (λ (q : j < a). omega (arith, s .low j q)) (le-or-lt a j)
       by a (suc b) s p = let z : _≡_ {A = ℕ} 0 1 = cc in omega arith

@@ -18,13 +18,13 @@ use Rattle.laws.proofs.Filtered.{filter-all, filter-none, filter-append, filter
 use Rattle.pixel_segment.specs.Field.{cpu, tileOf, tileXOf, layerIdOf}
 use Rattle.pixel_segment.specs.Order.{isLt, isEq, compareOf, compareBool}
 use Rattle.segment_rows.specs.Rows.{isRow, Ordered, Words}
-use Rattle.segment_rows.specs.Search.{searchOf, orderAt, lastOf, afterOf, between, leftPart, tilePart, layerPart}
+use Rattle.segment_rows.specs.Search.{searchOf, orderAt, lastPlace, afterOf, between, leftPart, tilePart, layerPart}
 use Rattle.segment_rows.specs.declared.search.Key.the-variants.{TileXAtLeast}
 use Rattle.segment_rows.proofs.Sorted.{Split, splits, sorted-search}
 use Rattle.segment_rows.proofs.Keys.{compare-tile, le-tile, is-eq, is-lt, sorted-by, sorted-at-least, tile-x-ordered}
 
 -- the place after the last element with the key: those below it, and those that have it
-after-last : (a b : ℕ) → afterOf (lastOf a b) ≡ a + b
+after-last : (a b : ℕ) → afterOf (lastPlace a b) ≡ a + b
 after-last a zero = omega arith
 after-last a (suc b) = omega arith
 
@@ -86,10 +86,10 @@ below-is k m =
 
 module _ (f : ℕ → ℕ) (k : ℕ) (l : List ℕ) (o : Ordered f l) where
   -- the search for a number below k finds the last of all that are below
-  pub search-below : searchOf (λ w. compareBool (leb k (f w)) false) l ≡ lastOf 0 (countBy (λ w. ltb (f w) k) l)
+  pub search-below : searchOf (λ w. compareBool (leb k (f w)) false) l ≡ lastPlace 0 (countBy (λ w. ltb (f w) k) l)
   search-below =
       sorted-search (λ w. compareBool (leb k (f w)) false) l (sorted-at-least f k l o)
-      ∙ ap₂ lastOf
+      ∙ ap₂ lastPlace
       (none-counted (λ w. isLt (compareBool (leb k (f w)) false)) l (λ w. never-less (leb k (f w))))
       (count-ext (λ w. isEq (compareBool (leb k (f w)) false)) (λ w. ltb (f w) k) l (λ w. below-is k (f w)))
 

@@ -49,9 +49,9 @@ searchOf at (w ∷ ws) =
 
 -- what a search tells in a slice that the key sorts (`Ordered at l`: the elements below the key stand first, then those that have it, then
 -- those above it), by how many are below the key and how many have it: the last one that has it, or absent with the number of those below
-abbrev pub lastOf : ℕ → ℕ → Place
-lastOf below zero = absent below
-lastOf below (suc n) = found (below + n)
+abbrev pub lastPlace : ℕ → ℕ → Place
+lastPlace below zero = absent below
+lastPlace below (suc n) = found (below + n)
 
 -- ---- the keys of the painter: how a word compares with the value that is looked for
 

@@ -14,9 +14,9 @@ use Rattle.styling.specs.declared.Paint.the-variants.{Absent}
 use Rattle.styling.specs.Codes.{modeCode}
 
 -- the values of the answer `Paint`
-abbrev pub paintOf : Paint → Option Color
-paintOf (Paint.Color c) = some c
-paintOf Absent = none
+abbrev pub colorIn : Paint → Option Color
+colorIn (Paint.Color c) = some c
+colorIn Absent = none
 
 abbrev pub isClipped : Func → Bool
 isClipped (Draw s) = s .«is_clipped»

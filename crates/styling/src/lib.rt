@@ -5,7 +5,7 @@ pub mod codes;
 ghost use mathlib.Core.Path.{_≡_};
 ghost use Rattle.styling.specs.Color.{sameColor};
 ghost use Rattle.styling.specs.Codes.{modeCode};
-ghost use Rattle.styling.specs.Style.{paintOf, fillColor, hasAlphaOne, isClipped, solidColor, isOpaque};
+ghost use Rattle.styling.specs.Style.{colorIn, fillColor, hasAlphaOne, isClipped, solidColor, isOpaque};
 
 // Four binary32 numbers.
 pub struct Color {
@@ -113,7 +113,7 @@ impl BlendMode {
 
 impl Fill {
     pub fn solid_color(self) -> Paint
-        ensures { λ r. ⌜ paintOf r ≡ fillColor self ⌝ }
+        ensures { λ r. ⌜ colorIn r ≡ fillColor self ⌝ }
     {
         match self {
             Fill::Solid(color) => Paint::Color(color),
@@ -147,7 +147,7 @@ impl Func {
 
     // The colour of a draw with a solid fill.
     pub fn solid_color(self) -> Paint
-        ensures { λ r. ⌜ paintOf r ≡ solidColor self ⌝ }
+        ensures { λ r. ⌜ colorIn r ≡ solidColor self ⌝ }
     {
         match self {
             Func::Draw(style) => {

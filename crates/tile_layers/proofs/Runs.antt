@@ -13,7 +13,7 @@ use Rattle.laws.specs.Sum.{countBy}
 use Rattle.pixel_segment.specs.Field.{cpu, layerIdOf}
 use Rattle.pixel_segment.specs.Order.{compareOf, isLt, isEq}
 use Rattle.segment_rows.specs.Rows.{Ordered}
-use Rattle.segment_rows.specs.Search.{found, searchOf, orderAt, lastOf}
+use Rattle.segment_rows.specs.Search.{found, searchOf, orderAt, lastPlace}
 use Rattle.segment_rows.specs.declared.search.Key.the-variants.{LayerId}
 use Rattle.segment_rows.proofs.Sorted.{Split, splits, sorted-search}
 use Rattle.pixel_segment.proofs.Lexical.{compare-equal}
@@ -84,7 +84,7 @@ told-greater : (m n : ℕ) → 1 < compareOf m n → m ≡ n → ⊥
 told-greater m n h p = omega (arith, compare-equal m n p)
 
 module _ (l : List ℕ) (some : 0 < length l) (o : Ordered (layerIdOf cpu) l) where
-  by-counts : (a b : ℕ) → Split (λ w. compareOf (layerIdOf cpu w) (layerIdOf cpu (getD l 0 0))) l a b → searchOf (orderAt (LayerId (layerIdOf cpu (getD l 0 0)))) l ≡ lastOf a b → Grouped l
+  by-counts : (a b : ℕ) → Split (λ w. compareOf (layerIdOf cpu w) (layerIdOf cpu (getD l 0 0))) l a b → searchOf (orderAt (LayerId (layerIdOf cpu (getD l 0 0)))) l ≡ lastPlace a b → Grouped l
   by-counts zero (suc b) s e =
       record {
         b = b;

@@ -13,7 +13,7 @@ use lib.IntN.{ℤ}
 use Rattle.laws.proofs.Rows.{length-tabulate, getD-tabulate}
 use Rattle.pixel_segment.specs.Field.{cpu, layerIdOf}
 use Rattle.segment_rows.specs.Search.{between}
-use Rattle.cover_statements.specs.Entry.{entryOf}
+use Rattle.cover_statements.specs.Entry.{coverEntry}
 use Rattle.queue_statements.specs.Queue.{Carry, carryAt, queueOf, zeros}
 use Rattle.tile_layers.specs.Groups.{Group, groupsOf}
 use Rattle.tile_layers.specs.Listing.{carried, fresh, joined, listOf}
@@ -76,7 +76,7 @@ module _ (n : ℕ) (ids : List ℕ) (covers : List ℤ) where
           next =
               ap₂ listOf (queue-at i h) none
               ∙ carry-last (carryAt ids covers i) (drop (i + 1) (queueOf n ids covers))
-              ∙ ap₂ (λ (own : List ℕ) (gs : List Group). record { id = getD ids i 0; cover = entryOf 16 i covers; own = own } ∷ listOf (drop (i + 1) (queueOf n ids covers)) gs) (sym no-own) (sym none);
+              ∙ ap₂ (λ (own : List ℕ) (gs : List Group). record { id = getD ids i 0; cover = coverEntry 16 i covers; own = own } ∷ listOf (drop (i + 1) (queueOf n ids covers)) gs) (sym no-own) (sym none);
         }
 
     -- the carries are all passed: a group comes next
@@ -96,7 +96,7 @@ module _ (n : ℕ) (ids : List ℕ) (covers : List ℤ) where
           next =
               ap₂ listOf (queue-at i h) (g .group)
               ∙ carry-first (carryAt ids covers i) (drop (i + 1) (queueOf n ids covers)) (record { id = layerIdOf cpu (getD part j 0); own = between j r part }) (groupsOf (drop r part)) lt
-              ∙ ap₂ (λ (own : List ℕ) (gs : List Group). record { id = getD ids i 0; cover = entryOf 16 i covers; own = own } ∷ listOf (drop (i + 1) (queueOf n ids covers)) gs) (sym no-own) (sym (g .group));
+              ∙ ap₂ (λ (own : List ℕ) (gs : List Group). record { id = getD ids i 0; cover = coverEntry 16 i covers; own = own } ∷ listOf (drop (i + 1) (queueOf n ids covers)) gs) (sym no-own) (sym (g .group));
         }
 
     -- a group of a lower layer than the next carry's

@@ -9,7 +9,7 @@ use Rattle.laws.proofs.Drops.{nil-le, cons-lt, cons-rest}
 use Rattle.queue_statements.specs.Queue.{queueOf}
 use Rattle.tile_layers.specs.Groups.{groupsOf}
 use Rattle.tile_layers.specs.Listing.{listOf, layersIn}
-use Rattle.tile_layers.specs.Walk.{leftOf, listedAt, Stepped, Moved}
+use Rattle.tile_layers.specs.Walk.{layersLeft, listedAt, Stepped, Moved}
 use Rattle.tile_layers.specs.declared.walk.Next.{Next}
 use Rattle.tile_layers.proofs.Steps.{queue-past, no-groups, nothing}
 
@@ -18,7 +18,7 @@ pub record Walking (n : ℕ) (ids : List ℕ) (covers : List ℤ) (part : List �
   pub within-j : j ≤ length part
   pub few : k ≤ i + j
   pub inside : k ≤ length (layersIn (queueOf n ids covers) part)
-  pub left : drop k (layersIn (queueOf n ids covers) part) ≡ leftOf n ids covers part i j
+  pub left : drop k (layersIn (queueOf n ids covers) part) ≡ layersLeft n ids covers part i j
 
 module _ (n : ℕ) (ids : List ℕ) (covers : List ℤ) (part : List ℕ) where
   pub walk-start : Walking n ids covers part 0 0 0
@@ -26,7 +26,7 @@ module _ (n : ℕ) (ids : List ℕ) (covers : List ℤ) (part : List ℕ) where
 
   module _ {i j k : ℕ} (w : Walking n ids covers part i j k) where
     -- the layer that a step finds is the k-th
-    pub walk-here : (r : Next) → Stepped n ids covers part i j r → drop k (layersIn (queueOf n ids covers) part) ≡ listedAt covers part i j r ∷ leftOf n ids covers part (r .i) (r .end)
+    pub walk-here : (r : Next) → Stepped n ids covers part i j r → drop k (layersIn (queueOf n ids covers) part) ≡ listedAt covers part i j r ∷ layersLeft n ids covers part (r .i) (r .end)
     walk-here r s = w .left ∙ s .next
 
     pub walk-next : (r : Next) → Stepped n ids covers part i j r → Moved n part i j r → Walking n ids covers part (r .i) (r .end) (k + 1)

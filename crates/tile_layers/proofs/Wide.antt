@@ -11,7 +11,7 @@ use lib.ListN.{length}
 use Rattle.laws.proofs.Bools.{left, right, both}
 use Rattle.laws.proofs.Every.{all-intro}
 use Rattle.laws.proofs.Rows.{length-tabulate, getD-tabulate}
-use Rattle.cover_statements.specs.Entry.{entryOf}
+use Rattle.cover_statements.specs.Entry.{coverEntry}
 use Rattle.cover_statements.proofs.Entries.{entry-length}
 use Rattle.queue_statements.specs.Queue.{Carry, carryAt, queueOf}
 use Rattle.queue_statements.proofs.Columns.{isWide, areWide}
@@ -25,7 +25,7 @@ queue-wide n ids covers h =
     (λ i p.
     let q : i < n = rw (length-tabulate n (carryAt ids covers)) at p in
     ap isWide (getD-tabulate n (carryAt ids covers) (carryAt ids covers 0) i q)
-    ∙ eq-eqb (length (entryOf 16 i covers)) 16 (entry-length 16 i covers (omega arith)))
+    ∙ eq-eqb (length (coverEntry 16 i covers)) 16 (entry-length 16 i covers (omega arith)))
 
 fresh-wide : (gs : List Group) → areWide (incomingOf (map fresh gs)) ≡ true
 fresh-wide [] = refl

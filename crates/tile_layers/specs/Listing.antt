@@ -7,7 +7,7 @@ use Prim.Native.Nat.{ℕ, _*_, _≤_}
 use lib.Dec.{ltb, eqb}
 use lib.IntN.{ℤ}
 use lib.ListN.{length}
-use Rattle.laws.specs.Answer.{Answer, refused, given}
+use Rattle.laws.specs.Answer.{Answer, refused, given, isGiven}
 use Rattle.laws.specs.Lists.{all, any, over}
 use Rattle.pixel_segment.specs.Field.{cpu, layerIdOf}
 use Rattle.cover_statements.specs.Carry.{isLight}
@@ -79,7 +79,7 @@ pub record Lists (ls : List Listed) (oldIds : List ℕ) (oldCovers : List ℤ) (
   pub segments-are : segments ≡ over (segmentsOf ls) oldSegments
 
 -- the columns have an entry for each layer
-pub record Room (ls : List Listed) (ids : List ℕ) (covers : List ℤ) (segments : List Bool) : Type 0 where
+pub record ListRoom (ls : List Listed) (ids : List ℕ) (covers : List ℤ) (segments : List Bool) : Type 0 where
   pub ids-long : length ls ≤ length ids
   pub covers-long : 16 * length ls ≤ length covers
   pub segments-long : length ls ≤ length segments
@@ -89,10 +89,6 @@ pub record Room (ls : List Listed) (ids : List ℕ) (covers : List ℤ) (segment
 -- 7: more than 256 layers
 abbrev pub isTooMany : List Listed → Bool
 isTooMany ls = ltb 256 (length ls)
-
-abbrev pub isGiven : {A : Type 0} → Answer A → Bool
-isGiven (refused n) = false
-isGiven (given a) = true
 
 -- 8 does not apply: every listed layer is in the table
 abbrev pub areKnown : List Layer → List Listed → Bool

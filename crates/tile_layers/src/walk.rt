@@ -13,7 +13,7 @@ ghost use mathlib.Core.List.{List};
 ghost use lib.ListN.{length, getD};
 ghost use Rattle.pixel_segment.specs.Field.{cpu, layerIdOf};
 ghost use Rattle.segment_rows.specs.Rows.{Ordered};
-ghost use Rattle.cover_statements.specs.Entry.{entryOf};
+ghost use Rattle.cover_statements.specs.Entry.{coverEntry};
 ghost use Rattle.queue_statements.specs.Queue.{zeros};
 ghost use Rattle.tile_layers.specs.Walk.{Walks, GroupEnds, Stepped, Moved};
 
@@ -95,7 +95,7 @@ pub fn next_layer(ids: &[u32], n: usize, part: &[u64], i: usize, j: usize) -> Ne
 // The cover that comes in for a layer: that of the carry at i, or zeros.
 pub fn incoming_cover(covers: &[i8], carried: bool, i: usize) -> Cover
     requires { ⌜ (carried ≡ true → i * 16 + 16 ≤ length (now covers)) ⌝ }
-    ensures { λ r. ⌜ r .covers ≡ cond carried (entryOf 16 i (now (covers .entry))) zeros ⌝ }
+    ensures { λ r. ⌜ r .covers ≡ cond carried (coverEntry 16 i (now (covers .entry))) zeros ⌝ }
 {
     if carried {
         entry::read_cover(covers, i)

@@ -16,7 +16,7 @@ use Rattle.cached_tile.specs.Kept.{tagOutOfRange}
 use Rattle.tile_layers.specs.Listing.{layersIn}
 use Rattle.layer_carrying.specs.Carrying.{handedOn}
 use Rattle.layer_workbench.specs.Work.{outcomeIn}
-use Rattle.row_statements.specs.Lent.{Columns, carriesIn, isQueueShort, isListShort, layersOf, isTableShort, isTable}
+use Rattle.row_statements.specs.Lent.{Columns, carriesIn, isQueueShort, isListShort, layersOf, isLentShort, isLentTable}
 use Rattle.row_statements.specs.State.{isWrongNext, isWrongWorked}
 use Rattle.row_statements.specs.TileWork.{WorkCall, WorkLent, WorkGiven, listVerdict, argsVerdict, workOut, workOf, GivesWork}
 use Rattle.row_statements.specs.Painting.{PaintCall, PaintGiven, layerVerdict, callVerdict, paintSays, paintOut, paintOf, PaintsLayer}
@@ -53,10 +53,10 @@ judged-alike verdict short {s₁} {s₂} {o₁} {o₂} e order = ap (λ (s : Boo
 module _ (c : WorkCall) (lent : WorkLent) {a b : Columns} (same : Alike (c .state .left) a b) where
   abbrev verdict : Bool → Bool → Judgement
   verdict short order =
-      unless (short || isQueueShort (lent .queue) || isTableShort (c .table) || isListShort (lent .list)) 1
+      unless (short || isQueueShort (lent .queue) || isLentShort (c .table) || isListShort (lent .list)) 1
       (unless (isWrongNext (c .state) (c .tile)) 2
       (unless (not (isRow cpu (suc (c .state .tileY)) (c .row))) 3
-      (unless (not (isTable (c .table))) 4
+      (unless (not (isLentTable (c .table))) 4
       (unless (not order) 5
       (unless (tagOutOfRange (c .kept)) 6
       pass)))))
@@ -95,10 +95,10 @@ worked-records c lent q k {r} {back} e p =
 module _ (c : PaintCall) (plane : List Float) {a b : Columns} (same : Alike (c .state .taken) a b) where
   abbrev paint-verdict : Bool → Bool → Judgement
   paint-verdict short order =
-      unless (short || isTableShort (c .table) || ltb (length plane) 256) 1
+      unless (short || isLentShort (c .table) || ltb (length plane) 256) 1
       (unless (isWrongWorked (c .state) (c .tile)) 2
       (unless (not (isRow cpu (suc (c .state .tileY)) (c .row))) 3
-      (unless (not (isTable (c .table))) 4
+      (unless (not (isLentTable (c .table))) 4
       (unless (not order) 5
       pass))))
 

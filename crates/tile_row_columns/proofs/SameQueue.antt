@@ -14,9 +14,9 @@ use Rattle.laws.specs.Lists.{over}
 use Rattle.laws.proofs.Bools.{left}
 use Rattle.laws.proofs.Rows.{length-over}
 use Rattle.styling.specs.Ascending.{strictlyAscends}
-use Rattle.queue_statements.specs.Queue.{Carry, roomOf, isShort, isQueue, queueOf, idsIn, coversIn}
+use Rattle.queue_statements.specs.Queue.{Carry, queueRoom, areColumnsShort, isQueue, queueOf, idsIn, coversIn}
 use Rattle.queue_statements.proofs.Columns.{areWide, take-ids, reads-back}
-use Rattle.queue_records.specs.Records.{carryOf, carriesOf, idsOf, coversOf, readable, columnsOf}
+use Rattle.queue_records.specs.Records.{recordCarry, carriesOf, recordIds, recordCovers, readable, columnsOf}
 use Rattle.queue_records.specs.declared.CarryRecord.{CarryRecord}
 use Rattle.queue_records.specs.declared.Columns as read
 use Rattle.queue_records.proofs.Reading.{ids-append, covers-append, ids-length, covers-length}
@@ -33,8 +33,8 @@ unfolding over
 over-self ws ys = ap (λ l. ws ++ l) (sym (drop-append-seam ws ys))
 
 -- refusal 1 of 256 records or more
-pub records-long : (q : List CarryRecord) → 256 ≤ length q → isShort (idsOf q) (coversOf q) ≡ false
-records-long q l = le-ltb (roomOf (idsOf q) (coversOf q)) 256 (omega (arith, ids-length q, covers-length q))
+pub records-long : (q : List CarryRecord) → 256 ≤ length q → areColumnsShort (recordIds q) (recordCovers q) ≡ false
+records-long q l = le-ltb (queueRoom (recordIds q) (recordCovers q)) 256 (omega (arith, ids-length q, covers-length q))
 
 module _ (q : List CarryRecord) (n : ℕ) where
   -- how many records are read
@@ -49,18 +49,18 @@ module _ (q : List CarryRecord) (n : ℕ) where
 
   ids-long : length (c .ids) ≡ 256
   unfolding columnsOf
-  ids-long = length-over (replicate 256 0) (idsOf (take m q)) (omega (arith, ids-length (take m q), taken))
+  ids-long = length-over (replicate 256 0) (recordIds (take m q)) (omega (arith, ids-length (take m q), taken))
 
   covers-long : length (c .covers) ≡ 4096
   unfolding columnsOf
-  covers-long = length-over (replicate 4096 (pos 0)) (coversOf (take m q)) (omega (arith, covers-length (take m q), taken))
+  covers-long = length-over (replicate 4096 (pos 0)) (recordCovers (take m q)) (omega (arith, covers-length (take m q), taken))
 
   entries-are : c .entries ≡ min (length q) 256
   unfolding columnsOf
   entries-are = refl
 
   -- refusal 1
-  pub same-short : isShort (lentColumns c .ids) (lentColumns c .covers) ≡ isShort (idsOf q) (coversOf q)
+  pub same-short : areColumnsShort (lentColumns c .ids) (lentColumns c .covers) ≡ areColumnsShort (recordIds q) (recordCovers q)
   same-short = by (ltb (length q) 256) refl
     where
       of-ids : length (lentColumns c .ids) ≡ min (length q) 256
@@ -69,17 +69,17 @@ module _ (q : List CarryRecord) (n : ℕ) where
       of-covers : length (lentColumns c .covers) ≡ min (length q) 256 * 16
       of-covers = length-take-le (min (c .entries) 256 * 16) (c .covers) (omega (arith, covers-long)) ∙ omega (arith, entries-are)
 
-      by : (t : Bool) → ltb (length q) 256 ≡ t → isShort (lentColumns c .ids) (lentColumns c .covers) ≡ isShort (idsOf q) (coversOf q)
+      by : (t : Bool) → ltb (length q) 256 ≡ t → areColumnsShort (lentColumns c .ids) (lentColumns c .covers) ≡ areColumnsShort (recordIds q) (recordCovers q)
       by true e =
           let l : length q < 256 = ltb-true (length q) 256 e in
-          lt-ltb (roomOf (lentColumns c .ids) (lentColumns c .covers)) 256 (omega (arith, of-ids)) ∙ sym (lt-ltb (roomOf (idsOf q) (coversOf q)) 256 (omega (arith, ids-length q)))
+          lt-ltb (queueRoom (lentColumns c .ids) (lentColumns c .covers)) 256 (omega (arith, of-ids)) ∙ sym (lt-ltb (queueRoom (recordIds q) (recordCovers q)) 256 (omega (arith, ids-length q)))
       by false e =
           let l : 256 ≤ length q = ltb-false (length q) 256 e in
-          le-ltb (roomOf (lentColumns c .ids) (lentColumns c .covers)) 256 (omega (arith, of-ids, of-covers)) ∙ sym (records-long q l)
+          le-ltb (queueRoom (lentColumns c .ids) (lentColumns c .covers)) 256 (omega (arith, of-ids, of-covers)) ∙ sym (records-long q l)
 
   -- where it doesn't apply there are 256 records
-  there : isShort (idsOf q) (coversOf q) ≡ false → 256 ≤ length q
-  there e = let l : 256 ≤ min (length (idsOf q)) (length (coversOf q) / 16) = ltb-false (roomOf (idsOf q) (coversOf q)) 256 e in omega (arith, ids-length q)
+  there : areColumnsShort (recordIds q) (recordCovers q) ≡ false → 256 ≤ length q
+  there e = let l : 256 ≤ min (length (recordIds q)) (length (recordCovers q) / 16) = ltb-false (queueRoom (recordIds q) (recordCovers q)) 256 e in omega (arith, ids-length q)
 
   -- the first n of 256 records or more
   module _ (few : n ≤ 256) (many : 256 ≤ length q) where
@@ -91,62 +91,62 @@ module _ (q : List CarryRecord) (n : ℕ) where
 
     front-length : length front ≡ n
     unfolding front
-    front-length = length-map (take n q) carryOf ∙ length-take-le n q (omega arith)
+    front-length = length-map (take n q) recordCarry ∙ length-take-le n q (omega arith)
 
     ids-lent : lentColumns c .ids ≡ over (idsIn front) (replicate 256 0)
     unfolding columnsOf front
-    ids-lent = take-all (min (c .entries) 256) (c .ids) (omega (arith, ids-long, entries-are)) ∙ ap (λ (k : ℕ). over (idsOf (take k q)) (replicate 256 0)) read-n
+    ids-lent = take-all (min (c .entries) 256) (c .ids) (omega (arith, ids-long, entries-are)) ∙ ap (λ (k : ℕ). over (recordIds (take k q)) (replicate 256 0)) read-n
 
     covers-lent : lentColumns c .covers ≡ over (coversIn front) (replicate 4096 (pos 0))
     unfolding columnsOf front
-    covers-lent = take-all (min (c .entries) 256 * 16) (c .covers) (omega (arith, covers-long, entries-are)) ∙ ap (λ (k : ℕ). over (coversOf (take k q)) (replicate 4096 (pos 0))) read-n
+    covers-lent = take-all (min (c .entries) 256 * 16) (c .covers) (omega (arith, covers-long, entries-are)) ∙ ap (λ (k : ℕ). over (recordCovers (take k q)) (replicate 4096 (pos 0))) read-n
 
-    ids-whole : idsOf q ≡ over (idsIn front) (idsOf q)
+    ids-whole : recordIds q ≡ over (idsIn front) (recordIds q)
     unfolding front
     ids-whole =
-        let e : idsOf q ≡ idsOf (take n q) ++ idsOf (drop n q) = ap idsOf (sym (take-append-drop n q)) ∙ ids-append (take n q) (drop n q) in
-        e ∙ over-self (idsOf (take n q)) (idsOf (drop n q)) ∙ ap (over (idsOf (take n q))) (sym e)
+        let e : recordIds q ≡ recordIds (take n q) ++ recordIds (drop n q) = ap recordIds (sym (take-append-drop n q)) ∙ ids-append (take n q) (drop n q) in
+        e ∙ over-self (recordIds (take n q)) (recordIds (drop n q)) ∙ ap (over (recordIds (take n q))) (sym e)
 
-    covers-whole : coversOf q ≡ over (coversIn front) (coversOf q)
+    covers-whole : recordCovers q ≡ over (coversIn front) (recordCovers q)
     unfolding front
     covers-whole =
-        let e : coversOf q ≡ coversOf (take n q) ++ coversOf (drop n q) = ap coversOf (sym (take-append-drop n q)) ∙ covers-append (take n q) (drop n q) in
-        e ∙ over-self (coversOf (take n q)) (coversOf (drop n q)) ∙ ap (over (coversOf (take n q))) (sym e)
+        let e : recordCovers q ≡ recordCovers (take n q) ++ recordCovers (drop n q) = ap recordCovers (sym (take-append-drop n q)) ∙ covers-append (take n q) (drop n q) in
+        e ∙ over-self (recordCovers (take n q)) (recordCovers (drop n q)) ∙ ap (over (recordCovers (take n q))) (sym e)
 
     front-wide : areWide front ≡ true
     unfolding front
     front-wide = wide (take n q)
 
-    same-ids : take n (lentColumns c .ids) ≡ take n (idsOf q)
+    same-ids : take n (lentColumns c .ids) ≡ take n (recordIds q)
     same-ids =
         ap (λ (l : List ℕ). take n l) ids-lent ∙ ap (λ (k : ℕ). take k (over (idsIn front) (replicate 256 0))) (sym front-length) ∙ take-ids front (replicate 256 0) []
-        ∙ sym (ap (λ (l : List ℕ). take n l) ids-whole ∙ ap (λ (k : ℕ). take k (over (idsIn front) (idsOf q))) (sym front-length) ∙ take-ids front (idsOf q) [])
+        ∙ sym (ap (λ (l : List ℕ). take n l) ids-whole ∙ ap (λ (k : ℕ). take k (over (idsIn front) (recordIds q))) (sym front-length) ∙ take-ids front (recordIds q) [])
 
     -- the records' own columns hold the front
-    whole-reads : queueOf n (idsOf q) (coversOf q) ≡ front
+    whole-reads : queueOf n (recordIds q) (recordCovers q) ≡ front
     whole-reads =
-        ap₂ (queueOf n) ids-whole covers-whole ∙ ap (λ (k : ℕ). queueOf k (over (idsIn front) (idsOf q)) (over (coversIn front) (coversOf q))) (sym front-length) ∙ reads-back front (idsOf q) (coversOf q) front-wide
+        ap₂ (queueOf n) ids-whole covers-whole ∙ ap (λ (k : ℕ). queueOf k (over (idsIn front) (recordIds q)) (over (coversIn front) (recordCovers q))) (sym front-length) ∙ reads-back front (recordIds q) (recordCovers q) front-wide
 
-    pub records-read : queueOf n (idsOf q) (coversOf q) ≡ carriesOf (take n q)
+    pub records-read : queueOf n (recordIds q) (recordCovers q) ≡ carriesOf (take n q)
     unfolding front
     records-read = whole-reads
 
-    same-carries : queueOf n (lentColumns c .ids) (lentColumns c .covers) ≡ queueOf n (idsOf q) (coversOf q)
+    same-carries : queueOf n (lentColumns c .ids) (lentColumns c .covers) ≡ queueOf n (recordIds q) (recordCovers q)
     same-carries =
         ap₂ (queueOf n) ids-lent covers-lent ∙ ap (λ (k : ℕ). queueOf k (over (idsIn front) (replicate 256 0)) (over (coversIn front) (replicate 4096 (pos 0)))) (sym front-length)
         ∙ reads-back front (replicate 256 0) (replicate 4096 (pos 0)) front-wide
         ∙ sym whole-reads
 
   -- refusal 5, where 1 does not apply
-  pub same-order : isShort (idsOf q) (coversOf q) ≡ false → isQueue n (lentColumns c .ids) ≡ isQueue n (idsOf q)
+  pub same-order : areColumnsShort (recordIds q) (recordCovers q) ≡ false → isQueue n (lentColumns c .ids) ≡ isQueue n (recordIds q)
   unfolding isQueue
   same-order e = by (leb n 256) refl
     where
-      by : (t : Bool) → leb n 256 ≡ t → (t && strictlyAscends (take n (lentColumns c .ids))) ≡ (t && strictlyAscends (take n (idsOf q)))
+      by : (t : Bool) → leb n 256 ≡ t → (t && strictlyAscends (take n (lentColumns c .ids))) ≡ (t && strictlyAscends (take n (recordIds q)))
       by true few = ap strictlyAscends (same-ids (leb-true n 256 few) (there e))
       by false few = refl
 
   -- and the carries, where neither does
-  pub same-queue : isShort (idsOf q) (coversOf q) ≡ false → isQueue n (idsOf q) ≡ true → queueOf n (lentColumns c .ids) (lentColumns c .covers) ≡ queueOf n (idsOf q) (coversOf q)
+  pub same-queue : areColumnsShort (recordIds q) (recordCovers q) ≡ false → isQueue n (recordIds q) ≡ true → queueOf n (lentColumns c .ids) (lentColumns c .covers) ≡ queueOf n (recordIds q) (recordCovers q)
   unfolding isQueue
-  same-queue e ok = same-carries (leb-true n 256 (left (leb n 256) (strictlyAscends (take n (idsOf q))) ok)) (there e)
+  same-queue e ok = same-carries (leb-true n 256 (left (leb n 256) (strictlyAscends (take n (recordIds q))) ok)) (there e)

@@ -3,14 +3,14 @@
 use mathlib.Core.List.{List}
 use Prim.Native.Nat.{ℕ, _*_, min}
 use lib.ListN.{take}
-use Rattle.queue_records.specs.Records.{idsOf, coversOf}
+use Rattle.queue_records.specs.Records.{recordIds, recordCovers}
 use Rattle.queue_records.specs.declared.CarryRecord.{CarryRecord}
 use Rattle.queue_records.specs.declared.Columns as read
 use Rattle.row_statements.specs.Lent.{Columns, columns}
 
 -- the columns that the records stand for
 abbrev pub columnsFor : List CarryRecord → Columns
-columnsFor q = columns (idsOf q) (coversOf q)
+columnsFor q = columns (recordIds q) (recordCovers q)
 
 -- n entries of what was read
 abbrev pub entriesLent : ℕ → read.Columns → Columns

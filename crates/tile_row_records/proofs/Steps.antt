@@ -10,7 +10,7 @@ use Rattle.styling.specs.Ascending.{strictlyAscends}
 use Rattle.queue_statements.specs.Queue.{isQueue, idsIn}
 use Rattle.queue_statements.proofs.Judging.{room}
 use Rattle.queue_statements.proofs.Queues.{ids-queue}
-use Rattle.queue_records.specs.Records.{idsOf, coversOf}
+use Rattle.queue_records.specs.Records.{recordIds, recordCovers}
 use Rattle.queue_records.specs.declared.CarryRecord.{CarryRecord}
 use Rattle.queue_records.proofs.Reading.{ids-length}
 use Rattle.row_statements.specs.Lent.{Columns, carriesIn, isQueueShort}
@@ -23,9 +23,9 @@ pub same-carries : {n : ℕ} {k : Columns} (q : List CarryRecord) → isQueueSho
 unfolding isQueue
 same-carries {n} {k} q short holds =
     let reads : carriesIn n (columnsFor q) ≡ carriesIn n k = records-read q n (holds .few) (holds .long) ∙ holds .reads in
-    let here : n ≤ length (idsOf q) = omega (arith, ids-length q, holds .few, holds .long) in
+    let here : n ≤ length (recordIds q) = omega (arith, ids-length q, holds .few, holds .long) in
     let there : n ≤ length (k .ids) = omega (arith, room {ids = k .ids} {covers = k .covers} short .ids-long, holds .few) in
-    let ids : take n (idsOf q) ≡ take n (k .ids) = sym (ids-queue n (idsOf q) (coversOf q) here) ∙ ap idsIn reads ∙ ids-queue n (k .ids) (k .covers) there in
+    let ids : take n (recordIds q) ≡ take n (k .ids) = sym (ids-queue n (recordIds q) (recordCovers q) here) ∙ ap idsIn reads ∙ ids-queue n (k .ids) (k .covers) there in
     record { reads = reads; room = records-long q (holds .long) ∙ sym short; order = ap (λ (l : List ℕ). leb n 256 && strictlyAscends l) ids }
 
 pub work-step : WorkStep

@@ -12,7 +12,7 @@ ghost use mathlib.Core.Path.{_≡_};
 ghost use Prim.Native.Nat.{_<_};
 ghost use Rattle.layer_table.specs.Table.{Table, tableOf};
 ghost use Rattle.pass_statements.specs.Entry.{entryAt};
-ghost use Rattle.pass_statements.specs.Item.{itemFor, itemOf, Columns};
+ghost use Rattle.pass_statements.specs.Item.{itemFor, itemOf, EntryColumns};
 
 fn item_for(layer: Layer, id: u32, cover: Cover, has_segments: bool) -> Item
     ensures { λ r. ⌜ r ≡ itemFor layer (record { id = id; cover = cover .covers; segments = «has_segments» }) ⌝ }
@@ -39,7 +39,7 @@ pub fn item_at(
     count: usize,
     i: Index,
 ) -> Item
-    requires { ⌜ Columns n (now ids) (now covers) (now segments) × Table (now layers) (now colors) count
+    requires { ⌜ EntryColumns n (now ids) (now covers) (now segments) × Table (now layers) (now colors) count
         × (i .0 < n) ⌝ }
     ensures { λ r. ⌜ r ≡ itemOf (tableOf (now (layers .entry)) (now (colors .entry)) count)
         (entryAt (now (ids .entry)) (now (covers .entry)) (now (segments .entry)) (i .0)) ⌝ }

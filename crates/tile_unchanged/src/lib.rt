@@ -8,7 +8,7 @@ ghost use Prim.Native.Nat.{_≤_};
 ghost use Rattle.laws.specs.Lists.{all};
 ghost use Rattle.layer_table.specs.Table.{Table, tableOf};
 ghost use Rattle.pass_statements.specs.Entry.{entriesOf};
-ghost use Rattle.pass_statements.specs.Item.{itemsOf, Columns};
+ghost use Rattle.pass_statements.specs.Item.{itemsOf, EntryColumns};
 ghost use Rattle.pass_statements.specs.Unchanged.{allUnchanged, isKept, wereRemoved};
 
 // Whether every listed layer is unchanged.
@@ -21,7 +21,7 @@ pub fn are_unchanged(
     colors: &[f32],
     count: usize,
 ) -> bool
-    requires { ⌜ Columns n (now ids) (now covers) (now segments) × Table (now layers) (now colors) count ⌝ }
+    requires { ⌜ EntryColumns n (now ids) (now covers) (now segments) × Table (now layers) (now colors) count ⌝ }
     ensures { λ r. ⌜ r ≡ allUnchanged (itemsOf (tableOf (now (layers .entry)) (now (colors .entry)) count)
         (entriesOf n (now (ids .entry)) (now (covers .entry)) (now (segments .entry)))) ⌝ }
 {
@@ -47,7 +47,7 @@ pub fn is_kept(
     colors: &[f32],
     count: usize,
 ) -> bool
-    requires { ⌜ Columns n (now ids) (now covers) (now segments) × Table (now layers) (now colors) count ⌝ }
+    requires { ⌜ EntryColumns n (now ids) (now covers) (now segments) × Table (now layers) (now colors) count ⌝ }
     ensures { λ r. ⌜ r ≡ isKept «clear_unchanged» previous (itemsOf
         (tableOf (now (layers .entry)) (now (colors .entry)) count)
         (entriesOf n (now (ids .entry)) (now (covers .entry)) (now (segments .entry)))) ⌝ }

@@ -5,7 +5,7 @@ use borrow.Author.Needs.{needs}
 use mir.Syntax.{w32}
 use Rattle.laws.proofs.Machine.{kept}
 use Rattle.job_text_statements.specs.Numbers.{numberAt}
-use Rattle.job_statements.specs.Entries.{colorAt}
+use Rattle.job_statements.specs.Entries.{jobColorAt}
 use Rattle.job_table.proofs.color_at.Statement.{statement}
 use Rattle.job_table.proofs.color_at.Tie as tie
 
@@ -25,13 +25,13 @@ to-alpha-requires : tie.Need-to-alpha-requires
 to-alpha-requires c κs = search needs
 
 returns : tie.Need-returns
-unfolding colorAt
+unfolding jobColorAt
 returns c =
     let a = c .before .before .before .args in
     rw (eq-eqb _ 3 (c .before .before .if1 .taken)) (rw (kept w32 (numberAt (a .numbers .now) (8 * (a .k / 4) + 7)) (c .before .to-alpha-arg .given)) at (c .to-alpha .ensures))
 
 returns-2 : tie.Need-returns-2
-unfolding colorAt
+unfolding jobColorAt
 returns-2 c = rw (ne-eqb _ 3 (c .if1 .left))
 
 pub color-at-spec : {M : Type 1} → statement M

@@ -5,20 +5,20 @@ use Prim.Native.Nat.{_*_, _-_}
 use native.Mathlib.Omega.{arith}
 use lib.Ieee.{Float}
 use Rattle.laws.specs.Lists.{over}
-use Rattle.job_statements.specs.Entries.{colorAt}
+use Rattle.job_statements.specs.Entries.{jobColorAt}
 use Rattle.job_statements.proofs.Filling.{Filling, start, long, next, end}
 use Rattle.job_statements.proofs.Tables.{colors-are, alpha-at}
 use Rattle.job_table.proofs.write_colors.Statement.{statement}
 use Rattle.job_table.proofs.write_colors.Tie as tie
 
 abbrev Inv-loop : tie.InvT-loop
-Inv-loop numbers n colors₀ k₀ colors k = Filling (4 * n) (colorAt numbers) colors₀ k colors
+Inv-loop numbers n colors₀ k₀ colors k = Filling (4 * n) (jobColorAt numbers) colors₀ k colors
 
 abbrev μ-loop : tie.MeasureT-loop
 μ-loop numbers n colors₀ k₀ colors k = 4 * n - k
 
 loop-holds : tie.Need-loop-holds Inv-loop μ-loop
-loop-holds c = start (4 * c .before .args .n) (colorAt (c .before .args .numbers .now)) (omega arith)
+loop-holds c = start (4 * c .before .args .n) (jobColorAt (c .before .args .numbers .now)) (omega arith)
 
 mul-loop : tie.Need-mul-loop Inv-loop μ-loop
 mul-loop c = omega arith
@@ -33,7 +33,7 @@ mul-colors : tie.Need-mul-colors Inv-loop μ-loop
 mul-colors c = omega arith
 
 slice-write-colors : tie.Need-slice-write-colors Inv-loop μ-loop
-slice-write-colors c = let l = c .before .before in let s = l .before .before in omega (arith, long (4 * s .args .n) (colorAt (s .args .numbers .now)) (l .loop .inv), l .loop .inv .room)
+slice-write-colors c = let l = c .before .before in let s = l .before .before in omega (arith, long (4 * s .args .n) (jobColorAt (s .args .numbers .now)) (l .loop .inv), l .loop .inv .room)
 
 add-k : tie.Need-add-k Inv-loop μ-loop
 add-k c = omega arith
@@ -42,16 +42,16 @@ loop-less : tie.Need-loop-less Inv-loop μ-loop
 loop-less c = omega arith
 
 loop-again : tie.Need-loop-again Inv-loop μ-loop
-loop-again c = let l = c .before .before in let s = l .before .before in next (4 * s .args .n) (colorAt (s .args .numbers .now)) (l .loop .inv) (c .before .loop-test .taken) (c .color-at .ensures)
+loop-again c = let l = c .before .before in let s = l .before .before in next (4 * s .args .n) (jobColorAt (s .args .numbers .now)) (l .loop .inv) (c .before .loop-test .taken) (c .color-at .ensures)
 
 same-length : tie.Need-same-length Inv-loop μ-loop
-same-length c = let l = c .before in let s = l .before .before in long (4 * s .args .n) (colorAt (s .args .numbers .now)) (l .loop .inv)
+same-length c = let l = c .before in let s = l .before .before in long (4 * s .args .n) (jobColorAt (s .args .numbers .now)) (l .loop .inv)
 
 returns : tie.Need-returns Inv-loop μ-loop
 returns c =
     let l = c .before in
     let s = l .before .before in
-    end (4 * s .args .n) (colorAt (s .args .numbers .now)) (l .loop .inv) (c .loop-test .left)
+    end (4 * s .args .n) (jobColorAt (s .args .numbers .now)) (l .loop .inv) (c .loop-test .left)
     ∙ ap (λ (ws : List Float). over ws (s .args .colors .now)) (colors-are (s .args .numbers .now) (s .args .n))
 
 pub write-colors-spec : {M : Type 1} → statement M

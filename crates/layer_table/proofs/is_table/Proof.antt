@@ -5,7 +5,7 @@ use mathlib.Core.Bool.{false}
 use Prim.Native.Nat.{_-_}
 use native.Mathlib.Omega.{arith}
 use borrow.Author.Needs.{needs}
-use Rattle.layer_table.specs.Table.{isShort}
+use Rattle.layer_table.specs.Table.{isTableShort}
 use Rattle.layer_table.proofs.Judging.{Judging, begin, next, end, long, table-short, table-long}
 use Rattle.layer_table.proofs.is_table.Statement.{statement}
 use Rattle.layer_table.proofs.is_table.Tie as tie
@@ -26,7 +26,7 @@ loop-holds : tie.Need-loop-holds Inv-loop μ-loop
 loop-holds c = begin _ _
 
 -- the test at the front says that every record is there
-fits : (c : tie.In-loop Inv-loop μ-loop) → isShort (c .before .before .before .before .before .before .args .layers .now) (c .before .before .before .before .before .before .args .colors .now) (c .before .before .before .before .before .before .args .count) ≡ false
+fits : (c : tie.In-loop Inv-loop μ-loop) → isTableShort (c .before .before .before .before .before .before .args .layers .now) (c .before .before .before .before .before .before .args .colors .now) (c .before .before .before .before .before .before .args .count) ≡ false
 fits c = sym (c .before .before .before .is-short .ensures) ∙ c .before .before .if1 .left
 
 words-at-requires : tie.Need-words-at-requires Inv-loop μ-loop

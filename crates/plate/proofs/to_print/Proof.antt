@@ -1,7 +1,7 @@
 -- `to_print` meets its contract. Assumes nothing.
 use mathlib.Core.Path.{_≡_, ap, sym, _∙_}
 use borrow.Author.Needs.{needs}
-use Rattle.plate.specs.Print.{Printing, row, printingIn, printRow, partIn}
+use Rattle.plate.specs.Print.{RowPrinting, row, printingIn, printRow, partIn}
 use Rattle.plate.proofs.Finding.{printed-inside}
 use Rattle.plate.proofs.to_print.Statement.{statement}
 use Rattle.plate.proofs.to_print.Tie as tie
@@ -36,12 +36,12 @@ part-result-end c = search needs
 returns : tie.Need-returns
 returns c =
     let l = c .before .before .before .before .before .before .args .segments .now in
-    c .slice-of .ensures ∙ ap (λ (p : Printing). partIn p l) (printed (c .before))
+    c .slice-of .ensures ∙ ap (λ (p : RowPrinting). partIn p l) (printed (c .before))
 
 returns-2 : tie.Need-returns-2
 returns-2 c =
     let l = c .before .before .before .before .before .args .segments .now in
-    ap (λ (p : Printing). partIn p l) (sym (ap printingIn (c .before .enum-told .given .1)) ∙ c .before .before .before .print-row .ensures)
+    ap (λ (p : RowPrinting). partIn p l) (sym (ap printingIn (c .before .enum-told .given .1)) ∙ c .before .before .before .print-row .ensures)
 
 pub to-print-spec : {M : Type 1} → statement M
 to-print-spec =

@@ -32,7 +32,7 @@ use lib.ListN.{length, take, replicate}
 use mir.Syntax.{named, w8, w32, w64}
 use mir.Val.{Val, vint, hasTy, WT}
 use Rattle.laws.specs.Lists.{over}
-use Rattle.queue_records.specs.Records.{idsOf, coversOf, readable, columnsOf}
+use Rattle.queue_records.specs.Records.{recordIds, recordCovers, readable, columnsOf}
 use Rattle.queue_records.specs.declared.CarryRecord.{CarryRecord}
 use Rattle.queue_records.specs.declared.Columns.{Columns}
 use Rattle.queue_records.proofs.BigLit.{big-lit}
@@ -166,7 +166,7 @@ module _ {M : Type 1} (𝓤 : URA M) (H : Heap 𝓤) (A : Atoms 𝓤) (W : Given
 
     -- what `read_queue` read
     abbrev Was : ℕ → List ℕ → List ℤ → Type 0
-    Was n us zs = (n ≡ readable count (length qs) (length ids₀) (length covers₀)) × (us ≡ over (idsOf (take n qs)) ids₀) × (zs ≡ over (coversOf (take n qs)) covers₀)
+    Was n us zs = (n ≡ readable count (length qs) (length ids₀) (length covers₀)) × (us ≡ over (recordIds (take n qs)) ids₀) × (zs ≡ over (recordCovers (take n qs)) covers₀)
 
   module _ (us : List ℕ) (zs : List ℤ) where
     abbrev by-value : Args with.signature tt

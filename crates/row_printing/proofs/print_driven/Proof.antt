@@ -2,7 +2,7 @@
 use mathlib.Core.Path.{ap}
 use native.Mathlib.Omega.{arith}
 use borrow.Author.Needs.{needs}
-use Rattle.row_lines.specs.Driven.{toldBy}
+use Rattle.row_lines.specs.Driven.{linesWritten}
 use Rattle.row_printing.proofs.Lining.{asks, last-room, done, refused}
 use Rattle.row_printing.proofs.print_driven.Statement.{statement}
 use Rattle.row_printing.proofs.print_driven.Tie as tie
@@ -16,7 +16,7 @@ enum-known-driven c = search needs
 print-lines-requires : tie.Need-print-lines-requires
 print-lines-requires c κs =
     let p = c .before .before .before .before .before .before .print-names in
-    asks (c .before .before .before .before .before .before .before .before .before .before .pre) (ap toldBy (c .before .before .driven .given .1)) (p .ensures) (p .kept .0)
+    asks (c .before .before .before .before .before .before .before .before .before .before .pre) (ap linesWritten (c .before .before .driven .given .1)) (p .ensures) (p .kept .0)
 
 enum-known-driven-2 : tie.Need-enum-known-driven-2
 enum-known-driven-2 c = search needs
@@ -24,7 +24,7 @@ enum-known-driven-2 c = search needs
 print-lines-requires-2 : tie.Need-print-lines-requires-2
 print-lines-requires-2 c κs =
     let p = c .before .before .before .before .before .before .print-names in
-    asks (c .before .before .before .before .before .before .before .before .before .before .pre) (ap toldBy (c .before .before .driven2 .given .1)) (p .ensures) (p .kept .0)
+    asks (c .before .before .before .before .before .before .before .before .before .before .pre) (ap linesWritten (c .before .before .driven2 .given .1)) (p .ensures) (p .kept .0)
 
 number-of-requires : tie.Need-number-of-requires
 number-of-requires c κs = search needs
@@ -33,7 +33,7 @@ print-refusal-requires : tie.Need-print-refusal-requires
 print-refusal-requires c κs =
     let p = c .before .before .before .before .before .before .before .before .before .before .before .print-names in
     let q = c .before .before .before .before .print-lines2 in
-    let room = last-room (c .before .before .before .before .before .before .before .before .before .before .before .before .before .before .before .pre) (ap toldBy (c .before .before .before .before .before .before .before .driven2 .given .1)) (p .ensures) in
+    let room = last-room (c .before .before .before .before .before .before .before .before .before .before .before .before .before .before .before .pre) (ap linesWritten (c .before .before .before .before .before .before .before .driven2 .given .1)) (p .ensures) in
     omega (arith, room, q .ensures .1, q .kept .1 .1 .1 .0, p .kept .0)
 
 same-length : tie.Need-same-length
@@ -45,7 +45,7 @@ returns c =
     let e = c .before .before .before .before .before .driven .given .1 in
     let p = c .before .before .before .before .before .before .before .before .before .print-names .ensures in
     let q = c .before .before .print-lines .ensures in
-    let room = last-room (s .pre) (ap toldBy e) p in
+    let room = last-room (s .pre) (ap linesWritten e) p in
     done (s .args .told .now) (s .args .first) e p (q .0) (omega (arith, room, q .1))
 
 same-length-2 : tie.Need-same-length-2
@@ -58,7 +58,7 @@ returns-2 c =
     let p = c .before .before .before .before .before .before .before .before .before .before .before .before .before .before .print-names .ensures in
     let q = c .before .before .before .before .before .before .before .print-lines2 .ensures in
     let u = c .before .before .print-refusal .ensures in
-    let room = last-room (s .pre) (ap toldBy e) p in
+    let room = last-room (s .pre) (ap linesWritten e) p in
     refused (s .args .told .now) (s .args .first) e (c .before .before .before .number-of .ensures) p (q .0) (u .0) (omega (arith, room, q .1, u .1))
 
 pub print-driven-spec : {M : Type 1} → statement M

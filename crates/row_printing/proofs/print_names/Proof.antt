@@ -3,7 +3,7 @@ use Prim.Native.Nat.{_+_, _≤_}
 use native.Mathlib.Omega.{arith}
 use borrow.Author.Needs.{needs}
 use lib.ListN.{length}
-use Rattle.report.specs.Text.{names}
+use Rattle.report.specs.Text.{tileNames}
 use Rattle.row_printing.proofs.Placing.{placed}
 use Rattle.row_printing.proofs.print_names.Statement.{statement}
 use Rattle.row_printing.proofs.print_names.Tie as tie
@@ -20,7 +20,7 @@ same-length c = search needs
 returns : tie.Need-returns
 returns c =
     let s = c .before .before .before .before .before .before in
-    let room : s .args .at + length names ≤ length (s .args .out .now) = omega (arith, s .pre) in
+    let room : s .args .at + length tileNames ≤ length (s .args .out .now) = omega (arith, s .pre) in
     placed (c .before .before .before .print-names .ensures) (c .place-or .ensures) room
 
 pub print-names-spec : {M : Type 1} → statement M

@@ -3,7 +3,7 @@ use mathlib.Core.Path.{refl}
 use borrow.Author.Needs.{needs}
 use borrow.Author.Tests.{leb-true}
 use Rattle.layer_table.specs.Table.{layerAt, tableOf}
-use Rattle.cover_statements.specs.Entry.{entryOf}
+use Rattle.cover_statements.specs.Entry.{coverEntry}
 use Rattle.queue_statements.specs.Queue.{queueOf}
 use Rattle.cases.proofs.Tile.{ready, painted}
 use Rattle.cases.proofs.clips.paint.Statement.{statement}
@@ -28,7 +28,7 @@ slice-aggregate-paint-5 : tie.Need-slice-aggregate-paint-5
 slice-aggregate-paint-5 c = search needs
 
 paint-requires : tie.Need-paint-requires
-unfolding tableOf layerAt queueOf entryOf
+unfolding tableOf layerAt queueOf coverEntry
 paint-requires c κs = let s = c .before .before .before .before .before .before .before in
     (ready _ _ (leb-true 12 12 refl) (s .pre .0), s .pre .1 .0, s .pre .1 .1)
 

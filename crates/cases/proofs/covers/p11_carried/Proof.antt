@@ -1,9 +1,9 @@
 -- What is carried in P11, from the contract of carrying. Assumes nothing.
 use mathlib.Core.Path.{_∙_, ap}
 use borrow.Author.Needs.{needs}
+use Rattle.laws.specs.Answer.{isGiven}
 use Rattle.cover_statements.specs.Carry.{isLight, carryOf}
 use Rattle.pixel_segment.specs.Field.{coverOf}
-use Rattle.cases.specs.Answers.{isGiven}
 use Rattle.cases.proofs.Accepted.{accepted-is}
 use Rattle.cases.proofs.Table.{cases}
 use Rattle.cases.proofs.covers.p11_carried.Statement.{statement}

@@ -1,7 +1,7 @@
 -- Number 9, from the contracts. Assumes nothing.
 use mathlib.Core.Path.{_∙_, ap}
 use borrow.Author.Needs.{needs}
-use Rattle.cases.specs.Answers.{isGiven}
+use Rattle.laws.specs.Answer.{isGiven}
 use Rattle.cases.proofs.Accepted.{accepted-is}
 use Rattle.cases.proofs.Table.{edges}
 use Rattle.cases.proofs.covers.p11_passed.Statement.{statement}

@@ -2,7 +2,7 @@
 use mathlib.Core.Path.{_∙_, ap}
 use mathlib.Core.Bool.{not}
 use borrow.Author.Needs.{needs}
-use Rattle.cases.specs.Answers.{isGiven}
+use Rattle.laws.specs.Answer.{isGiven}
 use Rattle.cases.proofs.Accepted.{accepted-is}
 use Rattle.cases.proofs.Table.{edges}
 use Rattle.cases.proofs.covers.p11_refused.Statement.{statement}

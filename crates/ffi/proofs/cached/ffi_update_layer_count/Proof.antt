@@ -2,7 +2,7 @@
 use mathlib.Core.Path.{ap, _∙_}
 use borrow.Author.Needs.{needs}
 use Rattle.cached_tile.specs.Tile.{layerCountOf}
-use Rattle.ffi_numbers.specs.Cached.{bytesOf}
+use Rattle.ffi_numbers.specs.Cached.{tileBytes}
 use Rattle.ffi.proofs.Told.{optional}
 use Rattle.ffi.proofs.cached.ffi_update_layer_count.Statement.{statement}
 use Rattle.ffi.proofs.cached.ffi_update_layer_count.Tie as tie
@@ -28,7 +28,7 @@ returns c =
     let tile = c .before .before .before .before .before .before .to-tile .ensures in
     let told =
     optional (c .before .before .before .before .before .before .before .before .args .previous .now) (updated .previous ∙ ap layerCountOf tile) (c .put-count .ensures) in
-    (told .0, (told .1, c .before .before .to-bytes .ensures ∙ ap bytesOf (rw (tile, c .before .before .before .before .before .count-if .ensures) at (updated .tile))))
+    (told .0, (told .1, c .before .before .to-bytes .ensures ∙ ap tileBytes (rw (tile, c .before .before .before .before .before .count-if .ensures) at (updated .tile))))
 
 pub ffi-update-layer-count-spec : {M : Type 1} → statement M
 ffi-update-layer-count-spec =

@@ -2,7 +2,7 @@
 use mathlib.Core.Path.{ap, _∙_}
 use borrow.Author.Needs.{needs}
 use Rattle.cached_tile.specs.Tile.{solidColorOf}
-use Rattle.ffi_numbers.specs.Cached.{bytesOf}
+use Rattle.ffi_numbers.specs.Cached.{tileBytes}
 use Rattle.ffi.proofs.Told.{colored}
 use Rattle.ffi.proofs.cached.ffi_update_solid_color.Statement.{statement}
 use Rattle.ffi.proofs.cached.ffi_update_solid_color.Tie as tie
@@ -25,7 +25,7 @@ returns c =
     let tile = c .before .before .before .before .before .before .to-tile .ensures in
     let told =
     colored (c .before .before .before .before .before .before .before .before .before .args .previous .now) (updated .previous ∙ ap solidColorOf tile) (c .put-color .ensures) in
-    (told .0, (told .1, c .before .before .before .to-bytes .ensures ∙ ap bytesOf (rw tile at (updated .tile))))
+    (told .0, (told .1, c .before .before .before .to-bytes .ensures ∙ ap tileBytes (rw tile at (updated .tile))))
 
 pub ffi-update-solid-color-spec : {M : Type 1} → statement M
 ffi-update-solid-color-spec =

@@ -4,19 +4,19 @@ use Prim.Native.Nat.{_-_}
 use native.Mathlib.Omega.{arith}
 use borrow.Author.Needs.{needs}
 use Rattle.job_lines.specs.Rules.{layerRule}
-use Rattle.job_text_statements.specs.Numbers.{layerAt}
+use Rattle.job_text_statements.specs.Numbers.{layerLineAt}
 use Rattle.job_numbers.proofs.Judging.{Judging, start, next, end}
 use Rattle.job_numbers.proofs.layer.are_layers.Statement.{statement}
 use Rattle.job_numbers.proofs.layer.are_layers.Tie as tie
 
 abbrev Inv-loop : tie.InvT-loop
-Inv-loop numbers n ok₀ i₀ ok i = Judging layerRule (layerAt numbers) n i ok
+Inv-loop numbers n ok₀ i₀ ok i = Judging layerRule (layerLineAt numbers) n i ok
 
 abbrev μ-loop : tie.MeasureT-loop
 μ-loop numbers n ok₀ i₀ ok i = n - i
 
 loop-holds : tie.Need-loop-holds Inv-loop μ-loop
-loop-holds c = start layerRule (layerAt (c .args .numbers .now)) (c .args .n)
+loop-holds c = start layerRule (layerLineAt (c .args .numbers .now)) (c .args .n)
 
 layer-at-requires : tie.Need-layer-at-requires Inv-loop μ-loop
 layer-at-requires c κs = omega arith
@@ -31,10 +31,10 @@ loop-less : tie.Need-loop-less Inv-loop μ-loop
 loop-less c = omega arith
 
 loop-again : tie.Need-loop-again Inv-loop μ-loop
-loop-again c = next layerRule (layerAt (c .before .before .before .before .args .numbers .now)) (c .before .before .before .loop .inv) (c .before .before .loop-test .taken) (c .is-layer .ensures ∙ ap layerRule (c .before .layer-at .ensures))
+loop-again c = next layerRule (layerLineAt (c .before .before .before .before .args .numbers .now)) (c .before .before .before .loop .inv) (c .before .before .loop-test .taken) (c .is-layer .ensures ∙ ap layerRule (c .before .layer-at .ensures))
 
 returns : tie.Need-returns Inv-loop μ-loop
-returns c = end layerRule (layerAt (c .before .before .args .numbers .now)) (c .before .loop .inv) (omega arith)
+returns c = end layerRule (layerLineAt (c .before .before .args .numbers .now)) (c .before .loop .inv) (omega arith)
 
 pub are-layers-spec : {M : Type 1} → statement M
 are-layers-spec =

@@ -3,7 +3,7 @@ use Prim.Native.Nat.{_+_, _*_}
 use borrow.Author.Needs.{needs}
 use mir.Syntax.{w32}
 use Rattle.laws.proofs.Machine.{kept}
-use Rattle.job_text_statements.specs.Numbers.{numberAt, layerAt}
+use Rattle.job_text_statements.specs.Numbers.{numberAt, layerLineAt}
 use Rattle.job_numbers.proofs.layer.layer_at.Statement.{statement}
 use Rattle.job_numbers.proofs.layer.layer_at.Tie as tie
 
@@ -80,7 +80,7 @@ shared-slice-copy-out-t34 : tie.Need-shared-slice-copy-out-t34
 shared-slice-copy-out-t34 c = search needs
 
 returns : tie.Need-returns
-unfolding layerAt
+unfolding layerLineAt
 returns c =
     let ns = c .before .before .before .before .before .before .before .before .args .numbers .now in
     let i = c .before .before .before .before .before .before .before .before .args .i in
