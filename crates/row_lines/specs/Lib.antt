@@ -2,3 +2,4 @@
 pub mod Shown
 pub mod Lines
 pub mod Driven
+pub mod Calls

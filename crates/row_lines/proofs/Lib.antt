@@ -1,0 +1,2 @@
+-- Laws of a driven row.
+pub mod Calls
