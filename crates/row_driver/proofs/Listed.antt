@@ -1,6 +1,6 @@
 -- An accepted work's list: each of its layers can be painted, since the table has it and number 9 does not apply; and the tally of the lent list is
 -- the tile's. Assumes nothing.
-use mathlib.Core.Path.{_≡_, refl, ap, ap₂, sym, subst, _∙_}
+use mathlib.Core.Path.{_≡_, refl, ap, sym, subst, _∙_}
 use mathlib.Core.Bool.{true, not}
 use mathlib.Core.List.{List, [], _∷_, map}
 use Prim.Native.Nat.{ℕ, zero, suc, _≤_, _<_}
@@ -8,18 +8,14 @@ use native.Mathlib.Nat.{le-of-suc-le-suc}
 use native.Mathlib.Omega.{arith}
 use lib.ListN.{length, take, drop, getD, length-map}
 use lib.Seq.{getD-take, take-append-seam}
-use Rattle.laws.specs.Answer.{refused, given, isGiven}
+use Rattle.laws.specs.Answer.{refused, given}
 use Rattle.laws.specs.Lists.{over}
-use Rattle.laws.proofs.Every.{all-at}
 use Rattle.laws.proofs.Rows.{length-over}
 use Rattle.pixel_segment.specs.Field.{cpu, layerIdOf}
 use Rattle.segment_rows.specs.Rows.{Ordered}
 use Rattle.segment_rows.specs.Search.{tilePart}
-use Rattle.segment_rows.proofs.TileParts.{layer-part}
 use Rattle.styling.specs.Ascending.{strictlyAscends}
-use Rattle.layer_table.specs.Lookup.{lookup}
 use Rattle.styling.specs.declared.Layer.{Layer}
-use Rattle.cover_statements.specs.Carry.{isLight}
 use Rattle.queue_statements.specs.Queue.{Carry, idsIn}
 use Rattle.queue_statements.proofs.Judging as queue-judging
 use Rattle.queue_statements.proofs.Queues.{ids-queue}
@@ -30,11 +26,9 @@ use Rattle.pass_statements.proofs.Words.{outcome-long}
 use Rattle.pass_statements.specs.Decision.{codeOf, decisionIn}
 use Rattle.layer_workbench.specs.Work.{entryOf, outcomeByEntries, clearUnchanged, countFrom}
 use Rattle.cached_tile.specs.Kept.{previousCount}
-use Rattle.row_carries.proofs.Merged.{listed-cover, listed-own}
-use Rattle.painter.specs.Painting.{isLightIn}
 use Rattle.refusals.specs.Refusal.{Judgement, pass, refuse, numberOf}
 use Rattle.refusals.specs.declared.Refusal.{Refusal}
-use Rattle.row_statements.specs.Lent.{Columns, ListColumns, carriesIn, layersOf}
+use Rattle.row_statements.specs.Lent.{carriesIn, layersOf}
 use Rattle.row_statements.specs.State.{State, stateIn}
 use Rattle.row_statements.specs.TileWork.{WorkCall, WorkLent, TileAnswer, listedFor, saysFor, layersVerdict, tileAnswerIn, tileAnswer, workOut, workAnswer, GivesWork}
 use Rattle.row_statements.specs.InnerWork.{workedBy}
@@ -46,6 +40,7 @@ use Rattle.row_statements.proofs.Works.{Listable, list-passed}
 use Rattle.row_statements.proofs.Paintings.{layer-passed}
 use Rattle.row_lines.specs.Shown.{shownIn}
 use Rattle.row_lines.specs.Lines.{isPaint}
+use Rattle.row_lines.proofs.Accepted.{listed-pass}
 use Rattle.shown_layers.specs.Counting.{sumIn, atStart, tallied, Painter, Paintable, Walkable}
 use Rattle.row_driver.specs.InnerSteps.{tallyAt, lineAt, Workable}
 use Rattle.row_lines.specs.declared.Line.{Line}
@@ -54,17 +49,10 @@ use Rattle.shown_layers.specs.declared.Tally.{Tally}
 -- ---- the layers of a list
 
 module _ (table : List Layer) (q : List Carry) (part : List ℕ) (up : strictlyAscends (idsIn q) ≡ true) (ordered : Ordered (layerIdOf cpu) part) (l : Listable table (layersIn q part)) where
-  light-at : (i : ℕ) → i < length (layersIn q part) → isLightIn q part (getD (layersIn q part) i noListed .id) ≡ true
-  light-at i h =
-      let x = getD (layersIn q part) i noListed in
-      ap₂ (isLight cpu 16) (sym (listed-cover q part up ordered i h)) (layer-part (x .id) part ordered ∙ sym (listed-own q part up ordered i h))
-      ∙ all-at (λ y. isLight cpu 16 (y .cover) (y .own)) (layersIn q part) (l .light) i noListed h
-
   paintable : (i : ℕ) → i < length (layersIn q part) → Paintable table q part (getD (layersIn q part) i noListed .id)
   paintable i h =
       let id = getD (layersIn q part) i noListed .id in
-      let known : isGiven (lookup table id) ≡ true = all-at (λ y. isGiven (lookup table (y .id))) (layersIn q part) (l .known) i noListed h in
-      let p = layer-passed table q part id (rw (known, light-at i h)) in
+      let p = layer-passed table q part id (listed-pass table q part up ordered l i h) in
       record { found = p .found; light = p .light }
 
 -- the ids of a list in the lent column

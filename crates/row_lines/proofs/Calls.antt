@@ -4,24 +4,24 @@ use mathlib.Core.Bool.{Bool, true, false, cond}
 use mathlib.Core.List.{List, [], _∷_, _++_}
 use mathlib.Core.Option as option
 use mathlib.Core.Option.{Option}
-use Prim.Native.Nat.{ℕ, zero, suc, _+_, _-_, _≤_, _<_}
+use Prim.Native.Nat.{ℕ, suc, _+_, _-_, _≤_, _<_}
 use native.Mathlib.Omega.{arith}
 use borrow.Author.Tests.{le-ltb, lt-leb, eq-eqb}
 use lib.Count.{ones}
 use lib.Ieee.{Float}
 use lib.IntN.{pos}
 use lib.ListN.{length, take, length-map}
-use Rattle.laws.specs.Answer.{Answer, refused, given}
+use Rattle.laws.specs.Answer.{refused, given}
 use Rattle.refusals.specs.Refusal.{Judgement, pass, refuse}
-use Rattle.queue_statements.specs.Queue.{Carry, idsIn}
+use Rattle.queue_statements.specs.Queue.{idsIn}
 use Rattle.queue_statements.proofs.Columns.{take-ids}
-use Rattle.tile_layers.specs.Listing.{Listed, incomingOf}
+use Rattle.tile_layers.specs.Listing.{incomingOf}
 use Rattle.pass_statements.specs.Decision.{codeOf}
 use Rattle.pass_statements.specs.Decide.{Outcome}
 use Rattle.painter.specs.Clip.{clipAfter}
 use Rattle.row_statements.specs.State.{State, stateIn}
 use Rattle.row_statements.specs.TileWork.{WorkLent, TileAnswer, listVerdict, tileAnswer, workOut, workAnswer}
-use Rattle.row_statements.specs.Painting.{paintOut, paintAnswer, PaintsLayer}
+use Rattle.row_statements.specs.Painting.{paintOut, paintAnswer}
 use Rattle.row_statements.specs.Due.{OpenRow, Past, WorkChoice, tableOn, queueOn, layersOn, outcomeOn, isNotDue, workDueVerdict, saysOn, stateOn, pastWork, PaintChoice, paintDueVerdict, paintOn, funcOn, markOn, pastPaint}
 use Rattle.row_statements.specs.Run.{Event}
 use Rattle.row_statements.specs.Claim.{RightWork, RightPaint, AllRight}
@@ -108,7 +108,7 @@ module _ (o : OpenRow) where
 
   module _ {n : ℕ} {clip : Option ℕ} {c : WorkChoice} {r : TileWorked} {back : WorkLent} (inside : o .from + n < o .to) (w : WorksTile o n c) (right : RightWork o (tilesPast n clip) c r back) where
     -- only the tile's layers are left to judge
-    verdict-is : workDueVerdict o n c ≡ verdictOn o n
+    pub verdict-is : workDueVerdict o n c ≡ verdictOn o n
     verdict-is = rw (w .tile, w .kept, w .queue-room, w .list-room, due n inside)
 
     answer-is : workAnswer (r .answer) ≡ workOut (verdictOn o n) (saysOn o n c) (stateOn o (tilesPast n clip)) (c .kept) (c .lent) .answer
@@ -156,7 +156,7 @@ module _ (o : OpenRow) where
 
   -- ---- all tiles
 
-  lines-are : {k n : ℕ} (clip : Option ℕ) {es : List Event} {ls : RowLines} → o .from + n + k ≤ o .to → Calls o k n es ls → AllRight o (tilesPast n clip) es → ls ≡ linesFrom o k n
+  pub lines-are : {k n : ℕ} (clip : Option ℕ) {es : List Event} {ls : RowLines} → o .from + n + k ≤ o .to → Calls o k n es ls → AllRight o (tilesPast n clip) es → ls ≡ linesFrom o k n
   unfolding linesFrom
   lines-are clip inside Calls.none all = refl
   lines-are {n = n} clip inside (Calls.turned-down w a) all = rw (refused-told (omega (arith, inside)) w (all .0) a)

@@ -1,2 +1,4 @@
 -- Laws of a driven row.
+pub mod Accepted
 pub mod Calls
+pub mod Existing

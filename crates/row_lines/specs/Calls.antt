@@ -4,27 +4,32 @@
 use mathlib.Core.Path.{_≡_}
 use mathlib.Core.Bool.{false, cond}
 use mathlib.Core.List.{List, [], _∷_, _++_}
-use Prim.Native.Nat.{ℕ, zero, suc, _+_}
+use Prim.Native.Nat.{ℕ, zero, suc, _+_, _≤_}
 use lib.Count.{ones}
 use lib.Dec.{ltb}
 use lib.Ieee.{Float}
 use lib.IntN.{pos}
 use lib.ListN.{length, take}
 use Rattle.laws.specs.Answer.{refused, given}
+use Rattle.laws.specs.Integer.{plus}
 use Rattle.refusals.specs.Refusal.{pass, refuse}
+use Rattle.segment_rows.specs.Rows.{Words}
 use Rattle.cached_tile.specs.Kept.{noTile}
 use Rattle.pass_statements.specs.Decision.{codeOf}
 use Rattle.layer_workbench.specs.declared.PreviousClear.the-variants.{Absent}
-use Rattle.row_statements.specs.Lent.{isQueueShort, isListShort}
+use Rattle.row_statements.specs.Lent.{Columns, isQueueShort, isListShort}
 use Rattle.row_statements.specs.State.{State, stateIn}
+use Rattle.row_statements.specs.Opening.{OpenCall, openOf, OpensRow}
 use Rattle.row_statements.specs.TileWork.{WorkLent, TileAnswer, workAnswer}
 use Rattle.row_statements.specs.Painting.{paintAnswer}
 use Rattle.row_statements.specs.Due.{OpenRow, WorkChoice, PaintChoice}
-use Rattle.row_statements.specs.Run.{Event}
+use Rattle.row_statements.specs.Run.{openRow, Held, heldFirst, Event, Run}
+use Rattle.row_statements.specs.declared.RowState.{RowState}
+use Rattle.row_statements.specs.declared.Opened.the-variants as opened
 use Rattle.row_statements.specs.declared.TileWorked.{TileWorked}
 use Rattle.row_statements.specs.declared.Painted.{Painted}
 use Rattle.row_lines.specs.Shown.{shownIn}
-use Rattle.row_lines.specs.Lines.{clearColor, isPaint, RowLines}
+use Rattle.row_lines.specs.Lines.{clearColor, isPaint, RowLines, linesFrom}
 use Rattle.row_lines.specs.declared.Line.{Line}
 
 -- ---- what a driver chooses
@@ -82,3 +87,23 @@ pub data Calls (o : OpenRow) : ℕ → ℕ → List Event → RowLines → Type 
       Paintings o n (paintedBy t back) ps octets →
       Calls o k (suc n) es rest →
       Calls o (suc k) n (Event.work c r back ∷ (ps ++ es)) (record { lines = lineBy t back (stateIn (r .state)) octets ∷ rest .lines; end = rest .end })
+
+-- ---- the claim, of the first k tiles of from..to after an accepted opening
+
+-- every run of these calls tells the lines of the whole row
+abbrev pub TellLines : Type 0
+TellLines =
+    (c : OpenCall) (lent back : Columns) (s : RowState) (k : ℕ) (es : List Event) (h : Held) (ls : RowLines) →
+    Words (c .row) →
+    OpensRow (openOf c lent) (opened.Row s) back →
+    plus (c .from) + k ≤ plus (c .to) →
+    Run (openRow c) (heldFirst s back) es h →
+    Calls (openRow c) k 0 es ls →
+    ls ≡ linesFrom (openRow c) k 0
+
+-- and there is one
+pub record LinesTold (c : OpenCall) (s : RowState) (back : Columns) (k : ℕ) : Type 0 where
+  pub events : List Event
+  pub after : Held
+  pub runs : Run (openRow c) (heldFirst s back) events after
+  pub calls : Calls (openRow c) k 0 events (linesFrom (openRow c) k 0)

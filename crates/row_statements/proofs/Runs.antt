@@ -45,7 +45,7 @@ use Rattle.row_statements.proofs.PaintSteps.{paint-due, right-paint}
 
 -- ---- an answer of the code for what is due
 
-abbrev clipOut : Option ℕ → painter.Clip
+abbrev pub clipOut : Option ℕ → painter.Clip
 clipOut none = Absent
 clipOut (some last) = Until last
 
@@ -53,13 +53,13 @@ clip-back : (clip : Option ℕ) → clipIn (clipOut clip) ≡ clip
 clip-back none = refl
 clip-back (some last) = refl
 
-abbrev stateOut : State → RowState
+abbrev pub stateOut : State → RowState
 stateOut s = record { «tile_y» = s .tileY; from = s .from; to = s .to; next = s .next; left = s .left; taken = s .taken; clip = clipOut (s .clip) }
 
 state-back : (s : State) → stateIn (stateOut s) ≡ s
 state-back s = ap (λ (clip : Option ℕ). record { tileY = s .tileY; from = s .from; to = s .to; next = s .next; left = s .left; taken = s .taken; clip = clip }) (clip-back (s .clip))
 
-abbrev decisionOut : TileDecision → Decision
+abbrev pub decisionOut : TileDecision → Decision
 decisionOut decision.none = None
 decisionOut (solid bottom before) = Solid bottom before
 decisionOut paint = Paint
@@ -69,14 +69,14 @@ decision-back decision.none = refl
 decision-back (solid bottom before) = refl
 decision-back paint = refl
 
-abbrev toldOut : TileAnswer → TileDone
+abbrev pub toldOut : TileAnswer → TileDone
 toldOut t = record { decision = decisionOut (t .decision); listed = t .listed; skipped = record { 0 = t .skipped } }
 
-abbrev workedOut : Answer TileAnswer → WorkAnswer
+abbrev pub workedOut : Answer TileAnswer → WorkAnswer
 workedOut (refused n) = worked.Refused (refusalOf n)
 workedOut (given t) = worked.Done (toldOut t)
 
-abbrev paintedOut : Answer ℕ → PaintAnswer
+abbrev pub paintedOut : Answer ℕ → PaintAnswer
 paintedOut (refused n) = painted.Refused (refusalOf n)
 paintedOut (given mark) = painted.Mark mark
 
@@ -89,7 +89,7 @@ listed-named table ls =
     (named (not (areKnown table ls)) 8 (unless (not (areLight ls)) 9 pass) refl
     (named (not (areLight ls)) 9 pass refl tt))
 
-work-named : (o : OpenRow) (n : ℕ) (c : WorkChoice) → Named (workDueVerdict o n c)
+pub work-named : (o : OpenRow) (n : ℕ) (c : WorkChoice) → Named (workDueVerdict o n c)
 work-named o n c =
     let seven = listVerdict (tableOn o) (layersOn o n) in
     let six = unless (tagOutOfRange (c .kept)) 6 seven in
@@ -97,7 +97,7 @@ work-named o n c =
     (named (isNotDue o n (c .tile)) 2 six refl
     (named (tagOutOfRange (c .kept)) 6 seven refl (listed-named (tableOn o) (layersOn o n))))
 
-paint-named : (o : OpenRow) (n : ℕ) (c : PaintChoice) → Named (paintDueVerdict o n c)
+pub paint-named : (o : OpenRow) (n : ℕ) (c : PaintChoice) → Named (paintDueVerdict o n c)
 paint-named o n c =
     let q = queueOn o (n - 1) in
     let part = tilePart (pos (o .from + (n - 1))) (o .row) in
@@ -110,10 +110,10 @@ paint-named o n c =
 
 -- ---- so there is an answer of the code that gives it
 
-abbrev workResult : WorkGiven → TileWorked
+abbrev pub workResult : WorkGiven → TileWorked
 workResult g = record { state = stateOut (g .state); kept = g .kept; answer = workedOut (g .answer) }
 
-work-gives : (v : Judgement) → Named v → (o : OpenRow) (p : Past) (c : WorkChoice) → let g = workOut v (saysOn o (p .tiles) c) (stateOn o p) (c .kept) (c .lent) in GivesWork g (workResult g) (g .lent)
+pub work-gives : (v : Judgement) → Named v → (o : OpenRow) (p : Past) (c : WorkChoice) → let g = workOut v (saysOn o (p .tiles) c) (stateOn o p) (c .kept) (c .lent) in GivesWork g (workResult g) (g .lent)
 unfolding workOut
 work-gives (refuse n) named o p c = record { answer = ap refused named; state = state-back (stateOn o p); kept = refl; lent-is = refl }
 work-gives pass named o p c =
@@ -124,10 +124,10 @@ work-gives pass named o p c =
       lent-is = refl;
     }
 
-abbrev paintResult : PaintGiven → Painted
+abbrev pub paintResult : PaintGiven → Painted
 paintResult g = record { state = stateOut (g .state); answer = paintedOut (g .answer) }
 
-paint-gives : (v : Judgement) → Named v → (o : OpenRow) (p : Past) (c : PaintChoice) → let g = paintOut v (paintOn o (p .tiles - 1) (c .layer) (p .clip)) (stateOn o p) (c .plane) in PaintsLayer g (paintResult g) (g .plane)
+pub paint-gives : (v : Judgement) → Named v → (o : OpenRow) (p : Past) (c : PaintChoice) → let g = paintOut v (paintOn o (p .tiles - 1) (c .layer) (p .clip)) (stateOn o p) (c .plane) in PaintsLayer g (paintResult g) (g .plane)
 unfolding paintOut
 paint-gives (refuse n) named o p c = record { answer = ap refused named; state = state-back (stateOn o p); plane = refl }
 paint-gives pass named o p c = record { answer = refl; state = state-back (paintOut pass (paintOn o (p .tiles - 1) (c .layer) (p .clip)) (stateOn o p) (c .plane) .state); plane = refl }
