@@ -1,15 +1,12 @@
--- `order::does_ascend` meets its contract. The invariant: what is found so far and what is left to look at make the whole. Assumes nothing.
-use mathlib.Core.Path.{_≡_, refl, sym, ap, _∙_}
-use mathlib.Core.Bool.{Bool, _&&_, and-true}
-use Prim.Native.Nat.{ℕ, _-_, _/_, _^_, _≤_, _<_}
+-- `order::does_ascend` meets its contract. What holds after so many words is `Counted`. Assumes nothing.
+use mathlib.Core.Path.{refl}
+use Prim.Native.Nat.{_-_, _/_, _^_, _<_}
 use native.Mathlib.Nat.{lt-of-le-of-lt}
 use native.Mathlib.Omega.{arith}
 use borrow.Author.Needs.{needs}
-use lib.Dec.{eqb}
-use lib.ListN.{length, getD, drop}
+use lib.ListN.{length, getD}
 use Rattle.pixel_segment.specs.Field.{cpu}
 use Rattle.pixel_segment.specs.Order.{orderKey}
-use Rattle.segment_rows.specs.Rows.{ascendsFrom, ascends}
 use Rattle.segment_rows.proofs.Ascending.{Counted, counted-begin, counted-next, counted-end}
 use Rattle.segment_rows.proofs.order.does_ascend.Statement.{statement}
 use Rattle.segment_rows.proofs.order.does_ascend.Tie as tie
