@@ -1,16 +1,18 @@
 -- Laws of ascending lists: how a loop over one goes, and what it says of any two elements. Assumes nothing.
 use mathlib.Core.Path.{_≡_, refl, ap, sym, _∙_}
-use mathlib.Core.Bool.{Bool, true, _&&_, and-assoc}
+use mathlib.Core.Bool.{Bool, true, false, _&&_, and-assoc, and-true}
 use mathlib.Core.List.{List, [], _∷_}
-use Prim.Native.Nat.{ℕ, zero, suc, _+_, _≤_, _<_}
+use mathlib.Core.Logic.{⊎-elim}
+use Prim.Native.Nat.{ℕ, zero, suc, _+_, _-_, _/_, _^_, _≤_, _<_}
 use native.Mathlib.Nat.{not-suc-le-zero, le-of-suc-le-suc}
 use native.Mathlib.Numerals.{add-one}
 use native.Mathlib.Omega.{arith}
-use borrow.Author.Tests.{leb-true, le-leb}
-use lib.Dec.{leb}
+use borrow.Author.Tests.{leb-true, le-leb, lt-leb, ne-eqb}
+use lib.Dec.{leb, eqb}
 use lib.ListN.{length, getD, drop, drop-of-length-le}
 use lib.Seq.{drop-cons}
-use Rattle.laws.proofs.Bools.{left, right, both}
+use Rattle.laws.proofs.Bools.{left, right, both, not-right}
+use Rattle.laws.proofs.Orders.{le-or-lt}
 use Rattle.segment_rows.specs.Rows.{ascendsFrom, ascends}
 
 module _ (f : ℕ → ℕ) where
@@ -29,6 +31,45 @@ module _ (f : ℕ → ℕ) where
       (and-assoc ok (leb k (f (getD l i 0))) (ascendsFrom f (f (getD l i 0)) (drop (i + 1) l))
       ∙ ap (λ (t : Bool). ok && t) (sym (ascends-step k l i h))
       ∙ p)
+
+  -- ---- a loop over keys of 44 bits that counts the descents
+
+  -- what holds after i elements
+  pub record Counted (l : List ℕ) (descents previous i : ℕ) : Type 0 where
+    pub within : i ≤ length l
+    pub most : descents ≤ i
+    pub small : previous < 2 ^ 44
+    pub whole : (eqb descents 0 && ascendsFrom f previous (drop i l)) ≡ ascends f l
+
+  pub counted-begin : (l : List ℕ) → Counted l 0 0 0
+  counted-begin l = record { within = omega arith; most = omega arith; small = omega arith; whole = refl }
+
+  -- the key before plus the highest key minus a key has the bit above the keys exactly where the key is lower
+  counted-one : (descents previous key : ℕ) → previous < 2 ^ 44 → key < 2 ^ 44 → eqb (descents + (previous + (2 ^ 44 - 1) - key) / 2 ^ 44) 0 ≡ (eqb descents 0 && leb previous key)
+  counted-one descents previous key p k =
+      ⊎-elim
+      (λ (up : previous ≤ key).
+      let none : descents + (previous + (2 ^ 44 - 1) - key) / 2 ^ 44 ≡ descents = omega arith in
+      rw (none, le-leb previous key up, and-true))
+      (λ (down : key < previous).
+      let one : descents + (previous + (2 ^ 44 - 1) - key) / 2 ^ 44 ≡ descents + 1 = omega arith in
+      rw (one, lt-leb previous key down) (ne-eqb (descents + 1) 0 (λ e. omega arith) ∙ sym (not-right (eqb descents 0) false refl)))
+      (le-or-lt previous key)
+
+  pub counted-next : {l : List ℕ} {descents previous i : ℕ} (key : ℕ) → Counted l descents previous i → i < length l → key ≡ f (getD l i 0) → key < 2 ^ 44 → Counted l (descents + (previous + (2 ^ 44 - 1) - key) / 2 ^ 44) key (i + 1)
+  counted-next {l} {descents} {previous} {i} key c h e k =
+      record {
+        within = omega arith;
+        most = omega arith;
+        small = k;
+        whole =
+            rw (counted-one descents previous key (c .small) k)
+            (ascends-again (eqb descents 0) (ascends f l) previous l i key h e (c .whole));
+      }
+
+  pub counted-end : {l : List ℕ} {descents previous i : ℕ} → Counted l descents previous i → length l ≤ i → eqb descents 0 ≡ ascends f l
+  counted-end {l} {descents} {previous} {i} c h =
+      sym (and-true (eqb descents 0)) ∙ ap (λ (t : Bool). eqb descents 0 && t) (sym (ascends-end previous l i h)) ∙ c .whole
 
   -- every element is at least the start
   pub from-le : (k : ℕ) (l : List ℕ) → ascendsFrom f k l ≡ true → (i : ℕ) → i < length l → k ≤ f (getD l i 0)

@@ -1,5 +1,5 @@
 -- Laws of the halving: how a turn of a search's loop goes, by a test whether an element is above the key. Assumes nothing.
-use mathlib.Core.Path.{_≡_, refl, sym, ap, ap₂, _∙_}
+use mathlib.Core.Path.{_≡_, refl, sym, ap, ap₂, _∙_, fun-ext}
 use mathlib.Core.Bool.{Bool, true, false, cond}
 use mathlib.Core.List.{List, [], _∷_}
 use mathlib.Core.Logic.{⊎-elim}
@@ -11,7 +11,7 @@ use lib.ListN.{length, getD}
 use Rattle.laws.proofs.Orders.{le-or-lt}
 use Rattle.laws.proofs.Bools.{either}
 use Rattle.pixel_segment.specs.Order.{isGt}
-use Rattle.segment_rows.specs.Search.{Place, found, absent, halved, ended, searchOf, afterOf}
+use Rattle.segment_rows.specs.Search.{Place, found, absent, halved, endOf, ended, searchOf, afterOf}
 
 module _ (isAbove : ℕ → Bool) (l : List ℕ) where
   -- a turn with more than one element
@@ -56,11 +56,40 @@ module _ (isAbove : ℕ → Bool) (l : List ℕ) where
   halved-right start len h e =
       by-middle start len false h e ∙ enough len (len - len / 2) (start + len / 2) (len - len / 2) (omega arith) (omega arith)
 
+  -- ---- what holds in a loop of the `len` elements from `start` on that are left: their halving ends where the whole one does
+
+  pub record Left (start len : ℕ) : Type 0 where
+    pub within : start + len ≤ length l
+    pub same : halved isAbove l len start len ≡ endOf isAbove l
+
+  pub begin : Left 0 (length l)
+  begin = record { within = omega arith; same = refl }
+
+  pub next : {start len : ℕ} → Left start len → 1 < len → (t : Bool) → isAbove (getD l (start + len / 2) 0) ≡ t → Left (cond t start (start + len / 2)) (cond t (len / 2) (len - len / 2))
+  next {start} {len} left h true e = record { within = omega arith; same = sym (halved-left start len h e) ∙ left .same }
+  next {start} {len} left h false e = record { within = omega arith; same = sym (halved-right start len h e) ∙ left .same }
+
+  pub ends : {start len : ℕ} → Left start len → len ≤ 1 → start ≡ endOf isAbove l
+  ends {start} {len} left h = sym (halved-end len start len h) ∙ left .same
+
+-- fewer elements are left
+pub fewer : (len : ℕ) → 1 < len → (t : Bool) → cond t (len / 2) (len - len / 2) < len
+fewer len h true = omega arith
+fewer len h false = omega arith
+
 -- the whole search, of a list that is not empty
-pub search-is : (at : ℕ → ℕ) (l : List ℕ) → 0 < length l → searchOf at l ≡ ended (at (getD l (halved (λ w. isGt (at w)) l (length l) 0 (length l)) 0)) (halved (λ w. isGt (at w)) l (length l) 0 (length l))
+pub search-is : (at : ℕ → ℕ) (l : List ℕ) → 0 < length l → searchOf at l ≡ ended (at (getD l (endOf (λ w. isGt (at w)) l) 0)) (endOf (λ w. isGt (at w)) l)
 unfolding searchOf
 search-is at [] h = absurd (not-suc-le-zero h)
 search-is at (w ∷ ws) h = refl
+
+-- and as a function tells it of the element where the halving ends
+pub search-told : (at : ℕ → ℕ) (l : List ℕ) {end r : ℕ} → 0 < length l → end ≡ endOf (λ w. isGt (at w)) l → r ≡ at (getD l end 0) → ended r end ≡ searchOf at l
+search-told at l some e told = rw told (ap (λ (n : ℕ). ended (at (getD l n 0)) n) e ∙ sym (search-is at l some))
+
+-- a halving by another test that says the same ends at the same place
+pub same-end : (f g : ℕ → Bool) (l : List ℕ) {end : ℕ} → end ≡ endOf f l → ((w : ℕ) → f w ≡ g w) → end ≡ endOf g l
+same-end f g l e h = e ∙ ap (λ (t : ℕ → Bool). endOf t l) (fun-ext h)
 
 pub search-empty : (at : ℕ → ℕ) (l : List ℕ) → length l ≡ 0 → absent 0 ≡ searchOf at l
 unfolding searchOf
@@ -87,18 +116,14 @@ halved-lt isAbove l (suc turns) start len h t =
     (either (isAbove (getD l (start + len / 2) 0))))
     (le-or-lt len 1)
 
--- where the search ends, and what it tells there
-abbrev endOf : (ℕ → ℕ) → List ℕ → ℕ
-endOf at l = halved (λ w. isGt (at w)) l (length l) 0 (length l)
-
-end-lt : (at : ℕ → ℕ) (l : List ℕ) → 0 < length l → endOf at l < length l
-end-lt at l some = omega (arith, halved-lt (λ w. isGt (at w)) l (length l) 0 (length l) some (omega arith))
+pub end-lt : (isAbove : ℕ → Bool) (l : List ℕ) {end : ℕ} → 0 < length l → end ≡ endOf isAbove l → end < length l
+end-lt isAbove l some e = rw e (omega (arith, halved-lt isAbove l (length l) 0 (length l) some (omega arith)))
 
 pub after-le : (at : ℕ → ℕ) (l : List ℕ) → afterOf (searchOf at l) ≤ length l
 after-le at l =
     ⊎-elim
     (λ (none : length l ≤ 0). rw (← search-empty at l (omega arith)) (omega arith))
-    (λ (some : 0 < length l). rw (search-is at l some) (inside (at (getD l (endOf at l) 0)) (endOf at l) (end-lt at l some)))
+    (λ (some : 0 < length l). rw (search-is at l some) (inside (at (getD l (endOf (λ w. isGt (at w)) l) 0)) (endOf (λ w. isGt (at w)) l) (end-lt (λ w. isGt (at w)) l some refl)))
     (le-or-lt (length l) 0)
   where
     inside : (r s : ℕ) → s < length l → afterOf (ended r s) ≤ length l
@@ -118,7 +143,7 @@ pub found-equal : (at : ℕ → ℕ) (l : List ℕ) (i : ℕ) → searchOf at l 
 found-equal at l i e =
     ⊎-elim
     (λ (none : length l ≤ 0). absurd (never (search-empty at l (omega arith) ∙ e)))
-    (λ (some : 0 < length l). by (endOf at l) (at (getD l (endOf at l) 0)) refl (sym (search-is at l some) ∙ e))
+    (λ (some : 0 < length l). by (endOf (λ w. isGt (at w)) l) (at (getD l (endOf (λ w. isGt (at w)) l) 0)) refl (sym (search-is at l some) ∙ e))
     (le-or-lt (length l) 0)
   where
     never : {j : ℕ} → absent j ≡ found i → ⊥

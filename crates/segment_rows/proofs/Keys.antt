@@ -27,7 +27,7 @@ pub tile-suc : (n : ℕ) → tileOf (suc n) ≡ pos n
 unfolding tileOf
 tile-suc n = equal (tileOf (suc n)) (pos n) (omega (arith, difference (suc n) 1))
 
-tile-zero : tileOf 0 ≡ negsuc 0
+pub tile-zero : tileOf 0 ≡ negsuc 0
 unfolding tileOf
 tile-zero = refl
 

@@ -4,5 +4,6 @@ pub mod Halving
 pub mod Rows
 pub mod Sorted
 pub mod Keys
+pub mod Above
 pub mod TileParts
 pub mod TileLayers

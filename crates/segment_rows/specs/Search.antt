@@ -35,6 +35,10 @@ halved isAbove l (suc turns) start len =
     let upper = halved isAbove l turns mid (len - len / 2) in
     cond (ltb 1 len) (cond (isAbove (getD l mid 0)) lower upper) start
 
+-- where the halving of a whole slice ends
+abbrev pub endOf : (ℕ → Bool) → List ℕ → ℕ
+endOf isAbove l = halved isAbove l (length l) 0 (length l)
+
 -- what is told of the element where the halving ends, by its rank
 abbrev pub ended : ℕ → ℕ → Place
 ended zero start = absent (start + 1)

@@ -6,22 +6,25 @@ ghost use Rattle.pixel_segment.specs.Field.{cpu};
 ghost use Rattle.pixel_segment.specs.Order.{orderKey};
 ghost use Rattle.segment_rows.specs.Rows.{ascends, isRow};
 
-// Whether the words don't descend in the fields down to the layer id. No early exit: a row is in order more often than
-// not.
+// Whether the words don't descend in the fields down to the layer id. Descents are counted, by the bit above a key: the
+// key before, plus the highest key, minus a key has it exactly where the key before is greater. No early exit: a row is
+// in order more often than not.
 pub fn does_ascend(row: &[u64]) -> bool
     ensures { λ r. ⌜ r ≡ ascends (orderKey cpu) (now (row .entry)) ⌝ }
 {
     let offset = consts::shift(BitField::LayerId);
-    let mut ok = true;
+    let bits = 64 - offset;
+    let highest = (1u64 << bits) - 1;
+    let mut descents: u64 = 0;
     let mut previous: u64 = 0;
     let mut i = 0;
     while i < row.len() {
         let key = row[i] >> offset;
-        ok = ok & (previous <= key);
+        descents += (previous + highest - key) >> bits;
         previous = key;
         i += 1;
     }
-    ok
+    descents == 0
 }
 
 // Whether a row is in order and in one tile row, given by its stored number. In an ascending row the first and the last

@@ -1,13 +1,20 @@
 // `search_last_by_key` (cpu/pixel_segment.rs): the last segment with a key, by halving. A key of the painter, with the
-// value that is looked for, is a value of `Key`, since there are no closures; each key in use has a function of its own
-// besides.
+// value that is looked for, is a value of `Key`, since there are no closures; each key has a function of its own, which
+// halves by the field as it is stored.
 use pixel_segment::PixelSegment;
+use pixel_segment::consts;
+use pixel_segment::consts::BitField;
 use pixel_segment::order;
 use pixel_segment::order::Ordering;
 ghost use mathlib.Core.Path.{_≡_};
-ghost use Prim.Native.Nat.{_<_, _^_};
-ghost use Rattle.pixel_segment.specs.Order.{rank};
-ghost use Rattle.segment_rows.specs.Search.{placeIn, searchOf, ended, orderAt};
+ghost use mathlib.Core.Bool.{cond};
+ghost use Prim.Native.Nat.{_+_, _-_, _/_, _%_, _^_, _≤_, _<_, min};
+ghost use lib.Dec.{leb};
+ghost use lib.IntN.{pos, _+ℤ_};
+ghost use Rattle.pixel_segment.specs.Field.{cpu, tileYOf, tileXOf, layerIdOf};
+ghost use Rattle.pixel_segment.specs.Order.{rank, isGt};
+ghost use Rattle.pixel_segment.specs.Pack.{storedOf};
+ghost use Rattle.segment_rows.specs.Search.{placeIn, endOf, searchOf, ended, orderAt};
 
 pub enum Key {
     TileY(i16),
@@ -26,6 +33,9 @@ pub enum Found {
     At(usize),
     Absent(usize),
 }
+
+// Above every number that a field has.
+const NO_FIELD: u32 = 4294967295;
 
 // How a word's key compares with the one that is looked for.
 pub fn compare_key(word: u64, key: Key) -> Ordering
@@ -57,62 +67,153 @@ fn answer(order: Ordering, start: usize) -> Found
     }
 }
 
-pub fn search_last_by_key(segments: &[u64], key: Key) -> Found
-    ensures { λ r. ⌜ placeIn r ≡ searchOf (orderAt key) (now (segments .entry)) ⌝ }
+// A tile number as it is stored: plus 1, and 0 for what is then negative.
+fn stored(tile: i32) -> u32
+    ensures { λ r. ⌜ r ≡ storedOf tile ⌝ }
 {
-    let mut len = segments.len();
-    if len == 0 {
-        return Found::Absent(0);
+    if tile < 0 { 0 } else { tile as u32 + 1 }
+}
+
+// The least stored number above a tile's: that of the next tile.
+fn above_tile(tile: i16) -> u32
+    ensures { λ r. ⌜ r ≡ storedOf (tile +ℤ pos 1) ⌝ }
+{
+    stored(tile as i32 + 1)
+}
+
+// The least number above a layer id, if there is one.
+fn above_layer_id(layer_id: u32) -> u32
+    ensures { λ r. ⌜ r ≡ min («layer_id» + 1) (2 ^ 32 - 1) ⌝ }
+{
+    if layer_id < NO_FIELD {
+        layer_id + 1
+    } else {
+        NO_FIELD
     }
+}
+
+// The least number above a key that asks whether a field is at least a start: none where that is wanted, else the
+// start.
+fn above_start(wanted: bool, start: u32) -> u32
+    ensures { λ r. ⌜ r ≡ cond wanted (2 ^ 32 - 1) start ⌝ }
+{
+    if wanted { NO_FIELD } else { start }
+}
+
+fn choose(is_first: bool, first: usize, second: usize) -> usize
+    ensures { λ r. ⌜ r ≡ cond «is_first» first second ⌝ }
+{
+    if is_first { first } else { second }
+}
+
+// Where the halving ends: left of the middle where the field of the middle word, of so many values from a bit on, is at
+// least `above`, else from the middle on. Short enough to be compiled once for each field, with its bits as constants.
+fn halve(segments: &[u64], offset: u32, size: u64, above: u32) -> usize
+    requires { ⌜ (offset < 64) × (0 < size) × (size ≤ 2 ^ 32) ⌝ }
+    ensures { λ r. ⌜ r ≡ endOf (λ w. leb above (w / 2 ^ offset % size)) (now (segments .entry)) ⌝ }
+{
     let mut start = 0;
+    let mut len = segments.len();
     while 1 < len {
         let half = len / 2;
         let mid = start + half;
-        if compare_key(segments[mid], key).is_gt() {
-            len = half;
-        } else {
-            start = mid;
-            len = len - half;
-        }
+        let is_above = above <= ((segments[mid] >> offset) % size) as u32;
+        start = choose(is_above, start, mid);
+        len = choose(is_above, half, len - half);
     }
-    answer(compare_key(segments[start], key), start)
+    start
+}
+
+fn halve_by_tile_y(segments: &[u64], above: u32) -> usize
+    ensures { λ r. ⌜ r ≡ endOf (λ w. leb above (tileYOf cpu w)) (now (segments .entry)) ⌝ }
+{
+    let offset = consts::shift(BitField::TileY);
+    halve(segments, offset, consts::size(BitField::TileY), above)
+}
+
+fn halve_by_tile_x(segments: &[u64], above: u32) -> usize
+    ensures { λ r. ⌜ r ≡ endOf (λ w. leb above (tileXOf cpu w)) (now (segments .entry)) ⌝ }
+{
+    let offset = consts::shift(BitField::TileX);
+    halve(segments, offset, consts::size(BitField::TileX), above)
+}
+
+fn halve_by_layer_id(segments: &[u64], above: u32) -> usize
+    ensures { λ r. ⌜ r ≡ endOf (λ w. leb above (layerIdOf cpu w)) (now (segments .entry)) ⌝ }
+{
+    let offset = consts::shift(BitField::LayerId);
+    halve(segments, offset, consts::size(BitField::LayerId), above)
+}
+
+// What a search tells where its halving ends.
+fn tell(segments: &[u64], key: Key, end: usize) -> Found
+    requires { ⌜ end ≡ endOf (λ w. isGt (orderAt key w)) (now segments) ⌝ }
+    ensures { λ r. ⌜ placeIn r ≡ searchOf (orderAt key) (now (segments .entry)) ⌝ }
+{
+    if segments.len() == 0 {
+        return Found::Absent(0);
+    }
+    answer(compare_key(segments[end], key), end)
+}
+
+pub fn search_last_by_key(segments: &[u64], key: Key) -> Found
+    ensures { λ r. ⌜ placeIn r ≡ searchOf (orderAt key) (now (segments .entry)) ⌝ }
+{
+    match key {
+        Key::TileY(tile_y) => search_last_by_tile_y(segments, tile_y),
+        Key::TileX(tile_x) => search_last_by_tile_x(segments, tile_x),
+        Key::LayerId(id) => search_last_by_layer_id(segments, id),
+        Key::TileXAtLeast(start, wanted) => search_last_by_tile_x_at_least(segments, start, wanted),
+        Key::LayerIdAtLeast(start, wanted) => search_last_by_layer_id_at_least(
+            segments,
+            start,
+            wanted,
+        ),
+        Key::TileYNotNegative(wanted) => search_last_by_tile_y_not_negative(segments, wanted),
+    }
 }
 
 pub fn search_last_by_tile_y(segments: &[u64], tile_y: i16) -> Found
     ensures { λ r. ⌜ placeIn r ≡ searchOf (orderAt (Key.TileY «tile_y»)) (now (segments .entry)) ⌝ }
 {
-    search_last_by_key(segments, Key::TileY(tile_y))
+    let end = halve_by_tile_y(segments, above_tile(tile_y));
+    tell(segments, Key::TileY(tile_y), end)
 }
 
 pub fn search_last_by_tile_x(segments: &[u64], tile_x: i16) -> Found
     ensures { λ r. ⌜ placeIn r ≡ searchOf (orderAt (Key.TileX «tile_x»)) (now (segments .entry)) ⌝ }
 {
-    search_last_by_key(segments, Key::TileX(tile_x))
+    let end = halve_by_tile_x(segments, above_tile(tile_x));
+    tell(segments, Key::TileX(tile_x), end)
 }
 
 pub fn search_last_by_layer_id(segments: &[u64], layer_id: u32) -> Found
     ensures { λ r. ⌜ placeIn r ≡ searchOf (orderAt (Key.LayerId «layer_id»)) (now (segments .entry)) ⌝ }
 {
-    search_last_by_key(segments, Key::LayerId(layer_id))
+    let end = halve_by_layer_id(segments, above_layer_id(layer_id));
+    tell(segments, Key::LayerId(layer_id), end)
 }
 
 // The last segment whose tile x is, or is not, at least a start.
 pub fn search_last_by_tile_x_at_least(segments: &[u64], start: i16, wanted: bool) -> Found
     ensures { λ r. ⌜ placeIn r ≡ searchOf (orderAt (Key.TileXAtLeast start wanted)) (now (segments .entry)) ⌝ }
 {
-    search_last_by_key(segments, Key::TileXAtLeast(start, wanted))
+    let end = halve_by_tile_x(segments, above_start(wanted, stored(start as i32)));
+    tell(segments, Key::TileXAtLeast(start, wanted), end)
 }
 
 // The last segment whose layer id is, or is not, at least a start.
 pub fn search_last_by_layer_id_at_least(segments: &[u64], start: u32, wanted: bool) -> Found
     ensures { λ r. ⌜ placeIn r ≡ searchOf (orderAt (Key.LayerIdAtLeast start wanted)) (now (segments .entry)) ⌝ }
 {
-    search_last_by_key(segments, Key::LayerIdAtLeast(start, wanted))
+    let end = halve_by_layer_id(segments, above_start(wanted, start));
+    tell(segments, Key::LayerIdAtLeast(start, wanted), end)
 }
 
 // The last segment whose tile y is, or is not, at least 0.
 pub fn search_last_by_tile_y_not_negative(segments: &[u64], wanted: bool) -> Found
     ensures { λ r. ⌜ placeIn r ≡ searchOf (orderAt (Key.TileYNotNegative wanted)) (now (segments .entry)) ⌝ }
 {
-    search_last_by_key(segments, Key::TileYNotNegative(wanted))
+    let end = halve_by_tile_y(segments, above_start(wanted, stored(0)));
+    tell(segments, Key::TileYNotNegative(wanted), end)
 }

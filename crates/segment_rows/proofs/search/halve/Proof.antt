@@ -1,0 +1,93 @@
+-- `search::halve` meets its contract. What holds of the part that is left is `Left`. Assumes nothing.
+use mathlib.Core.Path.{refl}
+use mathlib.Core.Bool.{Bool}
+use Prim.Native.Nat.{ℕ, _+_, _/_, _%_, _^_}
+use native.Mathlib.Nat.{mod-lt}
+use native.Mathlib.Omega.{arith}
+use borrow.Author.Needs.{needs}
+use lib.Dec.{leb}
+use lib.ListN.{getD}
+use Rattle.segment_rows.proofs.Halving.{Left, begin, next, fewer, ends}
+use Rattle.segment_rows.proofs.search.halve.Statement.{statement}
+use Rattle.segment_rows.proofs.search.halve.Tie as tie
+
+abbrev isAbove : ℕ → ℕ → ℕ → ℕ → Bool
+isAbove offset size above w = leb above (w / 2 ^ offset % size)
+
+abbrev Inv-loop : tie.InvT-loop
+Inv-loop segments offset size above start₀ len₀ start len = Left (isAbove offset size above) segments start len
+
+abbrev μ-loop : tie.MeasureT-loop
+μ-loop segments offset size above start₀ len₀ start len = len
+
+-- the middle word of a turn, and its flag
+abbrev middle : tie.After-shared-slice-known2 Inv-loop μ-loop → ℕ
+middle c =
+    let at-loop = c .before .before .loop in
+    getD (c .before .before .before .before .args .segments .now) (at-loop .start + at-loop .len / 2) 0
+
+abbrev is-above : tie.After-choose Inv-loop μ-loop → Bool
+is-above c =
+    let s = c .before .before .before .before .before .args in
+    isAbove (s .offset) (s .size) (s .above) (middle (c .before))
+
+loop-holds : tie.Need-loop-holds Inv-loop μ-loop
+loop-holds c = begin _ _
+
+add-mid : tie.Need-add-mid Inv-loop μ-loop
+add-mid c = omega arith
+
+mul-is-above : tie.Need-mul-is-above Inv-loop μ-loop
+mul-is-above c = omega arith
+
+shared-slice-read-is-above : tie.Need-shared-slice-read-is-above Inv-loop μ-loop
+shared-slice-read-is-above c = omega arith
+
+shr-is-above : tie.Need-shr-is-above Inv-loop μ-loop
+shr-is-above c = omega arith
+
+rem-is-above : tie.Need-rem-is-above Inv-loop μ-loop
+rem-is-above c = omega arith
+
+cast-is-above : tie.Need-cast-is-above Inv-loop μ-loop
+cast-is-above c = omega (arith, mod-lt (middle c / 2 ^ c .before .before .before .before .args .offset) (c .before .before .before .before .pre .1))
+
+choose-requires : tie.Need-choose-requires Inv-loop μ-loop
+choose-requires c κs = search needs
+
+sub-choose : tie.Need-sub-choose Inv-loop μ-loop
+sub-choose c = omega arith
+
+choose-requires-2 : tie.Need-choose-requires-2 Inv-loop μ-loop
+choose-requires-2 c κs = search needs
+
+loop-less : tie.Need-loop-less Inv-loop μ-loop
+loop-less c = rw (c .choose2 .ensures) (fewer _ (omega arith) (is-above (c .before)))
+
+loop-again : tie.Need-loop-again Inv-loop μ-loop
+loop-again c =
+    rw (c .choose2 .ensures, c .before .choose .ensures)
+    (next _ _ (c .before .before .before .before .loop .inv) (omega arith) (is-above (c .before)) refl)
+
+returns : tie.Need-returns Inv-loop μ-loop
+returns c = ends _ _ (c .before .loop .inv) (omega arith)
+
+pub halve-spec : {M : Type 1} → statement M
+halve-spec =
+    tie.close
+    (tie.spec
+    Inv-loop
+    μ-loop
+    loop-holds
+    add-mid
+    mul-is-above
+    shared-slice-read-is-above
+    shr-is-above
+    rem-is-above
+    cast-is-above
+    choose-requires
+    sub-choose
+    choose-requires-2
+    loop-less
+    loop-again
+    returns)
