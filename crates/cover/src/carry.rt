@@ -19,7 +19,7 @@ pub struct Carried {
 }
 
 // The absolute value of each cover.
-fn magnitudes(covers: [i8; 16]) -> [u16; 16]
+pub fn magnitudes(covers: [i8; 16]) -> [u16; 16]
     ensures { λ r. ⌜ Magnitudes covers r ⌝ }
 {
     let mut loads = [0u16; 16];
@@ -58,7 +58,7 @@ fn add_loads(part: &[u64], incoming: [u16; 16]) -> [u16; 16]
 }
 
 // Whether no load is above 127.
-fn are_light(loads: [u16; 16]) -> bool
+pub fn are_light(loads: [u16; 16]) -> bool
     ensures { λ r. ⌜ r ≡ allLight loads ⌝ }
 {
     let mut ok = true;

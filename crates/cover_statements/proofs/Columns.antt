@@ -17,7 +17,7 @@ use Rattle.laws.proofs.Sums.{abs-add}
 use Rattle.laws.specs.Sum.{sumℤ}
 use Rattle.pixel_segment.specs.Field.{localYOf, coverOf, doubleAreaOf, widthOf}
 use Rattle.cover_statements.specs.Area.{isOwn, coverBefore, ownArea, doubledArea, areasOf}
-use Rattle.cover_statements.specs.Cell.{cellOf, cellsOf, Bounded, Accumulated, Shadable, Shaded}
+use Rattle.cover_statements.specs.Cell.{cellOf, cellsOf, Accumulated, Shadable, Shaded}
 use Rattle.cover_statements.specs.Cover.{coverAt}
 use Rattle.cover_statements.proofs.Areas.{before-none, before-next, before-bound, below-next, area-bound}
 use Rattle.cover_statements.proofs.Carries.{Light}
@@ -34,12 +34,9 @@ cells-length : (ws : List ℕ) (f : ℕ → ℤ) (part : List ℕ) → length (c
 unfolding cellsOf
 cells-length ws f part = length-tabulate 256 (λ k. sumℤ (λ w. eqb (cellOf ws 16 w) k) f part)
 
-pub bounded : {ws : List ℕ} {n : ℕ} {covers : List ℤ} {part : List ℕ} → Light ws n covers part → Bounded ws n part
-bounded l = record { at = λ y h. omega (arith, l .at y h) }
-
 module _ {ws : List ℕ} {covers : List ℤ} {part : List ℕ} {cells : List ℤ} where
   module _ (low : (w : ℕ) → localYOf ws w < 16) where
-    pub columns-start : {areas : List ℤ} → Accumulated part ws areas cells → Columns ws covers part cells 0 areas covers
+    pub columns-start : {areas : List ℤ} → Accumulated ws 16 part areas cells → Columns ws covers part cells 0 areas covers
     columns-start {areas} a =
         record {
           reached = omega arith;

@@ -1,15 +1,21 @@
 -- A buffer of n zeros that is filled from the front with a list of n. Assumes nothing.
-use mathlib.Core.Path.{_≡_, refl, ap₂, _∙_}
+use mathlib.Core.Path.{_≡_, refl, ap, ap₂, _∙_}
 use mathlib.Core.List.{List, _++_, append-nil}
 use Prim.Native.Nat.{ℕ, zero, suc}
 use native.Mathlib.Omega.{arith}
 use lib.ListN.{length, getD, replicate, drop-of-length-le}
 use lib.Seq.{take-all}
 use Rattle.laws.proofs.Rows.{filled}
+use Rattle.laws.specs.Lists.{over}
 
 pub filled-whole {ℓ} : {A : Type ℓ} (d s : List A) (n : ℕ) → length d ≡ n → length s ≡ n → filled d s n ≡ s
 filled-whole d s n e h =
     ap₂ _++_ (take-all n s (omega arith)) (drop-of-length-le d {i = n} (omega arith)) ∙ append-nil s
+
+-- a list written over one that is as long
+pub over-whole {ℓ} : {A : Type ℓ} (s d : List A) → length d ≡ length s → over s d ≡ s
+unfolding over
+over-whole {A = A} s d e = ap (λ (r : List A). s ++ r) (drop-of-length-le d {i = length s} (omega arith)) ∙ append-nil s
 
 -- an element of a list of one value, at any place
 pub getD-default {ℓ} : {A : Type ℓ} {a : A} (n i : ℕ) → getD (replicate n a) i a ≡ a

@@ -1,21 +1,24 @@
 -- Laws of the judging of number 9: the absolute covers of each row, capped at 128, one segment after another. Over any widths whose local y
 -- stays below the height n. Assumes nothing.
-use mathlib.Core.Path.{_≡_, refl, sym, ap, _∙_}
-use mathlib.Core.Bool.{cond}
+use mathlib.Core.Path.{_≡_, refl, sym, ap, ap₂, _∙_}
+use mathlib.Core.Bool.{Bool, true, false, cond, _&&_}
 use mathlib.Core.List.{List, map}
 use mathlib.Core.Logic.{⊎-elim}
-use Prim.Native.Nat.{ℕ, _+_, _≤_, _<_, min}
+use Prim.Native.Nat.{ℕ, zero, suc, _+_, _≤_, _<_, min}
 use native.Mathlib.Omega.{arith}
-use borrow.Author.Tests.{le-leb, lt-leb, eq-eqb, ne-eqb}
+use borrow.Author.Tests.{le-leb, lt-leb, leb-true, eq-eqb, ne-eqb}
 use lib.Dec.{leb}
 use lib.IntN.{ℤ, pos, natAbs}
 use lib.ListN.{length, getD, drop, set, length-set, length-map, replicate, length-replicate, List·getD-map}
 use lib.Seq.{getD-set-same, getD-set-other}
-use Rattle.laws.proofs.Bools.{same}
+use Rattle.laws.proofs.Bools.{not-true, clash}
+use Rattle.laws.proofs.Every.{all-at, all-intro}
 use Rattle.laws.proofs.Orders.{le-or-lt, eq-or-ne}
 use Rattle.laws.proofs.Rows.{filled, filled-more, is-tabulate, length-tabulate, getD-tabulate}
 use Rattle.laws.proofs.Sums.{sum-step, sum-end}
+use Rattle.laws.specs.Lists.{every}
 use Rattle.pixel_segment.specs.Field.{localYOf}
+use Rattle.cover_statements.proofs.Carries.{light}
 use Rattle.cover_statements.proofs.Filled.{filled-whole, getD-default}
 use Rattle.cover_statements.proofs.Testing.{all-every}
 use Rattle.cover_statements.specs.Carry.{inRow, absCover, loadIn, lightAt, isLight}
@@ -123,13 +126,39 @@ capped-test a =
     (λ (h : 127 < a). lt-leb (min a 128) 127 (omega arith) ∙ sym (lt-leb a 127 h))
     (le-or-lt a 127)
 
+-- no load is above 127 where the absolute covers of no row are
+pub loads-light : (ws : List ℕ) (n : ℕ) (incoming part : List ℕ) → allLight (loadsOf ws n incoming part) ≡ every n (λ y. leb (getD incoming y 0 + loadIn ws y part) 127)
+unfolding allLight loadsOf
+loads-light ws n incoming part =
+    let f : ℕ → ℕ = λ y. min (getD incoming y 0 + loadIn ws y part) 128 in
+    all-every (λ load. leb load 127) (loadsOf ws n incoming part) 0 n (length-tabulate n f) (λ y. leb (getD incoming y 0 + loadIn ws y part) 127)
+    (λ y h. ap (λ (a : ℕ). leb a 127) (getD-tabulate n f 0 y h) ∙ capped-test (getD incoming y 0 + loadIn ws y part))
+
+every-ext : (n : ℕ) (f g : ℕ → Bool) → ((y : ℕ) → f y ≡ g y) → every n f ≡ every n g
+every-ext zero f g h = refl
+every-ext (suc n) f g h = ap₂ _&&_ (h n) (every-ext n f g h)
+
 pub loads-judge : (ws : List ℕ) (n : ℕ) (covers : List ℤ) (part : List ℕ) → allLight (loadsOf ws n (map natAbs covers) part) ≡ isLight ws n covers part
-unfolding allLight loadsOf isLight
+unfolding isLight
 loads-judge ws n covers part =
-    let loads = loadsOf ws n (map natAbs covers) part in
-    let f : ℕ → ℕ = λ y. min (getD (map natAbs covers) y 0 + loadIn ws y part) 128 in
-    all-every (λ load. leb load 127) loads 0 n (length-tabulate n f) (lightAt ws covers part)
+    loads-light ws n (map natAbs covers) part
+    ∙ every-ext n (λ y. leb (getD (map natAbs covers) y 0 + loadIn ws y part) 127) (lightAt ws covers part)
+    (λ y. ap (λ (a : ℕ). leb (a + loadIn ws y part) 127) (List·getD-map natAbs covers y (pos 0)))
+
+-- where no load is above 127, each is within it
+pub light-at : (loads : List ℕ) → allLight loads ≡ true → (y : ℕ) → y < length loads → getD loads y 0 ≤ 127
+unfolding allLight
+light-at loads e y h = leb-true (getD loads y 0) 127 (all-at (λ load. leb load 127) loads e y 0 h)
+
+-- loads that come in above 127 are judged so with every part
+pub incoming-heavy : (ws : List ℕ) (n : ℕ) (covers : List ℤ) (part : List ℕ) → length covers ≡ n → allLight (map natAbs covers) ≡ false → isLight ws n covers part ≡ false
+unfolding allLight
+incoming-heavy ws n covers part l e =
+    not-true (isLight ws n covers part)
+    (λ t.
+    clash
+    (all-intro (λ load. leb load 127) (map natAbs covers) 0
     (λ y h.
-    ap (λ (a : ℕ). leb a 127) (getD-tabulate n f 0 y h)
-    ∙ capped-test (getD (map natAbs covers) y 0 + loadIn ws y part)
-    ∙ ap (λ (a : ℕ). leb (a + loadIn ws y part) 127) (List·getD-map natAbs covers y (pos 0)))
+    let q : y < n = omega (arith, length-map covers natAbs) in
+    ap (λ (a : ℕ). leb a 127) (List·getD-map natAbs covers y (pos 0)) ∙ le-leb (natAbs (coverAt covers y)) 127 (omega (arith, light t .at y q))))
+    e)

@@ -20,11 +20,11 @@ pub bit-lt : (b : Bool) → bit b < 2
 bit-lt true = omega arith
 bit-lt false = omega arith
 
-used-length : (plane : List Float) → length (usedOctets plane) ≡ 32
+pub used-length : (plane : List Float) → length (usedOctets plane) ≡ 32
 unfolding usedOctets
 used-length plane = length-tabulate 32 (λ octet. isOctetUsed plane (octet / 2) (octet % 2))
 
-used-at : (plane : List Float) (octet : ℕ) → octet < 32 → getD (usedOctets plane) octet false ≡ isOctetUsed plane (octet / 2) (octet % 2)
+pub used-at : (plane : List Float) (octet : ℕ) → octet < 32 → getD (usedOctets plane) octet false ≡ isOctetUsed plane (octet / 2) (octet % 2)
 unfolding usedOctets
 used-at plane octet h = getD-tabulate 32 (λ o. isOctetUsed plane (o / 2) (o % 2)) false octet h
 
@@ -117,16 +117,16 @@ ones-mark plane = ones-number (usedOctets plane)
 
 -- ---- planes that agree
 
-some-ext : (n : ℕ) (f g : ℕ → Bool) → ((i : ℕ) → i < n → f i ≡ g i) → some n f ≡ some n g
+pub some-ext : (n : ℕ) (f g : ℕ → Bool) → ((i : ℕ) → i < n → f i ≡ g i) → some n f ≡ some n g
 some-ext zero f g h = refl
 some-ext (suc n) f g h = ap₂ _||_ (some-ext n f g (λ i l. h i (omega arith))) (h n (omega arith))
 
 -- k + i, as the code writes it
-abbrev offset : ℕ → ℕ → ℕ
+abbrev pub offset : ℕ → ℕ → ℕ
 offset k zero = k
 offset k (suc i) = k + suc i
 
-offset-is : (k i : ℕ) → offset k i ≡ k + i
+pub offset-is : (k i : ℕ) → offset k i ≡ k + i
 offset-is k zero = omega arith
 offset-is k (suc i) = refl
 

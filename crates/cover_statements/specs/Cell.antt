@@ -1,5 +1,5 @@
 -- How the code works d out: the double areas and the covers of each cell, which is a pixel at column × n + row, and then a column after the other.
-use mathlib.Core.Bool.{cond, _&&_}
+use mathlib.Core.Bool.{Bool, true, cond, _&&_}
 use mathlib.Core.List.{List}
 use mathlib.Core.Path.{_≡_}
 use Prim.Native.Nat.{ℕ, _+_, _*_, _/_, _%_, _≤_, _<_}
@@ -9,8 +9,10 @@ use lib.ListN.{length, replicate}
 use Rattle.laws.specs.Lists.{tabulate}
 use Rattle.laws.specs.Sum.{sumℤ}
 use Rattle.pixel_segment.specs.Field.{localXOf, localYOf, coverOf, doubleAreaOf}
-use Rattle.cover_statements.specs.Carry.{loadIn}
+use Rattle.cover_statements.specs.Area.{areasOf}
+use Rattle.cover_statements.specs.Carry.{isLight}
 use Rattle.cover_statements.specs.Cover.{coverAt}
+use Rattle.cover_statements.specs.Load.{loadsOf, allLight}
 
 -- the cell of a segment
 abbrev pub cellOf : List ℕ → ℕ → ℕ → ℕ
@@ -23,13 +25,20 @@ cellsOf ws n f part = tabulate (16 * n) (λ k. sumℤ (λ w. eqb (cellOf ws n w)
 unfoldable pub noCells : List ℤ
 noCells = replicate 256 (pos 0)
 
--- in no pixel row are the absolute covers above 127
-pub record Bounded (ws : List ℕ) (n : ℕ) (part : List ℕ) : Type 0 where
-  pub at : (y : ℕ) → y < n → loadIn ws y part ≤ 127
+-- the double areas and the covers of each cell
+pub record Accumulated (ws : List ℕ) (n : ℕ) (part : List ℕ) (areas covers : List ℤ) : Type 0 where
+  pub areas-are : areas ≡ cellsOf ws n (doubleAreaOf ws) part
+  pub covers-are : covers ≡ cellsOf ws n (coverOf ws) part
 
-pub record Accumulated (part : List ℕ) (ws : List ℕ) (areas covers : List ℤ) : Type 0 where
-  pub areas-are : areas ≡ cellsOf ws 16 (doubleAreaOf ws) part
-  pub covers-are : covers ≡ cellsOf ws 16 (coverOf ws) part
+-- whether the loads stay within 127, from those that come in; and if so, the sums of each cell
+pub record Judged (ws : List ℕ) (n : ℕ) (incoming part : List ℕ) (r : Bool) (areas covers : List ℤ) : Type 0 where
+  pub light : r ≡ allLight (loadsOf ws n incoming part)
+  pub sums : r ≡ true → Accumulated ws n part areas covers
+
+-- whether number 9 does not apply; and if so, d of all pixels
+pub record JudgedAreas (ws : List ℕ) (n : ℕ) (covers : List ℤ) (part : List ℕ) (r : Bool) (areas : List ℤ) : Type 0 where
+  pub light : r ≡ isLight ws n covers part
+  pub areas-are : r ≡ true → areas ≡ areasOf ws n (coverAt covers) part
 
 -- a column whose sums and doubled areas are in range
 pub record Shadable (column : ℕ) (areas covers sums : List ℤ) : Type 0 where

@@ -9,5 +9,6 @@ pub mod Coverage
 pub mod Plane
 pub mod Mark
 pub mod Paint
+pub mod Weighed
 pub mod Entry
 pub mod WholeRow

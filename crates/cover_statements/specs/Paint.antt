@@ -2,10 +2,10 @@
 use mathlib.Core.Bool.{cond, _&&_}
 use mathlib.Core.List.{List}
 use mathlib.Core.Path.{_≡_}
-use Prim.Native.Nat.{ℕ, _≤_, _<_}
+use Prim.Native.Nat.{ℕ}
 use lib.Dec.{leb, ltb}
 use lib.Ieee.{Float}
-use lib.IntN.{ℤ, natAbs}
+use lib.IntN.{ℤ}
 use lib.ListN.{length}
 use Rattle.laws.specs.Answer.{Answer, refused, given}
 use Rattle.laws.specs.Lists.{over}
@@ -37,8 +37,3 @@ paintedAnswer CoverTooLarge = refused 9
 pub record Painting (ws : List ℕ) (rule : FillRule) (covers : List ℤ) (part : List ℕ) (old : List Float) (r : Painted) (new : List Float) : Type 0 where
   pub answer : paintedAnswer r ≡ partAnswer ws rule covers part old
   pub plane-is : new ≡ cond (leb (sizeOf 16) (length old) && isLight ws 16 covers part) (over (partPlane ws rule covers part) old) old
-
--- 256 doubled areas in the range that number 9 leaves
-pub record AreasInRange (areas : List ℤ) : Type 0 where
-  pub long : length areas ≡ 256
-  pub small : (k : ℕ) → k < 256 → natAbs (coverAt areas k) ≤ 8001

@@ -44,6 +44,10 @@ abbrev pub markFor : Func → Bool → Option ℕ → List Float → ℕ
 markFor (Clip span) needs alive plane = 0
 markFor (Draw style) needs alive plane = cond (lacksClip needs alive) 0 (markOf plane)
 
+-- the mark by that of the coverages, in whatever plane they are
+pub record MarkGiven (func : Func) (needs : Bool) (alive : Option ℕ) (used r : ℕ) : Type 0 where
+  pub same : (plane : List Float) → used ≡ markOf plane → r ≡ markFor func needs alive plane
+
 -- the coverages of the layer in the tile
 abbrev pub planeIn : List Carry → List ℕ → ℕ → Layer → List Float
 planeIn queue part id layer = partPlane cpu (layer .props .«fill_rule») (heldIn queue id) (layerPart id part)

@@ -7,14 +7,12 @@ use styling::Func;
 use styling::Layer;
 ghost use mathlib.Core.Path.{_≡_};
 ghost use mathlib.Core.Bool.{true};
-ghost use Prim.Native.Nat.{_≤_};
-ghost use lib.ListN.{length};
 ghost use Rattle.laws.specs.Answer.{given};
 ghost use Rattle.layer_table.specs.Lookup.{lookup};
 ghost use Rattle.layer_table.specs.Table.{tableOf};
 ghost use Rattle.queue_statements.specs.Queue.{queueOf};
 ghost use Rattle.painter.specs.Clip.{clipIn};
-ghost use Rattle.painter.specs.Painting.{markFor, isLightIn, Ready, Paints};
+ghost use Rattle.painter.specs.Painting.{MarkGiven, isLightIn, Ready, Paints};
 
 // What painting gives: the painter's clip after it, and the mark.
 pub struct Painting {
@@ -22,10 +20,9 @@ pub struct Painting {
     pub mark: u32,
 }
 
-// The mark of a layer whose coverages the plane holds.
-fn mark_for(func: Func, needs: bool, alive: Clip, plane: &[f32]) -> u32
-    requires { ⌜ 256 ≤ length (now plane) ⌝ }
-    ensures { λ r. ⌜ r ≡ markFor func needs (clipIn alive) (now (plane .entry)) ⌝ }
+// The mark of a layer, by the mark of its coverages.
+fn mark_for(func: Func, needs: bool, alive: Clip, used: u32) -> u32
+    ensures { λ r. ⌜ MarkGiven func needs (clipIn alive) used r ⌝ }
 {
     match func {
         Func::Clip(_) => 0,
@@ -33,7 +30,7 @@ fn mark_for(func: Func, needs: bool, alive: Clip, plane: &[f32]) -> u32
             if clips::lacks_clip(needs, alive) {
                 0
             } else {
-                mark::mark_of(plane)
+                used
             }
         }
     }
@@ -65,11 +62,11 @@ pub fn paint(
     let rule = props.fill_rule;
     let func = props.func;
     let own = parts::of_layer(part, id);
-    plane::paint(own, queue::incoming(ids, covers, n, id), rule, plane);
+    let used = plane::paint(own, queue::incoming(ids, covers, n, id), rule, plane);
     let needs = freed::needs_clip(ids, covers, n, part, layers, colors, count, func, id);
     let alive = clips::alive_at(clip, id);
     let after = clips::clip_after(func, id, clip);
-    let mark = mark_for(func, needs, alive, plane);
+    let mark = mark_for(func, needs, alive, used);
     Painting {
         clip: after,
         mark: mark,

@@ -1,13 +1,15 @@
 // The doubled areas of a tile's 256 pixels, at column × 16 + row: one pass over the segments and one over the pixels.
 use cover::Cover;
+use cover::carry;
 use pixel_segment::PixelSegment;
 ghost use mathlib.Core.Path.{_≡_};
 ghost use mathlib.Core.Bool.{true};
 ghost use Rattle.pixel_segment.specs.Field.{cpu};
 ghost use Rattle.cover_statements.specs.Area.{areasOf};
 ghost use Rattle.cover_statements.specs.Carry.{isLight};
-ghost use Rattle.cover_statements.specs.Cell.{cellOf, noCells, Bounded, Accumulated, Shadable, Shaded};
+ghost use Rattle.cover_statements.specs.Cell.{cellOf, noCells, Judged, JudgedAreas, Shadable, Shaded};
 ghost use Rattle.cover_statements.specs.Cover.{coverAt};
+ghost use Rattle.cover_statements.specs.Load.{allLight};
 
 // The cell of a segment: its pixel, at column × 16 + row.
 fn cell(segment: PixelSegment) -> usize
@@ -16,19 +18,35 @@ fn cell(segment: PixelSegment) -> usize
     segment.local_x() as usize * 16 + segment.local_y() as usize
 }
 
-// The double areas and the covers of each cell, summed.
-fn acc_segments(part: &[u64], areas: &mut [i16; 256], covers: &mut [i8; 256])
-    requires { ⌜ Bounded cpu 16 (now part) × (now areas ≡ noCells) × (now covers ≡ noCells) ⌝ }
-    ensures { λ _. ⌜ Accumulated (now (part .entry)) cpu (now (areas .exit)) (now (covers .exit)) ⌝ }
+// The double areas and the covers of each cell, summed, as long as the absolute covers of each pixel row stay within
+// 127; false where they do not. `incoming` has those that come in.
+fn acc_segments(
+    part: &[u64],
+    incoming: [u16; 16],
+    areas: &mut [i16; 256],
+    covers: &mut [i8; 256],
+) -> bool
+    requires { ⌜ (allLight incoming ≡ true) × (now areas ≡ noCells) × (now covers ≡ noCells) ⌝ }
+    ensures { λ r. ⌜ Judged cpu 16 incoming (now (part .entry)) r (now (areas .exit)) (now (covers .exit)) ⌝ }
 {
+    let mut loads = incoming;
     let mut i = 0;
     while i < part.len() {
         let segment = PixelSegment(part[i]);
+        let cover = segment.cover();
+        let y = segment.local_y() as usize;
+        let before = loads[y];
+        let load = before + weight::cover_magnitude(cover);
+        if 127 < load {
+            return false;
+        }
+        loads[y] = load;
         let k = cell(segment);
         areas[k] = areas[k] + segment.double_area();
-        covers[k] = covers[k] + segment.cover();
+        covers[k] = covers[k] + cover;
         i += 1;
     }
+    true
 }
 
 // A column's own double areas become its doubled areas; the sums of the rows come back with the column's covers added.
@@ -52,18 +70,33 @@ fn compute_doubled_areas(
     next
 }
 
-// The doubled areas of a part that number 9 does not refuse, from an incoming cover.
-pub fn doubled_areas(part: &[u64], cover: Cover, areas: &mut [i16; 256])
-    requires { ⌜ (isLight cpu 16 (cover .covers) (now part) ≡ true) × (now areas ≡ noCells) ⌝ }
-    ensures { λ _. ⌜ now (areas .exit) ≡ areasOf cpu 16 (coverAt (cover .covers)) (now (part .entry)) ⌝ }
+// The doubled areas of a part, from an incoming cover; false where number 9 refuses it.
+pub fn judged_areas(part: &[u64], cover: Cover, areas: &mut [i16; 256]) -> bool
+    requires { ⌜ now areas ≡ noCells ⌝ }
+    ensures { λ r. ⌜ JudgedAreas cpu 16 (cover .covers) (now (part .entry)) r (now (areas .exit)) ⌝ }
 {
-    let mut covers = [0i8; 256];
-    acc_segments(part, areas, &mut covers);
     let mut sums = cover.covers;
+    let loads = carry::magnitudes(sums);
+    if !carry::are_light(loads) {
+        return false;
+    }
+    let mut covers = [0i8; 256];
+    if !acc_segments(part, loads, areas, &mut covers) {
+        return false;
+    }
     let mut column = 0;
     while column < 16 {
         let next = compute_doubled_areas(areas, &covers, column, sums);
         sums = next;
         column += 1;
     }
+    true
+}
+
+// The doubled areas of a part that number 9 does not refuse, from an incoming cover.
+pub fn doubled_areas(part: &[u64], cover: Cover, areas: &mut [i16; 256])
+    requires { ⌜ (isLight cpu 16 (cover .covers) (now part) ≡ true) × (now areas ≡ noCells) ⌝ }
+    ensures { λ _. ⌜ now (areas .exit) ≡ areasOf cpu 16 (coverAt (cover .covers)) (now (part .entry)) ⌝ }
+{
+    judged_areas(part, cover, areas);
 }

@@ -1,10 +1,13 @@
 // The coverages of a part in a lent plane, at column × 16 + row.
 pub mod area;
+pub mod column;
 
 use cover::Cover;
 use cover::carry;
 use cover_statements::plane::Painted;
+use mark::weights;
 use styling::FillRule;
+use weight::tile;
 ghost use mathlib.Core.Path.{_≡_};
 ghost use mathlib.Core.Bool.{true};
 ghost use Prim.Native.Nat.{_≤_};
@@ -12,30 +15,42 @@ ghost use lib.ListN.{length};
 ghost use Rattle.laws.specs.Lists.{over};
 ghost use Rattle.pixel_segment.specs.Field.{cpu};
 ghost use Rattle.cover_statements.specs.Carry.{isLight};
-ghost use Rattle.cover_statements.specs.Plane.{coveragesOf};
+ghost use Rattle.cover_statements.specs.Mark.{markOf};
 ghost use Rattle.cover_statements.specs.Paint.{partPlane, Painting};
 
-// The coverages of doubled areas, in the same places. What lies past them in the plane stays.
-fn write_coverages(areas: &[i16; 256], rule: FillRule, plane: &mut [f32])
-    requires { ⌜ (length (now areas) ≡ 256) × (256 ≤ length (now plane)) ⌝ }
-    ensures { λ _. ⌜ now (plane .exit) ≡ over (coveragesOf rule (now (areas .entry))) (now (plane .entry)) ⌝ }
+// The coverages of any part in a plane that has room for them, and their mark; or refusal 9, which leaves the plane as
+// it was: what is summed before it is found stands in arrays of its own.
+fn paint_judged(part: &[u64], cover: Cover, rule: FillRule, plane: &mut [f32]) -> Painted
+    requires { ⌜ 256 ≤ length (now plane) ⌝ }
+    ensures { λ r. ⌜ Painting cpu rule (cover .covers) (now (part .entry)) (now (plane .entry)) r
+        (now (plane .exit)) ⌝ }
 {
-    let mut k = 0;
-    while k < 256 {
-        plane[k] = weight::doubled_area_to_coverage(areas[k], rule);
-        k += 1;
+    if part.len() == 0 {
+        if !carry::is_light(part, cover) {
+            return Painted::CoverTooLarge;
+        }
+        return Painted::Mark(column::paint(cover, rule, plane));
     }
+    let mut areas = [0i16; 256];
+    if !area::judged_areas(part, cover, &mut areas) {
+        return Painted::CoverTooLarge;
+    }
+    tile::weigh(&mut areas, rule);
+    tile::write_coverages(&areas, plane);
+    Painted::Mark(weights::mark_of(&areas))
 }
 
-// The coverages of a part that nothing refuses.
-pub fn paint(part: &[u64], cover: Cover, rule: FillRule, plane: &mut [f32])
+// The coverages of a part that nothing refuses, and their mark.
+pub fn paint(part: &[u64], cover: Cover, rule: FillRule, plane: &mut [f32]) -> u32
     requires { ⌜ (isLight cpu 16 (cover .covers) (now part) ≡ true) × (256 ≤ length (now plane)) ⌝ }
-    ensures { λ _. ⌜ now (plane .exit) ≡ over (partPlane cpu rule (cover .covers) (now (part .entry)))
-        (now (plane .entry)) ⌝ }
+    ensures { λ r. ⌜ (now (plane .exit) ≡ over (partPlane cpu rule (cover .covers) (now (part .entry)))
+        (now (plane .entry))) × (r ≡ markOf (partPlane cpu rule (cover .covers) (now (part .entry)))) ⌝ }
 {
-    let mut areas = [0i16; 256];
-    area::doubled_areas(part, cover, &mut areas);
-    write_coverages(&areas, rule, plane);
+    match paint_judged(part, cover, rule, plane) {
+        Painted::Mark(mark) => mark,
+        Painted::PlaneTooShort => 0,
+        Painted::CoverTooLarge => 0,
+    }
 }
 
 // The coverages of any part, and their mark; or a refusal, which leaves the plane as it was.
@@ -44,11 +59,8 @@ pub fn paint_part(part: &[u64], cover: Cover, rule: FillRule, plane: &mut [f32])
         (now (plane .exit)) ⌝ }
 {
     if plane.len() < 256 {
-        return Painted::PlaneTooShort;
+        Painted::PlaneTooShort
+    } else {
+        paint_judged(part, cover, rule, plane)
     }
-    if !carry::is_light(part, cover) {
-        return Painted::CoverTooLarge;
-    }
-    paint(part, cover, rule, plane);
-    Painted::Mark(mark::mark_of(plane))
 }

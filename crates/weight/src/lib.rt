@@ -1,4 +1,7 @@
 // From a doubled area to a coverage: the weight by each rule, and its 512th part as an f32.
+pub mod small;
+pub mod tile;
+
 use styling::FillRule;
 ghost use mathlib.Core.Path.{_≡_};
 ghost use Prim.Native.Nat.{_≤_};

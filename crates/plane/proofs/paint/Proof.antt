@@ -1,39 +1,72 @@
--- `plane::paint` meets its contract. Assumes nothing.
-use mathlib.Core.Path.{refl, ap, _∙_}
-use mathlib.Core.List.{List}
+-- `plane::paint` meets its contract: what is judged again is not refused. Assumes nothing.
+use mathlib.Core.Path.{_≡_, sym, ap, _∙_}
+use Prim.Native.Nat.{ℕ}
+use native.Mathlib.Omega.{arith}
 use borrow.Author.Needs.{needs}
-use lib.Ieee.{Float}
-use Rattle.laws.specs.Lists.{over}
-use Rattle.pixel_segment.specs.Field.{cpu}
-use Rattle.cover_statements.specs.Cell.{noCells}
-use Rattle.cover_statements.specs.Cover.{coverAt}
-use Rattle.cover_statements.specs.Plane.{coveragesOf}
-use Rattle.cover_statements.proofs.Planes.{areas-length, plane-of-areas}
+use Rattle.laws.specs.Answer.{Answer, refused, given}
+use Rattle.cover_statements.specs.Paint.{paintedAnswer}
+use Rattle.cover_statements.proofs.Paintings.{paint-answer, paint-plane}
 use Rattle.plane.proofs.paint.Statement.{statement}
 use Rattle.plane.proofs.paint.Tie as tie
 
-doubled-areas-requires : tie.Need-doubled-areas-requires
-unfolding noCells
-doubled-areas-requires c κs = (c .before .before .before .pre .0, refl)
+-- two answers that are equal
+same : (m n : ℕ) → _≡_ {A = Answer ℕ} (given m) (given n) → m ≡ n
+same m n e = cc
 
-write-coverages-requires : tie.Need-write-coverages-requires
-write-coverages-requires c κs =
-    let a = c .before .before in
-    let s = a .before .before .before .before in
-    (rw (a .doubled-areas .ensures) (areas-length cpu 16 (coverAt (s .args .cover .covers)) (s .args .part .now)), s .pre .1)
+never : (k n : ℕ) → _≡_ {A = Answer ℕ} (refused k) (given n) → ⊥
+never k n e = let z : _≡_ {A = ℕ} 0 1 = cc in omega arith
+
+paint-judged-requires : tie.Need-paint-judged-requires
+paint-judged-requires c κs = search needs
+
+enum-known-mark : tie.Need-enum-known-mark
+enum-known-mark c = search needs
+
+enum-told : tie.Need-enum-told
+enum-told c = search needs
+
+enum-told-2 : tie.Need-enum-told-2
+enum-told-2 c = search needs
 
 same-length : tie.Need-same-length
 same-length c = search needs
 
 returns : tie.Need-returns
 returns c =
-    let w = c .before .before in
-    let a = w .before .before .before in
-    let s = a .before .before .before .before in
-    w .write-coverages .ensures
-    ∙ ap (λ (l : List Float). over l (s .args .plane .now))
-    (ap (coveragesOf (s .args .rule)) (a .doubled-areas .ensures) ∙ plane-of-areas cpu 16 (s .args .rule) (coverAt (s .args .cover .covers)) (s .args .part .now))
+    let p = c .before .before .before .before .before in
+    let s = p .before .before .before .before in
+    let e = ap paintedAnswer (sym (c .before .mark .given .1)) ∙ paint-answer (p .paint-judged .ensures) (s .pre .1) (s .pre .0) in
+    (paint-plane (p .paint-judged .ensures) (s .pre .1) (s .pre .0), same _ _ e)
+
+same-length-2 : tie.Need-same-length-2
+same-length-2 c = search needs
+
+returns-2 : tie.Need-returns-2
+returns-2 c =
+    let p = c .before .before .before .before in
+    let s = p .before .before .before .before in
+    absurd (never 1 _ (ap paintedAnswer (sym (c .enum-told .given .1)) ∙ paint-answer (p .paint-judged .ensures) (s .pre .1) (s .pre .0)))
+
+same-length-3 : tie.Need-same-length-3
+same-length-3 c = search needs
+
+returns-3 : tie.Need-returns-3
+returns-3 c =
+    let p = c .before .before .before .before in
+    let s = p .before .before .before .before in
+    absurd (never 9 _ (ap paintedAnswer (sym (c .enum-told2 .given .1)) ∙ paint-answer (p .paint-judged .ensures) (s .pre .1) (s .pre .0)))
 
 pub paint-spec : {M : Type 1} → statement M
 paint-spec =
-    tie.close (tie.spec doubled-areas-requires write-coverages-requires same-length returns)
+    tie.close
+    (tie.spec
+    paint-judged-requires
+    enum-known-mark
+    enum-told
+    enum-told-2
+    same-length
+    returns
+    same-length-2
+    returns-2
+    same-length-3
+    returns-3)

@@ -12,26 +12,14 @@ enum-told-2 c = search needs
 lacks-clip-requires : tie.Need-lacks-clip-requires
 lacks-clip-requires c κs = search needs
 
-mark-of-requires : tie.Need-mark-of-requires
-mark-of-requires c κs = search needs
-
 returns : tie.Need-returns
-returns c = search needs
+returns c = record { same = λ plane e. rw (c .enum-told .given .1) }
 
 returns-2 : tie.Need-returns-2
-returns-2 c = rw (c .before .before .enum-told2 .given .1, ← c .before .lacks-clip .ensures, c .if1 .taken)
+returns-2 c = record { same = λ plane e. rw (c .before .before .enum-told2 .given .1, ← c .before .lacks-clip .ensures, c .if1 .taken) }
 
 returns-3 : tie.Need-returns-3
-returns-3 c = rw (c .before .before .before .enum-told2 .given .1, ← c .before .before .lacks-clip .ensures, c .before .if1 .left, c .mark-of .ensures)
+returns-3 c = record { same = λ plane e. rw (c .before .before .enum-told2 .given .1, ← c .before .lacks-clip .ensures, c .if1 .left) e }
 
 pub mark-for-spec : {M : Type 1} → statement M
-mark-for-spec =
-    tie.close
-    (tie.spec
-    enum-told
-    enum-told-2
-    lacks-clip-requires
-    mark-of-requires
-    returns
-    returns-2
-    returns-3)
+mark-for-spec = tie.close (tie.spec enum-told enum-told-2 lacks-clip-requires returns returns-2 returns-3)

@@ -41,10 +41,11 @@ same-length c = search needs
 
 returns : tie.Need-returns
 returns c =
-    let s = c .before .before .before .before .before .before .before .before .before .before .before .before .before .before .before .before .before in
+    let s = c .before .before .before .before .before .before .before .before .before .before .before .before .before .before .before .before in
     let a = s .args in
+    let p = c .before .before .before .before .before .before in
     painted (tableOf (a .layers .now) (a .colors .now) (a .count)) (queueOf (a .n) (a .ids .now) (a .covers .now)) (a .part .now) (a .id) (a .layer) (clipIn (a .clip)) (a .plane .now)
-    (c .before .before .before .before .before .before .before .before .before .before .of-layer .ensures) (c .before .before .before .before .before .before .before .before .before .incoming .ensures) (c .before .before .before .before .before .before .before .paint .ensures) (c .before .before .before .before .needs-clip .ensures) (c .before .before .before .alive-at .ensures) (c .before .before .clip-after .ensures) (c .mark-for .ensures)
+    (c .before .before .before .before .before .before .before .before .before .of-layer .ensures) (c .before .before .before .before .before .before .before .before .incoming .ensures) (p .paint .ensures .0) (p .paint .ensures .1) (c .before .before .before .needs-clip .ensures) (c .before .before .alive-at .ensures) (c .before .clip-after .ensures) (c .mark-for .ensures)
 
 pub paint-spec : {M : Type 1} → statement M
 paint-spec =

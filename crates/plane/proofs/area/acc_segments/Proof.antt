@@ -1,6 +1,7 @@
--- `plane::area::acc_segments` meets its contract: two tables are filled, of double areas and of covers. Assumes nothing.
-use mathlib.Core.Path.{refl}
-use Prim.Native.Nat.{ℕ, _-_, _*_, _≤_}
+-- `plane::area::acc_segments` meets its contract: two tables are filled, of double areas and of covers, while loads are judged. Assumes nothing.
+use mathlib.Core.Path.{_≡_, refl, sym, ap}
+use mathlib.Core.Bool.{false≢true}
+use Prim.Native.Nat.{ℕ, _+_, _-_, _*_, _≤_}
 use native.Mathlib.Omega.{arith}
 use borrow.Author.Needs.{needs}
 use lib.IntN.{pos, natAbs}
@@ -10,35 +11,85 @@ use mir.Syntax.{w8, w16}
 use Rattle.laws.proofs.Machine.{small, kept}
 use Rattle.pixel_segment.specs.Field.{cpu, coverOf, doubleAreaOf}
 use Rattle.cover_statements.specs.Carry.{absCover}
-use Rattle.cover_statements.specs.Cell.{cellOf}
 use Rattle.cover_statements.proofs.Areas.{area-weight}
-use Rattle.cover_statements.proofs.Cells.{cells-start, cells-end}
-use Rattle.cover_statements.proofs.Tables.{Filling, fill-next, fill-fits}
+use Rattle.cover_statements.proofs.Judging.{Loaded, Summed, load-start, load-next, load-refused, load-accepted, sum-zeros, sum-fits, sum-next, sum-whole}
+use Rattle.cover_statements.proofs.Loads.{light-at}
 use Rattle.plane.proofs.area.acc_segments.Statement.{statement}
 use Rattle.plane.proofs.area.acc_segments.Tie as tie
 
 abbrev Inv-loop : tie.InvT-loop
-Inv-loop part areas₀ covers₀ i₀ areas covers i =
-    Filling (cellOf cpu 16) (doubleAreaOf cpu) 256 8001 part areas₀ i areas × Filling (cellOf cpu 16) (coverOf cpu) 256 127 part covers₀ i covers
+Inv-loop part areas₀ covers₀ loads₀ i₀ areas covers loads i =
+    Loaded cpu 16 part loads₀ i loads
+    × Summed cpu 16 63 (doubleAreaOf cpu) part i loads areas
+    × Summed cpu 16 1 (coverOf cpu) part i loads covers
 
 abbrev μ-loop : tie.MeasureT-loop
-μ-loop part areas₀ covers₀ i₀ areas covers i = length part - i
-
-cover-weight : (w : ℕ) → natAbs (coverOf cpu w) ≤ 1 * absCover cpu w
-cover-weight w = omega arith
+μ-loop part areas₀ covers₀ loads₀ i₀ areas covers loads i = length part - i
 
 loop-holds : tie.Need-loop-holds Inv-loop μ-loop
 loop-holds c =
     let s = c .before in (
-      cells-start cpu (λ w. omega arith) 63 (doubleAreaOf cpu) (area-weight cpu refl) (s .pre .0) (s .pre .1),
-      cells-start cpu (λ w. omega arith) 1 (coverOf cpu) cover-weight (s .pre .0) (s .pre .2),
+      load-start (search needs) (λ y h. light-at (s .args .incoming) (s .pre .0) y (omega arith)),
+      sum-zeros (s .pre .1),
+      sum-zeros (s .pre .2),
     )
 
-mul-t7 : tie.Need-mul-t7 Inv-loop μ-loop
-mul-t7 c = search needs
+mul-t13 : tie.Need-mul-t13 Inv-loop μ-loop
+mul-t13 c = omega arith
 
-shared-slice-read-t10 : tie.Need-shared-slice-read-t10 Inv-loop μ-loop
-shared-slice-read-t10 c = omega arith
+shared-slice-read-t16 : tie.Need-shared-slice-read-t16 Inv-loop μ-loop
+shared-slice-read-t16 c = omega arith
+
+cover-requires : tie.Need-cover-requires Inv-loop μ-loop
+cover-requires c κs = tt
+
+local-y-requires : tie.Need-local-y-requires Inv-loop μ-loop
+local-y-requires c κs = tt
+
+cast-y : tie.Need-cast-y Inv-loop μ-loop
+cast-y c = omega arith
+
+mul-before : tie.Need-mul-before Inv-loop μ-loop
+mul-before c = omega arith
+
+array-read-before : tie.Need-array-read-before Inv-loop μ-loop
+array-read-before c = omega arith
+
+cover-magnitude-requires : tie.Need-cover-magnitude-requires Inv-loop μ-loop
+cover-magnitude-requires c κs = tt
+
+-- the word, its load as the definition has it, and the cover's own weight
+abbrev word : (m : tie.After-cover-magnitude Inv-loop μ-loop) → ℕ
+word m = let l = m .before .before .before .before .before in getD (l .before .before .args .part .now) (l .loop .i) 0
+
+load : (m : tie.After-cover-magnitude Inv-loop μ-loop) → getD (m .before .before .before .before .before .loop .loads) (m .before .local-y .result) 0 + m .cover-magnitude .result ≡ getD (m .before .before .before .before .before .loop .loads) (m .before .local-y .result) 0 + absCover cpu (word m)
+load m =
+    let o = m .before .before in
+    ap (λ (a : ℕ). getD (o .before .before .before .loop .loads) (m .before .local-y .result) 0 + a)
+    (rw (kept w8 (o .cover .result) (o .cover .ok), o .cover .ensures) at (m .cover-magnitude .ensures .0))
+
+cover-weight : (w : ℕ) → natAbs (coverOf cpu w) ≤ 1 * absCover cpu w
+cover-weight w = omega arith
+
+add-load : tie.Need-add-load Inv-loop μ-loop
+add-load c =
+    let l = c .before .before .before .before .before in
+    omega (arith, l .loop .inv .0 .light (c .before .local-y .result) (omega arith), c .cover-magnitude .ensures .1)
+
+returns : tie.Need-returns Inv-loop μ-loop
+returns c =
+    let m = c .before in
+    let t = m .before .before .before .before in
+    record {
+      light = sym (load-refused (t .before .loop .inv .0) (t .loop-test .taken) (omega arith) (m .before .local-y .ensures) (load m) (c .if1 .taken));
+      sums = λ e. absurd (false≢true e);
+    }
+
+mul-loads : tie.Need-mul-loads Inv-loop μ-loop
+mul-loads c = omega arith
+
+array-write-loads : tie.Need-array-write-loads Inv-loop μ-loop
+array-write-loads c = omega arith
 
 cell-requires : tie.Need-cell-requires Inv-loop μ-loop
 cell-requires c κs = tt
@@ -55,16 +106,18 @@ double-area-requires c κs = tt
 add-areas : tie.Need-add-areas Inv-loop μ-loop
 add-areas c =
     let k = c .before .before in
-    let l = k .before .before .before in
+    let m = k .before .before in
+    let t = m .before .before .before .before in
+    let l = t .before in
     rw (
       kept w16 (getD (l .loop .areas) (k .cell .result) (pos 0)) (c .before .areas .given),
       kept w16 (c .double-area .result) (c .double-area .ok),
       c .double-area .ensures,
     )
-    (small w16 _ (omega (arith, fill-fits (l .loop .inv .0) (omega arith) (omega arith) (k .cell .ensures))))
+    (small w16 _ (omega (arith, sum-fits (l .loop .inv .1) (t .loop-test .taken) (omega arith) (omega arith) (area-weight cpu refl) (k .cell .ensures) (m .before .local-y .ensures) (load m) (k .before .if1 .left))))
 
-mul-t16 : tie.Need-mul-t16 Inv-loop μ-loop
-mul-t16 c = omega arith
+mul-t28 : tie.Need-mul-t28 Inv-loop μ-loop
+mul-t28 c = omega arith
 
 element-set-from-areas : tie.Need-element-set-from-areas Inv-loop μ-loop
 element-set-from-areas c = omega arith
@@ -72,19 +125,19 @@ element-set-from-areas c = omega arith
 element-copy-out-covers : tie.Need-element-copy-out-covers Inv-loop μ-loop
 element-copy-out-covers c = omega arith
 
-cover-requires : tie.Need-cover-requires Inv-loop μ-loop
-cover-requires c κs = tt
-
 add-covers : tie.Need-add-covers Inv-loop μ-loop
 add-covers c =
-    let k = c .before .before .before .before in
-    let l = k .before .before .before in
+    let k = c .before .before .before in
+    let m = k .before .before in
+    let o = m .before .before in
+    let t = o .before .before in
+    let l = t .before in
     rw (
-      kept w8 (getD (l .loop .covers) (k .cell .result) (pos 0)) (c .before .covers .given),
-      kept w8 (c .cover .result) (c .cover .ok),
-      c .cover .ensures,
+      kept w8 (getD (l .loop .covers) (k .cell .result) (pos 0)) (c .covers .given),
+      kept w8 (o .cover .result) (o .cover .ok),
+      o .cover .ensures,
     )
-    (small w8 _ (omega (arith, fill-fits (l .loop .inv .1) (omega arith) (omega arith) (k .cell .ensures))))
+    (small w8 _ (omega (arith, sum-fits (l .loop .inv .2) (t .loop-test .taken) (omega arith) (omega arith) cover-weight (k .cell .ensures) (m .before .local-y .ensures) (load m) (k .before .if1 .left))))
 
 element-set-from-covers : tie.Need-element-set-from-covers Inv-loop μ-loop
 element-set-from-covers c = omega arith
@@ -97,32 +150,36 @@ loop-less c = omega arith
 
 loop-again : tie.Need-loop-again Inv-loop μ-loop
 loop-again c =
-    let a = c .before .before in
-    let k = a .before .before in
-    let l = k .before .before .before in (
-      fill-next (l .loop .inv .0) (omega arith) (omega arith) (k .cell .ensures)
+    let d = c .before in
+    let k = d .before .before in
+    let m = k .before .before in
+    let o = m .before .before in
+    let t = o .before .before in
+    let l = t .before in
+    let long = l .loop .inv .0 .long in (
+      load-next (l .loop .inv .0) (t .loop-test .taken) (omega arith) (m .before .local-y .ensures) (load m) (k .before .if1 .left),
+      sum-next (l .loop .inv .1) (t .loop-test .taken) (omega arith) (omega arith) (area-weight cpu refl) long (k .cell .ensures) (m .before .local-y .ensures) (load m)
           (rw (
-            toZ-ofZ (add-areas a),
-            kept w16 (getD (l .loop .areas) (k .cell .result) (pos 0)) (a .before .areas .given),
-            kept w16 (a .double-area .result) (a .double-area .ok),
-            a .double-area .ensures,
+            toZ-ofZ (add-areas d),
+            kept w16 (getD (l .loop .areas) (k .cell .result) (pos 0)) (d .before .areas .given),
+            kept w16 (d .double-area .result) (d .double-area .ok),
+            d .double-area .ensures,
           )),
-      fill-next (l .loop .inv .1) (omega arith) (omega arith) (k .cell .ensures)
+      sum-next (l .loop .inv .2) (t .loop-test .taken) (omega arith) (omega arith) cover-weight long (k .cell .ensures) (m .before .local-y .ensures) (load m)
           (rw (
             toZ-ofZ (add-covers c),
-            kept w8 (getD (l .loop .covers) (k .cell .result) (pos 0)) (c .before .covers .given),
-            kept w8 (c .cover .result) (c .cover .ok),
-            c .cover .ensures,
+            kept w8 (getD (l .loop .covers) (k .cell .result) (pos 0)) (c .covers .given),
+            kept w8 (o .cover .result) (o .cover .ok),
+            o .cover .ensures,
           )),
     )
 
-returns : tie.Need-returns Inv-loop μ-loop
-returns c =
+returns-2 : tie.Need-returns-2 Inv-loop μ-loop
+returns-2 c =
     let l = c .before in
-    let s = l .before .before in
     record {
-      areas-are = cells-end cpu (λ w. omega arith) 63 (doubleAreaOf cpu) (area-weight cpu refl) (s .pre .1) (l .loop .inv .0) (omega arith);
-      covers-are = cells-end cpu (λ w. omega arith) 1 (coverOf cpu) cover-weight (s .pre .2) (l .loop .inv .1) (omega arith);
+      light = sym (load-accepted (l .loop .inv .0) (omega arith));
+      sums = λ e. record { areas-are = sum-whole (l .loop .inv .1) (omega arith); covers-are = sum-whole (l .loop .inv .2) (omega arith) };
     }
 
 pub acc-segments-spec : {M : Type 1} → statement M
@@ -132,20 +189,29 @@ acc-segments-spec =
     Inv-loop
     μ-loop
     loop-holds
-    mul-t7
-    shared-slice-read-t10
+    mul-t13
+    shared-slice-read-t16
+    cover-requires
+    local-y-requires
+    cast-y
+    mul-before
+    array-read-before
+    cover-magnitude-requires
+    add-load
+    returns
+    mul-loads
+    array-write-loads
     cell-requires
     mul-areas
     element-copy-out-areas
     double-area-requires
     add-areas
-    mul-t16
+    mul-t28
     element-set-from-areas
     element-copy-out-covers
-    cover-requires
     add-covers
     element-set-from-covers
     add-i
     loop-less
     loop-again
-    returns)
+    returns-2)

@@ -1,0 +1,56 @@
+-- How the code works coverages out: in the place of each doubled area its weight, then the coverages of the weights; and where no segment lies in
+-- the tile, one column for all. Weights are signed numbers here, for they take the places of doubled areas.
+use mathlib.Core.Path.{_≡_}
+use mathlib.Core.Bool.{Bool}
+use mathlib.Core.List.{List, map}
+use Prim.Native.Nat.{ℕ, _+_, _*_, _≤_, _<_}
+use lib.Ieee.{Float, nan}
+use lib.IntN.{ℤ, pos, natAbs, _*ℤ_}
+use lib.ListN.{length, getD}
+use lib.Seq.{paste}
+use Rattle.laws.specs.Integer.{minus}
+use Rattle.styling.specs.declared.FillRule.{FillRule}
+use Rattle.cover_statements.specs.Cover.{coverAt}
+use Rattle.cover_statements.specs.Coverage.{coverageOf, isAbove}
+use Rattle.cover_statements.specs.Mark.{some}
+use Rattle.cover_statements.specs.Plane.{inPlaces}
+use Rattle.cover_statements.specs.Weight.{weightOf}
+
+-- doubled areas in the range that number 9 leaves
+pub record InRange (areas : List ℤ) : Type 0 where
+  pub small : (k : ℕ) → k < length areas → natAbs (coverAt areas k) ≤ 8001
+
+-- their weights, in their places
+abbrev pub weightIn : FillRule → ℤ → ℤ
+weightIn rule d = pos (weightOf rule d)
+
+abbrev pub weightsOf : FillRule → List ℤ → List ℤ
+weightsOf rule areas = map (weightIn rule) areas
+
+-- weights are 0 to 512
+pub record Weighed (weights : List ℤ) : Type 0 where
+  pub low : (k : ℕ) → k < length weights → minus (coverAt weights k) ≡ 0
+  pub high : (k : ℕ) → k < length weights → natAbs (coverAt weights k) ≤ 512
+
+-- the coverages of weights, in their places
+abbrev pub coverageIn : ℤ → Float
+coverageIn w = coverageOf (natAbs w)
+
+abbrev pub coveragesIn : List ℤ → List Float
+coveragesIn weights = map coverageIn weights
+
+-- some of the eight coverages from 8 × octet on is above 0
+unfoldable pub someAbove : List Float → ℕ → Bool
+someAbove plane octet = some 8 (λ i. isAbove (getD plane (8 * octet + i) nan))
+
+-- where no segment lies in the tile: what the pixels of each column see, 32 times the cover that comes in
+abbrev pub columnAreas : List ℤ → List ℤ
+columnAreas covers = map (λ cover. pos 32 *ℤ cover) covers
+
+-- a column of n numbers in all columns of a plane
+abbrev pub repeated : ℕ → List Float → List Float
+repeated n column = inPlaces n (λ x y. getD column y nan)
+
+-- the plane with the column x written, all else as it was
+abbrev pub putColumn : ℕ → ℕ → List Float → List Float → List Float
+putColumn n x column old = paste old (x * n) column n

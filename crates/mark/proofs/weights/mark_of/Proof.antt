@@ -1,0 +1,64 @@
+-- `mark::weights::mark_of` meets its contract. Assumes nothing.
+use mathlib.Core.Path.{_∙_}
+use Prim.Native.Nat.{_-_}
+use native.Mathlib.Omega.{arith}
+use borrow.Author.Needs.{needs}
+use Rattle.cover_statements.specs.Weighed.{coveragesIn}
+use Rattle.cover_statements.proofs.Weighings.{octet-used}
+use Rattle.cover_statements.proofs.Marks.{Marking, mark-start, mark-small, mark-next, mark-end, bit-lt}
+use Rattle.mark.proofs.weights.mark_of.Statement.{statement}
+use Rattle.mark.proofs.weights.mark_of.Tie as tie
+
+abbrev Inv-loop : tie.InvT-loop
+Inv-loop weights mark₀ octet₀ mark octet = Marking (coveragesIn weights) mark octet
+
+abbrev μ-loop : tie.MeasureT-loop
+μ-loop weights mark₀ octet₀ mark octet = octet
+
+loop-holds : tie.Need-loop-holds Inv-loop μ-loop
+loop-holds c = mark-start
+
+sub-octet : tie.Need-sub-octet Inv-loop μ-loop
+sub-octet c = omega arith
+
+mul-mark : tie.Need-mul-mark Inv-loop μ-loop
+mul-mark c = omega (arith, mark-small (c .before .loop .inv) (c .loop-test .taken))
+
+is-used-requires : tie.Need-is-used-requires Inv-loop μ-loop
+is-used-requires c κs = (c .before .before .pre .0, omega (arith, c .before .loop .inv .reached))
+
+cast-mark : tie.Need-cast-mark Inv-loop μ-loop
+cast-mark c = search needs
+
+add-mark : tie.Need-add-mark Inv-loop μ-loop
+add-mark c =
+    let t = c .before in
+    omega (arith, mark-small (t .before .loop .inv) (t .loop-test .taken), bit-lt (c .is-used .result))
+
+loop-less : tie.Need-loop-less Inv-loop μ-loop
+loop-less c = omega arith
+
+loop-again : tie.Need-loop-again Inv-loop μ-loop
+loop-again c =
+    let l = c .before .before in
+    mark-next (l .loop .inv) (c .before .loop-test .taken)
+    (c .is-used .ensures ∙ octet-used (coveragesIn (l .before .args .weights .now)) (l .loop .octet - 1))
+
+returns : tie.Need-returns Inv-loop μ-loop
+returns c = mark-end (c .before .loop .inv) (c .loop-test .left)
+
+pub mark-of-spec : {M : Type 1} → statement M
+mark-of-spec =
+    tie.close
+    (tie.spec
+    Inv-loop
+    μ-loop
+    loop-holds
+    sub-octet
+    mul-mark
+    is-used-requires
+    cast-mark
+    add-mark
+    loop-less
+    loop-again
+    returns)

@@ -1,0 +1,142 @@
+-- `plane::paint_judged` meets its contract. Assumes nothing.
+use mathlib.Core.Path.{_≡_, refl, sym, ap, _∙_}
+use mathlib.Core.Bool.{true}
+use mathlib.Core.List.{List, [], _∷_}
+use Prim.Native.Nat.{ℕ}
+use native.Mathlib.Omega.{arith}
+use borrow.Author.Tests.{not-true, not-false}
+use borrow.Author.Needs.{needs}
+use lib.Ieee.{Float}
+use lib.ListN.{length, length-map}
+use Rattle.laws.specs.Lists.{over}
+use Rattle.pixel_segment.specs.Field.{cpu}
+use Rattle.cover_statements.specs.Area.{areasOf}
+use Rattle.cover_statements.specs.Carry.{isLight}
+use Rattle.cover_statements.specs.Cell.{noCells}
+use Rattle.cover_statements.specs.Cover.{coverAt}
+use Rattle.cover_statements.specs.Mark.{markOf}
+use Rattle.cover_statements.specs.Paint.{partPlane}
+use Rattle.cover_statements.specs.Plane.{coveragesOf}
+use Rattle.cover_statements.specs.Weighed.{weightIn, Weighed, coveragesIn}
+use Rattle.cover_statements.proofs.Paintings.{paint-heavy, paint-done}
+use Rattle.cover_statements.proofs.Planes.{areas-length, areas-in-range, plane-of-areas}
+use Rattle.cover_statements.proofs.Weighings.{weights-are, coverages-are}
+use Rattle.plane.proofs.paint_judged.Statement.{statement}
+use Rattle.plane.proofs.paint_judged.Tie as tie
+
+is-light-requires : tie.Need-is-light-requires
+is-light-requires c κs = search needs
+
+returns : tie.Need-returns
+returns c = paint-heavy (c .before .before .before .before .before .pre) (sym (c .before .is-light .ensures) ∙ not-true _ (c .if2 .taken))
+
+none : (l : List ℕ) → length l ≡ 0 → l ≡ []
+none [] e = refl
+none (x ∷ xs) e = absurd (omega arith)
+
+paint-requires : tie.Need-paint-requires
+paint-requires c κs =
+    let s = c .before .before .before .before .before .before in
+    (rw (none (s .args .part .now) (c .before .before .before .if1 .taken)) at (sym (c .before .before .is-light .ensures) ∙ not-false _ (c .before .if2 .left)), s .pre)
+
+same-length : tie.Need-same-length
+same-length c = search needs
+
+returns-2 : tie.Need-returns-2
+returns-2 c =
+    let p = c .before .before in
+    let t = p .before .before in
+    let s = t .before .before .before .before .before in
+    let e = sym (t .before .is-light .ensures) ∙ not-false _ (t .if2 .left) in
+    let n = none (s .args .part .now) (t .before .before .if1 .taken) in
+    rw n (paint-done (s .pre) (rw n at e) (p .paint .ensures .0) (p .paint .ensures .1))
+
+judged-areas-requires : tie.Need-judged-areas-requires
+unfolding noCells
+judged-areas-requires c κs = refl
+
+returns-3 : tie.Need-returns-3
+returns-3 c = paint-heavy (c .before .before .before .before .before .before .pre) (sym (c .before .judged-areas .ensures .light) ∙ not-true _ (c .if3 .taken))
+
+-- a part that number 9 does not refuse, and its areas
+accepted : (c : tie.Else3) → isLight cpu 16 (c .before .before .before .before .before .before .args .cover .covers) (c .before .before .before .before .before .before .args .part .now) ≡ true
+accepted c = sym (c .before .judged-areas .ensures .light) ∙ not-false _ (c .if3 .left)
+
+areas-are : (c : tie.Else3) → c .before .judged-areas .last .1 .1 .0 ≡ areasOf cpu 16 (coverAt (c .before .before .before .before .before .before .args .cover .covers)) (c .before .before .before .before .before .before .args .part .now)
+areas-are c = c .before .judged-areas .ensures .areas-are (not-false _ (c .if3 .left))
+
+areas-long : (c : tie.Else3) → length (c .before .judged-areas .last .1 .1 .0) ≡ 256
+areas-long c = ap length (areas-are c) ∙ areas-length cpu 16 (coverAt (c .before .before .before .before .before .before .args .cover .covers)) (c .before .before .before .before .before .before .args .part .now)
+
+slice-aggregate-weigh : tie.Need-slice-aggregate-weigh
+slice-aggregate-weigh c = sym (areas-long (c .before))
+
+weigh-requires : tie.Need-weigh-requires
+weigh-requires c κs =
+    let s = c .before .before .before .before .before .before .before in
+    areas-in-range (s .args .cover .covers) (s .args .part .now) (accepted (c .before)) (areas-are (c .before))
+
+slice-aggregate-write-coverages : tie.Need-slice-aggregate-write-coverages
+slice-aggregate-write-coverages c = search needs
+
+weights-long : (w : tie.After-weigh) → length (w .weigh .last .0) ≡ 256
+weights-long w =
+    let t = w .before .before in
+    ap length (w .weigh .ensures) ∙ length-map (t .before .judged-areas .last .1 .1 .0) (weightIn (w .before .before .before .before .before .before .before .before .args .rule)) ∙ areas-long t
+
+weighed : (w : tie.After-weigh) → Weighed (w .weigh .last .0)
+weighed w = weights-are (w .before .before .before .before .before .before .before .before .args .rule) (w .before .before .before .judged-areas .last .1 .1 .0) (w .weigh .ensures)
+
+-- the coverages of the weights are the plane
+plane-is : (w : tie.After-weigh) → coveragesIn (w .weigh .last .0) ≡ partPlane cpu (w .before .before .before .before .before .before .before .before .args .rule) (w .before .before .before .before .before .before .before .before .args .cover .covers) (w .before .before .before .before .before .before .before .before .args .part .now)
+plane-is w =
+    let t = w .before .before in
+    let s = w .before .before .before .before .before .before .before .before in
+    ap coveragesIn (w .weigh .ensures)
+    ∙ coverages-are (s .args .rule) (t .before .judged-areas .last .1 .1 .0)
+    ∙ ap (coveragesOf (s .args .rule)) (areas-are t)
+    ∙ plane-of-areas cpu 16 (s .args .rule) (coverAt (s .args .cover .covers)) (s .args .part .now)
+
+write-coverages-requires : tie.Need-write-coverages-requires
+write-coverages-requires c κs =
+    let w = c .before .before .before in
+    (weighed w, omega (arith, weights-long w, c .before .before .before .before .before .before .before .before .before .before .before .pre))
+
+slice-aggregate-mark-of : tie.Need-slice-aggregate-mark-of
+slice-aggregate-mark-of c = search needs
+
+mark-of-requires : tie.Need-mark-of-requires
+mark-of-requires c κs =
+    let w = c .before .before .before .before .before .before .before in
+    (weighed w, omega (arith, weights-long w))
+
+same-length-2 : tie.Need-same-length-2
+same-length-2 c = search needs
+
+returns-4 : tie.Need-returns-4
+returns-4 c =
+    let w = c .before .before .before .before .before .before .before .before in
+    let s = w .before .before .before .before .before .before .before .before in
+    paint-done (s .pre) (accepted (w .before .before))
+    (c .before .before .before .before .write-coverages .ensures ∙ ap (λ (l : List Float). over l (s .args .plane .now)) (plane-is w))
+    (c .mark-of .ensures ∙ ap markOf (plane-is w))
+
+pub paint-judged-spec : {M : Type 1} → statement M
+paint-judged-spec =
+    tie.close
+    (tie.spec
+    is-light-requires
+    returns
+    paint-requires
+    same-length
+    returns-2
+    judged-areas-requires
+    returns-3
+    slice-aggregate-weigh
+    weigh-requires
+    slice-aggregate-write-coverages
+    write-coverages-requires
+    slice-aggregate-mark-of
+    mark-of-requires
+    same-length-2
+    returns-4)

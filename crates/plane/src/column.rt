@@ -1,0 +1,68 @@
+// A part without segments: all columns of its plane are the same, so one is worked out and copied.
+use cover::Cover;
+use mark::weights;
+use styling::FillRule;
+use weight::tile;
+ghost use mathlib.Core.Path.{_≡_};
+ghost use mathlib.Core.Bool.{true};
+ghost use mathlib.Core.List.{[]};
+ghost use Prim.Native.Nat.{_+_, _*_, _≤_};
+ghost use lib.ListN.{length};
+ghost use Rattle.laws.specs.Lists.{over};
+ghost use Rattle.pixel_segment.specs.Field.{cpu};
+ghost use Rattle.cover_statements.specs.Carry.{isLight};
+ghost use Rattle.cover_statements.specs.Mark.{markOf};
+ghost use Rattle.cover_statements.specs.Paint.{partPlane};
+ghost use Rattle.cover_statements.specs.Weighed.{columnAreas, repeated, putColumn};
+
+// What the pixels of a column see: 32 times the cover that comes in.
+fn column_areas(cover: Cover) -> [i16; 16]
+    ensures { λ r. ⌜ r ≡ columnAreas (cover .covers) ⌝ }
+{
+    let covers = cover.covers;
+    let mut areas = [0i16; 16];
+    let mut y = 0;
+    while y < 16 {
+        areas[y] = 32 * (covers[y] as i16);
+        y += 1;
+    }
+    areas
+}
+
+// Column x of a plane.
+fn write_column(column: &[f32; 16], x: usize, plane: &mut [f32])
+    requires { ⌜ (length (now column) ≡ 16) × (x * 16 + 16 ≤ length (now plane)) ⌝ }
+    ensures { λ _. ⌜ now (plane .exit) ≡ putColumn 16 x (now (column .entry)) (now (plane .entry)) ⌝ }
+{
+    let mut y = 0;
+    while y < 16 {
+        plane[x * 16 + y] = column[y];
+        y += 1;
+    }
+}
+
+// All columns of a plane. What lies past them stays.
+fn repeat_column(column: &[f32; 16], plane: &mut [f32])
+    requires { ⌜ (length (now column) ≡ 16) × (256 ≤ length (now plane)) ⌝ }
+    ensures { λ _. ⌜ now (plane .exit) ≡ over (repeated 16 (now (column .entry))) (now (plane .entry)) ⌝ }
+{
+    let mut x = 0;
+    while x < 16 {
+        write_column(column, x, plane);
+        x += 1;
+    }
+}
+
+// The coverages of a part without segments that nothing refuses, and their mark.
+pub fn paint(cover: Cover, rule: FillRule, plane: &mut [f32]) -> u32
+    requires { ⌜ (isLight cpu 16 (cover .covers) [] ≡ true) × (256 ≤ length (now plane)) ⌝ }
+    ensures { λ r. ⌜ (now (plane .exit) ≡ over (partPlane cpu rule (cover .covers) []) (now (plane .entry)))
+        × (r ≡ markOf (partPlane cpu rule (cover .covers) [])) ⌝ }
+{
+    let mut weights = column_areas(cover);
+    tile::weigh(&mut weights, rule);
+    let mut column = [0.0f32; 16];
+    tile::write_coverages(&weights, &mut column);
+    repeat_column(&column, plane);
+    weights::mark_of_column(&weights)
+}

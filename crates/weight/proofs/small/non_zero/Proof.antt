@@ -1,0 +1,37 @@
+-- `weight::small::non_zero` meets its contract. Assumes nothing.
+use mathlib.Core.Path.{_≡_, ap, _∙_}
+use Prim.Native.Nat.{min}
+use native.Mathlib.Omega.{arith}
+use borrow.Author.Needs.{needs}
+use borrow.Author.Tests.{ltb-true, ltb-false}
+use lib.IntN.{pos, natAbs}
+use mir.Facts.{toZ-ofZ}
+use mir.Syntax.{w16}
+use Rattle.laws.proofs.Machine.{kept}
+use Rattle.weight.proofs.small.non_zero.Statement.{statement}
+use Rattle.weight.proofs.small.non_zero.Tie as tie
+
+magnitude-requires : tie.Need-magnitude-requires
+magnitude-requires c κs = search needs
+
+is : (c : tie.After-magnitude) → c .magnitude .result ≡ pos (natAbs (c .before .args .d))
+is c = rw (toZ-ofZ (c .before .fits .d)) at (c .magnitude .ensures)
+
+returns : tie.Need-returns
+returns c =
+    let m = c .before in
+    let a = natAbs (m .before .args .d) in
+    let h = ltb-true a 512 (rw (kept w16 (m .magnitude .result) (m .magnitude .ok), is m) at (c .if1 .taken)) in
+    let q : a ≡ min a 512 = omega arith in
+    kept w16 (m .magnitude .result) (m .magnitude .ok) ∙ is m ∙ ap pos q
+
+returns-2 : tie.Need-returns-2
+returns-2 c =
+    let m = c .before in
+    let a = natAbs (m .before .args .d) in
+    let h = ltb-false a 512 (rw (kept w16 (m .magnitude .result) (m .magnitude .ok), is m) at (c .if1 .left)) in
+    let q : 512 ≡ min a 512 = omega arith in
+    ap pos q
+
+pub non-zero-spec : {M : Type 1} → statement M
+non-zero-spec = tie.close (tie.spec magnitude-requires returns returns-2)

@@ -1,0 +1,85 @@
+-- `weight::tile::write_coverages` meets its contract. Assumes nothing.
+use Prim.Native.Nat.{_-_}
+use native.Mathlib.Omega.{arith}
+use lib.IntN.{pos}
+use lib.ListN.{length, getD}
+use mir.Syntax.{w16}
+use Rattle.laws.proofs.Machine.{kept, unsigned}
+use Rattle.laws.proofs.Parts.{whole}
+use Rattle.cover_statements.specs.Weighed.{coverageIn}
+use Rattle.cover_statements.proofs.Mapped.{Mapping, map-start, map-next, map-end}
+use Rattle.weight.proofs.tile.write_coverages.Statement.{statement}
+use Rattle.weight.proofs.tile.write_coverages.Tie as tie
+
+abbrev Inv-loop : tie.InvT-loop
+Inv-loop weights plane₀ k₀ plane k = Mapping coverageIn weights plane₀ k plane
+
+abbrev μ-loop : tie.MeasureT-loop
+μ-loop weights plane₀ k₀ plane k = length weights - k
+
+loop-holds : tie.Need-loop-holds Inv-loop μ-loop
+loop-holds c = map-start (c .before .pre .1)
+
+mul-coverage : tie.Need-mul-coverage Inv-loop μ-loop
+mul-coverage c = omega arith
+
+shared-slice-copy-out-coverage : tie.Need-shared-slice-copy-out-coverage Inv-loop μ-loop
+shared-slice-copy-out-coverage c = omega arith
+
+cast-coverage : tie.Need-cast-coverage Inv-loop μ-loop
+cast-coverage c =
+    let l = c .before .before in
+    let weights = l .before .before .args .weights .now in
+    let w = getD weights (l .loop .k) (pos 0) in
+    rw (kept w16 w (c .coverage-arg .given))
+    (unsigned w16 w (l .before .before .pre .0 .low (l .loop .k) (omega arith)) (omega (arith, whole w, l .before .before .pre .0 .high (l .loop .k) (omega arith))))
+
+coverage-requires : tie.Need-coverage-requires Inv-loop μ-loop
+coverage-requires c κs =
+    let l = c .before .before in
+    rw (kept w16 (getD (l .before .before .args .weights .now) (l .loop .k) (pos 0)) (c .coverage-arg .given))
+    (l .before .before .pre .0 .high (l .loop .k) (omega arith))
+
+mul-plane : tie.Need-mul-plane Inv-loop μ-loop
+mul-plane c = omega arith
+
+slice-write-plane : tie.Need-slice-write-plane Inv-loop μ-loop
+slice-write-plane c = omega arith
+
+add-k : tie.Need-add-k Inv-loop μ-loop
+add-k c = omega arith
+
+loop-less : tie.Need-loop-less Inv-loop μ-loop
+loop-less c = omega arith
+
+loop-again : tie.Need-loop-again Inv-loop μ-loop
+loop-again c =
+    let a = c .before in
+    let l = a .before .before in
+    map-next (l .loop .inv) (pos 0) (omega arith)
+    (rw (kept w16 (getD (l .before .before .args .weights .now) (l .loop .k) (pos 0)) (a .coverage-arg .given)) at (c .coverage .ensures))
+
+same-length : tie.Need-same-length Inv-loop μ-loop
+same-length c = c .before .loop .inv .long
+
+returns : tie.Need-returns Inv-loop μ-loop
+returns c = map-end (c .before .loop .inv) (omega arith)
+
+pub write-coverages-spec : {M : Type 1} → statement M
+write-coverages-spec =
+    tie.close
+    (tie.spec
+    Inv-loop
+    μ-loop
+    loop-holds
+    mul-coverage
+    shared-slice-copy-out-coverage
+    cast-coverage
+    coverage-requires
+    mul-plane
+    slice-write-plane
+    add-k
+    loop-less
+    loop-again
+    same-length
+    returns)

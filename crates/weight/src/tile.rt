@@ -1,0 +1,55 @@
+// The weights of many doubled areas in their places, and the coverages of many weights. Each is a loop of its own: both
+// in one would be slower.
+use crate::small;
+use styling::FillRule;
+ghost use mathlib.Core.Path.{_≡_};
+ghost use Prim.Native.Nat.{_≤_};
+ghost use lib.ListN.{length};
+ghost use Rattle.laws.specs.Lists.{over};
+ghost use Rattle.styling.specs.declared.FillRule.the-variants.{NonZero, EvenOdd};
+ghost use Rattle.cover_statements.specs.Weighed.{InRange, Weighed, weightsOf, coveragesIn};
+
+fn weigh_non_zero(areas: &mut [i16])
+    requires { ⌜ InRange (now areas) ⌝ }
+    ensures { λ _. ⌜ now (areas .exit) ≡ weightsOf NonZero (now (areas .entry)) ⌝ }
+{
+    let mut k = 0;
+    while k < areas.len() {
+        areas[k] = small::non_zero(areas[k]);
+        k += 1;
+    }
+}
+
+fn weigh_even_odd(areas: &mut [i16])
+    requires { ⌜ InRange (now areas) ⌝ }
+    ensures { λ _. ⌜ now (areas .exit) ≡ weightsOf EvenOdd (now (areas .entry)) ⌝ }
+{
+    let mut k = 0;
+    while k < areas.len() {
+        areas[k] = small::even_odd(areas[k]);
+        k += 1;
+    }
+}
+
+// The weights of doubled areas, in their places.
+pub fn weigh(areas: &mut [i16], rule: FillRule)
+    requires { ⌜ InRange (now areas) ⌝ }
+    ensures { λ _. ⌜ now (areas .exit) ≡ weightsOf rule (now (areas .entry)) ⌝ }
+{
+    match rule {
+        FillRule::NonZero => weigh_non_zero(areas),
+        FillRule::EvenOdd => weigh_even_odd(areas),
+    }
+}
+
+// The coverages of weights, in the same places. What lies past them in the plane stays.
+pub fn write_coverages(weights: &[i16], plane: &mut [f32])
+    requires { ⌜ Weighed (now weights) × (length (now weights) ≤ length (now plane)) ⌝ }
+    ensures { λ _. ⌜ now (plane .exit) ≡ over (coveragesIn (now (weights .entry))) (now (plane .entry)) ⌝ }
+{
+    let mut k = 0;
+    while k < weights.len() {
+        plane[k] = crate::coverage(weights[k] as u16);
+        k += 1;
+    }
+}
