@@ -12,10 +12,11 @@ use Rattle.laws.proofs.Mod.{remainder, unique, agree-add, agree}
 use Rattle.laws.proofs.Orders.{eq-or-ne}
 use Rattle.laws.proofs.Parts.{whole, times, difference}
 use Rattle.laws.specs.Integer.{plus, minus, modℤ}
+use Rattle.weight_table.specs.Rest.{restWeight}
 use Rattle.styling.specs.declared.FillRule.{FillRule}
 use Rattle.styling.specs.declared.FillRule.the-variants.{NonZero, EvenOdd}
 use Rattle.cover_statements.specs.Cover.{emptyAt, fullAt, Agrees}
-use Rattle.cover_statements.specs.Weight.{nonZeroOf, restWeight, evenOddOf, weightOf, isInside}
+use Rattle.cover_statements.specs.Weight.{nonZeroOf, evenOddOf, weightOf, isInside}
 
 -- the weight of a remainder: the distance to the nearer end of 0..1,024
 pub low : (rest : ℕ) → rest ≤ 512 → restWeight rest ≡ rest

@@ -1,19 +1,16 @@
 -- The weight of d, a whole number from 0 to 512, by each rule; and which windings are inside, as SVG 2 says of 'fill-rule'.
 use mathlib.Core.Bool.{Bool, not}
-use Prim.Native.Nat.{ℕ, _-_, _%_, min}
+use Prim.Native.Nat.{ℕ, _%_, min}
 use lib.Dec.{eqb}
-use lib.IntN.{ℤ, natAbs, subℕ}
+use lib.IntN.{ℤ, natAbs}
 use Rattle.laws.specs.Integer.{modℤ}
+use Rattle.weight_table.specs.Rest.{restWeight}
 use Rattle.styling.specs.declared.FillRule.{FillRule}
 use Rattle.styling.specs.declared.FillRule.the-variants.{NonZero, EvenOdd}
 
 -- NonZero: the lesser of |d| and 512
 abbrev pub nonZeroOf : ℤ → ℕ
 nonZeroOf d = min (natAbs d) 512
-
--- the EvenOdd weight of a remainder by 1,024: 512 - |rest - 512|
-abbrev pub restWeight : ℕ → ℕ
-restWeight rest = 512 - natAbs (subℕ rest 512)
 
 -- EvenOdd: 512 - |(d mod 1,024) - 512|, the remainder being 0 to 1,023
 abbrev pub evenOddOf : ℤ → ℕ

@@ -7,7 +7,8 @@ use lib.IntN.{ℤ, pos, negsuc}
 use Rattle.laws.specs.Integer.{modℤ}
 use Rattle.laws.proofs.Parts.{difference}
 use Rattle.styling.specs.declared.FillRule.the-variants.{EvenOdd}
-use Rattle.cover_statements.specs.Weight.{restWeight, weightOf}
+use Rattle.weight_table.specs.Rest.{restWeight}
+use Rattle.cover_statements.specs.Weight.{weightOf}
 
 -- the weight of d is the one beside its remainder
 pub curve-of-d : (d : ℤ) → weightOf EvenOdd d ≡ weightOf EvenOdd (pos (modℤ 1024 d))

@@ -7,6 +7,7 @@ ghost use mathlib.Core.Path.{_≡_};
 ghost use Prim.Native.Nat.{_≤_};
 ghost use lib.IntN.{natAbs};
 ghost use Rattle.laws.specs.Integer.{modℤ};
+ghost use Rattle.weight_table.specs.Rest.{curve};
 ghost use Rattle.cover_statements.specs.Weight.{nonZeroOf, evenOddOf, weightOf};
 ghost use Rattle.cover_statements.specs.Coverage.{coverageOf, areaCoverage};
 
@@ -42,12 +43,27 @@ pub fn non_zero(d: i16) -> u16
     if a < 512 { a } else { 512 }
 }
 
-// 32,768 is a multiple of 1,024, and with it no d is negative.
+// The remainder of d by 1,024. 32,768 is a multiple of it, and with it no d is negative.
+fn rest_of_area(d: i16) -> usize
+    ensures { λ r. ⌜ r ≡ modℤ 1024 d ⌝ }
+{
+    ((d as i32 + 32768) as u32 % 1024) as usize
+}
+
+// The EvenOdd weight, read from the weights of all remainders.
+pub fn even_odd_in(weights: &[u16; 1024], d: i16) -> u16
+    requires { ⌜ now weights ≡ curve ⌝ }
+    ensures { λ r. ⌜ r ≡ evenOddOf d ⌝ }
+{
+    weights[rest_of_area(d)]
+}
+
+// For a single d: it copies the weights.
 pub fn even_odd(d: i16) -> u16
     ensures { λ r. ⌜ r ≡ evenOddOf d ⌝ }
 {
-    let rest = ((d as i32 + 32768) as u32 % 1024) as u16;
-    if rest < 512 { rest } else { 1024 - rest }
+    let weights = weight_table::weights();
+    even_odd_in(&weights, d)
 }
 
 // The weight of a doubled area, 0 to 512.

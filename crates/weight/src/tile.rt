@@ -6,6 +6,7 @@ ghost use mathlib.Core.Path.{_≡_};
 ghost use Prim.Native.Nat.{_≤_};
 ghost use lib.ListN.{length};
 ghost use Rattle.laws.specs.Lists.{over};
+ghost use Rattle.weight_table.specs.Rest.{curve};
 ghost use Rattle.styling.specs.declared.FillRule.the-variants.{NonZero, EvenOdd};
 ghost use Rattle.cover_statements.specs.Weighed.{InRange, Weighed, weightsOf, coveragesIn};
 
@@ -20,25 +21,28 @@ fn weigh_non_zero(areas: &mut [i16])
     }
 }
 
-fn weigh_even_odd(areas: &mut [i16])
-    requires { ⌜ InRange (now areas) ⌝ }
+fn weigh_even_odd(weights: &[u16; 1024], areas: &mut [i16])
+    requires { ⌜ now weights ≡ curve ⌝ }
     ensures { λ _. ⌜ now (areas .exit) ≡ weightsOf EvenOdd (now (areas .entry)) ⌝ }
 {
     let mut k = 0;
     while k < areas.len() {
-        areas[k] = small::even_odd(areas[k]);
+        areas[k] = crate::even_odd_in(weights, areas[k]) as i16;
         k += 1;
     }
 }
 
-// The weights of doubled areas, in their places.
+// The weights of doubled areas, in their places. Only EvenOdd takes a copy of the table, once.
 pub fn weigh(areas: &mut [i16], rule: FillRule)
     requires { ⌜ InRange (now areas) ⌝ }
     ensures { λ _. ⌜ now (areas .exit) ≡ weightsOf rule (now (areas .entry)) ⌝ }
 {
     match rule {
         FillRule::NonZero => weigh_non_zero(areas),
-        FillRule::EvenOdd => weigh_even_odd(areas),
+        FillRule::EvenOdd => {
+            let weights = weight_table::weights();
+            weigh_even_odd(&weights, areas)
+        }
     }
 }
 

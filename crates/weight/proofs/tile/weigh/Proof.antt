@@ -12,6 +12,9 @@ weigh-non-zero-requires c κs = search needs
 enum-told-2 : tie.Need-enum-told-2
 enum-told-2 c = search needs
 
+weights-requires : tie.Need-weights-requires
+weights-requires c κs = search needs
+
 weigh-even-odd-requires : tie.Need-weigh-even-odd-requires
 weigh-even-odd-requires c κs = search needs
 
@@ -25,7 +28,7 @@ same-length-2 : tie.Need-same-length-2
 same-length-2 c = search needs
 
 returns-2 : tie.Need-returns-2
-returns-2 c = rw (c .before .before .before .enum-told2 .given .1) (c .before .weigh-even-odd .ensures)
+returns-2 c = rw (c .before .before .before .before .before .enum-told2 .given .1) (c .before .weigh-even-odd .ensures)
 
 pub weigh-spec : {M : Type 1} → statement M
 weigh-spec =
@@ -34,6 +37,7 @@ weigh-spec =
     enum-told
     weigh-non-zero-requires
     enum-told-2
+    weights-requires
     weigh-even-odd-requires
     same-length
     returns

@@ -1,47 +1,53 @@
 -- `weight::tile::weigh_even_odd` meets its contract. Assumes nothing.
-use mathlib.Core.Path.{_≡_, refl, _∙_}
+use mathlib.Core.Path.{_≡_, refl, ap, _∙_}
 use Prim.Native.Nat.{_-_}
 use native.Mathlib.Omega.{arith}
-use lib.IntN.{pos}
+use lib.IntN.{ℤ, pos}
 use lib.ListN.{length, getD}
+use mir.Facts.{toZ-pos}
 use mir.Syntax.{w16}
-use mir.Val.{toZ, ofZ}
-use Rattle.laws.proofs.Machine.{kept}
+use Rattle.laws.proofs.Machine.{kept, small}
 use Rattle.styling.specs.declared.FillRule.the-variants.{EvenOdd}
+use Rattle.cover_statements.specs.Weight.{evenOddOf}
 use Rattle.cover_statements.specs.Weighed.{weightIn}
 use Rattle.cover_statements.proofs.Mapped.{Mapping, map-start, map-rest, map-next, map-whole}
+use Rattle.cover_statements.proofs.Weights.{weight-le}
 use Rattle.weight.proofs.tile.weigh_even_odd.Statement.{statement}
 use Rattle.weight.proofs.tile.weigh_even_odd.Tie as tie
 
 abbrev Inv-loop : tie.InvT-loop
-Inv-loop areas₀ k₀ areas k = Mapping (weightIn EvenOdd) areas₀ areas₀ k areas
+Inv-loop weights areas₀ k₀ areas k = Mapping (weightIn EvenOdd) areas₀ areas₀ k areas
 
 abbrev μ-loop : tie.MeasureT-loop
-μ-loop areas₀ k₀ areas k = length areas₀ - k
+μ-loop weights areas₀ k₀ areas k = length areas₀ - k
 
 loop-holds : tie.Need-loop-holds Inv-loop μ-loop
 loop-holds c = map-start (omega arith)
 
-mul-even-odd : tie.Need-mul-even-odd Inv-loop μ-loop
-mul-even-odd c = omega arith
+mul-even-odd-in : tie.Need-mul-even-odd-in Inv-loop μ-loop
+mul-even-odd-in c = omega arith
 
-slice-copy-out-even-odd : tie.Need-slice-copy-out-even-odd Inv-loop μ-loop
-slice-copy-out-even-odd c = omega arith
+slice-copy-out-even-odd-in : tie.Need-slice-copy-out-even-odd-in Inv-loop μ-loop
+slice-copy-out-even-odd-in c = omega arith
 
--- the element is still as it was
-own : (c : tie.After-even-odd-arg Inv-loop μ-loop) → toZ w16 (ofZ w16 (getD (c .before .before .loop .areas) (c .before .before .loop .k) (pos 0))) ≡ getD (c .before .before .before .args .areas .now) (c .before .before .loop .k) (pos 0)
-own c =
-    kept w16 (getD (c .before .before .loop .areas) (c .before .before .loop .k) (pos 0)) (c .even-odd-arg .given)
-    ∙ map-rest (c .before .before .loop .inv) (pos 0) (omega (arith, c .before .before .loop .inv .long))
+even-odd-in-requires : tie.Need-even-odd-in-requires Inv-loop μ-loop
+even-odd-in-requires c κs = c .before .before .before .pre
 
-even-odd-requires : tie.Need-even-odd-requires Inv-loop μ-loop
-even-odd-requires c κs =
-    let l = c .before .before in
-    rw (own c)
-    (l .before .pre .small (l .loop .k) (omega (arith, l .loop .inv .long)))
+-- the element, which is still as it was, and its weight
+abbrev own : (c : tie.After-even-odd-in Inv-loop μ-loop) → ℤ
+own c = let l = c .before .before .before in getD (l .before .args .areas .now) (l .loop .k) (pos 0)
 
-mul-t8 : tie.Need-mul-t8 Inv-loop μ-loop
-mul-t8 c = omega arith
+is : (c : tie.After-even-odd-in Inv-loop μ-loop) → c .even-odd-in .result ≡ evenOddOf (own c)
+is c =
+    let a = c .before in
+    let l = a .before .before in
+    rw (kept w16 (getD (l .loop .areas) (l .loop .k) (pos 0)) (a .even-odd-in-arg .given), map-rest (l .loop .inv) (pos 0) (omega (arith, l .loop .inv .long))) at (c .even-odd-in .ensures)
+
+cast-areas : tie.Need-cast-areas Inv-loop μ-loop
+cast-areas c = small w16 (pos (c .even-odd-in .result)) (omega (arith, is c, weight-le EvenOdd (own c)))
+
+mul-t10 : tie.Need-mul-t10 Inv-loop μ-loop
+mul-t10 c = omega arith
 
 slice-set-from-areas : tie.Need-slice-set-from-areas Inv-loop μ-loop
 slice-set-from-areas c = omega arith
@@ -54,10 +60,9 @@ loop-less c = omega arith
 
 loop-again : tie.Need-loop-again Inv-loop μ-loop
 loop-again c =
-    let a = c .before in
-    let l = a .before .before in
+    let l = c .before .before .before in
     map-next (l .loop .inv) (pos 0) (omega (arith, l .loop .inv .long))
-    (kept w16 (c .even-odd .result) (c .even-odd .ok) ∙ (rw (own a) at (c .even-odd .ensures)))
+    (toZ-pos w16 (omega (arith, is c, weight-le EvenOdd (own c))) ∙ ap pos (is c))
 
 same-length : tie.Need-same-length Inv-loop μ-loop
 same-length c = c .before .loop .inv .long
@@ -72,10 +77,11 @@ weigh-even-odd-spec =
     Inv-loop
     μ-loop
     loop-holds
-    mul-even-odd
-    slice-copy-out-even-odd
-    even-odd-requires
-    mul-t8
+    mul-even-odd-in
+    slice-copy-out-even-odd-in
+    even-odd-in-requires
+    cast-areas
+    mul-t10
     slice-set-from-areas
     add-k
     loop-less

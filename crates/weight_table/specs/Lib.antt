@@ -1,0 +1,2 @@
+-- The EvenOdd weights of remainders.
+pub mod Rest
