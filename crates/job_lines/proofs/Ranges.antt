@@ -1,35 +1,20 @@
 -- What the rules on a line say of its numbers, as bounds on their parts.
 -- Assumes nothing.
 use mathlib.Core.Path.{_≡_}
-use mathlib.Core.Bool.{true, not, _&&_, _||_, false≢true}
+use mathlib.Core.Bool.{true, not, _&&_, _||_}
 use Prim.Native.Nat.{_+_, _≤_}
 use native.Mathlib.Omega.{arith}
-use borrow.Author.Tests.{leb-true}
 use lib.IntN.{ℤ, pos, negsuc, _-ℤ_}
-use lib.Signed.{leZ}
 use mir.Syntax.{w32}
 use mir.Val.{SFits}
-use Rattle.laws.specs.Integer.{plus, minus}
+use Rattle.laws.specs.Integer.{plus, minus, isWithin}
 use Rattle.laws.proofs.Bools.{left, right}
+use Rattle.laws.proofs.Ranges.{within}
 use Rattle.laws.proofs.Parts.{whole, taken}
 use Rattle.laws.proofs.Machine.{sfits}
 use Rattle.job_lines.specs.declared.layer.LayerLine.{LayerLine}
 use Rattle.job_lines.specs.declared.segment.SegmentLine.{SegmentLine}
-use Rattle.job_lines.specs.Rules.{isWithin, is, isPlain, layerRule, segmentRule}
-
-le-true : (a b : ℤ) → leZ a b ≡ true → plus a + minus b ≤ plus b + minus a
-le-true (pos a) (pos b) e = omega (arith, leb-true a b e)
-le-true (pos a) (negsuc b) e = absurd (false≢true e)
-le-true (negsuc a) (pos b) e = omega arith
-le-true (negsuc a) (negsuc b) e = omega (arith, leb-true b a e)
-
-pub record Within (low high v : ℤ) : Type 0 where
-  pub above : plus low + minus v ≤ plus v + minus low
-  pub below : plus v + minus high ≤ plus high + minus v
-
-pub within : (low high v : ℤ) → isWithin low high v ≡ true → Within low high v
-unfolding isWithin
-within low high v e = record { above = le-true low v (left (leZ low v) (leZ v high) e); below = le-true v high (right (leZ low v) (leZ v high) e) }
+use Rattle.job_lines.specs.Rules.{is, isPlain, layerRule, segmentRule}
 
 -- 16 - y, for a y within a tile
 pub fits-below : (y : ℤ) → isWithin (pos 0) (pos 15) y ≡ true → SFits w32 (pos 16 -ℤ y)

@@ -5,14 +5,9 @@ use mathlib.Core.Bool.{Bool, not, _&&_, _||_}
 use mathlib.Core.List.{List, [], _∷_}
 use Prim.Native.Nat.{ℕ, _+_}
 use lib.IntN.{ℤ, pos, negsuc, _-ℤ_}
-use lib.Signed.{leZ}
-use Rattle.laws.specs.Integer.{plus}
+use Rattle.laws.specs.Integer.{plus, isWithin}
 use Rattle.job_lines.specs.declared.layer.LayerLine.{LayerLine}
 use Rattle.job_lines.specs.declared.segment.SegmentLine.{SegmentLine}
-
--- low ≤ v ≤ high
-unfoldable pub isWithin : ℤ → ℤ → ℤ → Bool
-isWithin low high v = leZ low v && leZ v high
 
 -- v is n
 abbrev pub is : ℤ → ℤ → Bool

@@ -7,6 +7,7 @@ use mathlib.Core.Option.{some, none}
 use Prim.Native.Nat.{ℕ, zero, suc}
 use Prim.Native.String.{String}
 use lib.IntN.{pos, negsuc}
+use Rattle.laws.specs.Integer.{isWithin}
 use Rattle.laws.specs.Lists.{all}
 use Rattle.decimal.specs.Decimal.{decimal, decimalIn}
 use Rattle.decimal.specs.Parse.{parseℤ, parseℕ, moreDigits}
@@ -14,7 +15,7 @@ use Rattle.lines.specs.Bytes.{bytes}
 use Rattle.lines.specs.Text.{lineText, linesText, blockText}
 use Rattle.lines.specs.Parse.{stripPrefix, parseLine, parseLines, parseBlock}
 use Rattle.job_text_statements.specs.Text.{blocksText, layerNames, segmentNames}
-use Rattle.job_lines.specs.Rules.{isWithin, layerRule, segmentRule, segmentCount}
+use Rattle.job_lines.specs.Rules.{layerRule, segmentRule, segmentCount}
 use Rattle.job_text_statements.specs.Job.{Job, render, isAllowed}
 use Rattle.job_text_statements.specs.Parse.{headOf, layerLineOf, segmentOf, parseBlocks, parse}
 

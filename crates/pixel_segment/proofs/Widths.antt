@@ -1,5 +1,5 @@
 -- Laws of the table of widths, and the ranges of the fields. Assumes nothing.
-use mathlib.Core.Path.{_≡_, ap, sym, _∙_}
+use mathlib.Core.Path.{_≡_, refl, ap, sym, _∙_}
 use mathlib.Core.List.{List, [], _∷_}
 use Prim.Native.Nat.{ℕ, zero, suc, _+_, _-_, _*_, _^_, _%_, _≤_, _<_, max}
 use native.Mathlib.Nat.{one-mul, mul-le-mul}
@@ -16,9 +16,16 @@ use mir.Val.{SFits}
 use Rattle.laws.specs.Integer.{plus, minus}
 use Rattle.laws.proofs.Machine.{sfits, small}
 use Rattle.laws.proofs.Parts.{Whole, Difference, difference, abs-times}
-use Rattle.pixel_segment.specs.Field.{sum, cpu, indexOf, shiftOf, fieldOf, tileOf, coverOf, multiplierOf, doubleAreaOf}
+use Rattle.pixel_segment.specs.Field.{sum, cpu, gpu, widthsAt, indexOf, shiftOf, fieldOf, tileOf, coverOf, multiplierOf, doubleAreaOf}
 use Rattle.pixel_segment.specs.declared.consts.BitField.{BitField}
 use Rattle.pixel_segment.specs.declared.consts.BitField.the-variants.{TileY, TileX, LayerId, LocalX, LocalY, DoubleAreaMultiplier, Cover}
+
+-- the two tables are those of tiles 2^4 and 2^2 pixels high
+pub cpu-at : cpu ≡ widthsAt 4
+cpu-at = refl
+
+pub gpu-at : gpu ≡ widthsAt 2
+gpu-at = refl
 
 pub sum-drop-le : (k : ℕ) (l : List ℕ) → sum (drop k l) ≤ sum l
 sum-drop-le zero l = omega arith
