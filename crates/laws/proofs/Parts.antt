@@ -8,7 +8,7 @@ use mathlib.Core.Bool.{Bool, true, false, not, cond, false≢true}
 use Prim.Native.Nat.{ℕ, zero, suc, _+_, _*_, _-_, _≤_, _<_, min}
 use native.Mathlib.Nat.{mul-zero}
 use native.Mathlib.Omega.{arith}
-use borrow.Author.Tests.{ltb-true, ltb-false, leb-true, le-leb}
+use borrow.Author.Tests.{ltb-true, ltb-false, leb-true, lt-ltb, le-leb}
 use lib.Dec.{T, ltb, ltb→lt, nltb→le}
 use lib.Signed.{ltZ, leZ}
 use lib.IntN.{ℤ, pos, negsuc, negℤ, natAbs, subℕ, _+ℤ_, _-ℤ_, _*ℤ_}
@@ -141,3 +141,9 @@ true-le (pos a) (pos b) h = le-leb a b (omega arith)
 true-le (pos a) (negsuc b) h = absurd (omega arith)
 true-le (negsuc a) (pos b) h = refl
 true-le (negsuc a) (negsuc b) h = le-leb b a (omega arith)
+
+pub true-lt : (a b : ℤ) → plus a + minus b < plus b + minus a → ltZ a b ≡ true
+true-lt (pos a) (pos b) h = lt-ltb a b (omega arith)
+true-lt (pos a) (negsuc b) h = absurd (omega arith)
+true-lt (negsuc a) (pos b) h = refl
+true-lt (negsuc a) (negsuc b) h = lt-ltb b a (omega arith)

@@ -5,8 +5,8 @@ use Prim.Native.Nat.{_+_, _≤_}
 use lib.IntN.{ℤ}
 use lib.Signed.{leZ}
 use Rattle.laws.specs.Integer.{plus, minus, isWithin}
-use Rattle.laws.proofs.Bools.{both, left, right}
-use Rattle.laws.proofs.Parts.{le-true, true-le}
+use Rattle.laws.proofs.Bools.{left, right}
+use Rattle.laws.proofs.Parts.{le-true}
 
 pub record Within (low high v : ℤ) : Type 0 where
   pub above : plus low + minus v ≤ plus v + minus low
@@ -15,7 +15,3 @@ pub record Within (low high v : ℤ) : Type 0 where
 pub within : (low high v : ℤ) → isWithin low high v ≡ true → Within low high v
 unfolding isWithin
 within low high v e = record { above = le-true low v (left (leZ low v) (leZ v high) e); below = le-true v high (right (leZ low v) (leZ v high) e) }
-
-pub is-within : (low high v : ℤ) → Within low high v → isWithin low high v ≡ true
-unfolding isWithin
-is-within low high v h = both (leZ low v) (leZ v high) (true-le low v (h .above)) (true-le v high (h .below))

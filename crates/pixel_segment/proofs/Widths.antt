@@ -16,7 +16,7 @@ use mir.Val.{SFits}
 use Rattle.laws.specs.Integer.{plus, minus}
 use Rattle.laws.proofs.Machine.{sfits, small}
 use Rattle.laws.proofs.Parts.{Whole, Difference, difference, abs-times}
-use Rattle.pixel_segment.specs.Field.{sum, cpu, gpu, widthsAt, indexOf, shiftOf, fieldOf, tileOf, coverOf, multiplierOf, doubleAreaOf}
+use Rattle.pixel_segment.specs.Field.{sum, cpu, gpu, widthsAt, indexOf, widthOf, shiftOf, fieldOf, tileOf, coverOf, multiplierOf, doubleAreaOf}
 use Rattle.pixel_segment.specs.declared.consts.BitField.{BitField}
 use Rattle.pixel_segment.specs.declared.consts.BitField.the-variants.{TileY, TileX, LayerId, LocalX, LocalY, DoubleAreaMultiplier, Cover}
 
@@ -61,6 +61,16 @@ index-lt LocalX = omega arith
 index-lt LocalY = omega arith
 index-lt DoubleAreaMultiplier = omega arith
 index-lt Cover = omega arith
+
+-- no field has more values than a layer id
+pub size-le : (f : BitField) → 2 ^ widthOf cpu (indexOf f) ≤ 2 ^ 21
+size-le TileY = omega arith
+size-le TileX = omega arith
+size-le LayerId = omega arith
+size-le LocalX = omega arith
+size-le LocalY = omega arith
+size-le DoubleAreaMultiplier = omega arith
+size-le Cover = omega arith
 
 -- 1 shifted left by less than 64
 pub shifted : (k : ℕ) → k < 64 → (1 * 2 ^ k) % 2 ^ 64 ≡ 2 ^ k
