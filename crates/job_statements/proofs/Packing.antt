@@ -16,7 +16,7 @@ use Rattle.laws.proofs.Every.{all-at}
 use Rattle.laws.proofs.Parts.{added, equal}
 use Rattle.pixel_segment.specs.Field.{cpu, widthOf}
 use Rattle.pixel_segment.specs.Pack.{storedOf, lowestTile, isPackable, packOf, InRange, ReadsBack}
-use Rattle.pixel_segment.proofs.Ranges.{cpu-layout, packable, tile, is-tile}
+use Rattle.pixel_segment.proofs.Ranges.{cpu-layout, in-range, packable, tile, is-tile}
 use Rattle.pixel_segment.proofs.ReadBack.{reads-back}
 use Rattle.job_lines.specs.Rules.{layerRule, segmentRule, segmentCount}
 use Rattle.job_lines.proofs.Ranges.{in-tile}
@@ -29,6 +29,10 @@ use Rattle.job_statements.specs.Entries.{fieldsOf, packed, isPackableAt}
 -- ---- fields that packing takes
 
 module _ (f : Fields) (ty : ℤ) (i : ℕ) (p : isPackableAt f ty i ≡ true) where
+  -- the repeat stays within the tile
+  pub down-in-tile : f .y + i < 16
+  down-in-tile = in-range cpu cpu-layout (pos (f .layer)) (f .«tile_x») ty (pos (f .x)) (pos (f .y + i)) (pos (f .mult)) (f .cover) p .local-y .1
+
   packed-is : packOf cpu (pos (f .layer)) (f .«tile_x») ty (pos (f .x)) (pos (f .y + i)) (pos (f .mult)) (f .cover) ≡ given (packed f ty i)
   unfolding packed
   packed-is = rw p refl

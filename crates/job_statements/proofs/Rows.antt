@@ -74,8 +74,8 @@ module _ {f : Fields} (s : SegmentLine) (e : f ≡ fieldsOf s) (ok : segmentRule
   pub few-rows : (f .rows ≡ plus (s .rows)) × (f .rows ≤ 16)
   few-rows = (rows-are, omega (arith, rows-are, in-tile s ok))
 
-  pub packs-at : {ty : ℤ} {i : ℕ} → isTileY ty ≡ true → i < f .rows → isPackableAt f ty i ≡ true
-  packs-at {ty} {i} h l = subst (λ (g : Fields). isPackableAt g ty i ≡ true) (sym e) (packs-line s ok ty h i (omega (arith, rows-are)))
+  pub packs-at : (ty : ℤ) (i : ℕ) → isTileY ty ≡ true → i < f .rows → isPackableAt f ty i ≡ true
+  packs-at ty i h l = subst (λ (g : Fields). isPackableAt g ty i ≡ true) (sym e) (packs-line s ok ty h i (omega (arith, rows-are)))
 
 -- ---- the lines
 

@@ -1,0 +1,68 @@
+-- `to_tile_y` meets its contract: packing the row number beside zeros judges it alone, and the word reads back as it. Assumes nothing.
+use mathlib.Core.Path.{_≡_, ap, sym, _∙_}
+use mathlib.Core.Bool.{true, false}
+use borrow.Author.Needs.{needs}
+use lib.IntN.{pos}
+use mir.Syntax.{w16, w64}
+use mir.Val.{SFits}
+use mir.Facts.{toZ-ofZ, sfits-widen}
+use Rattle.laws.proofs.Machine.{kept}
+use Rattle.pixel_segment.specs.Field.{cpu}
+use Rattle.pixel_segment.specs.Pack.{packedAnswer, Packs}
+use Rattle.pixel_segment.proofs.Ranges.{cpu-layout}
+use Rattle.pixel_segment.proofs.ReadBack.{given-word, refused-means}
+use Rattle.job_statements.specs.Row.{isTileY}
+use Rattle.job_statements.proofs.Packing.{row-taken, row-kept, row-dropped}
+use Rattle.job_row.proofs.to_tile_y.Statement.{statement}
+use Rattle.job_row.proofs.to_tile_y.Tie as tie
+
+-- what packing says of the row number
+judged : (c : tie.After-pack) → Packs cpu (pos 0) (pos 0) (c .before .args .row) (pos 0) (pos 0) (pos 0) (pos 0) (c .pack .result)
+judged c =
+    let f : SFits w64 (c .before .args .row) = sfits-widen tt (c .before .fits .row) in
+    rw (toZ-ofZ (c .before .fits .row), toZ-ofZ f) at (c .pack .ensures)
+
+cast-pack : tie.Need-cast-pack
+cast-pack c = rw (toZ-ofZ (c .fits .row)) (sfits-widen tt (c .fits .row))
+
+pack-requires : tie.Need-pack-requires
+pack-requires c κs = search needs
+
+enum-known-segment : tie.Need-enum-known-segment
+enum-known-segment c = search needs
+
+tile-y-requires : tie.Need-tile-y-requires
+tile-y-requires c κs = search needs
+
+enum-told : tie.Need-enum-told
+enum-told c = search needs
+
+returns : tie.Need-returns
+returns c =
+    let p = c .before .before .before .before in
+    let r = p .before .args .row in
+    let is = ap packedAnswer (c .before .before .segment .given .1) in
+    let taken : isTileY r ≡ true =
+    sym (row-taken r) ∙ given-word cpu cpu-layout (pos 0) (pos 0) r (pos 0) (pos 0) (pos 0) (pos 0) (sym (judged p .answer) ∙ is) .0 in
+    kept w16 (c .tile-y .result) (c .tile-y .ok) ∙ c .tile-y .ensures ∙ judged p .back _ is .tile-y ∙ sym (row-kept r taken)
+
+returns-2 : tie.Need-returns-2
+returns-2 c =
+    let p = c .before .before in
+    let r = p .before .args .row in
+    let is = ap packedAnswer (c .enum-told .given .1) in
+    let left : isTileY r ≡ false =
+    sym (row-taken r) ∙ refused-means cpu cpu-layout (pos 0) (pos 0) r (pos 0) (pos 0) (pos 0) (pos 0) (sym (judged p .answer) ∙ is) in
+    sym (row-dropped r left)
+
+pub to-tile-y-spec : {M : Type 1} → statement M
+to-tile-y-spec =
+    tie.close
+    (tie.spec
+    cast-pack
+    pack-requires
+    enum-known-segment
+    tile-y-requires
+    enum-told
+    returns
+    returns-2)
