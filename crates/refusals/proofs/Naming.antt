@@ -1,5 +1,5 @@
 -- The refusal that has a number of the table, and judgements whose numbers are all of it: a caller's answer can name them. Assumes nothing.
-use mathlib.Core.Path.{_≡_, refl}
+use mathlib.Core.Path.{_≡_}
 use mathlib.Core.Bool.{Bool, true, false, cond}
 use Prim.Native.Nat.{ℕ}
 use lib.Dec.{eqb}

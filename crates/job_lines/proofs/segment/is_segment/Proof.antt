@@ -1,23 +1,21 @@
 -- `is_segment` meets its contract: packing answers whether it takes the line's numbers, and where it does, 16 - y is a number. Assumes nothing.
 use mathlib.Core.Path.{_≡_, ap, sym, _∙_}
-use mathlib.Core.Bool.{Bool, true, false, cond}
-use Prim.Native.Nat.{ℕ, _<_, _^_}
-use native.Mathlib.Omega.{arith}
+use mathlib.Core.Bool.{true}
+use Prim.Native.Nat.{_<_, _^_}
 use borrow.Author.Needs.{needs}
 use lib.IntN.{ℤ, pos}
 use lib.Signed.{mag}
 use mir.Syntax.{w32, w64}
 use mir.Val.{SFits, hbits, toZ, ofZ}
 use mir.Facts.{toZ-ofZ, sfits-widen}
-use Rattle.laws.specs.Answer.{refused, given}
+use Rattle.laws.specs.Answer.{given}
 use Rattle.laws.specs.Integer.{plus, minus}
 use Rattle.laws.proofs.Machine.{kept}
 use Rattle.pixel_segment.specs.Field.{cpu}
-use Rattle.pixel_segment.specs.Pack.{isPackable, packedAnswer, packOf, Packs}
+use Rattle.pixel_segment.specs.Pack.{isPackable, packedAnswer, packOf}
 use Rattle.pixel_segment.proofs.Ranges.{cpu-layout, in-range}
 use Rattle.pixel_segment.proofs.ReadBack.{given-word, refused-means}
 use Rattle.job_lines.specs.Rules.{segmentRule}
-use Rattle.job_lines.specs.declared.segment.SegmentLine.{SegmentLine}
 use Rattle.job_lines.proofs.Ranges.{fits-below}
 use Rattle.job_lines.proofs.segment.is_segment.Statement.{statement}
 use Rattle.job_lines.proofs.segment.is_segment.Tie as tie
