@@ -1,16 +1,13 @@
 -- The worked cases hold, and so do the edges beside them. What computes is proved by computing. Assumes nothing.
-use mathlib.Core.Path.{_≡_, refl, ap}
-use mathlib.Core.Bool.{false}
+use mathlib.Core.Path.{_≡_, refl}
+use mathlib.Core.Bool.{Bool, true, false, cond, _&&_}
 use mathlib.Core.List.{List, [], _∷_}
-use Prim.Native.Nat.{ℕ, _≤_}
-use native.Mathlib.Omega.{arith}
-use borrow.Author.Tests.{lt-leb, eq-eqb}
-use lib.Dec.{lit<}
+use Prim.Native.Nat.{ℕ}
+use borrow.Author.Tests.{eq-eqb}
 use lib.Ieee.{odd, ofBits}
-use lib.IntN.{ℤ, pos, negsuc}
-use lib.Signed.{leZ}
+use lib.IntN.{ℤ, pos}
 use Rattle.laws.specs.Integer.{plus}
-use Rattle.laws.specs.Answer.{given}
+use Rattle.laws.specs.Answer.{refused, given}
 use Rattle.cached_tile.specs.Kept.{keep, settleOf, settledKept}
 use Rattle.cached_tile.proofs.Counts.{count-kept}
 use Rattle.cover_statements.specs.Area.{doubledArea}
@@ -18,10 +15,11 @@ use Rattle.cover_statements.specs.Carry.{isLight, carryOf}
 use Rattle.cover_statements.specs.Cover.{isEmpty, isFull}
 use Rattle.cover_statements.specs.Coverage.{coverageOf}
 use Rattle.cover_statements.specs.Plane.{inPlaces}
-use Rattle.pixel_segment.specs.Field.{tileOf, coverOf, doubleAreaOf}
-use Rattle.pixel_segment.specs.Pack.{packOf}
+use Rattle.pixel_segment.specs.Field.{cpu, tileOf, coverOf, doubleAreaOf}
+use Rattle.pixel_segment.specs.Pack.{wordOf, isHeld, lowestTile, isPackable, packOf}
 use Rattle.segment_rows.specs.Search.{searchOf, halved, layerPart}
-use Rattle.pixel_segment.proofs.ReadBack.{kept}
+use Rattle.pixel_segment.proofs.Ranges.{cpu-layout}
+use Rattle.pixel_segment.proofs.ReadBack.{given-back}
 use Rattle.layer_table.specs.Lookup.{lookup}
 use Rattle.queue_statements.specs.Queue.{heldIn}
 use Rattle.tile_layers.specs.Groups.{groupsOf}
@@ -29,56 +27,46 @@ use Rattle.tile_layers.specs.Listing.{listOf}
 use Rattle.pass_statements.specs.Clips.{clipsFrom, stepOf}
 use Rattle.pass_statements.specs.Rules.{latestClip}
 use Rattle.cases.specs.Numbers.{neg}
-use Rattle.cases.specs.Inputs.{tileX, tileY, readOf, givenTile}
+use Rattle.cases.specs.Inputs.{givenTile}
 use Rattle.cases.specs.Cases.{Cases}
 use Rattle.cases.specs.Edges.{Edges}
 
--- a tile number that packing does not refuse
-packs : (t : ℤ) → plus t ≤ 32766 → leZ (pos 32767) t ≡ false
-packs (pos n) h = lt-leb 32767 n (omega arith)
-packs (negsuc n) h = refl
+-- P3, P4: a tile x outside its field's range, whatever the other tests of packing say
+refuses : (a c d e f g : Bool) (w : ℕ) → cond (a && false && c && d && e && f && g) (given w) (refused 11) ≡ refused 11
+refuses true c d e f g w = refl
+refuses false c d e f g w = refl
 
--- P4: the stored tile numbers, of the word's fields 0 and 1
-module _ (layer : ℕ) (t : ℤ) (x y m : ℕ) (c : ℤ) (h : plus t ≤ 32766) where
-  last-y : readOf tileY (packOf layer t (pos 2046) x y m c) ≡ given (pos 2046)
-  unfolding tileOf
-  last-y = rw (packs t h) (ap (λ (n : ℕ). given (tileOf n)) (kept layer t (pos 2046) x y m c 0 (lit< tt)))
+module _ (layer ty x y m c : ℤ) where
+  past-x : (tx : ℤ) → isHeld lowestTile 12 tx ≡ false → packOf cpu layer tx ty x y m c ≡ refused 11
+  unfolding isPackable
+  past-x tx e =
+      rw e
+      (refuses (isHeld lowestTile 11 ty) (isHeld (pos 0) 21 layer) (isHeld (pos 0) 4 x) (isHeld (pos 0) 4 y) (isHeld (pos 0) 6 m) (isHeld (neg 32) 6 c)
+      (wordOf cpu (plus layer) tx ty (plus x) (plus y) (plus m) c))
 
-  past-y : readOf tileY (packOf layer t (pos 2047) x y m c) ≡ given (neg 1)
-  unfolding tileOf
-  past-y = rw (packs t h) (ap (λ (n : ℕ). given (tileOf n)) (kept layer t (pos 2047) x y m c 0 (lit< tt)))
-
-  last-x : readOf tileX (packOf layer (pos 4094) t x y m c) ≡ given (pos 4094)
-  unfolding tileOf
-  last-x = rw (packs t h) (ap (λ (n : ℕ). given (tileOf n)) (kept layer (pos 4094) t x y m c 1 (lit< tt)))
-
-  past-x : readOf tileX (packOf layer (pos 4095) t x y m c) ≡ given (neg 1)
-  unfolding tileOf
-  past-x = rw (packs t h) (ap (λ (n : ℕ). given (tileOf n)) (kept layer (pos 4095) t x y m c 1 (lit< tt)))
+  past-y : packOf cpu layer ty (pos 2047) x y m c ≡ refused 11
+  unfolding isPackable
+  past-y = refl
 
 -- P12: bytes that are settled again
 keeps : (count was : List ℕ) (r g b a : ℕ) → settleOf (settledKept (givenTile 0 count was) (r ∷ g ∷ b ∷ a ∷ [])) (r ∷ g ∷ b ∷ a ∷ []) ≡ given keep
 keeps count was r g b a = rw (eq-eqb r r refl, eq-eqb g g refl, eq-eqb b b refl, eq-eqb a a refl) refl
 
 pub cases : Cases
-unfolding coverOf doubleAreaOf tileOf searchOf halved isEmpty isFull coverageOf ofBits odd isLight carryOf latestClip listOf groupsOf lookup clipsFrom stepOf inPlaces doubledArea heldIn layerPart
+unfolding isPackable coverOf doubleAreaOf tileOf searchOf halved isEmpty isFull coverageOf ofBits odd isLight carryOf latestClip listOf groupsOf lookup clipsFrom stepOf inPlaces doubledArea heldIn layerPart
 cases =
     record {
       p1 = refl;
       p2-word = refl;
       p2-area = refl;
-      p3 = λ layer ty x y m c. refl;
-      p3-packs = λ layer ty x y m c h. rw (packs ty h) refl;
-      p3-far = refl;
-      p3-near = refl;
-      p4-last-y = last-y;
-      p4-past-y = past-y;
+      p3-refused = λ layer ty x y m c. past-x layer ty x y m c (neg 7) refl;
+      p3-passes = refl;
+      p4-last-y = λ layer tx x y m c w e. given-back cpu cpu-layout layer tx (pos 2046) x y m c e .tile-y;
+      p4-past-y = λ layer tx x y m c. past-y layer tx x y m c;
       p4-last-y-word = refl;
-      p4-past-y-word = refl;
-      p4-last-x = last-x;
-      p4-past-x = past-x;
+      p4-last-x = λ layer ty x y m c w e. given-back cpu cpu-layout layer (pos 4094) ty x y m c e .tile-x;
+      p4-past-x = λ layer ty x y m c. past-x layer ty x y m c (pos 4095) refl;
       p4-last-x-word = refl;
-      p4-past-x-word = refl;
       p5-found = refl;
       p5-before = refl;
       p5-inside = refl;
@@ -120,13 +108,11 @@ cases =
     }
 
 pub edges : Edges
-unfolding coverOf isLight carryOf
+unfolding isPackable coverOf isLight carryOf
 edges =
     record {
-      tile-x-refused = refl;
-      tile-y-refused = refl;
-      tile-x-passes = refl;
-      tile-y-passes = refl;
+      layer-past = refl;
+      layer-last = refl;
       load-refused = refl;
       load-passes = refl;
       no-count = λ count color. refl;

@@ -16,6 +16,10 @@ abbrev pub isWord : Answer ℕ → ℕ → Bool
 isWord (refused n) w = false
 isWord (given v) w = eqb v w
 
+abbrev pub isRefused : Answer ℕ → Bool
+isRefused (refused n) = true
+isRefused (given v) = false
+
 abbrev pub isAt : Place → ℕ → Bool
 isAt (found i) place = eqb i place
 isAt (absent i) place = false

@@ -7,8 +7,7 @@ use mathlib.Core.Option.{some, none}
 use Prim.Native.Nat.{ℕ, _%_, _^_, _≤_}
 use lib.IntN.{ℤ, pos}
 use lib.ListN.{replicate}
-use Rattle.laws.specs.Integer.{plus}
-use Rattle.laws.specs.Answer.{given}
+use Rattle.laws.specs.Answer.{refused, given}
 use Rattle.cached_tile.specs.Kept.{write, keep, settleOf, settledKept}
 use Rattle.cached_tile.specs.Tile.{layerCountOf, updateCount, updateColor}
 use Rattle.cached_tile.specs.declared.CachedTile.{CachedTile}
@@ -17,7 +16,7 @@ use Rattle.cover_statements.specs.Cover.{isEmpty, isFull}
 use Rattle.cover_statements.specs.Coverage.{areaCoverage}
 use Rattle.cover_statements.specs.Weight.{weightOf}
 use Rattle.pixel_segment.specs.Field.{cpu, doubleAreaOf}
-use Rattle.pixel_segment.specs.Pack.{packOf, wordOf}
+use Rattle.pixel_segment.specs.Pack.{packOf}
 use Rattle.segment_rows.specs.Search.{found, absent, searchOf, orderAt}
 use Rattle.segment_rows.specs.declared.search.Key.the-variants.{LayerId}
 use Rattle.styling.specs.declared.FillRule.the-variants.{NonZero, EvenOdd}
@@ -27,29 +26,25 @@ use Rattle.pass_statements.specs.Clips.{marksOf}
 use Rattle.painter.specs.Clip.{aliveAt, clipAfter}
 use Rattle.painter.specs.Painting.{itemsIn, needsIn, markIn, planeIn}
 use Rattle.cases.specs.Numbers.{neg, uncovered, half, of324, whole, halfPlane, sixteen}
-use Rattle.cases.specs.Inputs.{tileX, tileY, readOf, words, inRow0, firstClip, secondClip, clippedDraw, threeLayers, threeCarries, givenTile}
+use Rattle.cases.specs.Inputs.{tileX, tileY, words, inRow0, firstClip, secondClip, clippedDraw, threeLayers, threeCarries, givenTile}
 
 pub record Cases : Type 0 where
   -- P1. Layer 5, tile x 2, tile y 0, local x 3, local y 4, multiplier 32 and cover 16 pack to this word
-  pub p1 : packOf 5 (pos 2) (pos 0) 3 4 32 (pos 16) ≡ given 0x0020060000534810
+  pub p1 : packOf cpu (pos 5) (pos 2) (pos 0) (pos 3) (pos 4) (pos 32) (pos 16) ≡ given 0x0020060000534810
   -- P2. With cover -1 it is this word, whose double area is -32
-  pub p2-word : packOf 5 (pos 2) (pos 0) 3 4 32 (neg 1) ≡ given 0x002006000053483F
+  pub p2-word : packOf cpu (pos 5) (pos 2) (pos 0) (pos 3) (pos 4) (pos 32) (neg 1) ≡ given 0x002006000053483F
   pub p2-area : doubleAreaOf cpu 0x002006000053483F ≡ neg 32
-  -- P3. Tile x -7 packs as tile x -1 does, whatever the other fields are; both pack wherever the tile y does, the fields of P1 to this word
-  pub p3 : (layer : ℕ) (ty : ℤ) (x y m : ℕ) (c : ℤ) → packOf layer (neg 7) ty x y m c ≡ packOf layer (neg 1) ty x y m c
-  pub p3-packs : (layer : ℕ) (ty : ℤ) (x y m : ℕ) (c : ℤ) → plus ty ≤ 32766 → packOf layer (neg 7) ty x y m c ≡ given (wordOf cpu layer (neg 1) ty x y m c)
-  pub p3-far : packOf 5 (neg 7) (pos 0) 3 4 32 (pos 16) ≡ given 0x0020000000534810
-  pub p3-near : packOf 5 (neg 1) (pos 0) 3 4 32 (pos 16) ≡ given 0x0020000000534810
-  -- P4. Packed with tile y 2,046 and any other fields that pack, the tile y reads back; 2,047 packs too, and reads back as -1
-  pub p4-last-y : (layer : ℕ) (tx : ℤ) (x y m : ℕ) (c : ℤ) → plus tx ≤ 32766 → readOf tileY (packOf layer tx (pos 2046) x y m c) ≡ given (pos 2046)
-  pub p4-past-y : (layer : ℕ) (tx : ℤ) (x y m : ℕ) (c : ℤ) → plus tx ≤ 32766 → readOf tileY (packOf layer tx (pos 2047) x y m c) ≡ given (neg 1)
-  pub p4-last-y-word : packOf 5 (pos 2) (pos 2046) 3 4 32 (pos 16) ≡ given 0xFFE0060000534810
-  pub p4-past-y-word : packOf 5 (pos 2) (pos 2047) 3 4 32 (pos 16) ≡ given 0x0000060000534810
+  -- P3. Tile x -7 is refused by 11, whatever the other fields are (W-203); -1 packs the fields of P1 to this word
+  pub p3-refused : (layer ty x y m c : ℤ) → packOf cpu layer (neg 7) ty x y m c ≡ refused 11
+  pub p3-passes : packOf cpu (pos 5) (neg 1) (pos 0) (pos 3) (pos 4) (pos 32) (pos 16) ≡ given 0x0020000000534810
+  -- P4. Packed with tile y 2,046 and any other fields that pack, the tile y reads back; 2,047 is refused by 11, whatever the other fields are
+  pub p4-last-y : (layer tx x y m c : ℤ) (w : ℕ) → packOf cpu layer tx (pos 2046) x y m c ≡ given w → tileY w ≡ pos 2046
+  pub p4-past-y : (layer tx x y m c : ℤ) → packOf cpu layer tx (pos 2047) x y m c ≡ refused 11
+  pub p4-last-y-word : packOf cpu (pos 5) (pos 2) (pos 2046) (pos 3) (pos 4) (pos 32) (pos 16) ≡ given 0xFFE0060000534810
   -- for tile x the pair is 4,094 and 4,095
-  pub p4-last-x : (layer : ℕ) (ty : ℤ) (x y m : ℕ) (c : ℤ) → plus ty ≤ 32766 → readOf tileX (packOf layer (pos 4094) ty x y m c) ≡ given (pos 4094)
-  pub p4-past-x : (layer : ℕ) (ty : ℤ) (x y m : ℕ) (c : ℤ) → plus ty ≤ 32766 → readOf tileX (packOf layer (pos 4095) ty x y m c) ≡ given (neg 1)
-  pub p4-last-x-word : packOf 5 (pos 4094) (pos 0) 3 4 32 (pos 16) ≡ given 0x003FFE0000534810
-  pub p4-past-x-word : packOf 5 (pos 4095) (pos 0) 3 4 32 (pos 16) ≡ given 0x0020000000534810
+  pub p4-last-x : (layer ty x y m c : ℤ) (w : ℕ) → packOf cpu layer (pos 4094) ty x y m c ≡ given w → tileX w ≡ pos 4094
+  pub p4-past-x : (layer ty x y m c : ℤ) → packOf cpu layer (pos 4095) ty x y m c ≡ refused 11
+  pub p4-last-x-word : packOf cpu (pos 5) (pos 4094) (pos 0) (pos 3) (pos 4) (pos 32) (pos 16) ≡ given 0x003FFE0000534810
   -- P5. Of the keys 1, 3, 3, 3 and 7, key 3 is found at 3; 0, 4 and 9 are absent, and would stand at 0, 4 and 5; in the empty slice a key is
   -- absent, at 0
   pub p5-found : searchOf (orderAt (LayerId 3)) words ≡ found 3

@@ -16,11 +16,9 @@ use Rattle.cases.specs.Numbers.{neg, sixteen}
 use Rattle.cases.specs.Inputs.{inRow0, taggedTile}
 
 pub record Edges : Type 0 where
-  -- packing refuses tile 32,767 by 2, and gives the word of tile 32,766, of which the field keeps the low bits
-  pub tile-x-refused : packOf 5 (pos 32767) (pos 0) 3 4 32 (pos 16) ≡ refused 2
-  pub tile-y-refused : packOf 5 (pos 2) (pos 32767) 3 4 32 (pos 16) ≡ refused 2
-  pub tile-x-passes : packOf 5 (pos 32766) (pos 0) 3 4 32 (pos 16) ≡ given 0x003FFE0000534810
-  pub tile-y-passes : packOf 5 (pos 2) (pos 32766) 3 4 32 (pos 16) ≡ given 0xFFE0060000534810
+  -- the plate maker's layer 2,097,152 is refused by 11, and the last one packs; every other edge of packing stands in pixel_segment/proofs/Edges
+  pub layer-past : packOf cpu (pos 2097152) (pos 2) (pos 0) (pos 3) (pos 4) (pos 32) (pos 16) ≡ refused 11
+  pub layer-last : packOf cpu (pos 2097151) (pos 2) (pos 0) (pos 3) (pos 4) (pos 32) (pos 16) ≡ given 0x002007FFFFF34810
   -- number 9: 120 and -8 are refused, though their sum is 112; 119 and -8 pass
   pub load-refused : addOf cpu 16 (sixteen (pos 120)) (inRow0 (neg 8) ∷ []) ≡ refused 9
   pub load-passes : addOf cpu 16 (sixteen (pos 119)) (inRow0 (neg 8) ∷ []) ≡ given (pos 111 ∷ replicate 15 (pos 119))

@@ -3,7 +3,6 @@ use mathlib.Core.Bool.{true, false}
 use mathlib.Core.List.{List, [], _∷_}
 use Prim.Native.Nat.{ℕ}
 use lib.IntN.{ℤ, pos}
-use Rattle.laws.specs.Answer.{Answer, refused, given}
 use Rattle.cached_tile.specs.declared.CachedTile.{CachedTile}
 use Rattle.cached_tile.specs.declared.kept.Kept.{Kept}
 use Rattle.pixel_segment.specs.Field.{cpu, tileOf, tileXOf, tileYOf}
@@ -25,11 +24,6 @@ tileX w = tileOf (tileXOf cpu w)
 
 abbrev pub tileY : ℕ → ℤ
 tileY w = tileOf (tileYOf cpu w)
-
--- what is read of the word that packing gives; a refusal stays one
-abbrev pub readOf : (ℕ → ℤ) → Answer ℕ → Answer ℤ
-readOf read (refused n) = refused n
-readOf read (given w) = given (read w)
 
 -- words of the layers 1, 3, 3, 3 and 7
 abbrev pub words : List ℕ

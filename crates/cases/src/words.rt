@@ -7,7 +7,7 @@ ghost use mathlib.Core.Path.{_≡_};
 ghost use mathlib.Core.Bool.{true};
 ghost use Rattle.pixel_segment.specs.Pack.{packedAnswer};
 ghost use Rattle.segment_rows.specs.Search.{placeIn};
-ghost use Rattle.cases.specs.Answers.{isWord, isAt, isAbsentAt};
+ghost use Rattle.cases.specs.Answers.{isWord, isRefused, isAt, isAbsentAt};
 
 // Whether packing gave the word.
 fn is_word(packed: Packed, word: u64) -> bool
@@ -15,7 +15,17 @@ fn is_word(packed: Packed, word: u64) -> bool
 {
     match packed {
         Packed::Segment(s) => s.0 == word,
-        Packed::TileOutOfRange => false,
+        Packed::FieldOutOfRange => false,
+    }
+}
+
+// Whether packing was refused.
+fn is_refused(packed: Packed) -> bool
+    ensures { λ r. ⌜ r ≡ isRefused (packedAnswer packed) ⌝ }
+{
+    match packed {
+        Packed::Segment(_) => false,
+        Packed::FieldOutOfRange => true,
     }
 }
 
@@ -52,14 +62,11 @@ pub fn p2() -> bool
     packs & (PixelSegment(0x002006000053483F).double_area() == -32)
 }
 
-// Tile x -7 and -1 pack to the same word.
+// Tile x -7 is refused, and -1 packs.
 pub fn p3() -> bool
     ensures { λ r. ⌜ r ≡ true ⌝ }
 {
-    let far = is_word(
-        PixelSegment::new(5, -7, 0, 3, 4, 32, 16),
-        0x0020000000534810,
-    );
+    let far = is_refused(PixelSegment::new(5, -7, 0, 3, 4, 32, 16));
     let near = is_word(
         PixelSegment::new(5, -1, 0, 3, 4, 32, 16),
         0x0020000000534810,
@@ -67,7 +74,7 @@ pub fn p3() -> bool
     far & near
 }
 
-// Tile y 2,046 packs and reads back; 2,047 packs and reads back as -1.
+// Tile y 2,046 packs and reads back; 2,047 is refused.
 pub fn p4_tile_y() -> bool
     ensures { λ r. ⌜ r ≡ true ⌝ }
 {
@@ -75,16 +82,12 @@ pub fn p4_tile_y() -> bool
         PixelSegment::new(5, 2, 2046, 3, 4, 32, 16),
         0xFFE0060000534810,
     );
-    let past = is_word(
-        PixelSegment::new(5, 2, 2047, 3, 4, 32, 16),
-        0x0000060000534810,
-    );
+    let past = is_refused(PixelSegment::new(5, 2, 2047, 3, 4, 32, 16));
     let last_y = PixelSegment(0xFFE0060000534810).tile_y();
-    let past_y = PixelSegment(0x0000060000534810).tile_y();
-    last & past & (last_y == 2046) & (past_y == -1)
+    last & past & (last_y == 2046)
 }
 
-// Tile x 4,094 packs and reads back; 4,095 packs and reads back as -1.
+// Tile x 4,094 packs and reads back; 4,095 is refused.
 pub fn p4_tile_x() -> bool
     ensures { λ r. ⌜ r ≡ true ⌝ }
 {
@@ -92,13 +95,9 @@ pub fn p4_tile_x() -> bool
         PixelSegment::new(5, 4094, 0, 3, 4, 32, 16),
         0x003FFE0000534810,
     );
-    let past = is_word(
-        PixelSegment::new(5, 4095, 0, 3, 4, 32, 16),
-        0x0020000000534810,
-    );
+    let past = is_refused(PixelSegment::new(5, 4095, 0, 3, 4, 32, 16));
     let last_x = PixelSegment(0x003FFE0000534810).tile_x();
-    let past_x = PixelSegment(0x0020000000534810).tile_x();
-    last & past & (last_x == 4094) & (past_x == -1)
+    last & past & (last_x == 4094)
 }
 
 // Words of the layers 1, 3, 3, 3 and 7: layer 3 is found at 3.

@@ -5,6 +5,7 @@ use pixel_segment::order::Ordering;
 use segment_rows::order;
 use segment_rows::search;
 ghost use mathlib.Core.Path.{_≡_};
+ghost use lib.IntN.{pos};
 ghost use Rattle.pixel_segment.specs.Field.{cpu, layerIdOf, tileXOf, tileYOf, tileOf};
 ghost use Rattle.pixel_segment.specs.Field.{localXOf, localYOf, multiplierOf, doubleAreaOf, coverOf};
 ghost use Rattle.pixel_segment.specs.Pack.{packOf};
@@ -25,11 +26,10 @@ pub extern "C" fn ffi_pack(
     cover: i8,
     word: &mut u64,
 ) -> u32
-    ensures { λ r. ⌜ r
-        ≡ refusalNumber (packOf «layer_id» «tile_x» «tile_y» «local_x» «local_y» «double_area_multiplier» cover) ⌝ }
-    ensures { λ _. ⌜ now (word .exit)
-        ≡ valueOr (packOf «layer_id» «tile_x» «tile_y» «local_x» «local_y» «double_area_multiplier» cover)
-        (now (word .entry)) ⌝ }
+    ensures { λ r. ⌜ r ≡ refusalNumber (packOf cpu (pos «layer_id») «tile_x» «tile_y»
+        (pos «local_x») (pos «local_y») (pos «double_area_multiplier») cover) ⌝ }
+    ensures { λ _. ⌜ now (word .exit) ≡ valueOr (packOf cpu (pos «layer_id») «tile_x» «tile_y»
+        (pos «local_x») (pos «local_y») (pos «double_area_multiplier») cover) (now (word .entry)) ⌝ }
 {
     let packed = PixelSegment::new(
         layer_id,

@@ -1,5 +1,6 @@
 // Packed words, and the places that searches find.
 use pixel_segment::Packed;
+use refusals::Refusal;
 use segment_rows::search::Found;
 ghost use mathlib.Core.Path.{_≡_};
 ghost use Rattle.pixel_segment.specs.Pack.{packedAnswer};
@@ -16,7 +17,7 @@ pub fn put_packed(packed: Packed, word: &mut u64) -> u32
             *word = s.0;
             0
         },
-        Packed::TileOutOfRange => 2,
+        Packed::FieldOutOfRange => refusals::number_of(Refusal::Fields),
     }
 }
 

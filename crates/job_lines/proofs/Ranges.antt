@@ -1,41 +1,27 @@
 -- What the rules on a line say of its numbers, as bounds on their parts.
 -- Assumes nothing.
 use mathlib.Core.Path.{_≡_}
-use mathlib.Core.Bool.{true, not, _&&_, _||_, false≢true}
-use Prim.Native.Nat.{_+_, _≤_}
+use mathlib.Core.Bool.{true, not, _&&_, _||_}
+use Prim.Native.Nat.{_+_, _≤_, _<_}
 use native.Mathlib.Omega.{arith}
-use borrow.Author.Tests.{leb-true}
-use lib.IntN.{ℤ, pos, negsuc, _-ℤ_}
-use lib.Signed.{leZ}
+use lib.IntN.{ℤ, pos, _-ℤ_}
 use mir.Syntax.{w32}
 use mir.Val.{SFits}
-use Rattle.laws.specs.Integer.{plus, minus}
+use Rattle.laws.specs.Integer.{plus, minus, isWithin}
 use Rattle.laws.proofs.Bools.{left, right}
-use Rattle.laws.proofs.Parts.{whole, taken}
+use Rattle.laws.proofs.Ranges.{within}
+use Rattle.laws.proofs.Parts.{whole, added, taken}
 use Rattle.laws.proofs.Machine.{sfits}
+use Rattle.pixel_segment.specs.Field.{cpu}
+use Rattle.pixel_segment.specs.Pack.{isPackable}
+use Rattle.pixel_segment.proofs.Ranges.{cpu-layout, in-range}
 use Rattle.job_lines.specs.declared.layer.LayerLine.{LayerLine}
 use Rattle.job_lines.specs.declared.segment.SegmentLine.{SegmentLine}
-use Rattle.job_lines.specs.Rules.{isWithin, is, isPlain, layerRule, segmentRule}
-
-le-true : (a b : ℤ) → leZ a b ≡ true → plus a + minus b ≤ plus b + minus a
-le-true (pos a) (pos b) e = omega (arith, leb-true a b e)
-le-true (pos a) (negsuc b) e = absurd (false≢true e)
-le-true (negsuc a) (pos b) e = omega arith
-le-true (negsuc a) (negsuc b) e = omega (arith, leb-true b a e)
-
-pub record Within (low high v : ℤ) : Type 0 where
-  pub above : plus low + minus v ≤ plus v + minus low
-  pub below : plus v + minus high ≤ plus high + minus v
-
-pub within : (low high v : ℤ) → isWithin low high v ≡ true → Within low high v
-unfolding isWithin
-within low high v e = record { above = le-true low v (left (leZ low v) (leZ v high) e); below = le-true v high (right (leZ low v) (leZ v high) e) }
+use Rattle.job_lines.specs.Rules.{is, isPlain, layerRule, segmentRule}
 
 -- 16 - y, for a y within a tile
-pub fits-below : (y : ℤ) → isWithin (pos 0) (pos 15) y ≡ true → SFits w32 (pos 16 -ℤ y)
-fits-below y e =
-    let h = within (pos 0) (pos 15) y e in
-    sfits w32 (pos 16 -ℤ y) (record { above = omega (arith, taken (pos 16) y); below = omega (arith, taken (pos 16) y) })
+pub fits-below : (y : ℤ) → (minus y ≡ 0) × (plus y < 16) → SFits w32 (pos 16 -ℤ y)
+fits-below y h = sfits w32 (pos 16 -ℤ y) (record { above = omega (arith, taken (pos 16) y); below = omega (arith, taken (pos 16) y) })
 
 -- a segment's fields lie within their widths, and its repeats within the tile
 pub record InTile (s : SegmentLine) : Type 0 where
@@ -47,37 +33,22 @@ pub record InTile (s : SegmentLine) : Type 0 where
   pub mult : (minus (s .mult) ≡ 0) × (plus (s .mult) ≤ 63)
   pub cover : (minus (s .cover) ≤ 32) × (plus (s .cover) ≤ 31)
 
--- the seven tests of the rule, the first innermost
+-- packing's ranges, and the test of the repeats
 pub in-tile : (s : SegmentLine) → segmentRule s ≡ true → InTile s
 unfolding segmentRule
 in-tile s e =
-    let a = isWithin (pos 0) (pos 15) (s .y) in
+    let a = isPackable cpu (s .layer) (s .«tile_x») (pos 0) (s .x) (s .y) (s .mult) (s .cover) in
     let b = isWithin (pos 1) (pos 16 -ℤ s .y) (s .rows) in
-    let c = isWithin (negsuc 0) (pos 4094) (s .«tile_x») in
-    let d = isWithin (pos 0) (pos 2097151) (s .layer) in
-    let f = isWithin (pos 0) (pos 15) (s .x) in
-    let g = isWithin (pos 0) (pos 63) (s .mult) in
-    let h = isWithin (negsuc 31) (pos 31) (s .cover) in
-    let e6 = left (a && b && c && d && f && g) h e in
-    let e5 = left (a && b && c && d && f) g e6 in
-    let e4 = left (a && b && c && d) f e5 in
-    let e3 = left (a && b && c) d e4 in
-    let e2 = left (a && b) c e3 in
-    let wy = within (pos 0) (pos 15) (s .y) (left a b e2) in
-    let wr = within (pos 1) (pos 16 -ℤ s .y) (s .rows) (right a b e2) in
-    let wt = within (negsuc 0) (pos 4094) (s .«tile_x») (right (a && b) c e3) in
-    let wl = within (pos 0) (pos 2097151) (s .layer) (right (a && b && c) d e4) in
-    let wx = within (pos 0) (pos 15) (s .x) (right (a && b && c && d) f e5) in
-    let wm = within (pos 0) (pos 63) (s .mult) (right (a && b && c && d && f) g e6) in
-    let wc = within (negsuc 31) (pos 31) (s .cover) (right (a && b && c && d && f && g) h e) in
+    let f = in-range cpu cpu-layout (s .layer) (s .«tile_x») (pos 0) (s .x) (s .y) (s .mult) (s .cover) (left a b e) in
+    let wr = within (pos 1) (pos 16 -ℤ s .y) (s .rows) (right a b e) in
     record {
-      y = omega (arith, whole (s .y));
-      rows = omega (arith, whole (s .rows), whole (s .y), taken (pos 16) (s .y));
-      tile-x = omega (arith, whole (s .«tile_x»));
-      layer = omega (arith, whole (s .layer));
-      x = omega (arith, whole (s .x));
-      mult = omega (arith, whole (s .mult));
-      cover = omega (arith, whole (s .cover));
+      y = omega (arith, f .local-y);
+      rows = omega (arith, f .local-y, whole (s .rows), taken (pos 16) (s .y));
+      tile-x = omega (arith, f .tile-x, added (s .«tile_x») (pos 1));
+      layer = omega (arith, f .layer-id);
+      x = omega (arith, f .local-x);
+      mult = omega (arith, f .multiplier);
+      cover = omega (arith, f .cover);
     }
 
 -- a layer's alpha is 0 to 256

@@ -1,18 +1,15 @@
 -- The rules on the values of a job's lines. Stands for '`rows` repeats a segment downward, 1 to 16 - y', 'alpha is 0 to 256', 'a clip has 0 in
--- clipped, fill, mode and alpha; a draw has span 0', 'at most 2,048 segments' and 'a segment field outside its width (tile_x -1 to 4,094)'.
+-- clipped, fill, mode and alpha; a draw has span 0', 'at most 2,048 segments' and 'a segment field outside its width (tile_x -1 to 4,094)', which packing judges (W-203).
 -- Layer ids, codes and spans have no rule here, nor have the numbers of block 1: refusals 4 and 2 judge them later.
 use mathlib.Core.Bool.{Bool, not, _&&_, _||_}
 use mathlib.Core.List.{List, [], _∷_}
 use Prim.Native.Nat.{ℕ, _+_}
-use lib.IntN.{ℤ, pos, negsuc, _-ℤ_}
-use lib.Signed.{leZ}
-use Rattle.laws.specs.Integer.{plus}
+use lib.IntN.{ℤ, pos, _-ℤ_}
+use Rattle.laws.specs.Integer.{plus, isWithin}
+use Rattle.pixel_segment.specs.Field.{cpu}
+use Rattle.pixel_segment.specs.Pack.{isPackable}
 use Rattle.job_lines.specs.declared.layer.LayerLine.{LayerLine}
 use Rattle.job_lines.specs.declared.segment.SegmentLine.{SegmentLine}
-
--- low ≤ v ≤ high
-unfoldable pub isWithin : ℤ → ℤ → ℤ → Bool
-isWithin low high v = leZ low v && leZ v high
 
 -- v is n
 abbrev pub is : ℤ → ℤ → Bool
@@ -29,16 +26,10 @@ layerRule l =
     && (not (is (pos 1) (l .clip)) || isPlain l)
     && (not (is (pos 0) (l .clip)) || is (pos 0) (l .span))
 
--- -1 is `negsuc 0`, -32 is `negsuc 31`
+-- packing takes the line's numbers, at tile y 0, since the row number is no part of the line; and the repeats stay within the tile
 unfoldable pub segmentRule : SegmentLine → Bool
 segmentRule s =
-    isWithin (pos 0) (pos 15) (s .y)
-    && isWithin (pos 1) (pos 16 -ℤ s .y) (s .rows)
-    && isWithin (negsuc 0) (pos 4094) (s .«tile_x»)
-    && isWithin (pos 0) (pos 2097151) (s .layer)
-    && isWithin (pos 0) (pos 15) (s .x)
-    && isWithin (pos 0) (pos 63) (s .mult)
-    && isWithin (negsuc 31) (pos 31) (s .cover)
+    isPackable cpu (s .layer) (s .«tile_x») (pos 0) (s .x) (s .y) (s .mult) (s .cover) && isWithin (pos 1) (pos 16 -ℤ s .y) (s .rows)
 
 -- how many segments the lines stand for
 unfoldable pub segmentCount : List SegmentLine → ℕ

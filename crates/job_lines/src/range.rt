@@ -1,6 +1,6 @@
 // Ranges of numbers.
 ghost use mathlib.Core.Path.{_≡_};
-ghost use Rattle.job_lines.specs.Rules.{isWithin};
+ghost use Rattle.laws.specs.Integer.{isWithin};
 
 pub fn is_within(v: i32, low: i32, high: i32) -> bool
     ensures { λ r. ⌜ r ≡ isWithin low high v ⌝ }

@@ -1,5 +1,7 @@
 // A line of block 3: a segment, repeated downward.
 use crate::range::is_within;
+use pixel_segment::Packed;
+use pixel_segment::PixelSegment;
 ghost use mathlib.Core.Path.{_≡_};
 ghost use Rattle.job_lines.specs.Rules.{segmentRule};
 
@@ -13,17 +15,22 @@ pub struct SegmentLine {
     pub cover: i32,
 }
 
-// Each field within its width, and no repeat below the tile. y is judged first, so that 16 - y is a number.
+// Whether packing takes the line's numbers, and no repeat goes below the tile. The row number is no part of the line: tile
+// y 0 stands for it.
 pub fn is_segment(s: SegmentLine) -> bool
     ensures { λ r. ⌜ r ≡ segmentRule s ⌝ }
 {
-    if !is_within(s.y, 0, 15) {
-        return false;
+    let packed = PixelSegment::pack(
+        s.layer as i64,
+        s.tile_x as i64,
+        0,
+        s.x as i64,
+        s.y as i64,
+        s.mult as i64,
+        s.cover as i64,
+    );
+    match packed {
+        Packed::Segment(_) => is_within(s.rows, 1, 16 - s.y),
+        Packed::FieldOutOfRange => false,
     }
-    is_within(s.rows, 1, 16 - s.y)
-        & is_within(s.tile_x, -1, 4094)
-        & is_within(s.layer, 0, 2097151)
-        & is_within(s.x, 0, 15)
-        & is_within(s.mult, 0, 63)
-        & is_within(s.cover, -32, 31)
 }

@@ -5,15 +5,14 @@ use pixel_segment::Packed;
 use pixel_segment::PixelSegment;
 ghost use mathlib.Core.Path.{_≡_};
 ghost use mathlib.Core.Bool.{true};
-ghost use Prim.Native.Nat.{_+_, _*_, _%_, _≤_, _<_};
+ghost use Prim.Native.Nat.{_+_, _*_, _≤_};
 ghost use lib.ListN.{length};
 ghost use Rattle.laws.specs.Integer.{plus};
 ghost use Rattle.laws.specs.Lists.{over, all};
-ghost use Rattle.pixel_segment.specs.Pack.{storedOf};
 ghost use Rattle.job_lines.specs.Rules.{segmentRule, segmentCount};
 ghost use Rattle.job_text_statements.specs.Numbers.{segmentsIn};
-ghost use Rattle.job_statements.specs.Row.{rowWords};
-ghost use Rattle.job_statements.specs.Entries.{fieldsOf, packed, Packs, SegmentWritten};
+ghost use Rattle.job_statements.specs.Row.{isTileY, rowTile, rowWords};
+ghost use Rattle.job_statements.specs.Entries.{fieldsOf, packed, isPackableAt, SegmentWritten};
 
 fn to_fields(s: SegmentLine) -> Fields
     requires { ⌜ segmentRule s ≡ true ⌝ }
@@ -30,31 +29,30 @@ fn to_fields(s: SegmentLine) -> Fields
     }
 }
 
-// The tile y, -1 to 2,046, that packs like the row number.
+// The tile y of the row's words: the row number where packing takes it, else -1.
 fn to_tile_y(row: i32) -> i16
-    ensures { λ r. ⌜ storedOf r ≡ storedOf row % 2048 ⌝ }
+    ensures { λ r. ⌜ r ≡ rowTile row ⌝ }
 {
-    if row < 0 {
-        -1
-    } else {
-        ((row as u32 + 1) % 2048) as i16 - 1
+    match PixelSegment::pack(0, 0, row as i64, 0, 0, 0, 0) {
+        Packed::Segment(segment) => segment.tile_y(),
+        Packed::FieldOutOfRange => -1,
     }
 }
 
 // The word of a line, i pixel rows down.
 fn pack(f: Fields, tile_y: i16, i: u8) -> u64
-    requires { ⌜ Packs f «tile_y» i ⌝ }
+    requires { ⌜ isPackableAt f «tile_y» i ≡ true ⌝ }
     ensures { λ r. ⌜ r ≡ packed f «tile_y» i ⌝ }
 {
     match PixelSegment::new(f.layer, f.tile_x, tile_y, f.x, f.y + i, f.mult, f.cover) {
         Packed::Segment(segment) => segment.0,
-        Packed::TileOutOfRange => 0,
+        Packed::FieldOutOfRange => 0,
     }
 }
 
 // Writes the words of a line from place `at` on, and answers the place after them.
 fn write_segment(s: SegmentLine, tile_y: i16, row: &mut [u64], at: usize) -> usize
-    requires { ⌜ (segmentRule s ≡ true) × (storedOf «tile_y» < 2048) × (at + plus (s .rows) ≤ length (now row)) ⌝ }
+    requires { ⌜ (segmentRule s ≡ true) × (isTileY «tile_y» ≡ true) × (at + plus (s .rows) ≤ length (now row)) ⌝ }
     ensures { λ r. ⌜ SegmentWritten «tile_y» s (now (row .entry)) at r (now (row .exit)) ⌝ }
 {
     let f = to_fields(s);

@@ -8,7 +8,7 @@ use lib.IntN.{pos, negsuc}
 use Rattle.job_lines.specs.declared.segment.SegmentLine.{SegmentLine}
 use Rattle.job_text_statements.specs.Parse.{layerLineOf, segmentOf}
 use Rattle.job_statements.specs.Table.{alphaOf, tableWords}
-use Rattle.job_statements.specs.Row.{segmentWord, rowWords}
+use Rattle.job_statements.specs.Row.{segmentWord, rowTile, rowWords}
 
 -- `2 5 3 4 2 32 16` and `2 5 3 4 1 32 -1`
 abbrev lines : List SegmentLine
@@ -18,24 +18,36 @@ lines =
     ∷ []
 
 pub words : rowWords (pos 0) lines ≡ 0x0020060000534810 ∷ 0x0020060000535810 ∷ 0x002006000053483F ∷ []
-unfolding rowWords flatten segmentWord
+unfolding rowWords flatten segmentWord rowTile
 words = refl
 
--- rows -7, 2,047 and 32,767 pack like row -1, and 32,768 like row 0
-pub below : rowWords (negsuc 6) lines ≡ rowWords (negsuc 0) lines
-unfolding rowWords flatten segmentWord
+-- rows -1 and 2,046 stand in the words; -7, -2, 2,047, 32,767 and 32,768 are words of row -1
+pub lowest : rowWords (negsuc 0) lines ≡ 0x0000060000534810 ∷ 0x0000060000535810 ∷ 0x000006000053483F ∷ []
+unfolding rowWords flatten segmentWord rowTile
+lowest = refl
+
+pub highest : rowWords (pos 2046) lines ≡ 0xFFE0060000534810 ∷ 0xFFE0060000535810 ∷ 0xFFE006000053483F ∷ []
+unfolding rowWords flatten segmentWord rowTile
+highest = refl
+
+pub far-below : rowWords (negsuc 6) lines ≡ rowWords (negsuc 0) lines
+unfolding rowWords flatten segmentWord rowTile
+far-below = refl
+
+pub below : rowWords (negsuc 1) lines ≡ rowWords (negsuc 0) lines
+unfolding rowWords flatten segmentWord rowTile
 below = refl
 
 pub above : rowWords (pos 2047) lines ≡ rowWords (negsuc 0) lines
-unfolding rowWords flatten segmentWord
+unfolding rowWords flatten segmentWord rowTile
 above = refl
 
 pub last-tile : rowWords (pos 32767) lines ≡ rowWords (negsuc 0) lines
-unfolding rowWords flatten segmentWord
+unfolding rowWords flatten segmentWord rowTile
 last-tile = refl
 
-pub past-it : rowWords (pos 32768) lines ≡ rowWords (pos 0) lines
-unfolding rowWords flatten segmentWord
+pub past-it : rowWords (pos 32768) lines ≡ rowWords (negsuc 0) lines
+unfolding rowWords flatten segmentWord rowTile
 past-it = refl
 
 -- `-1 0 1 7 0 0 0 0`: a negative id is its 32-bit pattern

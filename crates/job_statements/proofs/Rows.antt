@@ -1,9 +1,9 @@
 -- What holds while a line's words are written, and while the lines' words are.
 -- Assumes nothing.
-use mathlib.Core.Path.{_≡_, refl, sym, ap, ap₂, _∙_}
+use mathlib.Core.Path.{_≡_, refl, sym, ap, ap₂, subst, _∙_}
 use mathlib.Core.Bool.{true}
 use mathlib.Core.List.{List, [], _∷_, _++_, map, flatten}
-use Prim.Native.Nat.{ℕ, _+_, _%_, _<_, _≤_}
+use Prim.Native.Nat.{ℕ, _+_, _<_, _≤_}
 use native.Mathlib.Nat.{zero-add}
 use native.Mathlib.Numerals.{add-one}
 use native.Mathlib.Omega.{arith}
@@ -14,16 +14,15 @@ use Rattle.laws.specs.Integer.{plus}
 use Rattle.laws.specs.Lists.{tabulate, over}
 use Rattle.laws.proofs.Rows.{length-tabulate, getD-tabulate}
 use Rattle.decimal.proofs.Print.{sets-append}
-use Rattle.pixel_segment.specs.Pack.{storedOf}
 use Rattle.job_lines.specs.declared.segment.SegmentLine.{SegmentLine}
 use Rattle.job_lines.specs.Rules.{segmentRule, segmentCount}
 use Rattle.job_text_statements.specs.Numbers.{segmentAt, segmentsIn}
 use Rattle.job_lines.proofs.Ranges.{in-tile}
 use Rattle.job_text_statements.proofs.Counting.{count-step}
 use Rattle.job_statements.specs.declared.row.Fields.{Fields}
-use Rattle.job_statements.specs.Row.{segmentWord, segmentWords, rowWords}
-use Rattle.job_statements.specs.Entries.{fieldsOf, packed, Packs, SegmentWritten}
-use Rattle.job_statements.proofs.Packing.{alike, word-is}
+use Rattle.job_statements.specs.Row.{segmentWord, segmentWords, isTileY, rowTile, rowWords}
+use Rattle.job_statements.specs.Entries.{fieldsOf, packed, isPackableAt, SegmentWritten}
+use Rattle.job_statements.proofs.Packing.{word-is, packs-line}
 use Rattle.job_statements.proofs.Strides.{tabulate-ext, tabulate-snoc}
 
 -- ---- one line: the first i words of its fields are written
@@ -75,12 +74,8 @@ module _ {f : Fields} (s : SegmentLine) (e : f ≡ fieldsOf s) (ok : segmentRule
   pub few-rows : (f .rows ≡ plus (s .rows)) × (f .rows ≤ 16)
   few-rows = (rows-are, omega (arith, rows-are, in-tile s ok))
 
-  pub packs-at : {ty : ℤ} {i : ℕ} → storedOf ty < 2048 → i < f .rows → Packs f ty i
-  packs-at h l =
-      let t = in-tile s ok in
-      let x : plus (f .«tile_x») ≡ plus (s .«tile_x») = ap (λ (g : Fields). plus (g .«tile_x»)) e in
-      let y : f .y ≡ plus (s .y) = ap (λ (g : Fields). g .y) e in
-      record { tile-x = omega (arith, x, t .tile-x); tile-y = h; local-y = omega (arith, y, rows-are, t .rows) }
+  pub packs-at : (ty : ℤ) (i : ℕ) → isTileY ty ≡ true → i < f .rows → isPackableAt f ty i ≡ true
+  packs-at ty i h l = subst (λ (g : Fields). isPackableAt g ty i ≡ true) (sym e) (packs-line s ok ty h i (omega (arith, rows-are)))
 
 -- ---- the lines
 
@@ -88,7 +83,7 @@ pub length-row : (r : ℤ) (ss : List SegmentLine) → length (rowWords r ss) �
 unfolding rowWords segmentCount flatten
 length-row r [] = refl
 length-row r (s ∷ ss) =
-    length-append (segmentWords r s) (flatten (map (segmentWords r) ss)) ∙ ap₂ _+_ (length-tabulate (plus (s .rows)) (segmentWord r s)) (length-row r ss)
+    length-append (segmentWords (rowTile r) s) (flatten (map (segmentWords (rowTile r)) ss)) ∙ ap₂ _+_ (length-tabulate (plus (s .rows)) (segmentWord (rowTile r) s)) (length-row r ss)
 
 -- with the words of the lines from i on, the row is as all lines leave it
 pub record Writing (r : ℤ) (ns : List ℤ) (m : ℕ) (old : List ℕ) (at i : ℕ) (new : List ℕ) : Type 0 where
@@ -121,21 +116,21 @@ module _ {r : ℤ} {ns : List ℤ} {m : ℕ} {old : List ℕ} where
       pub line-room : at + plus ((segmentAt ns i) .rows) ≤ length new
       line-room = omega (arith, line-count, v .place, v .room, v .long)
 
-      line-words : rowWords r (drop i (segmentsIn ns m)) ≡ segmentWords r (segmentAt ns i) ++ rowWords r (drop (i + 1) (segmentsIn ns m))
+      line-words : rowWords r (drop i (segmentsIn ns m)) ≡ segmentWords (rowTile r) (segmentAt ns i) ++ rowWords r (drop (i + 1) (segmentsIn ns m))
       unfolding rowWords flatten
       line-words =
           ap (rowWords r) (drop-cons (segmentsIn ns m) i (segmentAt ns 0) (omega (arith, length-tabulate m (segmentAt ns))))
           ∙ rw (getD-tabulate m (segmentAt ns) (segmentAt ns 0) i h, add-one)
 
-      -- the words at a tile y that is stored like the row number
-      pub next : {ty : ℤ} {at′ : ℕ} {new′ : List ℕ} → storedOf ty ≡ storedOf r % 2048 → SegmentWritten ty (segmentAt ns i) new at at′ new′
+      -- the words at the row's tile y
+      pub next : {ty : ℤ} {at′ : ℕ} {new′ : List ℕ} → ty ≡ rowTile r → SegmentWritten ty (segmentAt ns i) new at at′ new′
           → Writing r ns m old at′ (i + 1) new′
       next {ty} {at′} {new′} e w =
           let s = segmentAt ns i in
-          let ws = segmentWords r s in
-          let same : segmentWords ty s ≡ ws = tabulate-ext (plus (s .rows)) (segmentWord ty s) (segmentWord r s) (λ k l. alike r ty s k e) in
+          let ws = segmentWords (rowTile r) s in
+          let same : segmentWords ty s ≡ ws = ap (λ (t : ℤ). segmentWords t s) e in
           let now : new′ ≡ sets new at ws = w .written ∙ ap (sets new at) same in
-          let count : length ws ≡ plus (s .rows) = length-tabulate (plus (s .rows)) (segmentWord r s) in
+          let count : length ws ≡ plus (s .rows) = length-tabulate (plus (s .rows)) (segmentWord (rowTile r) s) in
           let after = rowWords r (drop (i + 1) (segmentsIn ns m)) in
           record {
             within = omega arith;

@@ -1,16 +1,16 @@
 -- What the inner functions promise: an entry of the table by its place, a line's fields as packing takes them, and a packed word.
 -- proofs/Tables and proofs/Rows say that these are the entries of `tableWords`, `tableColors` and `rowWords`.
 use mathlib.Core.Path.{_≡_}
-use mathlib.Core.Bool.{cond}
+use mathlib.Core.Bool.{Bool, cond}
 use mathlib.Core.List.{List}
-use Prim.Native.Nat.{ℕ, _+_, _*_, _/_, _%_, _<_, _≤_}
+use Prim.Native.Nat.{ℕ, _+_, _*_, _/_, _%_}
 use lib.Dec.{eqb}
 use lib.Ieee.{Float}
-use lib.IntN.{ℤ}
+use lib.IntN.{ℤ, pos}
 use lib.Seq.{sets}
 use Rattle.laws.specs.Integer.{plus}
 use Rattle.pixel_segment.specs.Field.{cpu}
-use Rattle.pixel_segment.specs.Pack.{storedOf, wordOf}
+use Rattle.pixel_segment.specs.Pack.{wordOf, isPackable}
 use Rattle.job_lines.specs.declared.segment.SegmentLine.{SegmentLine}
 use Rattle.job_text_statements.specs.Numbers.{numberAt}
 use Rattle.job_statements.specs.declared.row.Fields.{Fields}
@@ -39,11 +39,9 @@ fieldsOf s =
 unfoldable pub packed : Fields → ℤ → ℕ → ℕ
 packed f ty i = wordOf cpu (f .layer) (f .«tile_x») ty (f .x) (f .y + i) (f .mult) (f .cover)
 
--- what packing asks
-pub record Packs (f : Fields) (ty : ℤ) (i : ℕ) : Type 0 where
-  pub tile-x : plus (f .«tile_x») ≤ 4094
-  pub tile-y : storedOf ty < 2048
-  pub local-y : f .y + i < 16
+-- packing takes them
+abbrev pub isPackableAt : Fields → ℤ → ℕ → Bool
+isPackableAt f ty i = isPackable cpu (pos (f .layer)) (f .«tile_x») ty (pos (f .x)) (pos (f .y + i)) (pos (f .mult)) (f .cover)
 
 -- the words of a line stand from place `at` on, the place after them is answered, and the other entries are as they were
 pub record SegmentWritten (ty : ℤ) (s : SegmentLine) (row : List ℕ) (at r : ℕ) (row′ : List ℕ) : Type 0 where

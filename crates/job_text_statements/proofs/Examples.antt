@@ -7,6 +7,7 @@ use mathlib.Core.Option.{some, none}
 use Prim.Native.Nat.{ℕ, zero, suc}
 use Prim.Native.String.{String}
 use lib.IntN.{pos, negsuc}
+use Rattle.laws.specs.Integer.{isWithin}
 use Rattle.laws.specs.Lists.{all}
 use Rattle.decimal.specs.Decimal.{decimal, decimalIn}
 use Rattle.decimal.specs.Parse.{parseℤ, parseℕ, moreDigits}
@@ -14,7 +15,8 @@ use Rattle.lines.specs.Bytes.{bytes}
 use Rattle.lines.specs.Text.{lineText, linesText, blockText}
 use Rattle.lines.specs.Parse.{stripPrefix, parseLine, parseLines, parseBlock}
 use Rattle.job_text_statements.specs.Text.{blocksText, layerNames, segmentNames}
-use Rattle.job_lines.specs.Rules.{isWithin, layerRule, segmentRule, segmentCount}
+use Rattle.pixel_segment.specs.Pack.{isPackable}
+use Rattle.job_lines.specs.Rules.{layerRule, segmentRule, segmentCount}
 use Rattle.job_text_statements.specs.Job.{Job, render, isAllowed}
 use Rattle.job_text_statements.specs.Parse.{headOf, layerLineOf, segmentOf, parseBlocks, parse}
 
@@ -40,7 +42,7 @@ pub job : String → String → List ℕ
 job layers segments = bytes "row tiles from to\n0 4 0 4\n" ++ (layerNames ++ (bytes layers ++ (segmentNames ++ bytes segments)))
 
 pub read : parse (job "1 0 0 0 0 0 0 256\n" "0 1 0 0 16 32 16\n2 1 8 0 16 32 -16\n") ≡ some example
-unfolding job parse parseBlocks parseBlock stripPrefix parseLines parseLine parseℤ parseℕ moreDigits isAllowed layerRule segmentRule isWithin segmentCount
+unfolding job parse parseBlocks parseBlock stripPrefix parseLines parseLine parseℤ parseℕ moreDigits isAllowed layerRule segmentRule isPackable isWithin segmentCount
 read = refl
 
 -- codes and ids of layers are not judged here, nor is the order of layers and segments; every field at its ends
@@ -53,7 +55,7 @@ good =
     ∷ []
 
 pub accepted : all isRead good ≡ true
-unfolding good job isRead parse parseBlocks parseBlock stripPrefix parseLines parseLine parseℤ parseℕ moreDigits isAllowed layerRule segmentRule isWithin segmentCount
+unfolding good job isRead parse parseBlocks parseBlock stripPrefix parseLines parseLine parseℤ parseℕ moreDigits isAllowed layerRule segmentRule isPackable isWithin segmentCount
 accepted = refl
 
 -- ---- the counts: 64 layers, 512 lines and 2,048 segments pass, and one more doesn't
@@ -69,11 +71,11 @@ counts n m k =
     ++ (layerNames ++ (times n (bytes "1 0 0 0 0 0 0 256\n") ++ (segmentNames ++ (times m (bytes "0 1 0 0 1 32 16\n") ++ times k (bytes "0 1 0 0 16 32 16\n")))))
 
 pub most : all isRead (counts 64 0 0 ∷ counts 0 512 0 ∷ counts 0 0 128 ∷ counts 64 410 102 ∷ []) ≡ true
-unfolding counts times isRead parse parseBlocks parseBlock stripPrefix parseLines parseLine parseℤ parseℕ moreDigits isAllowed layerRule segmentRule isWithin segmentCount
+unfolding counts times isRead parse parseBlocks parseBlock stripPrefix parseLines parseLine parseℤ parseℕ moreDigits isAllowed layerRule segmentRule isPackable isWithin segmentCount
 most = refl
 
 pub too-many : all (λ s. not (isRead s)) (counts 65 0 0 ∷ counts 0 513 0 ∷ counts 0 1 128 ∷ []) ≡ true
-unfolding counts times isRead parse parseBlocks parseBlock stripPrefix parseLines parseLine parseℤ parseℕ moreDigits isAllowed layerRule segmentRule isWithin segmentCount
+unfolding counts times isRead parse parseBlocks parseBlock stripPrefix parseLines parseLine parseℤ parseℕ moreDigits isAllowed layerRule segmentRule isPackable isWithin segmentCount
 too-many = refl
 
 -- ---- one broken rule each
@@ -115,5 +117,5 @@ bad =
     ∷ []
 
 pub malformed : all (λ s. not (isRead s)) bad ≡ true
-unfolding bad job isRead parse parseBlocks parseBlock stripPrefix parseLines parseLine parseℤ parseℕ moreDigits isAllowed layerRule segmentRule isWithin segmentCount
+unfolding bad job isRead parse parseBlocks parseBlock stripPrefix parseLines parseLine parseℤ parseℕ moreDigits isAllowed layerRule segmentRule isPackable isWithin segmentCount
 malformed = refl

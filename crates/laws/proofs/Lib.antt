@@ -3,6 +3,7 @@ pub mod Parts
 pub mod Machine
 pub mod Mod
 pub mod Bools
+pub mod Ranges
 pub mod Orders
 pub mod Sums
 pub mod Keyed

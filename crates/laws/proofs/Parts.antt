@@ -8,9 +8,9 @@ use mathlib.Core.Bool.{Bool, true, false, not, cond, false≢true}
 use Prim.Native.Nat.{ℕ, zero, suc, _+_, _*_, _-_, _≤_, _<_, min}
 use native.Mathlib.Nat.{mul-zero}
 use native.Mathlib.Omega.{arith}
-use borrow.Author.Tests.{ltb-true, ltb-false}
+use borrow.Author.Tests.{ltb-true, ltb-false, leb-true, lt-ltb, le-leb}
 use lib.Dec.{T, ltb, ltb→lt, nltb→le}
-use lib.Signed.{ltZ}
+use lib.Signed.{ltZ, leZ}
 use lib.IntN.{ℤ, pos, negsuc, negℤ, natAbs, subℕ, _+ℤ_, _-ℤ_, _*ℤ_}
 use Rattle.laws.specs.Integer.{plus, minus}
 
@@ -129,3 +129,21 @@ lt-false (pos a) (pos b) e = omega (arith, ltb-false a b e)
 lt-false (pos a) (negsuc b) e = omega arith
 lt-false (negsuc a) (pos b) e = absurd (false≢true (sym e))
 lt-false (negsuc a) (negsuc b) e = omega (arith, ltb-false b a e)
+
+pub le-true : (a b : ℤ) → leZ a b ≡ true → plus a + minus b ≤ plus b + minus a
+le-true (pos a) (pos b) e = omega (arith, leb-true a b e)
+le-true (pos a) (negsuc b) e = absurd (false≢true e)
+le-true (negsuc a) (pos b) e = omega arith
+le-true (negsuc a) (negsuc b) e = omega (arith, leb-true b a e)
+
+pub true-le : (a b : ℤ) → plus a + minus b ≤ plus b + minus a → leZ a b ≡ true
+true-le (pos a) (pos b) h = le-leb a b (omega arith)
+true-le (pos a) (negsuc b) h = absurd (omega arith)
+true-le (negsuc a) (pos b) h = refl
+true-le (negsuc a) (negsuc b) h = le-leb b a (omega arith)
+
+pub true-lt : (a b : ℤ) → plus a + minus b < plus b + minus a → ltZ a b ≡ true
+true-lt (pos a) (pos b) h = lt-ltb a b (omega arith)
+true-lt (pos a) (negsuc b) h = absurd (omega arith)
+true-lt (negsuc a) (pos b) h = refl
+true-lt (negsuc a) (negsuc b) h = lt-ltb b a (omega arith)

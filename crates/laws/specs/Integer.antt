@@ -1,6 +1,8 @@
--- Whole numbers (ℤ) by their two natural parts, and their remainders.
+-- Whole numbers (ℤ) by their two natural parts, their remainders, and ranges of them.
+use mathlib.Core.Bool.{Bool, _&&_}
 use Prim.Native.Nat.{ℕ, suc, _-_, _%_}
 use lib.IntN.{ℤ, pos, negsuc}
+use lib.Signed.{leZ}
 
 -- max(z, 0)
 abbrev pub plus : ℤ → ℕ
@@ -16,3 +18,7 @@ minus (negsuc n) = suc n
 abbrev pub modℤ : ℕ → ℤ → ℕ
 modℤ m (pos n) = n % m
 modℤ m (negsuc n) = m - suc (n % m)
+
+-- low ≤ v ≤ high
+unfoldable pub isWithin : ℤ → ℤ → ℤ → Bool
+isWithin low high v = leZ low v && leZ v high

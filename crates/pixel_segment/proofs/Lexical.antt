@@ -1,13 +1,24 @@
--- The order of packed words is that of tile y, then tile x, then layer id. Assumes nothing.
-use mathlib.Core.Path.{_≡_, ap, ap₂, sym, _∙_}
+-- The order of packed words is that of tile y, then tile x, then layer id, as fields and as the numbers that were packed. Assumes nothing.
+use mathlib.Core.Path.{_≡_, refl, ap, ap₂, sym, _∙_}
+use mathlib.Core.Bool.{Bool, cond}
+use mathlib.Core.List.{[], _∷_}
 use mathlib.Core.Logic.{⊎-elim}
-use Prim.Native.Nat.{ℕ, _+_, _*_, _^_, _≤_, _<_}
+use Prim.Native.Nat.{ℕ, zero, suc, _+_, _*_, _^_, _≤_, _<_}
 use native.Mathlib.Nat.{mul-le-mul-right, suc-mul}
 use native.Mathlib.Omega.{arith}
-use borrow.Author.Tests.{lt-ltb, le-ltb}
+use borrow.Author.Tests.{ltb-true, lt-ltb, le-ltb}
+use lib.Dec.{ltb}
+use lib.IntN.{ℤ, pos, negsuc}
+use Rattle.laws.specs.Answer.{given}
+use Rattle.laws.specs.Integer.{plus, modℤ}
+use Rattle.laws.proofs.Bools.{same}
 use Rattle.laws.proofs.Orders.{le-or-lt}
-use Rattle.pixel_segment.specs.Field.{cpu, tileXOf, tileYOf, layerIdOf}
-use Rattle.pixel_segment.specs.Order.{orderKey, compareOf, thenBy}
+use Rattle.laws.proofs.Parts.{difference, equal}
+use Rattle.pixel_segment.specs.Field.{cpu, tileOf, tileXOf, tileYOf, layerIdOf}
+use Rattle.pixel_segment.specs.Pack.{storedOf, packOf}
+use Rattle.pixel_segment.specs.Order.{orderKey, compareOf, compareℤ, thenBy}
+use Rattle.pixel_segment.proofs.Ranges.{cpu-layout}
+use Rattle.pixel_segment.proofs.ReadBack.{join-lt, given-word, given-back}
 
 pub compare-less : (a b : ℕ) → a < b → compareOf a b ≡ 0
 compare-less a b h = rw (lt-ltb a b h)
@@ -61,3 +72,47 @@ lexical v w hv hw =
     ap₂ compareOf (keyed v hv) (keyed w hw)
     ∙ (digits (2 ^ 33) (tileYOf cpu v) (tileXOf cpu v * 2 ^ 21 + layerIdOf cpu v) (tileYOf cpu w) (tileXOf cpu w * 2 ^ 21 + layerIdOf cpu w) (omega arith) (omega arith)
     ∙ ap (thenBy (compareOf (tileYOf cpu v) (tileYOf cpu w))) (digits (2 ^ 21) (tileXOf cpu v) (layerIdOf cpu v) (tileXOf cpu w) (layerIdOf cpu w) (omega arith) (omega arith)))
+
+-- ---- the words of accepted packings
+
+compare-suc : (m n : ℕ) → compareOf m n ≡ compareOf (suc m) (suc n)
+compare-suc m n = ap₂ (λ (a b : Bool). cond a 0 (cond b 2 1)) (test m n) (test n m)
+  where
+    test : (a b : ℕ) → ltb a b ≡ ltb (suc a) (suc b)
+    test a b =
+        same (ltb a b) (ltb (suc a) (suc b))
+        (λ e. lt-ltb (suc a) (suc b) (omega (arith, ltb-true a b e)))
+        (λ e. lt-ltb a b (omega (arith, ltb-true (suc a) (suc b) e)))
+
+tile-of-suc : (n : ℕ) → tileOf (suc n) ≡ pos n
+unfolding tileOf
+tile-of-suc n = equal (tileOf (suc n)) (pos n) (omega (arith, difference (suc n) 1))
+
+tile-of-none : tileOf 0 ≡ negsuc 0
+unfolding tileOf
+tile-of-none = refl
+
+compare-tiles : (m n : ℕ) → compareℤ (tileOf m) (tileOf n) ≡ compareOf m n
+compare-tiles zero zero = rw tile-of-none refl
+compare-tiles zero (suc n) = rw (tile-of-none, tile-of-suc n) (sym (compare-less 0 (suc n) (omega arith)))
+compare-tiles (suc m) zero = rw (tile-of-none, tile-of-suc m) (sym (compare-greater (suc m) 0 (omega arith)))
+compare-tiles (suc m) (suc n) = rw (tile-of-suc m, tile-of-suc n) (compare-suc m n)
+
+word-lt : (layer tx ty x y m c : ℤ) {w : ℕ} → packOf cpu layer tx ty x y m c ≡ given w → w < 2 ^ 64
+word-lt layer tx ty x y m c e =
+    let word = given-word cpu cpu-layout layer tx ty x y m c e .1 in
+    let h = join-lt cpu (storedOf ty ∷ storedOf tx ∷ plus layer ∷ plus x ∷ plus y ∷ plus m ∷ modℤ 64 c ∷ []) (omega arith) in
+    rw (← word) h
+
+-- they compare as tile y, then tile x, then layer do
+pub order-of-fields : (layer tx ty x y m c layer′ tx′ ty′ x′ y′ m′ c′ : ℤ) {v w : ℕ}
+    → packOf cpu layer tx ty x y m c ≡ given v → packOf cpu layer′ tx′ ty′ x′ y′ m′ c′ ≡ given w
+    → compareOf (orderKey cpu v) (orderKey cpu w) ≡ thenBy (compareℤ ty ty′) (thenBy (compareℤ tx tx′) (compareℤ layer layer′))
+order-of-fields layer tx ty x y m c layer′ tx′ ty′ x′ y′ m′ c′ {v} {w} e f =
+    let a = given-back cpu cpu-layout layer tx ty x y m c e in
+    let b = given-back cpu cpu-layout layer′ tx′ ty′ x′ y′ m′ c′ f in
+    let rows = ap₂ compareℤ (sym (a .tile-y)) (sym (b .tile-y)) ∙ compare-tiles (tileYOf cpu v) (tileYOf cpu w) in
+    let tiles = ap₂ compareℤ (sym (a .tile-x)) (sym (b .tile-x)) ∙ compare-tiles (tileXOf cpu v) (tileXOf cpu w) in
+    let layers = ap₂ compareℤ (sym (a .layer-id)) (sym (b .layer-id)) in
+    lexical v w (word-lt layer tx ty x y m c e) (word-lt layer′ tx′ ty′ x′ y′ m′ c′ f)
+    ∙ sym (ap₂ thenBy rows (ap₂ thenBy tiles layers))

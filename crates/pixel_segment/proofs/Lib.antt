@@ -1,4 +1,6 @@
 -- Laws of packed words and their order.
 pub mod Widths
+pub mod Ranges
 pub mod ReadBack
+pub mod Edges
 pub mod Lexical

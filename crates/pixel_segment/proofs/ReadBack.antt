@@ -1,20 +1,24 @@
--- What is packed reads back: each field has the number that was packed there, modulo its width, for every table of widths; and the number
--- itself where it is in range. Assumes nothing.
-use mathlib.Core.Path.{_≡_, ap, sym, _∙_}
+-- What is packed reads back, for every table of widths: each field has the number that was packed there, modulo its width, and the number
+-- itself where it is in range. So an accepted word tells its seven numbers. Assumes nothing.
+use mathlib.Core.Path.{_≡_, refl, ap, sym, subst, _∙_}
+use mathlib.Core.Bool.{Bool, true, false, cond}
 use mathlib.Core.List.{List, [], _∷_}
 use Prim.Native.Nat.{ℕ, zero, suc, _+_, _-_, _*_, _/_, _%_, _^_, _≤_, _<_}
-use native.Mathlib.Nat.{not-suc-le-zero, le-of-suc-le-suc, add-mul, mul-assoc, add-comm, mul-one, zero-add, add-zero, add-mul-div-right, add-mul-mod-self-right, div-eq-of-lt, mod-lt, mod-mod}
+use native.Mathlib.Nat.{not-suc-le-zero, le-of-suc-le-suc, add-mul, mul-assoc, add-comm, mul-one, zero-add, add-zero, add-mul-div-right, add-mul-mod-self-right, div-eq-of-lt, mod-lt, mod-mod, mod-eq-of-lt}
 use native.Mathlib.Omega.{arith}
 use lib.Arith.{digits-lt}
 use lib.Dec.{lit<}
 use lib.IntN.{ℤ, pos, negsuc}
 use lib.ListN.{length, getD, drop}
 use lib.Pow.{pow-pos, pow-add}
+use Rattle.laws.specs.Answer.{given, refused}
 use Rattle.laws.specs.Integer.{plus, minus, modℤ}
 use Rattle.laws.proofs.Parts.{difference, added, equal}
-use Rattle.pixel_segment.specs.Field.{cpu, sum, widthOf, fieldOf, tileXOf, tileYOf, tileOf, signedOf, coverOf}
-use Rattle.pixel_segment.specs.Pack.{join, storedOf, wordOf, InRange, ReadsBack}
+use Rattle.pixel_segment.specs.Field.{sum, widthOf, fieldOf, tileXOf, tileYOf, layerIdOf, localXOf, localYOf, multiplierOf, tileOf, signedOf, coverOf}
+use Rattle.pixel_segment.specs.Pack.{join, storedOf, wordOf, isPackable, InRange, packedAnswer, packOf, ReadsBack, Packs}
+use Rattle.pixel_segment.specs.declared.Packed.{Packed}
 use Rattle.pixel_segment.proofs.Widths.{sum-step, sum-drop-le}
+use Rattle.pixel_segment.proofs.Ranges.{Layout, halves, in-range}
 
 -- what the word held stands above the fields
 join-above : (ws xs : List ℕ) (word : ℕ) → length ws ≤ length xs → join ws xs word ≡ word * 2 ^ sum ws + join ws xs 0
@@ -28,7 +32,7 @@ join-above (k ∷ ks) (x ∷ xs) word h =
     omega (arith, rest (word * 2 ^ k + r), rest (0 * 2 ^ k + r), add-mul (word * 2 ^ k) r s, add-mul (0 * 2 ^ k) r s, e)
 
 -- the fields are within the widths' sum
-join-lt : (ws xs : List ℕ) → length ws ≤ length xs → join ws xs 0 < 2 ^ sum ws
+pub join-lt : (ws xs : List ℕ) → length ws ≤ length xs → join ws xs 0 < 2 ^ sum ws
 join-lt [] xs h = omega arith
 join-lt (k ∷ ks) [] h = absurd (not-suc-le-zero h)
 join-lt (k ∷ ks) (x ∷ xs) h =
@@ -70,34 +74,114 @@ field-back (w ∷ ws) (x ∷ xs) (suc k) h g =
     add-suc-one : (k : ℕ) → suc k + 1 ≡ suc (k + 1)
     add-suc-one k = omega arith
 
+-- ---- the word of seven numbers
+
+module _ (ws : List ℕ) (layout : Layout ws) (layer : ℕ) (tx ty : ℤ) (x y m : ℕ) (c : ℤ) where
+  -- each field of the word, modulo its width: layer ids keep their low bits, and so on
+  pub kept : (k : ℕ) → k < 7 → fieldOf ws k (wordOf ws layer tx ty x y m c) ≡ getD (storedOf ty ∷ storedOf tx ∷ layer ∷ x ∷ y ∷ m ∷ modℤ (2 ^ widthOf ws 6) c ∷ []) k 0 % 2 ^ widthOf ws k
+  kept k h =
+      field-back ws (storedOf ty ∷ storedOf tx ∷ layer ∷ x ∷ y ∷ m ∷ modℤ (2 ^ widthOf ws 6) c ∷ []) k
+      (omega (arith, layout .seven))
+      (omega (arith, layout .seven))
+
 -- ---- in range
 
-tile-back : (t : ℤ) (n : ℕ) → minus t ≤ 1 → n ≡ storedOf t → tileOf n ≡ t
+plain-back : (v : ℤ) (n k : ℕ) → (minus v ≡ 0) × (plus v < 2 ^ k) → n ≡ plus v % 2 ^ k → pos n ≡ v
+plain-back v n k h e = let f = e ∙ mod-eq-of-lt (h .1) in equal (pos n) v (omega arith)
+
+tile-back : (t : ℤ) (n k : ℕ) → (minus t ≤ 1) × (storedOf t < 2 ^ k) → n ≡ storedOf t % 2 ^ k → tileOf n ≡ t
 unfolding tileOf
-tile-back t n h e = equal (tileOf n) t (omega (arith, difference n 1, added t (pos 1)))
+tile-back t n k h e = let f = e ∙ mod-eq-of-lt (h .1) in equal (tileOf n) t (omega (arith, difference n 1, added t (pos 1)))
 
-cover-back : (c : ℤ) (n : ℕ) → minus c ≤ 32 → plus c ≤ 31 → n ≡ modℤ 64 c % 64 → signedOf 6 n ≡ c
-cover-back (pos k) n h g e = equal (signedOf 6 n) (pos k) (omega (arith, difference ((n + 32) % 64) 32))
-cover-back (negsuc k) n h g e = equal (signedOf 6 n) (negsuc k) (omega (arith, difference ((n + 32) % 64) 32))
+cover-back : (c : ℤ) (n k : ℕ) → 1 ≤ k → (minus c ≤ 2 ^ (k - 1)) × (plus c < 2 ^ (k - 1)) → n ≡ modℤ (2 ^ k) c % 2 ^ k → signedOf k n ≡ c
+cover-back (pos p) n k g h e =
+    let half = 2 ^ (k - 1) in
+    let size : 2 ^ k ≡ half + half = halves k g in
+    let low : p < 2 ^ k = omega arith in
+    let is : n ≡ p = e ∙ mod-mod p (2 ^ k) ∙ mod-eq-of-lt low in
+    let small : n + half < 2 ^ k = omega arith in
+    let f : (n + half) % 2 ^ k ≡ n + half = mod-eq-of-lt small in
+    equal (signedOf k n) (pos p) (omega (arith, difference ((n + half) % 2 ^ k) half))
+cover-back (negsuc q) n k g h e =
+    let half = 2 ^ (k - 1) in
+    let size : 2 ^ k ≡ half + half = halves k g in
+    let low : q < 2 ^ k = omega arith in
+    let stored : 2 ^ k - suc (q % 2 ^ k) ≡ 2 ^ k - suc q = ap (λ (r : ℕ). 2 ^ k - suc r) (mod-eq-of-lt low) in
+    let under : 2 ^ k - suc q < 2 ^ k = omega arith in
+    let is : n ≡ 2 ^ k - suc q = e ∙ ap (λ (r : ℕ). r % 2 ^ k) stored ∙ mod-eq-of-lt under in
+    let turned : n + half ≡ (half - suc q) + 1 * 2 ^ k = omega arith in
+    let rest : half - suc q < 2 ^ k = omega arith in
+    let f : (n + half) % 2 ^ k ≡ half - suc q =
+    ap (λ (r : ℕ). r % 2 ^ k) turned ∙ add-mul-mod-self-right (half - suc q) 1 (2 ^ k) ∙ mod-eq-of-lt rest in
+    equal (signedOf k n) (negsuc q) (omega (arith, difference ((n + half) % 2 ^ k) half))
 
-module _ (layer : ℕ) (tx ty : ℤ) (x y m : ℕ) (c : ℤ) where
-  numbers : List ℕ
-  numbers = storedOf ty ∷ storedOf tx ∷ layer ∷ x ∷ y ∷ m ∷ modℤ 64 c ∷ []
+-- an accepted packing and its word
+accepted : (t : Bool) (v w : ℕ) → cond t (given v) (refused 11) ≡ given w → (t ≡ true) × (v ≡ w)
+accepted true v w e = (refl, cc)
+accepted false v w e = absurd (let z : _≡_ {A = ℕ} 0 1 = cc in omega arith)
 
-  -- each field of the packed word, modulo its width: layer ids keep their low 21 bits, and so on
-  pub kept : (k : ℕ) → k < 7 → fieldOf cpu k (wordOf cpu layer tx ty x y m c) ≡ getD (storedOf ty ∷ storedOf tx ∷ layer ∷ x ∷ y ∷ m ∷ modℤ 64 c ∷ []) k 0 % 2 ^ widthOf cpu k
-  unfolding numbers
-  kept k h = field-back cpu numbers k (omega arith) h
+-- and a refused one
+turned-down : (t : Bool) (v n : ℕ) → cond t (given v) (refused 11) ≡ refused n → t ≡ false
+turned-down true v n e = absurd (let z : _≡_ {A = ℕ} 0 1 = cc in omega arith)
+turned-down false v n e = refl
 
-  pub reads-back : InRange layer tx ty x y m c → ReadsBack (wordOf cpu layer tx ty x y m c) layer tx ty x y m c
+module _ (ws : List ℕ) (layout : Layout ws) (layer tx ty x y m c : ℤ) where
+  pub reads-back : InRange ws layer tx ty x y m c → ReadsBack ws (wordOf ws (plus layer) tx ty (plus x) (plus y) (plus m) c) layer tx ty x y m c
   unfolding coverOf
   reads-back h =
+      let w = wordOf ws (plus layer) tx ty (plus x) (plus y) (plus m) c in
+      let back = kept ws layout (plus layer) tx ty (plus x) (plus y) (plus m) c in
       record {
-        layer-id = omega (arith, kept 2 (lit< tt));
-        tile-x = tile-back tx (tileXOf cpu (wordOf cpu layer tx ty x y m c)) (h .tile-x .0) (omega (arith, kept 1 (lit< tt), added tx (pos 1)));
-        tile-y = tile-back ty (tileYOf cpu (wordOf cpu layer tx ty x y m c)) (h .tile-y .0) (omega (arith, kept 0 (lit< tt), added ty (pos 1)));
-        local-x = omega (arith, kept 3 (lit< tt));
-        local-y = omega (arith, kept 4 (lit< tt));
-        multiplier = omega (arith, kept 5 (lit< tt));
-        cover = cover-back c (fieldOf cpu 6 (wordOf cpu layer tx ty x y m c)) (h .cover .0) (h .cover .1) (kept 6 (lit< tt));
+        layer-id = plain-back layer (layerIdOf ws w) (widthOf ws 2) (h .layer-id) (back 2 (lit< tt));
+        tile-x = tile-back tx (tileXOf ws w) (widthOf ws 1) (h .tile-x) (back 1 (lit< tt));
+        tile-y = tile-back ty (tileYOf ws w) (widthOf ws 0) (h .tile-y) (back 0 (lit< tt));
+        local-x = plain-back x (localXOf ws w) (widthOf ws 3) (h .local-x) (back 3 (lit< tt));
+        local-y = plain-back y (localYOf ws w) (widthOf ws 4) (h .local-y) (back 4 (lit< tt));
+        multiplier = plain-back m (multiplierOf ws w) (widthOf ws 5) (h .multiplier) (back 5 (lit< tt));
+        cover = cover-back c (fieldOf ws 6 w) (widthOf ws 6) (layout .signed) (h .cover) (back 6 (lit< tt));
       }
+
+  -- a packing that gives a word: every number is in range, and the word is theirs
+  pub given-word : {w : ℕ} → packOf ws layer tx ty x y m c ≡ given w → (isPackable ws layer tx ty x y m c ≡ true) × (wordOf ws (plus layer) tx ty (plus x) (plus y) (plus m) c ≡ w)
+  given-word {w} e = accepted (isPackable ws layer tx ty x y m c) (wordOf ws (plus layer) tx ty (plus x) (plus y) (plus m) c) w e
+
+  -- a packing that gives none: some number is not
+  pub refused-means : {n : ℕ} → packOf ws layer tx ty x y m c ≡ refused n → isPackable ws layer tx ty x y m c ≡ false
+  refused-means {n} e = turned-down (isPackable ws layer tx ty x y m c) (wordOf ws (plus layer) tx ty (plus x) (plus y) (plus m) c) n e
+
+  pub given-back : {w : ℕ} → packOf ws layer tx ty x y m c ≡ given w → ReadsBack ws w layer tx ty x y m c
+  given-back {w} e =
+      let a = given-word e in
+      subst (λ (v : ℕ). ReadsBack ws v layer tx ty x y m c) (a .1) (reads-back (in-range ws layout layer tx ty x y m c (a .0)))
+
+  -- so the promise is that of the answer
+  pub packs : (r : Packed) → packedAnswer r ≡ packOf ws layer tx ty x y m c → Packs ws layer tx ty x y m c r
+  packs r e = record { answer = e; back = λ w f. given-back (sym e ∙ f) }
+
+-- ---- two packings
+
+-- seven numbers that are the same in both
+pub record Same (layer tx ty x y m c layer′ tx′ ty′ x′ y′ m′ c′ : ℤ) : Type 0 where
+  pub layer-id : layer ≡ layer′
+  pub tile-x : tx ≡ tx′
+  pub tile-y : ty ≡ ty′
+  pub local-x : x ≡ x′
+  pub local-y : y ≡ y′
+  pub multiplier : m ≡ m′
+  pub cover : c ≡ c′
+
+-- two packings that are accepted and give one word have the same seven numbers
+pub packs-apart : (ws : List ℕ) → Layout ws → (layer tx ty x y m c layer′ tx′ ty′ x′ y′ m′ c′ : ℤ) {w : ℕ}
+    → packOf ws layer tx ty x y m c ≡ given w → packOf ws layer′ tx′ ty′ x′ y′ m′ c′ ≡ given w → Same layer tx ty x y m c layer′ tx′ ty′ x′ y′ m′ c′
+packs-apart ws layout layer tx ty x y m c layer′ tx′ ty′ x′ y′ m′ c′ e f =
+    let a = given-back ws layout layer tx ty x y m c e in
+    let b = given-back ws layout layer′ tx′ ty′ x′ y′ m′ c′ f in
+    record {
+      layer-id = sym (a .layer-id) ∙ b .layer-id;
+      tile-x = sym (a .tile-x) ∙ b .tile-x;
+      tile-y = sym (a .tile-y) ∙ b .tile-y;
+      local-x = sym (a .local-x) ∙ b .local-x;
+      local-y = sym (a .local-y) ∙ b .local-y;
+      multiplier = sym (a .multiplier) ∙ b .multiplier;
+      cover = sym (a .cover) ∙ b .cover;
+    }

@@ -1,5 +1,5 @@
 -- Laws of the table of widths, and the ranges of the fields. Assumes nothing.
-use mathlib.Core.Path.{_≡_, ap, sym, _∙_}
+use mathlib.Core.Path.{_≡_, refl, ap, sym, _∙_}
 use mathlib.Core.List.{List, [], _∷_}
 use Prim.Native.Nat.{ℕ, zero, suc, _+_, _-_, _*_, _^_, _%_, _≤_, _<_, max}
 use native.Mathlib.Nat.{one-mul, mul-le-mul}
@@ -16,9 +16,16 @@ use mir.Val.{SFits}
 use Rattle.laws.specs.Integer.{plus, minus}
 use Rattle.laws.proofs.Machine.{sfits, small}
 use Rattle.laws.proofs.Parts.{Whole, Difference, difference, abs-times}
-use Rattle.pixel_segment.specs.Field.{sum, cpu, indexOf, shiftOf, fieldOf, tileOf, coverOf, multiplierOf, doubleAreaOf}
+use Rattle.pixel_segment.specs.Field.{sum, cpu, gpu, widthsAt, indexOf, widthOf, shiftOf, fieldOf, tileOf, coverOf, multiplierOf, doubleAreaOf}
 use Rattle.pixel_segment.specs.declared.consts.BitField.{BitField}
 use Rattle.pixel_segment.specs.declared.consts.BitField.the-variants.{TileY, TileX, LayerId, LocalX, LocalY, DoubleAreaMultiplier, Cover}
+
+-- the two tables are those of tiles 2^4 and 2^2 pixels high
+pub cpu-at : cpu ≡ widthsAt 4
+cpu-at = refl
+
+pub gpu-at : gpu ≡ widthsAt 2
+gpu-at = refl
 
 pub sum-drop-le : (k : ℕ) (l : List ℕ) → sum (drop k l) ≤ sum l
 sum-drop-le zero l = omega arith
@@ -54,6 +61,16 @@ index-lt LocalX = omega arith
 index-lt LocalY = omega arith
 index-lt DoubleAreaMultiplier = omega arith
 index-lt Cover = omega arith
+
+-- no field has more values than a layer id
+pub size-le : (f : BitField) → 2 ^ widthOf cpu (indexOf f) ≤ 2 ^ 21
+size-le TileY = omega arith
+size-le TileX = omega arith
+size-le LayerId = omega arith
+size-le LocalX = omega arith
+size-le LocalY = omega arith
+size-le DoubleAreaMultiplier = omega arith
+size-le Cover = omega arith
 
 -- 1 shifted left by less than 64
 pub shifted : (k : ℕ) → k < 64 → (1 * 2 ^ k) % 2 ^ 64 ≡ 2 ^ k

@@ -8,9 +8,16 @@ use lib.IntN.{ℤ, pos, subℕ, _*ℤ_}
 use Rattle.pixel_segment.specs.declared.consts.BitField.{BitField}
 use Rattle.pixel_segment.specs.declared.consts.BitField.the-variants.{TileY, TileX, LayerId, LocalX, LocalY, DoubleAreaMultiplier, Cover}
 
--- the widths of the fields for tiles of 16 by 16 pixels
+-- the widths of the fields for tiles 16 pixels wide and 2^k high: what a local y has less, tile y has more
+abbrev pub widthsAt : ℕ → List ℕ
+widthsAt k = (15 - k) ∷ 12 ∷ 21 ∷ 4 ∷ k ∷ 6 ∷ 6 ∷ []
+
+-- those for tiles of 16 by 16 pixels, and those for tiles 4 high: `widthsAt` 4 and 2 (proofs/Widths)
 abbrev pub cpu : List ℕ
 cpu = 11 ∷ 12 ∷ 21 ∷ 4 ∷ 4 ∷ 6 ∷ 6 ∷ []
+
+abbrev pub gpu : List ℕ
+gpu = 13 ∷ 12 ∷ 21 ∷ 4 ∷ 2 ∷ 6 ∷ 6 ∷ []
 
 -- a field's place in the table
 abbrev pub indexOf : BitField → ℕ

@@ -1,16 +1,19 @@
--- Packing: seven numbers in a word, each keeping its low bits. Stands for the clauses on packing: tile numbers are stored plus 1 and a
--- smaller one than -1 packs like -1 (P3), layer ids keep their low 21 bits, covers keep six; packing tile 32,767 is refused by 2.
+-- Packing: seven numbers in a word, each in a field that holds it; where one lies outside its field's range, packing is refused by 11.
+-- Stands for W-203: tile numbers are taken from -1 and stored plus 1, layer ids, local places and multipliers from 0, covers are signed, and
+-- each field reads back as the number that was packed. Every definition takes the table of widths as a parameter.
 use mathlib.Core.Path.{_≡_}
-use mathlib.Core.Bool.{cond, _||_}
+use mathlib.Core.Bool.{Bool, cond, _&&_}
 use mathlib.Core.List.{List, [], _∷_}
-use Prim.Native.Nat.{ℕ, _+_, _*_, _%_, _^_, _≤_, _<_}
-use lib.IntN.{ℤ, pos, _+ℤ_}
-use lib.Signed.{leZ}
+use Prim.Native.Nat.{ℕ, _+_, _-_, _*_, _%_, _^_, _≤_, _<_}
+use lib.IntN.{ℤ, pos, negsuc, negℤ, _+ℤ_}
+use lib.Signed.{leZ, ltZ}
 use Rattle.laws.specs.Integer.{plus, minus, modℤ}
 use Rattle.laws.specs.Answer.{Answer, refused, given}
-use Rattle.pixel_segment.specs.Field.{cpu, widthOf, tileOf, tileXOf, tileYOf, layerIdOf, localXOf, localYOf, multiplierOf, coverOf}
+use Rattle.pixel_segment.specs.Field.{widthOf, tileOf, tileXOf, tileYOf, layerIdOf, localXOf, localYOf, multiplierOf, coverOf}
 use Rattle.pixel_segment.specs.declared.Packed.{Packed}
-use Rattle.pixel_segment.specs.declared.Packed.the-variants.{Segment, TileOutOfRange}
+use Rattle.pixel_segment.specs.declared.Packed.the-variants.{Segment, FieldOutOfRange}
+
+-- ---- the word
 
 -- numbers put together, highest first, each reduced to its width, below what the word holds
 abbrev pub join : List ℕ → List ℕ → ℕ → ℕ
@@ -26,33 +29,62 @@ storedOf t = plus (t +ℤ pos 1)
 abbrev pub wordOf : List ℕ → ℕ → ℤ → ℤ → ℕ → ℕ → ℕ → ℤ → ℕ
 wordOf ws layer tx ty x y m c = join ws (storedOf ty ∷ storedOf tx ∷ layer ∷ x ∷ y ∷ m ∷ modℤ (2 ^ widthOf ws 6) c ∷ []) 0
 
--- what packing answers, in the numbers of the table of refusals
+-- ---- what packing accepts
+
+-- a field of k bits holds the 2^k numbers from `low` on
+abbrev pub isHeld : ℤ → ℕ → ℤ → Bool
+isHeld low k v = leZ low v && ltZ v (low +ℤ pos (2 ^ k))
+
+-- the lowest tile number, -1, and the lowest number of a signed field of k bits, -2^(k-1)
+abbrev pub lowestTile : ℤ
+lowestTile = negsuc 0
+
+abbrev pub lowestSigned : ℕ → ℤ
+lowestSigned k = negℤ (pos (2 ^ (k - 1)))
+
+-- every field holds its number: at `cpu`, tile y -1 to 2,046, tile x -1 to 4,094, layer 0 to 2,097,151, local places 0 to 15, multiplier
+-- 0 to 63, cover -32 to 31
+unfoldable pub isPackable : List ℕ → ℤ → ℤ → ℤ → ℤ → ℤ → ℤ → ℤ → Bool
+isPackable ws layer tx ty x y m c =
+    isHeld lowestTile (widthOf ws 0) ty
+    && isHeld lowestTile (widthOf ws 1) tx
+    && isHeld (pos 0) (widthOf ws 2) layer
+    && isHeld (pos 0) (widthOf ws 3) x
+    && isHeld (pos 0) (widthOf ws 4) y
+    && isHeld (pos 0) (widthOf ws 5) m
+    && isHeld (lowestSigned (widthOf ws 6)) (widthOf ws 6) c
+
+-- the same as facts: numbers within their fields
+pub record InRange (ws : List ℕ) (layer tx ty x y m c : ℤ) : Type 0 where
+  pub layer-id : (minus layer ≡ 0) × (plus layer < 2 ^ widthOf ws 2)
+  pub tile-x : (minus tx ≤ 1) × (storedOf tx < 2 ^ widthOf ws 1)
+  pub tile-y : (minus ty ≤ 1) × (storedOf ty < 2 ^ widthOf ws 0)
+  pub local-x : (minus x ≡ 0) × (plus x < 2 ^ widthOf ws 3)
+  pub local-y : (minus y ≡ 0) × (plus y < 2 ^ widthOf ws 4)
+  pub multiplier : (minus m ≡ 0) × (plus m < 2 ^ widthOf ws 5)
+  pub cover : (minus c ≤ 2 ^ (widthOf ws 6 - 1)) × (plus c < 2 ^ (widthOf ws 6 - 1))
+
+-- ---- what packing answers
+
+-- in the numbers of the table of refusals
 abbrev pub packedAnswer : Packed → Answer ℕ
 packedAnswer (Segment s) = given (s .0)
-packedAnswer TileOutOfRange = refused 2
+packedAnswer FieldOutOfRange = refused 11
 
-abbrev pub packOf : ℕ → ℤ → ℤ → ℕ → ℕ → ℕ → ℤ → Answer ℕ
-packOf layer tx ty x y m c = cond (leZ (pos 32767) tx || leZ (pos 32767) ty) (refused 2) (given (wordOf cpu layer tx ty x y m c))
-
--- ---- what packing loses nothing of
-
--- numbers within their fields: tiles -1 to 4,094 and -1 to 2,046, layer ids to 2,097,151, local places 0 to 15, multipliers to 63,
--- covers -32 to 31
-pub record InRange (layer : ℕ) (tx ty : ℤ) (x y m : ℕ) (c : ℤ) : Type 0 where
-  pub layer-id : layer < 2 ^ 21
-  pub tile-x : (minus tx ≤ 1) × (plus tx ≤ 4094)
-  pub tile-y : (minus ty ≤ 1) × (plus ty ≤ 2046)
-  pub local-x : x < 16
-  pub local-y : y < 16
-  pub multiplier : m < 64
-  pub cover : (minus c ≤ 32) × (plus c ≤ 31)
+abbrev pub packOf : List ℕ → ℤ → ℤ → ℤ → ℤ → ℤ → ℤ → ℤ → Answer ℕ
+packOf ws layer tx ty x y m c = cond (isPackable ws layer tx ty x y m c) (given (wordOf ws (plus layer) tx ty (plus x) (plus y) (plus m) c)) (refused 11)
 
 -- each field of the word w is the number that was packed
-pub record ReadsBack (w layer : ℕ) (tx ty : ℤ) (x y m : ℕ) (c : ℤ) : Type 0 where
-  pub layer-id : layerIdOf cpu w ≡ layer
-  pub tile-x : tileOf (tileXOf cpu w) ≡ tx
-  pub tile-y : tileOf (tileYOf cpu w) ≡ ty
-  pub local-x : localXOf cpu w ≡ x
-  pub local-y : localYOf cpu w ≡ y
-  pub multiplier : multiplierOf cpu w ≡ m
-  pub cover : coverOf cpu w ≡ c
+pub record ReadsBack (ws : List ℕ) (w : ℕ) (layer tx ty x y m c : ℤ) : Type 0 where
+  pub layer-id : pos (layerIdOf ws w) ≡ layer
+  pub tile-x : tileOf (tileXOf ws w) ≡ tx
+  pub tile-y : tileOf (tileYOf ws w) ≡ ty
+  pub local-x : pos (localXOf ws w) ≡ x
+  pub local-y : pos (localYOf ws w) ≡ y
+  pub multiplier : pos (multiplierOf ws w) ≡ m
+  pub cover : coverOf ws w ≡ c
+
+-- what packing promises: the answer, and that a word that it gives reads back
+pub record Packs (ws : List ℕ) (layer tx ty x y m c : ℤ) (r : Packed) : Type 0 where
+  pub answer : packedAnswer r ≡ packOf ws layer tx ty x y m c
+  pub back : (w : ℕ) → packedAnswer r ≡ given w → ReadsBack ws w layer tx ty x y m c

@@ -1,24 +1,26 @@
 // The packed pixel segment (cpu/pixel_segment.rs): seven fields in a word of 64 bits, and how two of them compare.
 pub mod consts;
 pub mod order;
+pub mod range;
 
 use consts::BitField;
 use order::Ordering;
 ghost use mathlib.Core.Path.{_≡_};
 ghost use Prim.Native.Nat.{_^_};
+ghost use lib.IntN.{pos};
 ghost use Rattle.laws.specs.Integer.{modℤ};
 ghost use Rattle.pixel_segment.specs.Field.{cpu, widthOf, layerIdOf, tileXOf, tileYOf, tileOf};
 ghost use Rattle.pixel_segment.specs.Field.{localXOf, localYOf, multiplierOf, doubleAreaOf, coverOf};
-ghost use Rattle.pixel_segment.specs.Pack.{storedOf, packOf, packedAnswer};
+ghost use Rattle.pixel_segment.specs.Pack.{storedOf, wordOf, Packs};
 ghost use Rattle.pixel_segment.specs.Order.{rank, orderKey, compareOf};
 
 // A packed word. Any 64 bits are a segment.
 pub struct PixelSegment(pub u64);
 
-// What packing answers: the segment, or refusal 2, where a tile number is 32,767.
+// What packing answers: the segment, or refusal 11, where a number lies outside its field's range.
 pub enum Packed {
     Segment(PixelSegment),
-    TileOutOfRange,
+    FieldOutOfRange,
 }
 
 // A tile number as it is stored: plus 1, and 0 for what is then negative.
@@ -36,7 +38,69 @@ fn cover_bits(cover: i8) -> u64
     ((cover as i16 + 256) as u64) % consts::size(BitField::Cover)
 }
 
+// The word of seven numbers, each field below those before it.
+fn join(
+    layer_id: u32,
+    tile_x: i16,
+    tile_y: i16,
+    local_x: u8,
+    local_y: u8,
+    double_area_multiplier: u8,
+    cover: i8,
+) -> u64
+    ensures { λ r. ⌜ r
+        ≡ wordOf cpu «layer_id» «tile_x» «tile_y» «local_x» «local_y» «double_area_multiplier» cover ⌝ }
+{
+    let w0 = consts::append(0, BitField::TileY, stored(tile_y));
+    let w1 = consts::append(w0, BitField::TileX, stored(tile_x));
+    let w2 = consts::append(w1, BitField::LayerId, layer_id as u64);
+    let w3 = consts::append(w2, BitField::LocalX, local_x as u64);
+    let w4 = consts::append(w3, BitField::LocalY, local_y as u64);
+    let w5 = consts::append(
+        w4,
+        BitField::DoubleAreaMultiplier,
+        double_area_multiplier as u64,
+    );
+    consts::append(w5, BitField::Cover, cover_bits(cover))
+}
+
 impl PixelSegment {
+    // Packing of any numbers: those that every field holds, and no others.
+    pub fn pack(
+        layer_id: i64,
+        tile_x: i64,
+        tile_y: i64,
+        local_x: i64,
+        local_y: i64,
+        double_area_multiplier: i64,
+        cover: i64,
+    ) -> Packed
+        ensures { λ r. ⌜ Packs cpu
+            «layer_id» «tile_x» «tile_y» «local_x» «local_y» «double_area_multiplier» cover r ⌝ }
+    {
+        if !range::is_packable(
+            layer_id,
+            tile_x,
+            tile_y,
+            local_x,
+            local_y,
+            double_area_multiplier,
+            cover,
+        ) {
+            return Packed::FieldOutOfRange;
+        }
+        let word = join(
+            layer_id as u32,
+            tile_x as i16,
+            tile_y as i16,
+            local_x as u8,
+            local_y as u8,
+            double_area_multiplier as u8,
+            cover as i8,
+        );
+        Packed::Segment(PixelSegment(word))
+    }
+
     pub fn new(
         layer_id: u32,
         tile_x: i16,
@@ -46,26 +110,18 @@ impl PixelSegment {
         double_area_multiplier: u8,
         cover: i8,
     ) -> Packed
-        ensures { λ r. ⌜ packedAnswer r
-            ≡ packOf «layer_id» «tile_x» «tile_y» «local_x» «local_y» «double_area_multiplier» cover ⌝ }
+        ensures { λ r. ⌜ Packs cpu (pos «layer_id») «tile_x» «tile_y»
+            (pos «local_x») (pos «local_y») (pos «double_area_multiplier») cover r ⌝ }
     {
-        if 32767 <= tile_x {
-            return Packed::TileOutOfRange;
-        }
-        if 32767 <= tile_y {
-            return Packed::TileOutOfRange;
-        }
-        let w0 = consts::append(0, BitField::TileY, stored(tile_y));
-        let w1 = consts::append(w0, BitField::TileX, stored(tile_x));
-        let w2 = consts::append(w1, BitField::LayerId, layer_id as u64);
-        let w3 = consts::append(w2, BitField::LocalX, local_x as u64);
-        let w4 = consts::append(w3, BitField::LocalY, local_y as u64);
-        let w5 = consts::append(
-            w4,
-            BitField::DoubleAreaMultiplier,
-            double_area_multiplier as u64,
-        );
-        Packed::Segment(PixelSegment(consts::append(w5, BitField::Cover, cover_bits(cover))))
+        PixelSegment::pack(
+            layer_id as i64,
+            tile_x as i64,
+            tile_y as i64,
+            local_x as i64,
+            local_y as i64,
+            double_area_multiplier as i64,
+            cover as i64,
+        )
     }
 
     pub fn layer_id(self) -> u32

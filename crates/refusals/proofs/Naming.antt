@@ -1,15 +1,15 @@
 -- The refusal that has a number of the table, and judgements whose numbers are all of it: a caller's answer can name them. Assumes nothing.
-use mathlib.Core.Path.{_≡_, refl}
+use mathlib.Core.Path.{_≡_}
 use mathlib.Core.Bool.{Bool, true, false, cond}
 use Prim.Native.Nat.{ℕ}
 use lib.Dec.{eqb}
 use Rattle.refusals.specs.Refusal.{numberOf, Judgement, pass, refuse, unless}
 use Rattle.refusals.specs.declared.Refusal.{Refusal}
-use Rattle.refusals.specs.declared.Refusal.the-variants.{Room, Tile, Row, Table, Queue, Tag, Layers, Missing, Covers}
+use Rattle.refusals.specs.declared.Refusal.the-variants.{Room, Tile, Row, Table, Queue, Tag, Layers, Missing, Covers, Fields}
 
 abbrev pub refusalOf : ℕ → Refusal
 refusalOf n =
-    cond (eqb n 1) Room (cond (eqb n 2) Tile (cond (eqb n 3) Row (cond (eqb n 4) Table (cond (eqb n 5) Queue (cond (eqb n 6) Tag (cond (eqb n 7) Layers (cond (eqb n 8) Missing Covers)))))))
+    cond (eqb n 1) Room (cond (eqb n 2) Tile (cond (eqb n 3) Row (cond (eqb n 4) Table (cond (eqb n 5) Queue (cond (eqb n 6) Tag (cond (eqb n 7) Layers (cond (eqb n 8) Missing (cond (eqb n 9) Covers Fields))))))))
 
 abbrev pub Named : Judgement → Type 0
 Named pass = Unit {0}

@@ -2,7 +2,7 @@
 ghost use mathlib.Core.Path.{_≡_};
 ghost use Rattle.refusals.specs.Refusal.{numberOf};
 
-// The conditions of the table of refusals, in its order.
+// The conditions of the table of refusals, in its order. Number 10 is the job reader's own answer.
 pub enum Refusal {
     Room,
     Tile,
@@ -13,6 +13,7 @@ pub enum Refusal {
     Layers,
     Missing,
     Covers,
+    Fields,
 }
 
 // What a judge says: pass, or the lowest refusal that applies.
@@ -35,5 +36,6 @@ pub fn number_of(refusal: Refusal) -> u32
         Refusal::Layers => 7,
         Refusal::Missing => 8,
         Refusal::Covers => 9,
+        Refusal::Fields => 11,
     }
 }

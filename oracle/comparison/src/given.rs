@@ -17,6 +17,32 @@ pub struct Fields {
     pub cover: i8,
 }
 
+impl Fields {
+    /// Whether every number lies in its field's range. Outside, packing is refused by 11 (W-203).
+    pub fn are_in_range(&self) -> bool {
+        self.layer_id <= LAYER_LIMIT
+            && (-1..=4094).contains(&self.tile_x)
+            && (-1..=2046).contains(&self.tile_y)
+            && self.local_x < 16
+            && self.local_y < 16
+            && self.double_area_multiplier < 64
+            && (-32..32).contains(&self.cover)
+    }
+
+    /// Every number taken into its field's range.
+    pub fn reduced(self) -> Self {
+        Self {
+            layer_id: self.layer_id % (LAYER_LIMIT + 1),
+            tile_x: self.tile_x.rem_euclid(4096) - 1,
+            tile_y: self.tile_y.rem_euclid(2048) - 1,
+            local_x: self.local_x % 16,
+            local_y: self.local_y % 16,
+            double_area_multiplier: self.double_area_multiplier % 64,
+            cover: self.cover.rem_euclid(64) - 32,
+        }
+    }
+}
+
 /// A key of the painter, with the value that is looked for.
 #[derive(Clone, Copy, Debug)]
 pub enum Key {

@@ -21,8 +21,7 @@ use crate::{
     random::Random,
     stored_lines::{bytes, float, Line},
     stored_rows::{self, opened, row_given, small_scene},
-    tally::caught,
-    words::{any_fields, any_row, any_word, layer, segment, tile, Segment},
+    words::{any_fields, any_row, any_word, layer, near_range, rust_pack, segment, tile, Segment},
 };
 
 /// The seed of the stored cases.
@@ -59,12 +58,12 @@ pub fn answers() -> String {
 }
 
 fn pack(random: &mut Random) -> Line {
-    let Fields { layer_id, tile_x, tile_y, local_x, local_y, double_area_multiplier, cover } = any_fields(random);
-    let word =
-        caught(|| u64::from(&Segment::new(layer_id, tile_x, tile_y, local_x, local_y, double_area_multiplier, cover)));
+    let fields = near_range(any_fields(random));
+    let Fields { layer_id, tile_x, tile_y, local_x, local_y, double_area_multiplier, cover } = fields;
     let bytes = [local_x, local_y, double_area_multiplier, cover as u8].map(u64::from);
     let given = [vec![layer_id.into(), (tile_x as u16).into(), (tile_y as u16).into()], bytes.to_vec()].concat();
-    Line { given, answer: word.map_or(vec![2, 5], |word| vec![0, word]) }
+    let answer = if fields.are_in_range() { vec![0, rust_pack(fields).unwrap()] } else { vec![11, 5] };
+    Line { given, answer }
 }
 
 fn fields(random: &mut Random) -> Line {

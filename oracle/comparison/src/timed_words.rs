@@ -132,6 +132,7 @@ fn rust_pack(fields: &Fields) -> Segment {
     Segment::new(layer_id, tile_x, tile_y, local_x, local_y, double_area_multiplier, cover)
 }
 
+/// Fields that both pack. The library tests the seven ranges first; the Rust has no such test.
 pub fn print_packing(bench: &mut Bench) {
     let mut random = Random::new(5);
     let one = |i: usize| any_fields(&mut random, i as u32 % 100, i as i16 % 64, 0);

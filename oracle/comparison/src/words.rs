@@ -3,7 +3,7 @@
 use reference::{cpu, pixel_segment};
 
 use crate::{
-    given::{Fields, Key},
+    given::{Fields, Key, LAYER_LIMIT},
     library::{self, UNTOUCHED},
     random::Random,
     tally::{caught, Kind, Tally},
@@ -48,6 +48,25 @@ pub fn any_fields(random: &mut Random) -> Fields {
     }
 }
 
+/// The numbers taken into their ranges; half of the time one of them then lies just outside.
+pub fn near_range(any: Fields) -> Fields {
+    let mut fields = any.reduced();
+    let past = any.local_x % 3;
+    let is_below = any.cover < 0;
+    let beside = |low: i16, high: i16| if is_below { low - i16::from(past) } else { high + i16::from(past) };
+    match any.local_y % 14 {
+        0 => fields.layer_id = LAYER_LIMIT + 1 + u32::from(past),
+        1 => fields.tile_x = beside(-2, 4095),
+        2 => fields.tile_y = beside(-2, 2047),
+        3 => fields.local_x = 16 + past,
+        4 => fields.local_y = 16 + past,
+        5 => fields.double_area_multiplier = 64 + past,
+        6 => fields.cover = beside(-33, 32) as i8,
+        _ => {}
+    }
+    fields
+}
+
 /// A tile number: near `near`, at an edge of its type or of its field, or any.
 pub fn tile(random: &mut Random, near: i16) -> i16 {
     let edges = [i16::MIN, -7, -2, -1, 0, 1, 2046, 2047, 4094, 4095, 32766, 32767];
@@ -67,19 +86,26 @@ pub fn layer(random: &mut Random, near: u32) -> u32 {
     }
 }
 
-fn compare_pack(kind: &mut Kind, fields: Fields) {
+/// The Rust's word. None where it panics.
+pub fn rust_pack(fields: Fields) -> Option<u64> {
     let Fields { layer_id, tile_x, tile_y, local_x, local_y, double_area_multiplier, cover } = fields;
-    let rust =
-        caught(|| u64::from(&Segment::new(layer_id, tile_x, tile_y, local_x, local_y, double_area_multiplier, cover)));
-    let ours = library::pack(fields);
-    // Where the Rust overflows, packing is refused by 2 and the lent word stays.
-    let expected = rust.map_or((2, UNTOUCHED), |word| (0, word));
-    kind.note(if rust.is_some() { "packed" } else { "refused" });
-    kind.case(ours == expected, || format!("{fields:?}: the Rust {expected:x?}, the library {ours:x?}"));
+    caught(|| u64::from(&Segment::new(layer_id, tile_x, tile_y, local_x, local_y, double_area_multiplier, cover)))
 }
 
+fn compare_pack(kind: &mut Kind, fields: Fields) {
+    let ours = library::pack(fields);
+    // For packing, the Rust is the reference on the fields' ranges only: outside, it is refused by 11 and the lent word
+    // stays.
+    let is_accepted = fields.are_in_range();
+    let expected = if is_accepted { rust_pack(fields).map(|word| (0, word)) } else { Some((11, UNTOUCHED)) };
+    kind.note(if is_accepted { "packed" } else { "refused" });
+    kind.case(Some(ours) == expected, || format!("{fields:?}: expected {expected:x?}, the library {ours:x?}"));
+}
+
+/// Numbers near the ranges, and once in four times any.
 fn pack(kind: &mut Kind) {
-    let fields = any_fields(&mut kind.random);
+    let any = any_fields(&mut kind.random);
+    let fields = if kind.random.once_in(4) { any } else { near_range(any) };
     compare_pack(kind, fields);
 }
 

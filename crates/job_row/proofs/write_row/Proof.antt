@@ -3,10 +3,11 @@ use Prim.Native.Nat.{_-_}
 use native.Mathlib.Omega.{arith}
 use borrow.Author.Needs.{needs}
 use mir.Syntax.{w16, w32}
-use mir.Val.{toZ}
+use mir.Val.{toZ, ofZ}
 use mir.Facts.{toZ-ofZ}
 use Rattle.laws.proofs.Machine.{kept}
 use Rattle.job_text_statements.proofs.Counting.{rule-at}
+use Rattle.job_statements.proofs.Packing.{row-tile}
 use Rattle.job_statements.proofs.Rows.{Writing, start, line-room, next, end}
 use Rattle.job_row.proofs.write_row.Statement.{statement}
 use Rattle.job_row.proofs.write_row.Tie as tie
@@ -34,7 +35,7 @@ write-segment-requires c κs =
     let at = c .before .segment-at .ensures in
     let y = kept w16 (c .before .before .before .before .to-tile-y .result) (c .before .before .before .before .to-tile-y .ok) in (
       rw at (rule-at ns (s .args .m) i (s .pre .1) (c .before .before .loop-test .taken)),
-      rw y (omega (arith, c .before .before .before .before .to-tile-y .ensures)),
+      rw (y, c .before .before .before .before .to-tile-y .ensures) (row-tile (toZ w32 (ofZ w32 (s .args .number)))),
       rw at (line-room (c .before .before .before .loop .inv) (c .before .before .loop-test .taken)),
     )
 

@@ -25,7 +25,7 @@ loop-holds c =
 pack-requires : tie.Need-pack-requires Inv-loop μ-loop
 pack-requires c κs =
     let s = c .before .before .before .before .before in
-    rw (toZ-ofZ (s .fits .tile-y)) (packs-at (s .args .s) (c .before .before .before .to-fields .ensures) (s .pre .0) (s .pre .1) (c .if1 .taken))
+    rw (toZ-ofZ (s .fits .tile-y)) (packs-at (s .args .s) (c .before .before .before .to-fields .ensures) (s .pre .0) (s .args .tile-y) (c .before .before .loop .i) (s .pre .1) (c .if1 .taken))
 
 cast-row : tie.Need-cast-row Inv-loop μ-loop
 cast-row c = let s = c .before .before .before .before .before .before in omega (arith, few-rows (s .args .s) (c .before .before .before .before .to-fields .ensures) (s .pre .0))

@@ -1,6 +1,7 @@
 -- P4, from the contracts. Assumes nothing.
 use mathlib.Core.Path.{_∙_}
 use borrow.Author.Needs.{needs}
+use lib.IntN.{pos}
 use Rattle.pixel_segment.specs.Field.{tileOf}
 use Rattle.cases.proofs.Table.{cases}
 use Rattle.cases.proofs.words.p4_tile_x.Statement.{statement}
@@ -15,24 +16,20 @@ is-word-requires c κs = search needs
 new-requires-2 : tie.Need-new-requires-2
 new-requires-2 c κs = search needs
 
-is-word-requires-2 : tie.Need-is-word-requires-2
-is-word-requires-2 c κs = search needs
+is-refused-requires : tie.Need-is-refused-requires
+is-refused-requires c κs = search needs
 
 tile-x-requires : tie.Need-tile-x-requires
 tile-x-requires c κs = search needs
 
-tile-x-requires-2 : tie.Need-tile-x-requires-2
-tile-x-requires-2 c κs = search needs
-
 returns : tie.Need-returns
 unfolding tileOf
 returns c = rw (
-  c .tile-x2 .ensures,
-  c .before .tile-x .ensures,
-  c .before .before .is-word2 .ensures,
-  c .before .before .before .new2 .ensures ∙ cases .p4-past-x-word,
-  c .before .before .before .before .is-word .ensures,
-  c .before .before .before .before .before .new .ensures ∙ cases .p4-last-x-word,
+  c .tile-x .ensures,
+  c .before .is-refused .ensures,
+  c .before .before .new2 .ensures .answer ∙ cases .p4-past-x (pos 5) (pos 0) (pos 3) (pos 4) (pos 32) (pos 16),
+  c .before .before .before .is-word .ensures,
+  c .before .before .before .before .new .ensures .answer ∙ cases .p4-last-x-word,
 )
 
 pub p4-tile-x-spec : {M : Type 1} → statement M
@@ -42,7 +39,6 @@ p4-tile-x-spec =
     new-requires
     is-word-requires
     new-requires-2
-    is-word-requires-2
+    is-refused-requires
     tile-x-requires
-    tile-x-requires-2
     returns)

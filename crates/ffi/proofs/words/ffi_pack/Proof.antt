@@ -14,7 +14,7 @@ put-packed-requires c κs = search needs
 returns : tie.Need-returns
 returns c =
     let s = c .before .before .before in
-    rw (toZ-ofZ (s .fits .tile-x), toZ-ofZ (s .fits .tile-y), toZ-ofZ (s .fits .cover)) at (answered (s .args .word .now) (c .before .before .new .ensures) (c .put-packed .ensures))
+    rw (toZ-ofZ (s .fits .tile-x), toZ-ofZ (s .fits .tile-y), toZ-ofZ (s .fits .cover)) at (answered (s .args .word .now) (c .before .before .new .ensures .answer) (c .put-packed .ensures))
 
 pub ffi-pack-spec : {M : Type 1} → statement M
 ffi-pack-spec = tie.close (tie.spec new-requires put-packed-requires returns)

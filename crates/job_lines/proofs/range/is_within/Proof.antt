@@ -1,6 +1,6 @@
 -- `is_within` meets its contract. Assumes nothing.
 use mir.Facts.{toZ-ofZ}
-use Rattle.job_lines.specs.Rules.{isWithin}
+use Rattle.laws.specs.Integer.{isWithin}
 use Rattle.job_lines.proofs.range.is_within.Statement.{statement}
 use Rattle.job_lines.proofs.range.is_within.Tie as tie
 

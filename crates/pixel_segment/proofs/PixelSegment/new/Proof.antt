@@ -1,86 +1,66 @@
--- `PixelSegment::new` meets its contract: the word is put together by seven steps of one definition. Assumes nothing.
+-- `PixelSegment::new` meets its contract: its arguments, widened, are those of `pack`. Assumes nothing.
+use native.Mathlib.Omega.{arith}
 use borrow.Author.Needs.{needs}
-use mir.Facts.{toZ-ofZ}
+use mir.Syntax.{w64}
+use mir.Val.{SFits}
+use mir.Facts.{toZ-ofZ, toZ-pos, sfits-widen}
 use Rattle.pixel_segment.proofs.PixelSegment.new.Statement.{statement}
 use Rattle.pixel_segment.proofs.PixelSegment.new.Tie as tie
 
+cast-pack : tie.Need-cast-pack
+cast-pack c = search needs
+
+cast-pack-2 : tie.Need-cast-pack-2
+cast-pack-2 c = rw (toZ-ofZ (c .fits .tile-x)) (sfits-widen tt (c .fits .tile-x))
+
+cast-pack-3 : tie.Need-cast-pack-3
+cast-pack-3 c = rw (toZ-ofZ (c .fits .tile-y)) (sfits-widen tt (c .fits .tile-y))
+
+cast-pack-4 : tie.Need-cast-pack-4
+cast-pack-4 c = search needs
+
+cast-pack-5 : tie.Need-cast-pack-5
+cast-pack-5 c = search needs
+
+cast-pack-6 : tie.Need-cast-pack-6
+cast-pack-6 c = search needs
+
+cast-pack-7 : tie.Need-cast-pack-7
+cast-pack-7 c = rw (toZ-ofZ (c .fits .cover)) (sfits-widen tt (c .fits .cover))
+
+pack-requires : tie.Need-pack-requires
+pack-requires c κs = search needs
+
 returns : tie.Need-returns
-returns c = rw (rw (toZ-ofZ (c .before .fits .tile-x)) at (c .if1 .taken))
-
-returns-2 : tie.Need-returns-2
-returns-2 c =
-    let s = c .before .before in
-    rw (rw (toZ-ofZ (s .fits .tile-x)) at (c .before .if1 .left), rw (toZ-ofZ (s .fits .tile-y)) at (c .if2 .taken))
-
-stored-requires : tie.Need-stored-requires
-stored-requires c κs = search needs
-
-append-requires : tie.Need-append-requires
-append-requires c κs = search needs
-
-stored-requires-2 : tie.Need-stored-requires-2
-stored-requires-2 c κs = search needs
-
-append-requires-2 : tie.Need-append-requires-2
-append-requires-2 c κs = search needs
-
-append-requires-3 : tie.Need-append-requires-3
-append-requires-3 c κs = search needs
-
-append-requires-4 : tie.Need-append-requires-4
-append-requires-4 c κs = search needs
-
-append-requires-5 : tie.Need-append-requires-5
-append-requires-5 c κs = search needs
-
-append-requires-6 : tie.Need-append-requires-6
-append-requires-6 c κs = search needs
-
-cover-bits-requires : tie.Need-cover-bits-requires
-cover-bits-requires c κs = search needs
-
-append-requires-7 : tie.Need-append-requires-7
-append-requires-7 c κs = search needs
-
-returns-3 : tie.Need-returns-3
-returns-3 c =
-    let p6 = c .before .before in
-    let p2 = p6 .before .before .before .before in
-    let p1 = p2 .before .before in
-    let e = p1 .before .before in
-    let s = e .before .before in
+returns c =
+    let a = c .before .args in
+    let f = c .before .fits in
+    let x : SFits w64 (a .tile-x) = sfits-widen tt (f .tile-x) in
+    let y : SFits w64 (a .tile-y) = sfits-widen tt (f .tile-y) in
+    let cover : SFits w64 (a .cover) = sfits-widen tt (f .cover) in
     rw (
-      rw (toZ-ofZ (s .fits .tile-x)) at (e .before .if1 .left),
-      rw (toZ-ofZ (s .fits .tile-y)) at (e .if2 .left),
-      c .append7 .ensures,
-      c .before .cover-bits .ensures,
-      p6 .append6 .ensures,
-      p6 .before .append5 .ensures,
-      p6 .before .before .append4 .ensures,
-      p6 .before .before .before .append3 .ensures,
-      p2 .append2 .ensures,
-      p2 .before .stored2 .ensures,
-      p1 .append .ensures,
-      p1 .before .stored .ensures,
-      toZ-ofZ (s .fits .tile-x),
-      toZ-ofZ (s .fits .tile-y),
-      toZ-ofZ (s .fits .cover),
-    )
+      toZ-pos w64 {n = a .layer-id} (omega arith),
+      toZ-pos w64 {n = a .local-x} (omega arith),
+      toZ-pos w64 {n = a .local-y} (omega arith),
+      toZ-pos w64 {n = a .double-area-multiplier} (omega arith),
+      toZ-ofZ (f .tile-x),
+      toZ-ofZ (f .tile-y),
+      toZ-ofZ (f .cover),
+      toZ-ofZ x,
+      toZ-ofZ y,
+      toZ-ofZ cover,
+    ) at (c .pack .ensures)
 
 pub new-spec : {M : Type 1} → statement M
 new-spec =
     tie.close
     (tie.spec
-    returns
-    returns-2
-    stored-requires
-    append-requires
-    stored-requires-2
-    append-requires-2
-    append-requires-3
-    append-requires-4
-    append-requires-5
-    append-requires-6
-    cover-bits-requires
-    append-requires-7
-    returns-3)
+    cast-pack
+    cast-pack-2
+    cast-pack-3
+    cast-pack-4
+    cast-pack-5
+    cast-pack-6
+    cast-pack-7
+    pack-requires
+    returns)

@@ -1,0 +1,17 @@
+-- What a range says of a number, as bounds on its parts. Assumes nothing.
+use mathlib.Core.Path.{_≡_}
+use mathlib.Core.Bool.{true}
+use Prim.Native.Nat.{_+_, _≤_}
+use lib.IntN.{ℤ}
+use lib.Signed.{leZ}
+use Rattle.laws.specs.Integer.{plus, minus, isWithin}
+use Rattle.laws.proofs.Bools.{left, right}
+use Rattle.laws.proofs.Parts.{le-true}
+
+pub record Within (low high v : ℤ) : Type 0 where
+  pub above : plus low + minus v ≤ plus v + minus low
+  pub below : plus v + minus high ≤ plus high + minus v
+
+pub within : (low high v : ℤ) → isWithin low high v ≡ true → Within low high v
+unfolding isWithin
+within low high v e = record { above = le-true low v (left (leZ low v) (leZ v high) e); below = le-true v high (right (leZ low v) (leZ v high) e) }
