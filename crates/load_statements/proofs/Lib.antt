@@ -1,0 +1,2 @@
+-- Laws of loads.
+pub mod Asking
