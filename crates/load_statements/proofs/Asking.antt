@@ -16,7 +16,7 @@ use Rattle.decimal.proofs.Steps.{cases}
 use Rattle.decimal.proofs.Laws as numbers
 use Rattle.decimal.proofs.Laws.{parseℕ-complete, parseℕ-sound}
 use Rattle.lines.specs.Text.{lineText}
-use Rattle.load_statements.specs.Load.{Asked}
+use Rattle.load_statements.specs.Load.{Asked, asked}
 use Rattle.load_statements.specs.Input.{InRange, Asks, ended, parseField, afterCount, afterTiles, afterSeed, ask}
 
 -- ---- a field
@@ -69,7 +69,7 @@ never q = let z : _≡_ {A = ℕ} 0 1 = cc in absurd (omega arith)
 
 -- the numbers that the fields have, and the line that they print to
 asks : {text t u : List ℕ} {seed tiles count : ℕ} {a : Asked} → FieldIs (2 ^ 32) 32 text seed t → FieldIs 4096 32 t tiles u → FieldIs 513 10 u count []
-    → 0 < tiles → 0 < count → record { seed = seed; tiles = tiles; count = count } ≡ a → Asks text a
+    → 0 < tiles → 0 < count → asked seed tiles count ≡ a → Asks text a
 unfolding lineText
 asks {text} {t} {u} {seed} {tiles} {count} {a} p q r h l e =
     rw (← e)

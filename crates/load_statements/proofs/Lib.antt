@@ -4,3 +4,8 @@ pub mod Slots
 pub mod Fields
 pub mod Rules
 pub mod Forming
+pub mod Accepting
+pub mod Ascents
+pub mod Openings
+pub mod Examples
+pub mod Making

@@ -10,7 +10,7 @@ use lib.Dec.{ltb, eqb}
 use lib.IntN.{pos}
 use Rattle.decimal.specs.Parse.{Parsed, parsed, failed, parseℕ}
 use Rattle.lines.specs.Text.{lineText}
-use Rattle.load_statements.specs.Load.{Asked}
+use Rattle.load_statements.specs.Load.{Asked, asked}
 
 pub record InRange (a : Asked) : Type 0 where
   pub seed : a .seed < 2 ^ 32
@@ -37,7 +37,7 @@ parseField limit end s = ended end (parseℕ limit s)
 -- after each field: nothing stands behind the last, and neither tiles nor segments are 0
 abbrev pub afterCount : ℕ → ℕ → Parsed ℕ → Option Asked
 afterCount seed tiles failed = none
-afterCount seed tiles (parsed count []) = cond (ltb 0 tiles && ltb 0 count) (some (record { seed = seed; tiles = tiles; count = count })) none
+afterCount seed tiles (parsed count []) = cond (ltb 0 tiles && ltb 0 count) (some (asked seed tiles count)) none
 afterCount seed tiles (parsed count (b ∷ t)) = none
 
 abbrev pub afterTiles : ℕ → Parsed ℕ → Option Asked

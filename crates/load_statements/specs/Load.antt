@@ -17,6 +17,9 @@ pub record Asked : Type 0 where
   pub tiles : ℕ
   pub count : ℕ
 
+abbrev pub asked : ℕ → ℕ → ℕ → Asked
+asked seed tiles count = record { seed = seed; tiles = tiles; count = count }
+
 abbrev pub headOf : ℕ → Head
 headOf tiles = record { row = pos 0; tiles = pos tiles; from = pos 0; to = pos tiles }
 
