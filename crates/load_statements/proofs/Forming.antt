@@ -78,18 +78,18 @@ from-fields s slot h =
 
 -- ---- the job
 
+pub segment-lines : (a : Asked) → map segmentValues (tabulate (a .count) (segmentOf a)) ≡ tabulate (a .count) (λ i. segmentValues (segmentOf a i))
+segment-lines a = map-tabulate segmentValues (a .count) (segmentOf a)
+
 module _ (a : Asked) (h : InRange a) where
   segment-fields : (k : ℕ) → k < a .count → Fields 7 (segmentValues (segmentOf a k))
   segment-fields k l = from-fields _ _ (slot-small a h k l)
-
-  segment-lines : map segmentValues (tabulate (a .count) (segmentOf a)) ≡ tabulate (a .count) (λ i. segmentValues (segmentOf a i))
-  segment-lines = map-tabulate segmentValues (a .count) (segmentOf a)
 
   layers-long : length (linesText (map layerValues (tabulate 8 layerOf))) ≤ 144
   layers-long = lines-long 18 8 (λ i. layerValues (layerOf i)) layer-long
 
   segments-long : length (linesText (map segmentValues (tabulate (a .count) (segmentOf a)))) ≤ 22 * a .count
-  segments-long = rw segment-lines (lines-long 22 (a .count) (λ i. segmentValues (segmentOf a i)) (segment-long a h))
+  segments-long = rw (segment-lines a) (lines-long 22 (a .count) (λ i. segmentValues (segmentOf a i)) (segment-long a h))
 
   one-line : (vs : List ℤ) → length (linesText (vs ∷ [])) ≡ length (lineText vs)
   unfolding linesText
@@ -114,7 +114,7 @@ module _ (a : Asked) (h : InRange a) where
     few-layers = omega arith;
     layers = (all-fields 8 8 (λ i. layerValues (layerOf i)) layer-fields);
     few-lines = omega (arith, length-map (tabulate (a .count) (segmentOf a)) segmentValues, length-tabulate (a .count) (segmentOf a), h .count);
-    segments = rw segment-lines (all-fields 7 (a .count) (λ i. segmentValues (segmentOf a i)) segment-fields);
+    segments = rw (segment-lines a) (all-fields 7 (a .count) (λ i. segmentValues (segmentOf a i)) segment-fields);
     size = short-text;
   }
 

@@ -1,1 +1,4 @@
--- Laws of printing a load.
+-- Laws of reading the line and printing a load.
+pub mod Reading
+pub mod Drawing
+pub mod Printing
