@@ -1,4 +1,2 @@
--- Laws of reading the line and printing a load.
-pub mod Reading
-pub mod Drawing
+-- Laws of printing a load.
 pub mod Printing

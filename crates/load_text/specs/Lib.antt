@@ -1,3 +1,2 @@
--- What reading the line and printing a load promise.
-pub mod Read
+-- What printing a load promises.
 pub mod Print

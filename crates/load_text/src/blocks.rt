@@ -1,6 +1,6 @@
 // The three blocks of a load's text, printed one after another.
-use crate::draw::Generator;
-use crate::segment;
+use load_numbers::draw::Generator;
+use load_numbers::segment;
 use report::fields;
 ghost use mathlib.Core.Path.{_≡_};
 ghost use Prim.Native.Nat.{_+_, _*_, _≤_, _<_};

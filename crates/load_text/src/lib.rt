@@ -1,11 +1,9 @@
 // A load as text: the job text that a seed, a number of tiles and a number of segments make, printed for the line that
 // asks for it.
 pub mod blocks;
-pub mod draw;
-pub mod input;
-pub mod segment;
 
-use input::Input;
+use load_numbers::input;
+use load_numbers::input::Input;
 use report::Printed;
 ghost use mathlib.Core.Path.{_≡_};
 ghost use Prim.Native.Nat.{_≤_};

@@ -16,8 +16,8 @@ use Rattle.decimal.specs.Parse.{parsed}
 use Rattle.decimal.specs.Read.{UnsignedRead}
 use Rattle.load_statements.specs.Load.{asked}
 use Rattle.load_statements.specs.Input.{ended, parseField, afterCount, afterTiles, afterSeed, ask}
-use Rattle.load_text.specs.declared.input.Field.the-variants.{Number, Broken}
-use Rattle.load_text.specs.Read.{FieldRead}
+use Rattle.load_numbers.specs.declared.input.Field.the-variants.{Number, Broken}
+use Rattle.load_numbers.specs.Read.{FieldRead}
 
 -- ---- a field
 

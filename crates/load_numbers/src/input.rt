@@ -3,7 +3,7 @@ use decimal::Unsigned;
 ghost use mathlib.Core.Path.{_≡_};
 ghost use Prim.Native.Nat.{_≤_, _^_};
 ghost use Rattle.load_statements.specs.Input.{ask};
-ghost use Rattle.load_text.specs.Read.{FieldRead, inputOf};
+ghost use Rattle.load_numbers.specs.Read.{FieldRead, inputOf};
 
 // A number and the place after the byte that ends its field, or a broken form.
 pub enum Field {

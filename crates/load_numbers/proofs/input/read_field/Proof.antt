@@ -1,9 +1,9 @@
 -- `read_field` meets its contract: each answer is a law of `Reading`. Assumes nothing.
 use native.Mathlib.Omega.{arith}
 use borrow.Author.Needs.{needs}
-use Rattle.load_text.proofs.Reading.{missing, no-end, other-end, number}
-use Rattle.load_text.proofs.input.read_field.Statement.{statement}
-use Rattle.load_text.proofs.input.read_field.Tie as tie
+use Rattle.load_numbers.proofs.Reading.{missing, no-end, other-end, number}
+use Rattle.load_numbers.proofs.input.read_field.Statement.{statement}
+use Rattle.load_numbers.proofs.input.read_field.Tie as tie
 
 read-unsigned-requires : tie.Need-read-unsigned-requires
 read-unsigned-requires c κs = search needs

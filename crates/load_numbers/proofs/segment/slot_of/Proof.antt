@@ -4,8 +4,8 @@ use native.Mathlib.Nat.{mul-le-mul}
 use native.Mathlib.Omega.{arith}
 use Rattle.load_statements.specs.Load.{slotOf}
 use borrow.Author.Needs.{needs}
-use Rattle.load_text.proofs.segment.slot_of.Statement.{statement}
-use Rattle.load_text.proofs.segment.slot_of.Tie as tie
+use Rattle.load_numbers.proofs.segment.slot_of.Statement.{statement}
+use Rattle.load_numbers.proofs.segment.slot_of.Tie as tie
 
 mul-result : tie.Need-mul-result
 mul-result c = search needs

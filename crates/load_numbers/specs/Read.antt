@@ -7,10 +7,10 @@ use lib.ListN.{length, drop}
 use Rattle.decimal.specs.Parse.{Parsed, parsed, failed}
 use Rattle.load_statements.specs.Load.{Asked, asked}
 use Rattle.load_statements.specs.Input.{parseField}
-use Rattle.load_text.specs.declared.input.Field.{Field}
-use Rattle.load_text.specs.declared.input.Field.the-variants.{Number, Broken}
-use Rattle.load_text.specs.declared.input.Input.{Input}
-use Rattle.load_text.specs.declared.input.Input.the-variants as input
+use Rattle.load_numbers.specs.declared.input.Field.{Field}
+use Rattle.load_numbers.specs.declared.input.Field.the-variants.{Number, Broken}
+use Rattle.load_numbers.specs.declared.input.Input.{Input}
+use Rattle.load_numbers.specs.declared.input.Input.the-variants as input
 
 -- the cases of the code's answer: what is asked for, or none, which is number 10
 abbrev pub inputOf : Input → Option Asked

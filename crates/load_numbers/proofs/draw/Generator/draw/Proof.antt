@@ -1,8 +1,8 @@
 -- `draw` meets its contract. Assumes nothing.
 use Rattle.load_statements.specs.Draw.{next}
 use borrow.Author.Needs.{needs}
-use Rattle.load_text.proofs.draw.Generator.draw.Statement.{statement}
-use Rattle.load_text.proofs.draw.Generator.draw.Tie as tie
+use Rattle.load_numbers.proofs.draw.Generator.draw.Statement.{statement}
+use Rattle.load_numbers.proofs.draw.Generator.draw.Tie as tie
 
 cast-state : tie.Need-cast-state
 cast-state c = search needs
