@@ -8,16 +8,15 @@ use Prim.Native.Nat.{ℕ, _^_, _≤_, _<_}
 use native.Mathlib.Omega.{arith}
 use borrow.Author.Tests.{eq-eqb, eqb-true, lt-ltb, ltb-true}
 use lib.Dec.{eqb, ltb}
-use lib.IntN.{pos}
 use Rattle.laws.proofs.Bools.{left, right}
-use Rattle.decimal.specs.Decimal.{decimal, isDigit, Stops}
+use Rattle.decimal.specs.Decimal.{decimal, Stops}
 use Rattle.decimal.specs.Parse.{Parsed, parsed, failed, parseℕ}
 use Rattle.decimal.proofs.Steps.{cases}
 use Rattle.decimal.proofs.Laws as numbers
 use Rattle.decimal.proofs.Laws.{parseℕ-complete, parseℕ-sound}
 use Rattle.lines.specs.Text.{lineText}
 use Rattle.load_statements.specs.Load.{Asked, asked}
-use Rattle.load_statements.specs.Input.{InRange, Asks, ended, parseField, afterCount, afterTiles, afterSeed, ask}
+use Rattle.load_statements.specs.Input.{Asks, ended, parseField, afterCount, afterTiles, afterSeed, ask}
 
 -- ---- a field
 

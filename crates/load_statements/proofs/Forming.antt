@@ -1,15 +1,14 @@
 -- The job of a load is well formed: its lines, its counts and its length are those of a job text, and the rules hold.
 -- Assumes nothing.
-use mathlib.Core.Path.{_≡_, refl, ap, subst, _∙_}
-use mathlib.Core.Bool.{Bool, true, _&&_}
+use mathlib.Core.Path.{_≡_, refl, ap}
+use mathlib.Core.Bool.{Bool, true}
 use mathlib.Core.List.{List, [], _∷_, map, append-nil}
 use mathlib.Core.Option.{some}
-use Prim.Native.Nat.{ℕ, zero, suc, _+_, _*_, _%_, _/_, _≤_, _<_}
+use Prim.Native.Nat.{ℕ, zero, suc, _*_, _%_, _≤_, _<_}
 use native.Mathlib.Nat.{mul-suc}
 use native.Mathlib.Omega.{arith}
 use borrow.Author.Tests.{le-leb}
-use lib.Dec.{leb}
-use lib.IntN.{ℤ, pos, natAbs, _-ℤ_}
+use lib.IntN.{ℤ, pos, _-ℤ_}
 use lib.ListN.{length, length-append, length-map}
 use Rattle.laws.specs.Integer.{plus}
 use Rattle.laws.specs.Lists.{tabulate, all}
@@ -20,8 +19,8 @@ use Rattle.layer_table.proofs.Listed.{map-tabulate}
 use Rattle.lines.specs.Text.{lineText, linesText, blockText, Fields, AllFields}
 use Rattle.job_lines.specs.declared.segment.SegmentLine.{SegmentLine}
 use Rattle.job_lines.specs.Rules.{layerRule, segmentRule, segmentCount}
-use Rattle.job_text_statements.specs.Text.{blocksText, Formed, headNames, layerNames, segmentNames}
-use Rattle.job_text_statements.specs.Job.{Job, headValues, layerValues, segmentValues, blocksOf, render, isAllowed, WellFormed}
+use Rattle.job_text_statements.specs.Text.{blocksText, Formed}
+use Rattle.job_text_statements.specs.Job.{headValues, layerValues, segmentValues, blocksOf, render, isAllowed, WellFormed}
 use Rattle.job_text_statements.specs.Parse.{parse}
 use Rattle.job_text_statements.proofs.Laws.{complete}
 use Rattle.load_statements.specs.Draw.{drawAt}

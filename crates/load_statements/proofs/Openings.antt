@@ -1,33 +1,32 @@
 -- An opening of a load's job is not refused: its row ascends, its layers are a table, and no segment lies left of tile 0.
 -- Assumes nothing.
 use mathlib.Core.Path.{_≡_, refl, ap, _∙_}
-use mathlib.Core.Bool.{Bool, true, false, not}
+use mathlib.Core.Bool.{true, false, not}
 use mathlib.Core.Logic.{⊎-elim}
-use mathlib.Core.List.{List, [], flatten}
+use mathlib.Core.List.{[], flatten}
 use Prim.Native.Nat.{ℕ, _^_, _≤_, _<_}
 use native.Mathlib.Omega.{arith}
 use borrow.Author.Tests.{le-ltb}
 use lib.Dec.{ltb, lit<}
-use lib.Ieee.{odd, ofBits}
 use lib.IntN.{pos}
-use lib.ListN.{length, getD, List·getD-eq-default}
+use lib.ListN.{getD, List·getD-eq-default}
 use Rattle.laws.specs.Answer.{given}
-use Rattle.laws.specs.Lists.{tabulate, all, over}
+use Rattle.laws.specs.Lists.{tabulate, over}
 use Rattle.laws.proofs.Filtered.{filter-none}
 use Rattle.laws.proofs.Orders.{le-or-lt}
 use Rattle.laws.proofs.Rows.{length-tabulate, getD-tabulate}
 use Rattle.refusals.specs.Refusal.{pass}
 use Rattle.pixel_segment.specs.Field.{cpu, tileXOf, tileOf}
-use Rattle.segment_rows.specs.Rows.{isRow, Words}
+use Rattle.segment_rows.specs.Rows.{Words}
 use Rattle.segment_rows.specs.Search.{leftPart}
 use Rattle.segment_rows.proofs.TileParts.{left-part}
 use Rattle.layer_table.specs.Table as table
 use Rattle.styling.specs.Ascending.{strictlyAscendsFrom}
 use Rattle.queue_statements.specs.Queue.{coversIn}
-use Rattle.queue_statements.specs.Opening.{addAll, isLightOpening, openAnswer}
+use Rattle.queue_statements.specs.Opening.{addAll, isLightOpening}
 use Rattle.row_statements.specs.Lent.{Columns, isQueueShort, isLentShort, isLentTable}
-use Rattle.row_statements.specs.Opening.{openVerdict, openState, openOut, openOf}
-use Rattle.job_statements.specs.Table.{tableWords, tableColors, alphaOf}
+use Rattle.row_statements.specs.Opening.{openVerdict, openState, openOf}
+use Rattle.job_statements.specs.Table.{tableWords, tableColors}
 use Rattle.load_statements.specs.Load.{Asked, layerOf, loadOf}
 use Rattle.load_statements.specs.Input.{InRange}
 use Rattle.load_statements.specs.Made.{rowOf, tableOf, openingOf}

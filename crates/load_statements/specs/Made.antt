@@ -1,5 +1,5 @@
--- What holds of every load. Stands for document 02, W-204: 'the job reader is proved to accept every such text, and its rows ascend'. So of the
--- refusals only 9 is left to the row program: the lent memory being long enough, an opening of such a job is not refused.
+-- What holds of every load. Stands for document 02, W-204: 'the job reader is proved to accept every such text, and its rows ascend'. Beyond
+-- that, its layers are a table, and so an opening of its job, from tile 0 and with a queue that is long enough, is not refused.
 use mathlib.Core.Path.{_≡_}
 use mathlib.Core.Bool.{true, false}
 use mathlib.Core.List.{List}
@@ -19,7 +19,7 @@ use Rattle.job_statements.specs.Row.{rowWords}
 use Rattle.job_statements.specs.Read as reading
 use Rattle.job_statements.specs.Read.{jobOutcome}
 use Rattle.load_statements.specs.Load.{Asked, loadOf}
-use Rattle.load_statements.specs.Input.{Asks, ask}
+use Rattle.load_statements.specs.Input.{Asks}
 
 -- the row and the layer table that reading leaves of a load, and its opening
 abbrev pub rowOf : Asked → List ℕ

@@ -7,8 +7,8 @@
 use std::{env, process::ExitCode};
 
 use comparison::{
-    bench, cached, covers, curve, jobs, layers, loads, openings, paintings, plates, rows, stored, stored_jobs, tally::Tally,
-    tiles, words,
+    bench, cached, covers, curve, jobs, layers, loads, openings, paintings, plates, rows, stored, stored_jobs,
+    tally::Tally, tiles, words,
 };
 
 fn main() -> ExitCode {

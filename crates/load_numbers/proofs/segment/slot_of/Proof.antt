@@ -2,8 +2,8 @@
 use Prim.Native.Nat.{_*_}
 use native.Mathlib.Nat.{mul-le-mul}
 use native.Mathlib.Omega.{arith}
-use Rattle.load_statements.specs.Load.{slotOf}
 use borrow.Author.Needs.{needs}
+use Rattle.load_statements.specs.Load.{slotOf}
 use Rattle.load_numbers.proofs.segment.slot_of.Statement.{statement}
 use Rattle.load_numbers.proofs.segment.slot_of.Tie as tie
 

@@ -1,6 +1,6 @@
 -- `draw` meets its contract. Assumes nothing.
-use Rattle.load_statements.specs.Draw.{next}
 use borrow.Author.Needs.{needs}
+use Rattle.load_statements.specs.Draw.{next}
 use Rattle.load_numbers.proofs.draw.Generator.draw.Statement.{statement}
 use Rattle.load_numbers.proofs.draw.Generator.draw.Tie as tie
 
