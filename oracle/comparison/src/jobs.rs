@@ -101,7 +101,7 @@ fn work_refusal(words: [i32; 4], rust: &Row<'_>, row: &[u64], table: &LentTable)
 
 /// The segments, each line repeated downward. A row number that 2 refuses is cut to the width of its field: nothing
 /// looks at it.
-fn words_of(job: &Job) -> Vec<u64> {
+pub fn words_of(job: &Job) -> Vec<u64> {
     let tile_y = (job.head[0] & 2047) as i16;
     let mut words = Vec::new();
     for &[tile_x, layer, x, y, rows, mult, cover] in &job.lines {
@@ -146,14 +146,14 @@ pub fn line(tile: usize, worked: &Worked) -> String {
     format!("{tile} {op} {} {shown} {octets} {}", worked.list.len(), worked.queue.len())
 }
 
-/// What the program prints for a text, and whether it ends well.
-fn printed(text: &[u8]) -> (Vec<u8>, bool) {
-    let program = PathBuf::from(env!("CARGO_MANIFEST_DIR")).join("../../target/bin/row");
+/// What a program prints for a text, and whether it ends well.
+pub fn printed(program: &str, text: &[u8]) -> (Vec<u8>, bool) {
+    let program = PathBuf::from(env!("CARGO_MANIFEST_DIR")).join("../../target/bin").join(program);
     let mut child = Command::new(program)
         .stdin(Stdio::piped())
         .stdout(Stdio::piped())
         .spawn()
-        .expect("`rt check row` builds target/bin/row");
+        .expect("`rt check` builds the programs in target/bin");
     let mut input = child.stdin.take().unwrap();
     let output = thread::scope(|scope| {
         // The program need not read a text to its end, so the pipe may close before.
@@ -170,7 +170,7 @@ pub fn check(kind: &mut Kind, text: &[u8]) {
         return;
     };
     note(kind, text, &answer);
-    let (ours, ends_well) = printed(text);
+    let (ours, ends_well) = printed("row", text);
     kind.case(ends_well && ours == answer.text.as_bytes(), || {
         let end = if ends_well { "" } else { ", and it fails" };
         format!("{}: expected {:?}, the program {:?}{end}", told(text), answer.text, String::from_utf8_lossy(&ours))

@@ -15,6 +15,7 @@ pub mod jobs;
 pub mod judge;
 pub mod layers;
 pub mod library;
+pub mod loads;
 pub mod memory;
 pub mod openings;
 pub mod paintings;

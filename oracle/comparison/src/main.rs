@@ -1,5 +1,5 @@
-//! `comparison answers` prints the Rust's answers for the crate `compare`, and writes those of the crates `jobs` and
-//! `curve`.
+//! `comparison answers` prints the Rust's answers for the crate `compare`, and writes those of the crates `jobs`,
+//! `curve` and `load`.
 //! `comparison N SEED`: N random cases of each kind on both sides, or with a word behind, of each kind whose name has
 //! it. The last line says how many were compared and how many differ. `comparison bench`, or with a word behind, prints
 //! times of both.
@@ -7,8 +7,8 @@
 use std::{env, process::ExitCode};
 
 use comparison::{
-    bench, cached, covers, curve, jobs, layers, openings, paintings, plates, rows, stored, stored_jobs, tally::Tally,
-    tiles, words,
+    bench, cached, covers, curve, jobs, layers, loads, openings, paintings, plates, rows, stored, stored_jobs,
+    tally::Tally, tiles, words,
 };
 
 fn main() -> ExitCode {
@@ -16,6 +16,7 @@ fn main() -> ExitCode {
         print!("{}", stored::answers());
         stored_jobs::write();
         curve::write();
+        loads::write();
         return ExitCode::SUCCESS;
     }
     if env::args().nth(1).as_deref() == Some("bench") {
@@ -40,5 +41,6 @@ fn main() -> ExitCode {
     jobs::compare(&mut tally);
     stored_jobs::compare(&mut tally);
     curve::compare(&mut tally);
+    loads::compare(&mut tally);
     tally.end()
 }

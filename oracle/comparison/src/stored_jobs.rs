@@ -5,6 +5,7 @@ use std::{collections::BTreeSet, fs, path::PathBuf};
 use crate::{
     job_reader::{Job, LAYERS, LINES, LONGEST_TEXT, SEGMENTS},
     jobs::{answer, check},
+    loads::{made, Asked},
     tally::{Kind, Tally},
 };
 
@@ -65,8 +66,8 @@ fn compare_files(kind: &mut Kind, names: &[String]) {
     }
 }
 
-/// The counts of the text at their edges and one past them, and a text that is a byte too long.
-fn large() -> [(&'static str, Vec<u8>); 7] {
+/// The counts of the text at their edges and one past them, a text that is a byte too long, and two made loads.
+fn large() -> [(&'static str, Vec<u8>); 9] {
     let lines = LINES as i64;
     [
         ("layers_64_pass.job", many_layers(LAYERS as i64).text()),
@@ -76,6 +77,8 @@ fn large() -> [(&'static str, Vec<u8>); 7] {
         ("segments_2048_pass.job", many_segments(SEGMENTS).text()),
         ("ten_2049_segments.job", many_segments(SEGMENTS + 1).text()),
         ("ten_long_text.job", long_text()),
+        ("load_0_16_128.job", made(Asked { seed: 0, tiles: 16, segments: 128 }).text()),
+        ("nine_load_116_1_512.job", made(Asked { seed: 116, tiles: 1, segments: 512 }).text()),
     ]
 }
 

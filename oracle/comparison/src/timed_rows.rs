@@ -12,9 +12,10 @@ use crate::{
     given::{Canvas, Memory, Queue, State, Work},
     layers::lent,
     library,
+    loads::Asked,
     memory::carries,
     random::Random,
-    timed_scenes::{bands, clips, dense, draws, left_of, made, Row},
+    timed_scenes::{bands, clips, dense, draws, left_of, load, Row},
     timing::Bench,
     words::{segment, Segment},
 };
@@ -98,10 +99,8 @@ fn line(bench: &mut Bench, name: &str, row: &Row) {
 
 /// How many layers are painted stands behind a row's name.
 pub fn print(bench: &mut Bench) {
-    let no_condition_refuses = |row: &Row| Ours::new(row).run(|_| ()).is_ok();
-    for (tiles, segments, rule) in [(4, 64, 0), (64, 512, 0), (64, 512, 1), (1024, 512, 0), (4095, 512, 0)] {
-        let mut seeds = 0..;
-        let row = seeds.find_map(|seed| Some(made(seed, tiles, segments, rule)).filter(no_condition_refuses)).unwrap();
+    for (tiles, segments, rule) in [(16, 128, 0), (64, 512, 0), (64, 512, 1), (256, 512, 0), (4095, 512, 0)] {
+        let row = load(Asked { seed: 0, tiles, segments }, rule);
         let rule = ["NonZero", "EvenOdd"][rule as usize];
         print_row(bench, &format!("row: {tiles} tiles, {segments} segments, {rule}"), &row);
     }

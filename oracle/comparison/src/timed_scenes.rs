@@ -2,7 +2,13 @@
 
 use reference::plain::Record;
 
-use crate::{given::Fields, random::Random, scene::word};
+use crate::{
+    given::Fields,
+    jobs::words_of,
+    loads::{made, Asked},
+    random::Random,
+    scene::word,
+};
 
 /// A row of tiles from 0 on, with its layers.
 pub struct Row {
@@ -30,24 +36,10 @@ pub fn clips(layers: u32) -> Vec<Record> {
     (0..layers).map(record).collect()
 }
 
-/// Eight opaque layers and so many segments, made from a seed: segment k lies in slot k x 8 x tiles / segments, of which
-/// each tile has eight, one a layer. Four draws of a linear congruential generator give its place, area and cover.
-pub fn made(seed: u32, tiles: usize, segments: usize, rule: u32) -> Row {
-    let mut state = seed;
-    let mut draw_below = |n: u32| {
-        state = state.wrapping_mul(1_664_525).wrapping_add(1_013_904_223);
-        (state >> 16) % n
-    };
-    let one = |k| {
-        let slot = k * 8 * tiles / segments;
-        let (local_x, local_y) = (draw_below(16) as u8, draw_below(16) as u8);
-        let double_area_multiplier = draw_below(33) as u8;
-        let cover = draw_below(33) as i8 - 16;
-        let (layer_id, tile_x) = (slot as u32 % 8, (slot / 8) as i16);
-        word(Fields { layer_id, tile_x, tile_y: 0, local_x, local_y, double_area_multiplier, cover })
-    };
-    let words = (0..segments).map(one).collect();
-    Row { tiles, words, records: (0..8).map(|id| draw(id, rule, 1.0)).collect() }
+/// A made load, its layers with the given rule.
+pub fn load(asked: Asked, rule: u32) -> Row {
+    let words = words_of(&made(asked));
+    Row { tiles: asked.tiles as usize, words, records: (0..8).map(|id| draw(id, rule, 1.0)).collect() }
 }
 
 /// Eight tiles and eight opaque layers, each with so many segments in each tile. What one tile adds, the next takes off.

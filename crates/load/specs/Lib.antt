@@ -1,0 +1,1 @@
+-- The load program has no definitions of its own.

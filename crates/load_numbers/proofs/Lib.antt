@@ -1,0 +1,3 @@
+-- Laws of reading the line, and of drawing a segment.
+pub mod Reading
+pub mod Drawing

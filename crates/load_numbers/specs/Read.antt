@@ -1,0 +1,32 @@
+-- What the readers of the line promise.
+use mathlib.Core.Path.{_≡_}
+use mathlib.Core.List.{List}
+use mathlib.Core.Option.{Option, some, none}
+use Prim.Native.Nat.{ℕ, _≤_}
+use lib.ListN.{length, drop}
+use Rattle.decimal.specs.Parse.{Parsed, parsed, failed}
+use Rattle.load_statements.specs.Load.{Asked, asked}
+use Rattle.load_statements.specs.Input.{parseField}
+use Rattle.load_numbers.specs.declared.input.Field.{Field}
+use Rattle.load_numbers.specs.declared.input.Field.the-variants.{Number, Broken}
+use Rattle.load_numbers.specs.declared.input.Input.{Input}
+use Rattle.load_numbers.specs.declared.input.Input.the-variants as input
+
+-- the cases of the code's answer: what is asked for, or none, which is number 10
+abbrev pub inputOf : Input → Option Asked
+inputOf (input.Asked seed tiles count) = some (asked seed tiles count)
+inputOf input.Malformed = none
+
+-- ---- what the inner reader promises: a field as what is read from the front of a text, the place after it as the text from there on
+
+abbrev pub fieldOf : List ℕ → Field → Parsed ℕ
+fieldOf s (Number n next) = parsed n (drop next s)
+fieldOf s Broken = failed
+
+abbrev pub afterField : Field → ℕ
+afterField (Number n next) = next
+afterField Broken = 0
+
+pub record FieldRead (limit end : ℕ) (s : List ℕ) (at : ℕ) (r : Field) : Type 0 where
+  pub answer : fieldOf s r ≡ parseField limit end (drop at s)
+  pub within : afterField r ≤ length s

@@ -1,0 +1,28 @@
+-- The job reader accepts every load.
+-- Assumes nothing.
+use mathlib.Core.Path.{_≡_}
+use mathlib.Core.Bool.{true}
+use mathlib.Core.List.{List}
+use Prim.Native.Nat.{ℕ, _/_, _≤_}
+use native.Mathlib.Omega.{arith}
+use borrow.Author.Tests.{le-leb}
+use lib.Ieee.{Float}
+use lib.ListN.{length}
+use Rattle.job_text_statements.specs.Job.{render}
+use Rattle.job_lines.specs.Rules.{segmentCount}
+use Rattle.job_statements.specs.Read as reading
+use Rattle.job_statements.specs.Read.{hasRoom, jobOutcome}
+use Rattle.load_statements.specs.Load.{Asked, loadOf}
+use Rattle.load_statements.specs.Input.{InRange}
+use Rattle.load_statements.proofs.Forming.{one-row-each, read-back}
+
+module _ (a : Asked) (h : InRange a) (layers : List ℕ) (colors : List Float) (row : List ℕ) (l : 64 ≤ length layers) (c : 32 ≤ length colors) (r : a .count ≤ length row) where
+  room : hasRoom layers colors row (loadOf a) ≡ true
+  unfolding hasRoom loadOf
+  room =
+      rw (le-leb 8 (length layers / 8) (omega arith), le-leb 8 (length colors / 4) (omega arith))
+      (le-leb (segmentCount (loadOf a .segments)) (length row) (omega (arith, one-row-each a h)))
+
+  pub accepted : jobOutcome (render (loadOf a)) layers colors row ≡ reading.accepted (loadOf a)
+  unfolding jobOutcome
+  accepted = rw (read-back a h, room)

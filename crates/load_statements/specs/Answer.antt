@@ -1,0 +1,16 @@
+-- What the load program prints. Stands for document 02, W-204: it 'writes a job text', and 'refuses with 10, printing only `refused 10`, any
+-- input but one line of three whole numbers in these ranges'.
+use mathlib.Core.List.{List}
+use mathlib.Core.Option.{Option, some, none}
+use Prim.Native.Nat.{ℕ}
+use Rattle.job_text_statements.specs.Job.{render}
+use Rattle.report.specs.Text.{refusalText}
+use Rattle.load_statements.specs.Load.{Asked, loadOf}
+use Rattle.load_statements.specs.Input.{ask}
+
+abbrev pub answerBy : Option Asked → List ℕ
+answerBy none = refusalText 10
+answerBy (some a) = render (loadOf a)
+
+unfoldable pub answerText : List ℕ → List ℕ
+answerText text = answerBy (ask text)

@@ -1,0 +1,2 @@
+-- Laws of printing a load.
+pub mod Printing

@@ -1,0 +1,18 @@
+-- `layer_line` meets its contract: the id is small enough for both widths. Assumes nothing.
+use native.Mathlib.Omega.{arith}
+use borrow.Author.Needs.{needs}
+use mir.Syntax.{w32}
+use mir.ValLaws.{toZ-pos}
+use Rattle.load_statements.specs.Load.{layerOf}
+use Rattle.load_text.proofs.blocks.layer_line.Statement.{statement}
+use Rattle.load_text.proofs.blocks.layer_line.Tie as tie
+
+cast-t2 : tie.Need-cast-t2
+cast-t2 c = search needs
+
+returns : tie.Need-returns
+unfolding layerOf
+returns c = rw (toZ-pos w32 (c .args .id) (omega arith))
+
+pub layer-line-spec : {M : Type 1} → statement M
+layer-line-spec = tie.close (tie.spec cast-t2 returns)

@@ -1,0 +1,76 @@
+-- `print_layers` meets its contract. The invariant is that of lines printed one after another; the measure is the lines left.
+-- Assumes nothing.
+use mathlib.Core.Path.{_∙_}
+use Prim.Native.Nat.{_-_}
+use native.Mathlib.Omega.{arith}
+use borrow.Author.Needs.{needs}
+use Rattle.lines.proofs.LinesPrinting.{LinesPrinting, start, line-room, next}
+use Rattle.job_text_statements.specs.Job.{layerValues}
+use Rattle.load_statements.specs.Load.{layerOf}
+use Rattle.load_statements.proofs.Fields.{layer-long}
+use Rattle.load_text.proofs.Printing.{eight, layers-printed}
+use Rattle.load_text.proofs.blocks.print_layers.Statement.{statement}
+use Rattle.load_text.proofs.blocks.print_layers.Tie as tie
+
+abbrev Inv-loop : tie.InvT-loop
+Inv-loop out₀ at end₀ id₀ out end id = LinesPrinting (λ i. layerValues (layerOf i)) 8 18 out₀ end₀ end id out
+
+abbrev μ-loop : tie.MeasureT-loop
+μ-loop out₀ at end₀ id₀ out end id = 8 - id
+
+slice-aggregate-print-bytes : tie.Need-slice-aggregate-print-bytes Inv-loop μ-loop
+slice-aggregate-print-bytes c = search needs
+
+print-bytes-requires : tie.Need-print-bytes-requires Inv-loop μ-loop
+print-bytes-requires c κs = omega arith
+
+loop-holds : tie.Need-loop-holds Inv-loop μ-loop
+loop-holds c = start
+
+layer-line-requires : tie.Need-layer-line-requires Inv-loop μ-loop
+layer-line-requires c κs = omega arith
+
+slice-aggregate-print-line : tie.Need-slice-aggregate-print-line Inv-loop μ-loop
+slice-aggregate-print-line c = search needs
+
+print-line-requires : tie.Need-print-line-requires Inv-loop μ-loop
+print-line-requires c κs =
+    let l = c .before .before in
+    let p = l .before .before .before .before .before in
+    rw (eight _ (l .layer-line .ensures)) (line-room (l .before .before .loop .inv) 96 (omega (arith, p .print-bytes .ensures .answer, p .print-bytes .kept .0)))
+
+add-id : tie.Need-add-id Inv-loop μ-loop
+add-id c = omega arith
+
+loop-less : tie.Need-loop-less Inv-loop μ-loop
+loop-less c = omega arith
+
+loop-again : tie.Need-loop-again Inv-loop μ-loop
+loop-again c =
+    let p = c .before .before in
+    let l = p .before .before .before in
+    next (l .before .before .loop .inv) (omega arith) (layer-long _ (omega arith)) (l .layer-line .ensures) (p .print-line .kept .0) (p .print-line .ensures .0)
+
+same-length : tie.Need-same-length Inv-loop μ-loop
+same-length c = c .before .loop .inv .long ∙ c .before .before .before .before .print-bytes .kept .0
+
+returns : tie.Need-returns Inv-loop μ-loop
+returns c = layers-printed (c .before .before .before .before .print-bytes .ensures) (c .before .loop .inv) (omega arith)
+
+pub print-layers-spec : {M : Type 1} → statement M
+print-layers-spec =
+    tie.close
+    (tie.spec
+    Inv-loop
+    μ-loop
+    slice-aggregate-print-bytes
+    print-bytes-requires
+    loop-holds
+    layer-line-requires
+    slice-aggregate-print-line
+    print-line-requires
+    add-id
+    loop-less
+    loop-again
+    same-length
+    returns)

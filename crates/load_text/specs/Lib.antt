@@ -1,0 +1,2 @@
+-- What printing a load promises.
+pub mod Print
