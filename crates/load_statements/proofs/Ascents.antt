@@ -19,7 +19,7 @@ use Rattle.pixel_segment.specs.Pack.{wordOf}
 use Rattle.segment_rows.specs.Rows.{ascends, isRow}
 use Rattle.segment_rows.proofs.Ascending.{from-intro}
 use Rattle.job_lines.specs.declared.segment.SegmentLine.{SegmentLine}
-use Rattle.job_statements.specs.Row.{segmentWord, rowWords}
+use Rattle.job_statements.specs.Row.{segmentWord, rowTile, rowWords}
 use Rattle.load_statements.specs.Draw.{drawAt}
 use Rattle.load_statements.specs.Load.{Asked, slotOf, segmentFrom, segmentOf, loadOf}
 use Rattle.load_statements.specs.Input.{InRange}
@@ -58,7 +58,7 @@ from-ordered s slot h =
 
 -- a word for each line of one row
 words-are : (n : ℕ) (f : ℕ → SegmentLine) → ((i : ℕ) → (f i) .rows ≡ pos 1) → rowWords (pos 0) (tabulate n f) ≡ tabulate n (λ i. segmentWord (pos 0) (f i) 0)
-unfolding rowWords flatten
+unfolding rowWords rowTile flatten
 words-are zero f h = refl
 words-are (suc n) f h =
     ap₂ _++_ (ap (λ (z : ℤ). tabulate (plus z) (segmentWord (pos 0) (f 0))) (h 0)) (words-are n (λ i. f (suc i)) (λ i. h (suc i)))
