@@ -16,6 +16,7 @@ pub mod judge;
 pub mod layers;
 pub mod library;
 pub mod memory;
+pub mod models;
 pub mod openings;
 pub mod paintings;
 pub mod plates;
