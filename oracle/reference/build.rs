@@ -1,5 +1,6 @@
 //! Copies the Rust's files, unchanged, and appends to some of them one line that declares a child module: it reaches
 //! what is private there. Asserts that each copy begins with the whole text of its original.
+//! For the crate `double_windings` one line of one copy is changed, so that a NonZero cover is full from 16 on.
 
 use std::{
     env, fs,
@@ -25,6 +26,12 @@ const FILES: [(&str, Option<&str>); 16] = [
     ("cpu/painter/layer_workbench/passes/skip_trivial_clips.rs", None),
     ("cpu/painter/layer_workbench/passes/skip_fully_covered_layers.rs", None),
 ];
+
+/// The crate whose copy is changed: the file, its line, and what stands there instead.
+const CHANGED: &str = "double_windings";
+const FILE: &str = "cpu/painter/mod.rs";
+const LINE: &str = ".eq(i8x16::splat(consts::PIXEL_WIDTH as i8))\n";
+const INSTEAD: &str = ".at_least(consts::PIXEL_WIDTH as i8)\n";
 
 /// The module roots, which are not among the files. `@` stands for the folder of the copies.
 const ROOTS: &str = r#"
@@ -61,24 +68,26 @@ pub mod cpu {
 "#;
 
 fn main() {
-    let here = PathBuf::from(env::var("CARGO_MANIFEST_DIR").unwrap());
+    let here = PathBuf::from(env::var("CARGO_MANIFEST_DIR").unwrap()).join("../reference");
     let source = env::var("FORMA_SRC").map(PathBuf::from).unwrap_or_else(|_| here.join("../../../shared/docs/src"));
     let source = source.join("forma/src");
     let copies = PathBuf::from(env::var("OUT_DIR").unwrap()).join("forma");
     println!("cargo:rerun-if-env-changed=FORMA_SRC");
-    println!("cargo:rerun-if-changed=build.rs");
+    println!("cargo:rerun-if-changed={}", here.join("build.rs").display());
     for (name, reach) in FILES {
         let reach = reach.map(|file| here.join("reach").join(file));
-        copy(&source.join(name), &copies.join(name), reach.as_deref());
+        let is_changed = name == FILE && env::var("CARGO_PKG_NAME").unwrap() == CHANGED;
+        copy(&source.join(name), &copies.join(name), reach.as_deref(), is_changed);
     }
     let roots = ROOTS.replace('@', copies.to_str().unwrap());
     fs::write(copies.with_file_name("modules.rs"), roots).unwrap();
 }
 
-fn copy(from: &Path, to: &Path, reach: Option<&Path>) {
+fn copy(from: &Path, to: &Path, reach: Option<&Path>, is_changed: bool) {
     println!("cargo:rerun-if-changed={}", from.display());
     let original = fs::read(from)
         .unwrap_or_else(|why| panic!("{}: {why} (FORMA_SRC names the folder that holds forma/src)", from.display()));
+    let original = if is_changed { changed(original) } else { original };
     let mut text = original.clone();
     if let Some(reach) = reach {
         println!("cargo:rerun-if-changed={}", reach.display());
@@ -91,4 +100,11 @@ fn copy(from: &Path, to: &Path, reach: Option<&Path>) {
         "{} is not the original and then the appended line",
         to.display()
     );
+}
+
+/// The text with the one line changed.
+fn changed(original: Vec<u8>) -> Vec<u8> {
+    let text = String::from_utf8(original).unwrap();
+    assert_eq!(text.matches(LINE).count(), 1, "{LINE:?} stands once in {FILE}");
+    text.replace(LINE, INSTEAD).into_bytes()
 }

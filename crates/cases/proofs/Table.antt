@@ -74,10 +74,12 @@ cases =
       p5-empty = λ key. refl;
       p6-empty = refl;
       p6-not-empty = refl;
+      p6-twice = refl;
+      p6-twice-even-odd = refl;
       p6-full = refl;
       p6-full-even-odd = refl;
-      p6-double = refl;
-      p6-double-not-full = refl;
+      p6-thrice = refl;
+      p6-thrice-even-odd = refl;
       p7-first = refl;
       p7-second = refl;
       p7-clip = refl;
@@ -108,13 +110,17 @@ cases =
     }
 
 pub edges : Edges
-unfolding isPackable coverOf isLight carryOf
+unfolding isPackable coverOf isLight carryOf isFull
 edges =
     record {
       layer-past = refl;
       layer-last = refl;
       load-refused = refl;
       load-passes = refl;
+      row-of-15 = refl;
+      row-of-0 = refl;
+      highest-full = refl;
+      lowest-full = refl;
       no-count = λ count color. refl;
       counted-tag = λ count color n. refl;
       count-dropped = λ count color. refl;

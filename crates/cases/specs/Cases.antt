@@ -52,15 +52,17 @@ pub record Cases : Type 0 where
   pub p5-inside : searchOf (orderAt (LayerId 4)) words ≡ absent 4
   pub p5-after : searchOf (orderAt (LayerId 9)) words ≡ absent 5
   pub p5-empty : (key : ℕ) → searchOf (orderAt (LayerId key)) [] ≡ absent 0
-  -- P6. Sixteen covers of 32 are empty under EvenOdd and not under NonZero
+  -- P6. Sixteen covers of 32 are empty under EvenOdd and not under NonZero, where they are full (W-205)
   pub p6-empty : isEmpty EvenOdd (sixteen (pos 32)) ≡ true
   pub p6-not-empty : isEmpty NonZero (sixteen (pos 32)) ≡ false
+  pub p6-twice : isFull NonZero (sixteen (pos 32)) ≡ true
+  pub p6-twice-even-odd : isFull EvenOdd (sixteen (pos 32)) ≡ false
   -- sixteen of -16 are full under both
   pub p6-full : isFull NonZero (sixteen (neg 16)) ≡ true
   pub p6-full-even-odd : isFull EvenOdd (sixteen (neg 16)) ≡ true
-  -- sixteen of 48 are full under EvenOdd only
-  pub p6-double : isFull EvenOdd (sixteen (pos 48)) ≡ true
-  pub p6-double-not-full : isFull NonZero (sixteen (pos 48)) ≡ false
+  -- sixteen of 48 are full under both, NonZero by W-205
+  pub p6-thrice : isFull NonZero (sixteen (pos 48)) ≡ true
+  pub p6-thrice-even-odd : isFull EvenOdd (sixteen (pos 48)) ≡ true
   -- P7. The first clip lives up to layer 2; the second begins while it lives, and keeps that last layer id; so no clip is alive at layer 3
   pub p7-first : clipAfter (Clip 1) 1 none ≡ some 2
   pub p7-second : clipAfter (Clip 5) 2 (some 2) ≡ some 2

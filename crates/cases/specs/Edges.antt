@@ -1,7 +1,7 @@
--- Cases that the scope does not number: both sides of what packing and adding refuse, and what an update of a cached tile leaves. proofs/Table
--- proves them.
+-- Cases that the scope does not number: both sides of what packing and adding refuse, covers that are not full for one row, and what an update of
+-- a cached tile leaves. proofs/Table proves them.
 use mathlib.Core.Path.{_≡_}
-use mathlib.Core.Bool.{false}
+use mathlib.Core.Bool.{true, false}
 use mathlib.Core.List.{List, [], _∷_}
 use mathlib.Core.Option.{some, none}
 use Prim.Native.Nat.{ℕ}
@@ -10,8 +10,10 @@ use lib.ListN.{replicate}
 use Rattle.laws.specs.Answer.{refused, given}
 use Rattle.cached_tile.specs.Tile.{layerCountOf, updateCount, updateColor}
 use Rattle.cover_statements.specs.Carry.{addOf}
+use Rattle.cover_statements.specs.Cover.{isFull}
 use Rattle.pixel_segment.specs.Field.{cpu}
 use Rattle.pixel_segment.specs.Pack.{packOf}
+use Rattle.styling.specs.declared.FillRule.the-variants.{NonZero}
 use Rattle.cases.specs.Numbers.{neg, sixteen}
 use Rattle.cases.specs.Inputs.{inRow0, taggedTile}
 
@@ -22,6 +24,11 @@ pub record Edges : Type 0 where
   -- number 9: 120 and -8 are refused, though their sum is 112; 119 and -8 pass
   pub load-refused : addOf cpu 16 (sixteen (pos 120)) (inRow0 (neg 8) ∷ []) ≡ refused 9
   pub load-passes : addOf cpu 16 (sixteen (pos 119)) (inRow0 (neg 8) ∷ []) ≡ given (pos 111 ∷ replicate 15 (pos 119))
+  -- W-205: under NonZero every row must have 16 or more, of any byte: one row of 15, or of 0, among fifteen of 48 is too little
+  pub row-of-15 : isFull NonZero (pos 15 ∷ replicate 15 (pos 48)) ≡ false
+  pub row-of-0 : isFull NonZero (pos 0 ∷ replicate 15 (pos 48)) ≡ false
+  pub highest-full : isFull NonZero (sixteen (pos 127)) ≡ true
+  pub lowest-full : isFull NonZero (sixteen (neg 128)) ≡ true
   -- a tile of tag 0 keeps no count; once it is counted its tag is 2
   pub no-count : (count color : List ℕ) → layerCountOf (taggedTile 0 count color) ≡ none
   pub counted-tag : (count color : List ℕ) (n : ℕ) → updateCount (taggedTile 0 count color) (some n) .tags ≡ 2

@@ -18,6 +18,15 @@ pub fn p6_empty() -> bool
     cover.is_empty(FillRule::EvenOdd) & !cover.is_empty(FillRule::NonZero)
 }
 
+// They are full under NonZero, twice around (W-205), not under EvenOdd.
+pub fn p6_twice() -> bool
+    ensures { λ r. ⌜ r ≡ true ⌝ }
+{
+    let covers = [32i8; 16];
+    let cover = Cover { covers };
+    cover.is_full(FillRule::NonZero) & !cover.is_full(FillRule::EvenOdd)
+}
+
 // Sixteen of -16 are full under both.
 pub fn p6_full() -> bool
     ensures { λ r. ⌜ r ≡ true ⌝ }
@@ -27,13 +36,39 @@ pub fn p6_full() -> bool
     cover.is_full(FillRule::NonZero) & cover.is_full(FillRule::EvenOdd)
 }
 
-// Sixteen of 48 are full under EvenOdd only.
-pub fn p6_double() -> bool
+// So are sixteen of 48, three times around (W-205).
+pub fn p6_thrice() -> bool
     ensures { λ r. ⌜ r ≡ true ⌝ }
 {
     let covers = [48i8; 16];
     let cover = Cover { covers };
-    cover.is_full(FillRule::EvenOdd) & !cover.is_full(FillRule::NonZero)
+    cover.is_full(FillRule::NonZero) & cover.is_full(FillRule::EvenOdd)
+}
+
+// One row of 15 among them is too little for NonZero.
+pub fn p6_row_of_15() -> bool
+    ensures { λ r. ⌜ r ≡ true ⌝ }
+{
+    let covers: [i8; 16] = [
+        15,
+        48,
+        48,
+        48,
+        48,
+        48,
+        48,
+        48,
+        48,
+        48,
+        48,
+        48,
+        48,
+        48,
+        48,
+        48,
+    ];
+    let cover = Cover { covers };
+    !cover.is_full(FillRule::NonZero)
 }
 
 // NonZero: 256 gives 0.5, and -512 gives 1.

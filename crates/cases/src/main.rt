@@ -1,4 +1,4 @@
-// The worked cases P1 to P12, run, with both sides of what adding refuses. What each check requires is proved from
+// The worked cases P1 to P12, run, with both sides of what adding refuses and a cover that one row keeps from being full. What each check requires is proved from
 // the contracts of the functions that it calls; specs/Cases states the same cases about the definitions.
 mod clips;
 mod covers;
@@ -15,8 +15,10 @@ fn main() {
     check::expect(words::p5_absent());
     check::expect(words::p5_empty());
     check::expect(covers::p6_empty());
+    check::expect(covers::p6_twice());
     check::expect(covers::p6_full());
-    check::expect(covers::p6_double());
+    check::expect(covers::p6_thrice());
+    check::expect(covers::p6_row_of_15());
     check::expect(clips::p7());
     check::expect(tiles::p8_kept());
     check::expect(tiles::p8_dropped());

@@ -21,12 +21,12 @@ fn is_row_empty(cover: i8, rule: FillRule) -> bool
     }
 }
 
-// Whether it is full by the rule: 16 or -16 for NonZero, an odd multiple of 16 for EvenOdd.
+// Whether it is full by the rule: 16 or more either way for NonZero, an odd multiple of 16 for EvenOdd.
 fn is_row_full(cover: i8, rule: FillRule) -> bool
     ensures { λ r. ⌜ r ≡ fullAt rule cover ⌝ }
 {
     match rule {
-        FillRule::NonZero => weight::cover_magnitude(cover) == 16,
+        FillRule::NonZero => weight::cover_magnitude(cover) >= 16,
         FillRule::EvenOdd => weight::rest_of_cover(cover) == 16,
     }
 }

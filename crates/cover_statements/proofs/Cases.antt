@@ -19,21 +19,21 @@ use Rattle.cover_statements.specs.Coverage.{coverageOf, areaCoverage}
 abbrev sixteen : ℤ → List ℤ
 sixteen z = replicate 16 z
 
--- P6: sixteen of 32 are empty under EvenOdd, not under NonZero; sixteen of -16 are full under both; sixteen of 48 under EvenOdd only
-pub P6-empty : (isEmpty EvenOdd (sixteen (pos 32)) ≡ true) × (isEmpty NonZero (sixteen (pos 32)) ≡ false)
-unfolding isEmpty
-P6-empty = (refl, refl)
+-- P6, with W-205: sixteen of 32 are empty under EvenOdd and full under NonZero; sixteen of -16, and of 48, are full under both
+pub P6-empty : (isEmpty EvenOdd (sixteen (pos 32)) ≡ true) × (isEmpty NonZero (sixteen (pos 32)) ≡ false) × (isFull EvenOdd (sixteen (pos 32)) ≡ false) × (isFull NonZero (sixteen (pos 32)) ≡ true)
+unfolding isEmpty isFull
+P6-empty = (refl, refl, refl, refl)
 
 pub P6-full : (isFull NonZero (sixteen (negsuc 15)) ≡ true) × (isFull EvenOdd (sixteen (negsuc 15)) ≡ true)
 unfolding isFull
 P6-full = (refl, refl)
 
-pub P6-double : (isFull EvenOdd (sixteen (pos 48)) ≡ true) × (isFull NonZero (sixteen (pos 48)) ≡ false)
+pub P6-double : (isFull EvenOdd (sixteen (pos 48)) ≡ true) × (isFull NonZero (sixteen (pos 48)) ≡ true)
 unfolding isFull
 P6-double = (refl, refl)
 
--- -128, which has no opposite in a byte: a multiple of 32, and neither full
-pub lowest : (isEmpty EvenOdd (sixteen (negsuc 127)) ≡ true) × (isEmpty NonZero (sixteen (negsuc 127)) ≡ false) × (isFull EvenOdd (sixteen (negsuc 127)) ≡ false) × (isFull NonZero (sixteen (negsuc 127)) ≡ false)
+-- -128, which has no opposite in a byte: a multiple of 32, and full under NonZero
+pub lowest : (isEmpty EvenOdd (sixteen (negsuc 127)) ≡ true) × (isEmpty NonZero (sixteen (negsuc 127)) ≡ false) × (isFull EvenOdd (sixteen (negsuc 127)) ≡ false) × (isFull NonZero (sixteen (negsuc 127)) ≡ true)
 unfolding isEmpty isFull
 lowest = (refl, refl, refl, refl)
 

@@ -1,11 +1,11 @@
 -- Laws of the weights. Assumes nothing.
 use mathlib.Core.Path.{_≡_, refl, ap, _∙_}
-use mathlib.Core.Bool.{true, cond}
+use mathlib.Core.Bool.{Bool, true, false, cond}
 use mathlib.Core.Logic.{⊎-elim}
 use Prim.Native.Nat.{ℕ, _+_, _*_, _-_, _/_, _%_, _≤_, _<_}
 use native.Mathlib.Nat.{mul-comm}
 use native.Mathlib.Omega.{arith}
-use borrow.Author.Tests.{eqb-true, eq-eqb, ne-eqb}
+use borrow.Author.Tests.{eqb-true, eq-eqb, ne-eqb, leb-true, le-leb}
 use lib.Dec.{lit<}
 use lib.IntN.{ℤ, pos, negsuc, natAbs, _+ℤ_, _*ℤ_, +ℤ-idr}
 use Rattle.laws.proofs.Mod.{remainder, unique, agree-add, agree}
@@ -58,7 +58,7 @@ scaled cover rest e h =
     let r = remainder 32 cover (lit< tt) in
     unique 1024 (pos 32 *ℤ cover) (r .up) (r .down) (omega (arith, times 32 cover)) (omega arith)
 
--- an empty cover weighs nothing, and a full one 512
+-- an empty cover weighs nothing, and a full one 512; no other cover does
 pub empty-weight : (rule : FillRule) (cover : ℤ) → emptyAt rule cover ≡ true → weightOf rule (pos 32 *ℤ cover) ≡ 0
 empty-weight NonZero cover e =
     let h = eqb-true (natAbs cover) 0 e in
@@ -67,9 +67,17 @@ empty-weight EvenOdd cover e = ap restWeight (scaled cover 0 (eqb-true (modℤ 3
 
 pub full-weight : (rule : FillRule) (cover : ℤ) → fullAt rule cover ≡ true → weightOf rule (pos 32 *ℤ cover) ≡ 512
 full-weight NonZero cover e =
-    let h = eqb-true (natAbs cover) 16 e in
+    let h = leb-true _ (natAbs cover) e in
     omega (arith, times 32 cover, whole (pos 32 *ℤ cover))
 full-weight EvenOdd cover e = ap restWeight (scaled cover 16 (eqb-true (modℤ 32 cover) 16 e) (lit< tt))
+
+pub weight-full : (rule : FillRule) (cover : ℤ) → weightOf rule (pos 32 *ℤ cover) ≡ 512 → fullAt rule cover ≡ true
+weight-full NonZero cover e = le-leb _ (natAbs cover) (omega (arith, times 32 cover, whole cover, whole (pos 32 *ℤ cover)))
+weight-full EvenOdd cover e =
+    let rest = modℤ 32 cover in
+    let r = remainder 32 cover (lit< tt) in
+    let h : restWeight (32 * rest) ≡ 512 = rw (scaled cover rest refl (r .low)) at e in
+    eq-eqb rest 16 (omega (arith, h, difference (32 * rest) 512))
 
 -- ---- SVG 2: cover 16 × k and no double area weigh 512 where a point with winding k is inside, and else nothing
 
@@ -101,3 +109,14 @@ winding-weight EvenOdd k =
     let z : natAbs k % 2 ≡ 0 = omega arith in
     rw (parity k, z))
     (eq-or-ne (natAbs k % 2) 1)
+
+-- so a cover of 16 × k is full exactly where a point with winding k is inside
+exactly : (full inside : Bool) (weight : ℕ) → (full ≡ true → weight ≡ 512) → (weight ≡ 512 → full ≡ true) → weight ≡ cond inside 512 0 → full ≡ inside
+exactly full true weight f g e = g e
+exactly true false weight f g e = absurd (omega (arith, f refl, e))
+exactly false false weight f g e = refl
+
+pub winding-full : (rule : FillRule) (k : ℤ) → fullAt rule (pos 16 *ℤ k) ≡ isInside rule k
+winding-full rule k =
+    let cover = pos 16 *ℤ k in
+    exactly (fullAt rule cover) (isInside rule k) (weightOf rule (pos 32 *ℤ cover)) (full-weight rule cover) (weight-full rule cover) (winding-weight rule k)

@@ -1,10 +1,10 @@
--- A cover, a whole number for each pixel row of a tile: when it is empty and when it is full by a rule. Stands for P6 and for 'a carry is
--- dropped when empty: NonZero, all zero; EvenOdd, all multiples of 32'.
+-- A cover, a whole number for each pixel row of a tile: when it is empty and when it is full by a rule. Stands for P6, for 'a carry is
+-- dropped when empty: NonZero, all zero; EvenOdd, all multiples of 32', and for W-205, 'full when each row's absolute value is 16 or more'.
 use mathlib.Core.Path.{_≡_}
 use mathlib.Core.Bool.{Bool}
 use mathlib.Core.List.{List}
 use Prim.Native.Nat.{ℕ}
-use lib.Dec.{eqb}
+use lib.Dec.{eqb, leb}
 use lib.IntN.{ℤ, pos, natAbs}
 use lib.ListN.{getD, replicate}
 use Rattle.laws.specs.Integer.{modℤ}
@@ -25,9 +25,10 @@ abbrev pub emptyAt : FillRule → ℤ → Bool
 emptyAt NonZero cover = eqb (natAbs cover) 0
 emptyAt EvenOdd cover = eqb (modℤ 32 cover) 0
 
--- a row's cover that is full, 16 or -16 for NonZero and an odd multiple of 16 for EvenOdd: the one place that says what full means
+-- a row's cover that is full, 16 or more either way for NonZero (W-205: once around or more) and an odd multiple of 16 for EvenOdd: the one
+-- place that says what full means
 abbrev pub fullAt : FillRule → ℤ → Bool
-fullAt NonZero cover = eqb (natAbs cover) 16
+fullAt NonZero cover = leb 16 (natAbs cover)
 fullAt EvenOdd cover = eqb (modℤ 32 cover) 16
 
 unfoldable pub isEmpty : FillRule → List ℤ → Bool

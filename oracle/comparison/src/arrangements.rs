@@ -17,8 +17,9 @@ const SORTS: [(u32, u32, u32, u32, f32); 8] = [
     (1, 0, 2, 0, 0.0),
 ];
 
-/// How a layer covers the tile: by a carry of this cover in each row, and by a segment in the tile.
-const COVERS: [(i8, bool); 5] = [(16, false), (8, false), (0, false), (16, true), (0, true)];
+/// How a layer covers the tile: by a carry of so many times this cover in each row, and by a segment in the tile.
+const COVERS: [(usize, i8, bool); 6] =
+    [(1, 16, false), (2, 16, false), (1, 8, false), (1, 0, false), (1, 16, true), (1, 0, true)];
 
 /// How many ways there are for one layer.
 const WAYS: usize = SORTS.len() * COVERS.len() * 2;
@@ -36,7 +37,7 @@ pub fn arrangement(layers: u32, number: usize) -> (Vec<u64>, Vec<Record>) {
         let way = rest % WAYS;
         rest /= WAYS;
         let (func, clipped, span, fill, alpha) = SORTS[way % SORTS.len()];
-        let (carry, segment) = COVERS[way / SORTS.len() % COVERS.len()];
+        let (times, carry, segment) = COVERS[way / SORTS.len() % COVERS.len()];
         let unchanged = (way / SORTS.len() / COVERS.len()) as u32;
         let color = [id as f32 / 4.0, 0.5, 0.25, alpha];
         records.push(Record { id, rule: 1 - id % 2, func, span, clipped, fill, mode: 0, unchanged, color });
@@ -50,7 +51,8 @@ pub fn arrangement(layers: u32, number: usize) -> (Vec<u64>, Vec<Record>) {
             cover,
         };
         if carry != 0 || !segment {
-            words.extend((0..16).map(|local_y| word(fields(-1, local_y, carry))));
+            let rows = (0..16).map(|local_y| word(fields(-1, local_y, carry)));
+            words.extend(rows.flat_map(|word| vec![word; times]));
         }
         if segment {
             words.push(word(fields(0, 5, 4)));

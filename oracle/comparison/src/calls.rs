@@ -1,11 +1,10 @@
 //! Calls of tile work: with any queue, and damaged in each way that a refusal knows; the number that each must be
-//! given, and what the Rust makes of an accepted one.
+//! given, and what the models make of an accepted one.
 
 use reference::{
     cpu::RGBA,
-    painter::row::{Frame, Row},
-    plain::{Cached, Carry, Worked},
-    Table,
+    painter::row::Frame,
+    plain::{Cached, Carry, Record},
 };
 
 use crate::{
@@ -13,6 +12,7 @@ use crate::{
     judge::{self, is_short, tile_x, Tile},
     layers::{damaged, lent, records},
     memory::{any_memory, any_queue, carries, damaged_row, written},
+    models::{Judged, Models, Tables},
     random::Random,
     scene::any_scene,
 };
@@ -29,18 +29,17 @@ pub fn refusal(call: &Work, memory: &Memory) -> u32 {
     judge::work(&tile, &call.row, &call.table)
 }
 
-/// The Rust's row after a call that no condition refuses, in a workbench that holds the call's queue, and what it made
-/// of it.
-pub fn worked_row<'t>(call: &Work, memory: &Memory, table: &'t Table) -> (Row<'t>, Worked) {
+/// The row after a call that no condition refuses, in workbenches that hold the call's queue, and what was made of it.
+pub fn worked_row<'t>(call: &Work, memory: &Memory, tables: &'t Tables) -> (Models<'t>, Judged) {
     let queue = carries(&call.queue, memory.state.counts[0]);
     let frame = Frame { clear: call.clear, previous_clear: call.previous, channels: RGBA };
     let (tile_y, tile) = (memory.state.words[0] as usize, call.tile as usize);
     // What lies left of the tile is in the queue.
     let words: Vec<u64> = call.row.iter().copied().filter(|&word| tile_x(word) == i64::from(call.tile)).collect();
-    let mut row = Row::open(tile_y, tile, tile + 1, &words, table);
+    let mut row = Models::open(tile_y, tile, tile + 1, &words, tables);
     row.take_queue(&queue);
-    let worked = row.work(tile, &frame, call.is_kept.then_some(Cached(memory.kept)));
-    (row, worked)
+    let judged = row.work(tile, &frame, call.is_kept.then_some(Cached(memory.kept)));
+    (row, judged)
 }
 
 /// A tile of a random row, with any queue that its layers may have.
@@ -52,9 +51,10 @@ pub fn any_call(random: &mut Random) -> (Work, Memory) {
     let [tile_y, from, to] = [scene.tile_y, scene.from, scene.to.max(tile as usize + 1)].map(|end| end as u32);
     let words = [tile_y, from, to, tile, random.below(2) as u32, random.word() as u32];
     let mut held = Vec::new();
+    let is_wound = random.once_in(2);
     for record in &picture.records {
         if random.once_in(2) {
-            held.push(any_carry(random, record.id));
+            held.push(any_carry(random, record, is_wound));
         }
     }
     let mut queue = any_queue(random, false);
@@ -70,14 +70,17 @@ pub fn any_call(random: &mut Random) -> (Work, Memory) {
     (call, memory)
 }
 
-/// Covers that are full, empty or nearly so, or any; light enough for some segments.
-pub fn any_carry(random: &mut Random, id: u32) -> Carry {
-    let one = random.pick(&[0, 16, -16, 32, 48, 8]);
-    let mut cover = [one; 16];
+/// Covers that are full, empty or nearly so, or any; light enough for some segments. NonZero covers are above 16 only in
+/// queues that are wound, so that the Rust judges the others.
+pub fn any_carry(random: &mut Random, record: &Record, is_wound: bool) -> Carry {
+    let is_wide = is_wound || record.rule == 1;
+    let covers: &[i8] = if is_wide { &[0, 16, -16, 32, -32, 48, -48, 8] } else { &[0, 16, 16, -16, 8] };
+    let mut cover = [random.pick(covers); 16];
     if random.once_in(4) {
-        cover[random.below(16)] = random.within(-64..=64) as i8;
+        let most = if is_wide { 64 } else { 16 };
+        cover[random.below(16)] = random.within(-most..=most) as i8;
     }
-    Carry { id, cover }
+    Carry { id: record.id, cover }
 }
 
 /// Damages a call in one way that some refusal knows.

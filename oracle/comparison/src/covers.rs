@@ -8,6 +8,7 @@ use reference::{
 use crate::{
     given::Fields,
     library::{self, UNTOUCHED},
+    models::{is_above_once, is_full},
     random::Random,
     scene::word,
     tally::{caught, Kind, Tally},
@@ -46,17 +47,31 @@ pub fn any_cover(random: &mut Random) -> [i8; 16] {
     cover
 }
 
-fn empty_and_full(kind: &mut Kind) {
-    let cover = any_cover(&mut kind.random);
+/// Half of the covers have no row above 16, so that the Rust judges them by NonZero too.
+pub fn any_judged_cover(random: &mut Random) -> [i8; 16] {
+    let cover = any_cover(random);
+    if random.once_in(2) {
+        cover.map(|row| row.clamp(-16, 16))
+    } else {
+        cover
+    }
+}
+
+/// Both answers by both rules, from the Rust; whether a cover above 16 is full by NonZero, from the second model.
+pub fn expected(cover: [i8; 16]) -> [bool; 4] {
     let [non_zero, even_odd] = RULES;
-    let rust = caught(|| {
-        [
-            painter::is_empty(cover, non_zero),
-            painter::is_empty(cover, even_odd),
-            painter::is_full(cover, non_zero),
-            painter::is_full(cover, even_odd),
-        ]
-    });
+    let non_zero_full = if is_above_once(&cover) { is_full(cover, 0) } else { painter::is_full(cover, non_zero) };
+    let even_odd_full = painter::is_full(cover, even_odd);
+    assert_eq!(is_full(cover, 1), even_odd_full, "the second model differs by EvenOdd");
+    [painter::is_empty(cover, non_zero), painter::is_empty(cover, even_odd), non_zero_full, even_odd_full]
+}
+
+fn empty_and_full(kind: &mut Kind) {
+    let cover = any_judged_cover(&mut kind.random);
+    let rust = caught(|| expected(cover));
+    if is_above_once(&cover) {
+        kind.leave_out(rust.is_some_and(|[_, _, full, _]| full != painter::is_full(cover, RULES[0])));
+    }
     let ours = judged(cover);
     for (answer, told) in
         ours.iter().zip(["empty by NonZero", "empty by EvenOdd", "full by NonZero", "full by EvenOdd"])
@@ -69,12 +84,14 @@ fn empty_and_full(kind: &mut Kind) {
 }
 
 /// The absolute value of -128 overflows in the Rust (FINDINGS.md), so these are held to the scope: 128 is a multiple of
-/// 32, and not 16.
+/// 32, and above 16.
 fn lowest(kind: &mut Kind) {
     let mut cover = any_cover(&mut kind.random);
     cover[kind.random.below(16)] = -128;
     let overflows = RULES.map(|rule| caught(|| painter::is_full(cover, rule)).is_none()) == [true, true];
-    let expected = [false, cover.iter().all(|&byte| i32::from(byte) % 32 == 0), false, false];
+    let is_multiple = cover.iter().all(|&byte| i32::from(byte) % 32 == 0);
+    let expected = [false, is_multiple, cover.iter().all(|&byte| i32::from(byte).abs() >= 16), false];
+    kind.note(if expected[2] { "full by NonZero" } else { "not full" });
     let ours = judged(cover);
     kind.case(overflows && ours == expected, || {
         format!("{cover:?}: expected {expected:?}, the library {ours:?}; the Rust overflows: {overflows}")

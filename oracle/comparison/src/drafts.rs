@@ -17,16 +17,21 @@ pub fn any_job(random: &mut Random) -> Job {
     let (first, tiles) = any_tiles(random);
     let head = any_head(random, first, tiles);
     let layers = any_layers(random);
-    let ids: Vec<i64> = layers.iter().map(|layer| layer[0]).collect();
+    let rules: Vec<[i64; 2]> = layers.iter().map(|&[id, rule, ..]| [id, rule]).collect();
+    let is_wound = random.once_in(2);
     let mut draft = Draft {
         random,
+        is_wide: true,
         first,
         end: first + tiles,
         loads: BTreeMap::new(),
         job: Job { head, layers, lines: Vec::new() },
     };
     if !draft.random.once_in(12) {
-        ids.into_iter().for_each(|id| draft.draw(id));
+        for [id, rule] in rules {
+            draft.is_wide = is_wound || rule == 1;
+            draft.draw(id);
+        }
     }
     let mut job = draft.job;
     job.lines.sort_by_key(|line| (line[0], line[1]));
@@ -107,12 +112,15 @@ fn any_layer(random: &mut Random, id: i64, clips: usize) -> [i64; 8] {
     [id, rule, 0, 0, clipped, fill, mode, alpha]
 }
 
-/// A job whose lines are being drawn, with the absolute covers of each layer and pixel row so far.
+/// A job whose lines are being drawn, with the absolute covers of each layer and pixel row so far: of those above 0, and
+/// those below. In every other job no NonZero carry is above 16, as in the rows of scene.rs.
 struct Draft<'r> {
     random: &'r mut Random,
     first: i64,
     end: i64,
-    loads: BTreeMap<(i64, i64), i64>,
+    /// Whether the layer's covers may add up to more than 16.
+    is_wide: bool,
+    loads: BTreeMap<(i64, i64), [i64; 2]>,
     job: Job,
 }
 
@@ -140,10 +148,11 @@ impl Draft<'_> {
     /// Full covers from one tile on, in all rows or some, that end in a later tile or never.
     fn band(&mut self, layer: i64) {
         let (start, end) = (self.tile(), self.tile());
-        let cover = self.random.pick(&[16, 16, 16, -16, 31, -32, 8]);
+        let cover = self.random.pick(if self.is_wide { &[16, 16, 16, -16, 31, -32, 8] } else { &[16, 16, 16, -16, 8] });
+        let windings = if self.is_wide { self.random.pick(&[1, 1, 2, 2, 3]) } else { 1 };
         let y = if self.random.once_in(4) { self.random.within(0..=15) } else { 0 };
         let (x, mult) = (self.random.within(0..=15), self.random.within(0..=32));
-        for _ in 0..if self.random.once_in(5) { 2 } else { 1 } {
+        for _ in 0..windings {
             self.add([start, layer, x, y, 16 - y, mult, cover]);
             if end > start {
                 self.add([end, layer, x, y, 16 - y, mult, if cover == -32 { 31 } else { -cover }]);
@@ -155,20 +164,27 @@ impl Draft<'_> {
         for _ in 0..self.random.below(20) {
             let (tile, x, y) = (self.tile(), self.random.within(0..=15), self.random.within(0..=15));
             let rows = if self.random.once_in(2) { 1 } else { self.random.within(1..=16 - y) };
-            let (mult, cover) = (self.random.within(0..=63), self.random.within(-32..=31));
+            let covers = if self.is_wide { -32..=31 } else { -8..=8 };
+            let (mult, cover) = (self.random.within(0..=63), self.random.within(covers));
             self.add([tile, layer, x, y, rows, mult, cover]);
         }
     }
 
-    /// A line, unless there are too many or one of its pixel rows would grow too heavy.
+    /// A line, unless there are too many, or one of its pixel rows would grow too heavy or its carries too wide.
     fn add(&mut self, line: [i64; 7]) {
         let [_, layer, _, y, rows, _, cover] = line;
-        let load = |y: i64| self.loads.get(&(layer, y)).copied().unwrap_or_default() + cover.abs();
+        let load = |y: i64| {
+            let mut load = self.loads.get(&(layer, y)).copied().unwrap_or_default();
+            load[usize::from(cover < 0)] += cover.abs();
+            load
+        };
+        let is_heavy = |[above, below]: [i64; 2]| above + below > 127 || !self.is_wide && above.max(below) > 16;
         let is_full = self.job.lines.len() == LINES || self.job.segments() + rows > SEGMENTS;
-        if is_full || (y..y + rows).any(|y| load(y) > 127) {
+        if is_full || (y..y + rows).any(|y| is_heavy(load(y))) {
             return;
         }
-        (y..y + rows).for_each(|y| *self.loads.entry((layer, y)).or_default() += cover.abs());
+        let loads: Vec<_> = (y..y + rows).map(|y| ((layer, y), load(y))).collect();
+        self.loads.extend(loads);
         self.job.lines.push(line);
     }
 }

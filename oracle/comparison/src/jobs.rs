@@ -9,9 +9,8 @@ use std::{
 
 use reference::{
     cpu::RGBA,
-    painter::row::{Frame, Row},
+    painter::row::Frame,
     plain::{Decision, Worked},
-    Table,
 };
 
 use crate::{
@@ -21,6 +20,7 @@ use crate::{
     job_reader::{read, Job},
     judge::{self, Tile},
     layers::records,
+    models::{Models, Tables},
     tally::{caught, Kind, Tally},
     words::Segment,
 };
@@ -49,6 +49,7 @@ pub fn compare(tally: &mut Tally) {
 }
 
 /// What the row program must print.
+#[derive(Default)]
 pub struct Answer {
     pub text: String,
     /// The number of the refusal, 0 where there is none.
@@ -57,12 +58,14 @@ pub struct Answer {
     pub is_open: bool,
     /// How many tiles were worked.
     pub tiles: usize,
+    /// Of each tile that the second model judges in place of the Rust, whether the Rust's answer is another one.
+    pub left_out: Vec<bool>,
 }
 
-/// The answer to a text by the Rust and the scope's table; nothing where the Rust panics.
+/// The answer to a text by the Rust, or the second model, and the scope's table; nothing where one of them panics.
 pub fn answer(text: &[u8]) -> Option<Answer> {
     match read(text) {
-        None => Some(Answer { text: "refused 10\n".to_string(), number: 10, is_open: false, tiles: 0 }),
+        None => Some(Answer { text: "refused 10\n".to_string(), number: 10, ..Answer::default() }),
         Some(job) => caught(|| answer_job(&job)),
     }
 }
@@ -71,18 +74,20 @@ fn answer_job(job: &Job) -> Answer {
     let [row, tiles, from, to] = job.head.map(|number| number as i32);
     let (words, table) = (words_of(job), table_of(job));
     let number = judge::opening(row, from, to, &words, &table, false);
-    let mut answer = Answer { text: NAMES.to_string(), number, is_open: number == 0, tiles: 0 };
+    let mut answer = Answer { text: NAMES.to_string(), number, is_open: number == 0, ..Answer::default() };
     if answer.is_open {
-        let known = Table::new(&records(&table));
-        let mut rust = Row::open(row as usize, from as usize, to as usize, &words, &known);
+        let tables = Tables::new(&records(&table));
+        let mut models = Models::open(row as usize, from as usize, to as usize, &words, &tables);
         for tile in from..to.min(tiles) {
-            answer.number = work_refusal([row, from, to, tile], &rust, &words, &table);
+            answer.number = work_refusal([row, from, to, tile], &models, &words, &table);
             if answer.number != 0 {
                 break;
             }
-            answer.text += &line(tile as usize, &rust.work(tile as usize, &FRAME, None));
+            let judged = models.work(tile as usize, &FRAME, None);
+            answer.text += &line(tile as usize, &judged.worked);
             answer.text += "\n";
             answer.tiles += 1;
+            answer.left_out.extend(judged.left_out.map(|left_out| left_out.is_other));
         }
     }
     if answer.number != 0 {
@@ -92,8 +97,8 @@ fn answer_job(job: &Job) -> Answer {
 }
 
 /// The number that the scope's table gives for the next tile.
-fn work_refusal(words: [i32; 4], rust: &Row<'_>, row: &[u64], table: &LentTable) -> u32 {
-    let queue = rust.queue();
+fn work_refusal(words: [i32; 4], models: &Models<'_>, row: &[u64], table: &LentTable) -> u32 {
+    let queue = models.queue();
     let [tile_y, from, to, tile] = words.map(|word| word as u32);
     let state = State { words: [tile_y, from, to, tile, 0, 0], counts: [queue.len(), 0] };
     judge::work(&Tile { state, tile: words[3], lent_short: false, queue: &queue, tag: None }, row, table)
@@ -170,6 +175,7 @@ pub fn check(kind: &mut Kind, text: &[u8]) {
         return;
     };
     note(kind, text, &answer);
+    answer.left_out.iter().for_each(|&is_other| kind.leave_out(is_other));
     let (ours, ends_well) = printed("row", text);
     kind.case(ends_well && ours == answer.text.as_bytes(), || {
         let end = if ends_well { "" } else { ", and it fails" };

@@ -17,6 +17,7 @@ pub mod layers;
 pub mod library;
 pub mod loads;
 pub mod memory;
+pub mod models;
 pub mod openings;
 pub mod paintings;
 pub mod plates;

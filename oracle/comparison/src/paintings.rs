@@ -1,6 +1,6 @@
 //! Painting layers of the tile just worked.
 
-use reference::{plain::Painted, Table};
+use reference::plain::Painted;
 
 use crate::{
     calls::{any_call, damage, refusal, worked_row},
@@ -9,6 +9,7 @@ use crate::{
     layers::records,
     library,
     memory::{carries, input, REFUSED},
+    models::{Judged, Tables},
     random::Random,
     tally::{caught, Kind, Tally},
 };
@@ -39,12 +40,28 @@ pub fn expected(before: &Canvas, painted: &Painted) -> Canvas {
 
 /// The layers that a painted tile paints, one call each.
 pub fn paint_all(kind: &mut Kind, call: &Work, state: State, painted: &[Painted]) {
+    paint_each(kind, call, state, painted, true);
+}
+
+/// Counts a tile that the second model judges; of the layers that the Rust paints there, coverages are compared and
+/// marks are not.
+pub fn paint_left_out(kind: &mut Kind, call: &Work, state: State, judged: &Judged) {
+    if let Some(left_out) = &judged.left_out {
+        kind.leave_out(left_out.is_other);
+        paint_each(kind, call, state, &left_out.painted, false);
+    }
+}
+
+fn paint_each(kind: &mut Kind, call: &Work, state: State, painted: &[Painted], with_marks: bool) {
     let mut state = state;
     for painted in painted {
         let before = any_canvas(&mut kind.random, state, false);
         let mut after = before.clone();
         let number = library::paint_layer(call, painted.id, &mut after);
-        let wanted = expected(&before, painted);
+        let mut wanted = expected(&before, painted);
+        if !with_marks {
+            wanted.mark = after.mark;
+        }
         kind.case(number == 0 && after == wanted, || tell(call, painted.id, &before, number, &after, &wanted));
         state = wanted.state;
     }
@@ -79,11 +96,14 @@ fn any_layers(kind: &mut Kind) {
     let mut after = memory.clone();
     library::work_tile(&call, &mut after);
     let records = records(&call.table);
-    let table = Table::new(&records);
-    let Some((mut row, _)) = caught(|| worked_row(&call, &memory, &table)) else {
+    let tables = Tables::new(&records);
+    let Some((mut row, judged)) = caught(|| worked_row(&call, &memory, &tables)) else {
         kind.case(false, || format!("{}: the Rust panics", input(&call, &memory)));
         return;
     };
+    if let Some(left_out) = &judged.left_out {
+        kind.leave_out(left_out.is_other);
+    }
     let mut state = after.state;
     for _ in 0..1 + kind.random.below(5) {
         damaged(kind, &call, &memory, state);

@@ -1,17 +1,14 @@
 //! Rows over several frames: the work on each of their tiles, and the settling of solid ones.
 
-use reference::{
-    painter::row::Row,
-    plain::{blend, Cached, Decision, Record, Rgba, Worked},
-    Table,
-};
+use reference::plain::{blend, Cached, Decision, Record, Rgba, Worked};
 
 use crate::{
     given::{LentTable, Memory, Queue, State, Work},
     layers::lent,
     library,
     memory::{any_memory, any_queue, any_state, brief, expected, input, told},
-    paintings::paint_all,
+    models::{Judged, Models, Tables},
+    paintings::{paint_all, paint_left_out},
     random::Random,
     scene::{any_scene, Picture, Scene},
     tally::{caught, Kind, Tally},
@@ -23,7 +20,7 @@ pub fn compare(tally: &mut Tally) {
 
 /// One row of a frame on both sides, tile after tile.
 struct Pair<'t> {
-    rust: Row<'t>,
+    models: Models<'t>,
     records: &'t [Record],
     table: LentTable,
     row: &'t [u64],
@@ -32,15 +29,15 @@ struct Pair<'t> {
 }
 
 impl<'t> Pair<'t> {
-    fn open(random: &mut Random, scene: &Scene, picture: &'t Picture, table: &'t Table) -> Self {
-        let rust = Row::open(scene.tile_y, scene.from, scene.to, &picture.words, table);
+    fn open(random: &mut Random, scene: &Scene, picture: &'t Picture, tables: &'t Tables) -> Self {
+        let models = Models::open(scene.tile_y, scene.from, scene.to, &picture.words, tables);
         let mut queue = any_queue(random, false);
         let mut state = any_state(random);
         let lent_table = lent(&picture.records);
         let (tile_y, from, to) = (scene.tile_y as i32, scene.from as i32, scene.to as i32);
         let number = library::open_tile_row(tile_y, from, to, &picture.words, &lent_table, &mut queue, &mut state);
         assert_eq!(number, 0, "a scene meets no condition");
-        Self { rust, records: &picture.records, table: lent_table, row: &picture.words, state, queue }
+        Self { models, records: &picture.records, table: lent_table, row: &picture.words, state, queue }
     }
 
     fn work(&self, tile: usize, clear: Rgba, previous: Option<Rgba>, is_kept: bool) -> Work {
@@ -86,8 +83,8 @@ fn rows(kind: &mut Kind) {
         |random: &mut Random| if scene.caches { Cached::default() } else { Cached(random.word().to_le_bytes()) };
     let mut cached: Vec<Cached> = (0..scene.tiles).map(|_| bytes(&mut kind.random)).collect();
     for picture in &scene.pictures {
-        let table = Table::new(&picture.records);
-        let mut pair = Pair::open(&mut kind.random, &scene, picture, &table);
+        let tables = Tables::new(&picture.records);
+        let mut pair = Pair::open(&mut kind.random, &scene, picture, &tables);
         for (tile, cached) in (scene.from..scene.to).zip(&mut cached[scene.from..scene.to]) {
             work(kind, &mut pair, tile, picture, scene.caches, cached);
         }
@@ -101,28 +98,32 @@ fn work(kind: &mut Kind, pair: &mut Pair<'_>, tile: usize, picture: &Picture, ca
     let before = any_memory(&mut kind.random, pair.state, *cached);
     let mut after = before.clone();
     let number = library::work_tile(&call, &mut after);
-    let Some(worked) = caught(|| pair.rust.work(tile, frame, caches.then_some(*cached))) else {
+    let Some(judged) = caught(|| pair.models.work(tile, frame, caches.then_some(*cached))) else {
         kind.case(false, || format!("{}: the Rust panics", input(&call, &before)));
         return;
     };
-    note(kind, &worked);
-    let wanted = expected(&before, &worked);
+    let worked = &judged.worked;
+    note(kind, worked);
+    let wanted = expected(&before, worked);
     kind.case(number == 0 && after == wanted, || {
         let (call, seen) = (input(&call, &before), told(&after, &wanted));
-        format!("{call}: the library {number}, {seen}; the Rust {}", brief(&worked))
+        format!("{call}: the library {number}, {seen}; the Rust {}", brief(worked))
     });
     if let (Decision::Solid { mixed: rust, .. }, true) = (worked.decision, after == wanted) {
         let ours = mixed(&after, pair.records);
         kind.case(same_color(ours, rust), || format!("{}: mixed {ours:?}, the Rust {rust:?}", input(&call, &before)));
     }
     paint_all(kind, &call, wanted.state, &worked.painted);
-    *cached = settle(kind, &call, &before, Cached(after.kept), &worked);
+    paint_left_out(kind, &call, wanted.state, &judged);
+    *cached = settle(kind, &call, &before, Cached(after.kept), &judged);
     pair.state = after.state;
     pair.queue = after.next;
 }
 
-/// What is kept in the end: of a solid tile after settling. Where no cached tile is given, all bytes are as before.
-fn settle(kind: &mut Kind, call: &Work, before: &Memory, mut kept: Cached, worked: &Worked) -> Cached {
+/// What is kept in the end: of a solid tile after settling. Where no cached tile is given, all bytes are as before. A tile
+/// that is left out leaves the library's bytes to the next frame of both sides.
+fn settle(kind: &mut Kind, call: &Work, before: &Memory, mut kept: Cached, judged: &Judged) -> Cached {
+    let worked = &judged.worked;
     if let Some((bytes, is_written)) = worked.settled {
         let ours = library::settle(call.is_kept, &mut kept, bytes);
         kind.case(ours == Ok(is_written), || {
@@ -131,5 +132,9 @@ fn settle(kind: &mut Kind, call: &Work, before: &Memory, mut kept: Cached, worke
     }
     let wanted = worked.cached.map_or(Cached(before.kept), |(_, settled)| settled);
     kind.case(kept == wanted, || format!("{}: kept {kept:?}, the Rust {wanted:?}", input(call, before)));
-    wanted
+    if judged.left_out.is_some() {
+        kept
+    } else {
+        wanted
+    }
 }

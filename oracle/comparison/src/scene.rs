@@ -46,16 +46,19 @@ pub fn word(fields: Fields) -> u64 {
         | u64::from(cover as u8 & 63)
 }
 
-/// A row that no condition refuses: covers of a layer and pixel row, in absolute value, add up to 127 at most.
+/// A row that no condition refuses: covers of a layer and pixel row, in absolute value, add up to 127 at most. In every
+/// other row no NonZero carry is above 16, so that the Rust judges all of its tiles; in the others windings are 1 to 3.
 pub fn any_scene(random: &mut Random) -> Scene {
     let tiles = 1 + random.below(6);
     let from = if random.once_in(3) { random.below(tiles + 1) } else { 0 };
     let to = if random.once_in(3) { from + random.below(tiles - from + 1) } else { tiles };
     let tile_y = random.pick(&[0, 1, 77, 2046]);
     let records = any_table(random);
-    let mut shapes =
-        Shapes { random, tile_y: tile_y as i16, tiles: tiles as i16, loads: BTreeMap::new(), words: Vec::new() };
+    let is_wound = random.once_in(2);
+    let (loads, words) = (BTreeMap::new(), Vec::new());
+    let mut shapes = Shapes { random, tile_y: tile_y as i16, tiles: tiles as i16, is_wide: true, loads, words };
     for record in &records {
+        shapes.is_wide = is_wound || record.rule == 1;
         if !shapes.random.once_in(5) {
             shapes.draw(record);
         }
@@ -154,12 +157,14 @@ fn any_record(random: &mut Random, id: u32, clips: usize) -> Record {
     }
 }
 
-/// Segments of layers, with the absolute covers of each layer and pixel row so far.
+/// Segments of layers, with the absolute covers of each layer and pixel row so far: of those above 0, and those below.
 struct Shapes<'r> {
     random: &'r mut Random,
     tile_y: i16,
     tiles: i16,
-    loads: BTreeMap<(u32, u8), u32>,
+    /// Whether the layer's covers may add up to more than 16.
+    is_wide: bool,
+    loads: BTreeMap<(u32, u8), [u32; 2]>,
     words: Vec<u64>,
 }
 
@@ -179,12 +184,12 @@ impl Shapes<'_> {
     fn band(&mut self, layer_id: u32) {
         let start = self.random.within(-1..=i64::from(self.tiles) - 1) as i16;
         let end = self.random.within(i64::from(start)..=i64::from(self.tiles) + 1) as i16;
-        let cover = self.random.pick(&[16, 16, 16, -16, 31, -32, 8]);
-        let twice = self.random.once_in(5);
+        let cover = self.random.pick(if self.is_wide { &[16, 16, 16, -16, 31, -32, 8] } else { &[16, 16, 16, -16, 8] });
+        let windings = if self.is_wide { self.random.pick(&[1, 1, 2, 2, 3]) } else { 1 };
         let rows = if self.random.once_in(4) { self.random.below(16) as u8..16 } else { 0..16 };
         let (x, multiplier) = (self.random.below(16) as u8, self.random.below(33) as u8);
         for local_y in rows {
-            for _ in 0..1 + u8::from(twice) {
+            for _ in 0..windings {
                 self.add(layer_id, start, x, local_y, multiplier, cover);
                 if end > start && end < self.tiles {
                     self.add(layer_id, end, x, local_y, multiplier, if cover == -32 { 31 } else { -cover });
@@ -197,16 +202,19 @@ impl Shapes<'_> {
         for _ in 0..self.random.below(30) {
             let tile_x = self.random.within(-1..=i64::from(self.tiles)) as i16;
             let (x, y) = (self.random.below(16) as u8, self.random.below(16) as u8);
-            let (multiplier, cover) = (self.random.below(64) as u8, self.random.within(-32..=31) as i8);
+            let covers = if self.is_wide { -32..=31 } else { -8..=8 };
+            let (multiplier, cover) = (self.random.below(64) as u8, self.random.within(covers) as i8);
             self.add(layer_id, tile_x, x, y, multiplier, cover);
         }
     }
 
-    /// A segment, unless its pixel row would grow too heavy.
+    /// A segment, unless its pixel row would grow too heavy or its carries too wide.
     fn add(&mut self, layer_id: u32, tile_x: i16, local_x: u8, local_y: u8, double_area_multiplier: u8, cover: i8) {
         let load = self.loads.entry((layer_id, local_y)).or_default();
-        let heavier = *load + u32::from(cover.unsigned_abs());
-        if heavier <= 127 {
+        let mut heavier = *load;
+        heavier[usize::from(cover < 0)] += u32::from(cover.unsigned_abs());
+        let [above, below] = heavier;
+        if above + below <= 127 && (self.is_wide || above.max(below) <= 16) {
             *load = heavier;
             let tile_y = self.tile_y;
             self.words.push(word(Fields { layer_id, tile_x, tile_y, local_x, local_y, double_area_multiplier, cover }));

@@ -1,6 +1,6 @@
-//! The Rust's answers as text, for the crate `compare`, which says the form of each kind: a block of a kind is its name
-//! with how many cases, then a line for each. Numbers are hexadecimal; signed ones stand by their bits, floats by their
-//! multiple of 1/512 or a code.
+//! The Rust's answers, and the second model's where it judges, as text, for the crate `compare`, which says the form of
+//! each kind: a block of a kind is its name with how many cases, then a line for each. Numbers are hexadecimal; signed
+//! ones stand by their bits, floats by their multiple of 1/512 or a code.
 
 use std::fmt::Write;
 
@@ -13,7 +13,7 @@ use reference::{
 
 use crate::{
     cached::{any_color, any_count, any_tile},
-    covers::{any_cover, any_part, is_heavy},
+    covers::{any_cover, any_judged_cover, any_part, expected, is_heavy},
     given::{Fields, Key},
     judge,
     layers::{damaged, lent},
@@ -135,10 +135,8 @@ fn search(random: &mut Random) -> Line {
 }
 
 fn cover(random: &mut Random) -> Line {
-    let cover = any_cover(random);
-    let empty = RULES.map(|rule| u64::from(painter::is_empty(cover, rule)));
-    let full = RULES.map(|rule| u64::from(painter::is_full(cover, rule)));
-    Line { given: Line::covers(&cover).collect(), answer: [empty, full].concat() }
+    let cover = any_judged_cover(random);
+    Line { given: Line::covers(&cover).collect(), answer: expected(cover).map(u64::from).to_vec() }
 }
 
 /// A part and an incoming cover, at times too heavy.

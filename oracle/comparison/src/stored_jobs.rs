@@ -1,4 +1,5 @@
-//! The job files of the crate `jobs`: the Rust's answers to them, and those that are too large to be written by hand.
+//! The job files of the crate `jobs`: the Rust's answers to them, the second model's where it judges, and those that are
+//! too large to be written by hand.
 
 use std::{collections::BTreeSet, fs, path::PathBuf};
 

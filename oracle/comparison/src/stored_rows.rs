@@ -1,6 +1,6 @@
 //! Whole rows among the stored answers: each frame of a row is a case, with the cached tiles that the frame before
 //! left. Besides them some of the arrangements of up to three layers in one tile, in which the passes have most to
-//! decide.
+//! decide. Tiles with a NonZero carry above 16 are the second model's.
 
 use reference::{
     cpu::RGBA,
@@ -13,6 +13,7 @@ use crate::{
     arrangements::{arrangement, count},
     given::LentTable,
     layers::lent,
+    models::{Models, Tables},
     random::Random,
     scene::{any_scene, Picture, Scene},
     stored_lines::{bytes, float, queue, Line},
@@ -93,15 +94,15 @@ type Choice = fn(&mut Random, &Worked, &Picture) -> Vec<u32>;
 
 fn row(random: &mut Random, scene: &Scene, picture: &Picture, cached: &mut [Cached], choice: Choice) -> String {
     let ends = [scene.tile_y, scene.from, scene.to].map(|end| end as i32);
-    let table = Table::new(&picture.records);
+    let tables = Tables::new(&picture.records);
     let given = row_given(ends, &lent(&picture.records), &picture.words);
     let mut text = Line { given, answer: opened(ends, &picture.words) }.text();
-    let mut rust = Row::open(scene.tile_y, scene.from, scene.to, &picture.words, &table);
+    let mut models = Models::open(scene.tile_y, scene.from, scene.to, &picture.words, &tables);
     text += &format!(" TILES {:x}", scene.to - scene.from);
     for (tile, cached) in (scene.from..scene.to).zip(&mut cached[scene.from..scene.to]) {
-        let taken = rust.queue().len();
+        let taken = models.queue().len();
         let before = *cached;
-        let worked = rust.work(tile, &picture.frame, scene.caches.then_some(before));
+        let worked = models.work(tile, &picture.frame, scene.caches.then_some(before)).worked;
         let [tile_y, from, to] = ends.map(|end| end as u64);
         let mut state = [tile_y, from, to, tile as u64 + 1, 0, 0, worked.queue.len() as u64, taken as u64];
         let line = Line {
@@ -115,7 +116,7 @@ fn row(random: &mut Random, scene: &Scene, picture: &Picture, cached: &mut [Cach
         let layers = choice(random, &worked, picture);
         text += &format!(" PAINT {:x}", layers.len());
         for layer in layers {
-            let painted = rust.paint(layer);
+            let painted = models.paint(layer);
             text += &format!(
                 " {}",
                 Line { given: vec![layer.into()], answer: painted_answer(&mut state, &painted) }.text()

@@ -22,18 +22,27 @@ pub struct Tally {
     only: String,
     compared: u64,
     differ: u64,
+    left_out: LeftOut,
+}
+
+/// How many cases the second model judges in place of the Rust (W-205), and in how many the Rust has another answer.
+#[derive(Clone, Copy, Default)]
+struct LeftOut {
+    cases: u64,
+    others: u64,
 }
 
 pub struct Kind {
     pub random: Random,
     compared: u64,
     differ: u64,
+    left_out: LeftOut,
     outcomes: BTreeMap<&'static str, u64>,
 }
 
 impl Tally {
     pub fn new(n: u64, seed: u64, only: String) -> Self {
-        Self { n, seed, only, compared: 0, differ: 0 }
+        Self { n, seed, only, compared: 0, differ: 0, left_out: LeftOut::default() }
     }
 
     /// N random cases of a kind, whose random numbers depend on its name and on the seed alone.
@@ -53,20 +62,43 @@ impl Tally {
             return;
         }
         let seed = name.bytes().fold(self.seed, |seed, byte| seed.wrapping_mul(0x100_0000_01B3) ^ u64::from(byte));
-        let mut kind = Kind { random: Random::new(seed), compared: 0, differ: 0, outcomes: BTreeMap::new() };
+        let random = Random::new(seed);
+        let left_out = LeftOut::default();
+        let mut kind = Kind { random, compared: 0, differ: 0, left_out, outcomes: BTreeMap::new() };
         cases(&mut kind);
         println!("{name}: {} compared, {} differ{}", kind.compared, kind.differ, kind.told());
+        if kind.left_out.cases > 0 {
+            println!("{name}, left out of the comparison with the Rust: {}", kind.left_out.told());
+        }
+        self.left_out.cases += kind.left_out.cases;
+        self.left_out.others += kind.left_out.others;
         self.compared += kind.compared;
         self.differ += kind.differ;
     }
 
     pub fn end(self) -> ExitCode {
+        println!("left out of the comparison with the Rust: {}", self.left_out.told());
         println!("{} compared, {} differ", self.compared, self.differ);
         ExitCode::from(u8::from(self.differ != 0))
     }
 }
 
+impl LeftOut {
+    fn told(self) -> String {
+        let Self { cases, others } = self;
+        format!(
+            "{cases} by a NonZero cover above 16, compared with the second model; {others} are otherwise in the Rust"
+        )
+    }
+}
+
 impl Kind {
+    /// Counts a case that the second model judges in place of the Rust, whose answer may be another one.
+    pub fn leave_out(&mut self, is_other: bool) {
+        self.left_out.cases += 1;
+        self.left_out.others += u64::from(is_other);
+    }
+
     /// Counts an outcome, so that the last lines show whether the cases meet all that they should.
     pub fn note(&mut self, outcome: &'static str) {
         *self.outcomes.entry(outcome).or_default() += 1;

@@ -1,7 +1,7 @@
 //! Tile work, call by call: any memory and any queue, damaged in each way that a refusal knows, crowds of layers, and
 //! every arrangement of up to three layers.
 
-use reference::{plain::Record, Table};
+use reference::plain::Record;
 
 use crate::{
     arrangements::{arrangement, count},
@@ -10,7 +10,8 @@ use crate::{
     layers::{lent, records},
     library,
     memory::{any_queue, brief, expected, input, told, written, REFUSED, REFUSED_WITHOUT},
-    paintings::paint_all,
+    models::Tables,
+    paintings::{paint_all, paint_left_out},
     scene::word,
     tally::{caught, Kind, Tally},
 };
@@ -36,16 +37,18 @@ fn check(kind: &mut Kind, call: &Work, before: &Memory) {
         });
         return;
     }
-    let table = Table::new(&records(&call.table));
-    let Some((_, worked)) = caught(|| worked_row(call, before, &table)) else {
+    let tables = Tables::new(&records(&call.table));
+    let Some((_, judged)) = caught(|| worked_row(call, before, &tables)) else {
         kind.case(false, || format!("{}: the Rust panics", input(call, before)));
         return;
     };
-    let wanted = expected(before, &worked);
+    let worked = &judged.worked;
+    let wanted = expected(before, worked);
     kind.case(ours == 0 && after == wanted, || {
-        format!("{}: the library {ours}, {}; the Rust {}", input(call, before), told(&after, &wanted), brief(&worked))
+        format!("{}: the library {ours}, {}; the Rust {}", input(call, before), told(&after, &wanted), brief(worked))
     });
     paint_all(kind, call, wanted.state, &worked.painted);
+    paint_left_out(kind, call, wanted.state, &judged);
 }
 
 fn single(kind: &mut Kind) {
@@ -86,12 +89,12 @@ fn crowd(kind: &mut Kind) {
     let layers = 253 + random.below(7) as u32;
     let (_, template) = any_call(random);
     let records: Vec<Record> = (0..layers).map(one_of_many).collect();
-    let share = random.pick(&[2, 5, 40]);
+    let (share, is_wound) = (random.pick(&[2, 5, 40]), random.once_in(2));
     let (mut held, mut row) = (Vec::new(), Vec::new());
     for id in 0..layers {
         let is_held = random.below(share) == 0 && held.len() < 256;
         if is_held {
-            held.push(any_carry(random, id));
+            held.push(any_carry(random, &records[id as usize], is_wound));
         }
         if !is_held || random.once_in(2) {
             let (local_x, local_y, double_area_multiplier) = (2, random.below(16) as u8, 7);

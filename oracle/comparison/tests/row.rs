@@ -1,8 +1,10 @@
-//! The row driver of the Rust itself: it does what `paint_tile_row` does, and gives the worked cases.
+//! The row driver of the Rust itself: it does what `paint_tile_row` does, and gives the worked cases. Beside it the second
+//! model, where windings above 1 are full.
 
 use comparison::{
     given::Fields,
     jobs::line,
+    models::{Models, Tables},
     random::Random,
     scene::{any_scene, word, Picture, Scene},
 };
@@ -49,6 +51,38 @@ fn a_skipped_clip_leaves_its_draw_without_one() {
     let words = row_of(vec![column(1, -1, 0, 8), column(2, -1, 0, 16), column(3, -1, 0, 16)]);
     let mut row = Row::open(0, 0, 1, &words, &table);
     assert_eq!(line(0, &row.work(0, &FRAME, None)), "0 paint 3 2 32 3");
+}
+
+/// The lines of tiles 0 to 2 over two opaque layers, by the Rust alone and by the two models.
+fn lines_over_layer_1(words: &[u64]) -> [Vec<String>; 2] {
+    let records = [draw(1), draw(2)];
+    let (table, tables) = (Table::new(&records), Tables::new(&records));
+    let mut rust = Row::open(0, 0, 3, words, &table);
+    let mut models = Models::open(0, 0, 3, words, &tables);
+    [
+        (0..3).map(|tile| line(tile, &rust.work(tile, &FRAME, None))).collect(),
+        (0..3).map(|tile| line(tile, &models.work(tile, &FRAME, None).worked)).collect(),
+    ]
+}
+
+/// W-205: a frame drawn twice in one direction is full, and what lies under it is passed over.
+#[test]
+fn a_double_winding_is_full() {
+    let words = row_of(vec![column(1, 0, 0, 16), column(2, 0, 0, 16), column(2, 0, 0, 16)]);
+    let [rust, judged] = lines_over_layer_1(&words);
+    assert_eq!(rust, ["0 paint 2 2 64 2", "1 paint 2 2 64 2", "2 paint 2 2 64 2"]);
+    assert_eq!(judged, ["0 paint 2 2 64 2", "1 solid 2 1 0 2", "2 solid 2 1 0 2"]);
+}
+
+/// One row of 15 among fifteen of 32 is not.
+#[test]
+fn a_row_of_15_is_not_full() {
+    let [mut once, mut twice] = [column(2, 0, 0, 16), column(2, 0, 0, 16)];
+    once[3] -= 1;
+    twice.remove(3);
+    let [rust, judged] = lines_over_layer_1(&row_of(vec![column(1, 0, 0, 16), once, twice]));
+    assert_eq!(rust, judged);
+    assert_eq!(judged[1], "1 paint 2 2 64 2");
 }
 
 /// P7: the first clip's last layer stands while it lives, so a clipped draw past it lacks its clip.

@@ -1,4 +1,5 @@
-//! The Rust painter, built from its unchanged text (build.rs), and what a comparison asks of it.
+//! The Rust painter, built from its unchanged text (build.rs), and what a comparison asks of it. The crate
+//! `double_windings` builds the same with one line changed.
 
 // The Rust's text is what it is. What is written here is held to the lints: below, and in build.rs for reach/.
 #![allow(unused, unexpected_cfgs, private_interfaces, clippy::all)]

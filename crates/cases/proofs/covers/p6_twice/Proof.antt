@@ -1,0 +1,18 @@
+-- P6, from the contracts. Assumes nothing.
+use mathlib.Core.Path.{_∙_}
+use borrow.Author.Needs.{needs}
+use Rattle.cases.proofs.Table.{cases}
+use Rattle.cases.proofs.covers.p6_twice.Statement.{statement}
+use Rattle.cases.proofs.covers.p6_twice.Tie as tie
+
+is-full-requires : tie.Need-is-full-requires
+is-full-requires c κs = search needs
+
+is-full-requires-2 : tie.Need-is-full-requires-2
+is-full-requires-2 c κs = search needs
+
+returns : tie.Need-returns
+returns c = rw (c .before .is-full .ensures ∙ cases .p6-twice, c .is-full2 .ensures ∙ cases .p6-twice-even-odd)
+
+pub p6-twice-spec : {M : Type 1} → statement M
+p6-twice-spec = tie.close (tie.spec is-full-requires is-full-requires-2 returns)
