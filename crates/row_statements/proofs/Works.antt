@@ -12,7 +12,7 @@ use lib.Signed.{ltZ}
 use Rattle.laws.specs.Answer.{given}
 use Rattle.laws.specs.Integer.{plus, minus}
 use Rattle.laws.proofs.Parts.{whole, equal, lt-false}
-use Rattle.refusals.specs.Refusal.{Judgement, pass, refuse, numberOf}
+use Rattle.refusals.specs.Refusal.{Judgement, pass, refuse, unless, andThen, numberOf}
 use Rattle.refusals.specs.declared.Refusal.{Refusal}
 use Rattle.refusals.proofs.Judging.{passed, or-left, or-right}
 use Rattle.pixel_segment.specs.Field.{cpu, layerIdOf}
@@ -28,10 +28,11 @@ use Rattle.layer_carrying.specs.Carrying.{handedOn}
 use Rattle.row_carries.proofs.Parts.{tile-ordered}
 use Rattle.layer_workbench.specs.Work.{outcomeIn, Works, ListWritten, QueueWritten, Rooms}
 use Rattle.layer_workbench.specs.declared.Worked.{Worked}
-use Rattle.row_statements.specs.Lent.{Columns, ListColumns, carriesIn, isQueueShort, isListShort, layersOf, isLentShort, isLentTable}
-use Rattle.row_statements.specs.State.{State, nextState, isStray, isNotNext}
-use Rattle.row_statements.specs.TileWork.{WorkCall, WorkLent, TileSays, listVerdict, argsVerdict, isShortFor, saysFor, workOut, GivesWork}
-use Rattle.row_statements.specs.InnerWork.{judgedBy, refusedWork, doneWork, Judged}
+use Rattle.row_statements.specs.Lent.{LentTable, carriesIn, isQueueShort, isListShort, layersOf, isLentShort, isLentTable}
+use Rattle.row_statements.specs.State.{State, nextState, isStray, isNotNext, isWrongNext}
+use Rattle.row_statements.specs.Conditions.{firstFive}
+use Rattle.row_statements.specs.TileWork.{WorkCall, WorkLent, listVerdict, argsVerdict, isShortFor, saysFor, workOut, GivesWork}
+use Rattle.row_statements.specs.InnerWork.{judgedBy, judgedWith, refusedWork, doneWork, Judged}
 use Rattle.row_statements.specs.declared.RowState.{RowState}
 use Rattle.row_statements.specs.declared.TileWorked.{TileWorked}
 use Rattle.row_statements.specs.State.{stateIn}
@@ -90,12 +91,25 @@ list-passed layers ls e =
     let nine = passed _ _ _ (eight .1) in
     record { few = ltb-false 256 (length ls) (seven .0); known = not-false _ (eight .0); light = not-false _ (nine .0) }
 
+-- the lines below the first five follow where those pass
+pub five-then : (short wrong : Bool) (tileY : ℕ) (row : List ℕ) (table : LentTable) (n : ℕ) (ids : List ℕ) (below : Judgement) → andThen (firstFive short wrong tileY row table n ids pass) below ≡ firstFive short wrong tileY row table n ids below
+five-then short wrong tileY row table n ids below = by short wrong (not (isRow cpu (suc tileY) row)) (not (isLentTable table)) (not (isQueue n ids))
+  where
+    by : (one two three four five : Bool) → andThen (unless one 1 (unless two 2 (unless three 3 (unless four 4 (unless five 5 pass))))) below ≡ unless one 1 (unless two 2 (unless three 3 (unless four 4 (unless five 5 below))))
+    by true two three four five = refl
+    by false true three four five = refl
+    by false false true four five = refl
+    by false false false true five = refl
+    by false false false false true = refl
+    by false false false false false = refl
+
 module _ (c : WorkCall) (lent : WorkLent) where
   -- ---- 1 to 6
 
-  pub judged-args : judgedBy (isShortFor c lent) (c .state) (c .tile) (c .row) (c .table) (c .kept) (c .queue .ids) ≡ argsVerdict c lent
+  pub judged-args : judgedWith (isShortFor c lent) (c .state) (c .tile) (c .row) (c .table) (c .kept) (c .queue .ids) ≡ argsVerdict c lent
   unfolding judgedBy argsVerdict
-  judged-args = refl
+  judged-args =
+      five-then (isShortFor c lent) (isWrongNext (c .state) (c .tile)) (c .state .tileY) (c .row) (c .table) (c .state .left) (c .queue .ids) (unless (tagOutOfRange (c .kept)) 6 pass)
 
   pub record Passed : Type 0 where
     pub queue-room : isQueueShort (c .queue) ≡ false

@@ -1,19 +1,16 @@
 -- What the functions below the work on a tile ask and give.
 use mathlib.Core.Path.{_≡_}
-use mathlib.Core.Bool.{Bool, not, _||_}
+use mathlib.Core.Bool.{Bool}
 use mathlib.Core.List.{List}
-use Prim.Native.Nat.{ℕ, suc, _*_, _≤_, _+_}
+use Prim.Native.Nat.{ℕ, _*_, _≤_, _+_}
 use lib.IntN.{ℤ}
 use lib.ListN.{length}
 use Rattle.laws.specs.Integer.{plus, minus}
-use Rattle.refusals.specs.Refusal.{Judgement, pass, unless, judgementIn}
+use Rattle.refusals.specs.Refusal.{Judgement, pass, unless, andThen, judgementIn}
 use Rattle.refusals.specs.declared.Refusal.{Refusal}
-use Rattle.pixel_segment.specs.Field.{cpu}
-use Rattle.segment_rows.specs.Rows.{isRow}
 use Rattle.segment_rows.specs.Search.{tilePart}
 use Rattle.layer_table.specs.Table.{Table}
 use Rattle.styling.specs.declared.Layer.{Layer}
-use Rattle.queue_statements.specs.Queue.{isQueue}
 use Rattle.cached_tile.specs.Kept.{tagOutOfRange}
 use Rattle.cached_tile.specs.declared.kept.Kept as kept
 use Rattle.tile_layers.specs.Listing.{Listed}
@@ -21,24 +18,22 @@ use Rattle.tile_layers.specs.Walk.{Walks}
 use Rattle.layer_workbench.specs.Work.{Rooms}
 use Rattle.layer_workbench.specs.declared.Worked.{Worked}
 use Rattle.painter.specs.declared.Clip.the-variants.{Absent}
-use Rattle.row_statements.specs.Lent.{LentTable, isLentTable}
+use Rattle.row_statements.specs.Lent.{LentTable}
 use Rattle.row_statements.specs.State.{State, isWrongNext}
+use Rattle.row_statements.specs.Conditions.{firstFive}
 use Rattle.row_statements.specs.TileWork.{WorkCall, WorkLent, WorkGiven, listVerdict, layersVerdict, saysFor, workOut}
 use Rattle.row_statements.specs.declared.ListJudged.{ListJudged}
 use Rattle.row_statements.specs.declared.RowState.{RowState}
 use Rattle.row_statements.specs.declared.TileWorked.{TileWorked}
 use Rattle.row_statements.specs.declared.WorkAnswer.the-variants.{Refused, Done}
 
--- 1 to 6, `short` being the condition of 1
-unfoldable pub judgedBy : Bool → State → ℤ → List ℕ → LentTable → kept.Kept → List ℕ → Judgement
-judgedBy short s tile row table k ids =
-    unless short 1
-    (unless (isWrongNext s tile) 2
-    (unless (not (isRow cpu (suc (s .tileY)) row)) 3
-    (unless (not (isLentTable table)) 4
-    (unless (not (isQueue (s .left) ids)) 5
-    (unless (tagOutOfRange k) 6
-    pass)))))
+-- 1 to 5 of a work or a listing, `short` being the condition of 1
+unfoldable pub judgedBy : Bool → State → ℤ → List ℕ → LentTable → List ℕ → Judgement
+judgedBy short s tile row table ids = firstFive short (isWrongNext s tile) (s .tileY) row table (s .left) ids pass
+
+-- and 6 of a work
+abbrev pub judgedWith : Bool → State → ℤ → List ℕ → LentTable → kept.Kept → List ℕ → Judgement
+judgedWith short s tile row table k ids = andThen (judgedBy short s tile row table ids) (unless (tagOutOfRange k) 6 pass)
 
 -- what is left of a work once 1 to 6 pass: judged by 7 to 9, and then done
 abbrev pub workedBy : WorkCall → WorkLent → WorkGiven

@@ -51,9 +51,12 @@ listColumns ids covers segments unmasked = record { ids = ids; covers = covers; 
 abbrev pub entriesIn : ℕ → ListColumns → List Entry
 entriesIn n l = entriesOf n (l .ids) (l .covers) (l .segments)
 
--- 1: fewer than 256 entries
+-- 1: fewer than 256 entries, in the three columns that say what is listed, and in all four
+abbrev pub areEntriesShort : List ℕ → List ℤ → List Bool → Bool
+areEntriesShort ids covers segments = ltb (length ids) 256 || ltb (length covers / 16) 256 || ltb (length segments) 256
+
 abbrev pub isListShort : ListColumns → Bool
-isListShort l = ltb (length (l .ids)) 256 || ltb (length (l .covers) / 16) 256 || ltb (length (l .segments)) 256 || ltb (length (l .unmasked)) 256
+isListShort l = areEntriesShort (l .ids) (l .covers) (l .segments) || ltb (length (l .unmasked)) 256
 
 -- layers, and which of them are not masked off, written over what the columns held
 abbrev pub listOver : List Listed → List Bool → ListColumns → ListColumns

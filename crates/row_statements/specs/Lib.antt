@@ -2,6 +2,7 @@
 -- say what functions below the public operations ask and give; nobody has to believe them.
 pub mod Lent
 pub mod State
+pub mod Conditions
 pub mod Opening
 pub mod TileWork
 pub mod Painting

@@ -5,7 +5,7 @@ use mathlib.Core.Path.{_≡_}
 use mathlib.Core.Bool.{Bool, false, not, _||_}
 use mathlib.Core.List.{List}
 use mathlib.Core.Option.{Option}
-use Prim.Native.Nat.{ℕ, suc}
+use Prim.Native.Nat.{ℕ}
 use lib.Dec.{ltb}
 use lib.Ieee.{Float}
 use lib.IntN.{ℤ}
@@ -13,18 +13,17 @@ use lib.ListN.{length}
 use Rattle.laws.specs.Answer.{Answer, refused, given, isGiven}
 use Rattle.laws.specs.Lists.{over}
 use Rattle.refusals.specs.Refusal.{Judgement, pass, refuse, unless, andThen, numberOf}
-use Rattle.pixel_segment.specs.Field.{cpu}
-use Rattle.segment_rows.specs.Rows.{isRow}
 use Rattle.segment_rows.specs.Search.{tilePart}
 use Rattle.layer_table.specs.Lookup.{lookup}
 use Rattle.styling.specs.declared.FillRule.the-variants.{NonZero}
 use Rattle.styling.specs.declared.Func.the-variants.{Clip}
 use Rattle.styling.specs.declared.Layer.{Layer}
-use Rattle.queue_statements.specs.Queue.{Carry, isQueue}
+use Rattle.queue_statements.specs.Queue.{Carry}
 use Rattle.painter.specs.Clip.{clipAfter}
 use Rattle.painter.specs.Painting.{markIn, planeIn, isLightIn}
-use Rattle.row_statements.specs.Lent.{Columns, LentTable, carriesIn, isQueueShort, layersOf, isLentShort, isLentTable}
+use Rattle.row_statements.specs.Lent.{Columns, LentTable, carriesIn, isQueueShort, layersOf, isLentShort}
 use Rattle.row_statements.specs.State.{State, stateIn, withClip, isWrongWorked}
+use Rattle.row_statements.specs.Conditions.{firstFive}
 use Rattle.row_statements.specs.declared.PaintAnswer.{PaintAnswer}
 use Rattle.row_statements.specs.declared.PaintAnswer.the-variants.{Mark, Refused}
 use Rattle.row_statements.specs.declared.Painted.{Painted}
@@ -50,12 +49,7 @@ isPaintShort c plane = isQueueShort (c .queue) || isLentShort (c .table) || ltb 
 -- the lowest of 1 to 5 that applies
 unfoldable pub callVerdict : PaintCall → List Float → Judgement
 callVerdict c plane =
-    unless (isPaintShort c plane) 1
-    (unless (isWrongWorked (c .state) (c .tile)) 2
-    (unless (not (isRow cpu (suc (c .state .tileY)) (c .row))) 3
-    (unless (not (isLentTable (c .table))) 4
-    (unless (not (isQueue (c .state .taken) (c .queue .ids))) 5
-    pass))))
+    firstFive (isPaintShort c plane) (isWrongWorked (c .state) (c .tile)) (c .state .tileY) (c .row) (c .table) (c .state .taken) (c .queue .ids) pass
 
 -- 8 and 9, of the painted layer: the table lacks it, or its covers in the tile grow too large
 abbrev pub layerVerdict : List Layer → List Carry → List ℕ → ℕ → Judgement

@@ -4,17 +4,15 @@
 use mathlib.Core.Path.{_≡_}
 use mathlib.Core.Bool.{Bool, not, _||_}
 use mathlib.Core.List.{List}
-use Prim.Native.Nat.{ℕ, suc}
+use Prim.Native.Nat.{ℕ}
 use lib.IntN.{ℤ}
 use lib.ListN.{length}
 use Rattle.laws.specs.Answer.{Answer, refused, given}
 use Rattle.refusals.specs.Refusal.{Judgement, pass, refuse, unless, andThen, numberOf}
-use Rattle.pixel_segment.specs.Field.{cpu}
-use Rattle.segment_rows.specs.Rows.{isRow}
 use Rattle.segment_rows.specs.Search.{tilePart}
 use Rattle.styling.specs.declared.Color.{Color}
 use Rattle.styling.specs.declared.Layer.{Layer}
-use Rattle.queue_statements.specs.Queue.{Carry, isQueue}
+use Rattle.queue_statements.specs.Queue.{Carry}
 use Rattle.cached_tile.specs.Kept.{tagOutOfRange}
 use Rattle.cached_tile.specs.declared.kept.Kept as kept
 use Rattle.tile_layers.specs.Listing.{Listed, layersIn, isTooMany, areKnown, areLight}
@@ -23,8 +21,9 @@ use Rattle.pass_statements.specs.Decision.{TileDecision, decisionIn}
 use Rattle.pass_statements.specs.Decide.{Outcome}
 use Rattle.layer_workbench.specs.Work.{outcomeIn, keptAfter}
 use Rattle.layer_workbench.specs.declared.PreviousClear.{PreviousClear}
-use Rattle.row_statements.specs.Lent.{Columns, ListColumns, LentTable, carriesIn, isQueueShort, queueOver, isListShort, listOver, layersOf, isLentShort, isLentTable}
+use Rattle.row_statements.specs.Lent.{Columns, ListColumns, LentTable, carriesIn, isQueueShort, queueOver, isListShort, listOver, layersOf, isLentShort}
 use Rattle.row_statements.specs.State.{State, stateIn, nextState, isWrongNext}
+use Rattle.row_statements.specs.Conditions.{firstFive}
 use Rattle.row_statements.specs.declared.TileDone.{TileDone}
 use Rattle.row_statements.specs.declared.TileWorked.{TileWorked}
 use Rattle.row_statements.specs.declared.WorkAnswer.{WorkAnswer}
@@ -62,13 +61,9 @@ isShortFor c lent = isQueueShort (c .queue) || isQueueShort (lent .queue) || isL
 -- the lowest of 1 to 6 that applies
 unfoldable pub argsVerdict : WorkCall → WorkLent → Judgement
 argsVerdict c lent =
-    unless (isShortFor c lent) 1
-    (unless (isWrongNext (c .state) (c .tile)) 2
-    (unless (not (isRow cpu (suc (c .state .tileY)) (c .row))) 3
-    (unless (not (isLentTable (c .table))) 4
-    (unless (not (isQueue (c .state .left) (c .queue .ids))) 5
+    firstFive (isShortFor c lent) (isWrongNext (c .state) (c .tile)) (c .state .tileY) (c .row) (c .table) (c .state .left) (c .queue .ids)
     (unless (tagOutOfRange (c .kept)) 6
-    pass)))))
+    pass)
 
 -- the lowest of 7, 8 and 9 that applies to the layers of the tile
 unfoldable pub listVerdict : List Layer → List Listed → Judgement

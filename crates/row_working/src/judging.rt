@@ -1,4 +1,5 @@
-// The judges of tile work: refusals 1 to 6 by the arguments, and 7 to 9 by the tile's layers.
+// The judges of tile work: refusals 1 to 6 by the arguments, and 7 to 9 by the tile's layers. A listing is judged by
+// the same functions, without 6.
 use cached_tile::kept::Kept;
 use refusals::Refusal;
 use refusals::Verdict;
@@ -9,25 +10,33 @@ ghost use mathlib.Core.Path.{_≡_};
 ghost use mathlib.Core.Bool.{Bool};
 ghost use Prim.Native.Nat.{_*_, _≤_};
 ghost use lib.ListN.{length};
-ghost use Rattle.refusals.specs.Refusal.{judgementIn};
+ghost use Rattle.refusals.specs.Refusal.{judgementIn, pass, unless};
 ghost use Rattle.layer_table.specs.Table.{Table, tableOf};
 ghost use Rattle.queue_statements.specs.Queue.{queueOf};
+ghost use Rattle.cached_tile.specs.Kept.{tagOutOfRange};
 ghost use Rattle.tile_layers.specs.Listing.{layersIn};
 ghost use Rattle.tile_layers.specs.Walk.{Walks};
-ghost use Rattle.row_statements.specs.Lent.{lentTable, listColumns, isListShort};
+ghost use Rattle.row_statements.specs.Lent.{lentTable, listColumns, areEntriesShort, isListShort};
 ghost use Rattle.row_statements.specs.State.{stateIn};
-ghost use Rattle.row_statements.specs.InnerWork.{judgedBy, JudgesList};
+ghost use Rattle.row_statements.specs.InnerWork.{judgedBy, judgedWith, JudgesList};
+
+// Refusal 1: whether the three columns that say what is listed have fewer than 256 entries.
+pub fn are_entries_short(ids: &[u32], covers: &[i8], segments: &[bool]) -> bool
+    ensures { λ r. ⌜ r ≡ areEntriesShort (now (ids .entry)) (now (covers .entry)) (now (segments .entry)) ⌝ }
+{
+    (ids.len() < 256) | (covers.len() / 16 < 256) | (segments.len() < 256)
+}
 
 // Refusal 1: whether a lent list has fewer than 256 entries.
 pub fn is_list_short(ids: &[u32], covers: &[i8], segments: &[bool], unmasked: &[bool]) -> bool
     ensures { λ r. ⌜ r ≡ isListShort
         (listColumns (now (ids .entry)) (now (covers .entry)) (now (segments .entry)) (now (unmasked .entry))) ⌝ }
 {
-    (ids.len() < 256) | (covers.len() / 16 < 256) | (segments.len() < 256) | (unmasked.len() < 256)
+    are_entries_short(ids, covers, segments) | (unmasked.len() < 256)
 }
 
-// Refusals 1 to 6, the lowest that applies. `short` says whether 1 does.
-pub fn judge_work(
+// Refusals 1 to 5, the lowest that applies. `short` says whether 1 does.
+pub fn judge_row(
     short: bool,
     state: RowState,
     tile: i32,
@@ -35,11 +44,10 @@ pub fn judge_work(
     layers: &[u32],
     colors: &[f32],
     count: usize,
-    kept: Kept,
     ids: &[u32],
 ) -> Verdict
     ensures { λ r. ⌜ judgementIn r ≡ judgedBy short (stateIn state) tile (now (row .entry))
-        (lentTable (now (layers .entry)) (now (colors .entry)) count) kept (now (ids .entry)) ⌝ }
+        (lentTable (now (layers .entry)) (now (colors .entry)) count) (now (ids .entry)) ⌝ }
 {
     if short {
         return Verdict::Refuse(Refusal::Room);
@@ -56,10 +64,38 @@ pub fn judge_work(
     if !queue::is_queue(ids, state.left) {
         return Verdict::Refuse(Refusal::Queue);
     }
+    Verdict::Pass
+}
+
+// Refusal 6.
+fn judge_tag(kept: Kept) -> Verdict
+    ensures { λ r. ⌜ judgementIn r ≡ unless (tagOutOfRange kept) 6 pass ⌝ }
+{
     if kept.is_tag_out_of_range() {
         return Verdict::Refuse(Refusal::Tag);
     }
     Verdict::Pass
+}
+
+// Refusals 1 to 6, the lowest that applies. `short` says whether 1 does.
+pub fn judge_work(
+    short: bool,
+    state: RowState,
+    tile: i32,
+    row: &[u64],
+    layers: &[u32],
+    colors: &[f32],
+    count: usize,
+    kept: Kept,
+    ids: &[u32],
+) -> Verdict
+    ensures { λ r. ⌜ judgementIn r ≡ judgedWith short (stateIn state) tile (now (row .entry))
+        (lentTable (now (layers .entry)) (now (colors .entry)) count) kept (now (ids .entry)) ⌝ }
+{
+    match judge_row(short, state, tile, row, layers, colors, count, ids) {
+        Verdict::Refuse(refusal) => Verdict::Refuse(refusal),
+        Verdict::Pass => judge_tag(kept),
+    }
 }
 
 // Refusals 7 to 9, the lowest that applies to the layers of a tile.

@@ -1,88 +1,37 @@
--- `judging::judge_work` meets its contract: a line for each condition, the lowest first. Assumes nothing.
--- whether the row is in order, as the definition asks it
-use mathlib.Core.Path.{_≡_, ap, _∙_}
-use Prim.Native.Nat.{ℕ, suc}
-use native.Mathlib.Numerals.{add-one}
+-- `judging::judge_work` meets its contract. Assumes nothing.
+use mathlib.Core.Path.{_≡_}
 use borrow.Author.Needs.{needs}
 use mir.Facts.{toZ-ofZ}
-use Rattle.pixel_segment.specs.Field.{cpu}
-use Rattle.segment_rows.specs.Rows.{isRow}
-use Rattle.row_statements.specs.State.{stateIn, isWrongNext}
+use Rattle.refusals.specs.Refusal.{judgementIn}
+use Rattle.row_statements.specs.Lent.{lentTable}
+use Rattle.row_statements.specs.State.{stateIn}
 use Rattle.row_statements.specs.InnerWork.{judgedBy}
 use Rattle.row_working.proofs.judging.judge_work.Statement.{statement}
 use Rattle.row_working.proofs.judging.judge_work.Tie as tie
 
-row-told : (c : tie.After-is-row) → c .is-row .result ≡ isRow cpu (suc (c .before .before .before .before .before .before .before .before .before .args .state .«tile_y»)) (c .before .before .before .before .before .before .before .before .before .args .row .now)
-row-told c = c .is-row .ensures ∙ ap (λ (n : ℕ). isRow cpu n (c .before .before .before .before .before .before .before .before .before .args .row .now)) (add-one (c .before .before .before .before .before .before .before .before .before .args .state .«tile_y»))
+-- what the judge of 1 to 5 says
+told : (c : tie.After-judge-row) → let a = c .before .before .before .before .before .args in judgementIn (c .judge-row .result) ≡ judgedBy (a .short) (stateIn (a .state)) (a .tile) (a .row .now) (lentTable (a .layers .now) (a .colors .now) (a .count)) (a .ids .now)
+told c = rw (toZ-ofZ (c .before .before .before .before .before .fits .tile)) at (c .judge-row .ensures)
 
--- whether the tile is not the next
-next-told : (c : tie.After-is-wrong-next) → c .is-wrong-next .result ≡ isWrongNext (stateIn (c .before .before .before .before .before .before .args .state)) (c .before .before .before .before .before .before .args .tile)
-next-told c = rw (toZ-ofZ (c .before .before .before .before .before .before .fits .tile)) at (c .is-wrong-next .ensures)
+judge-row-requires : tie.Need-judge-row-requires
+judge-row-requires c κs = search needs
+
+enum-known-refusal : tie.Need-enum-known-refusal
+enum-known-refusal c = search needs
+
+enum-told : tie.Need-enum-told
+enum-told c = search needs
+
+judge-tag-requires : tie.Need-judge-tag-requires
+judge-tag-requires c κs = search needs
 
 returns : tie.Need-returns
-unfolding judgedBy
-returns c = rw (c .if1 .taken)
-
-is-wrong-next-requires : tie.Need-is-wrong-next-requires
-is-wrong-next-requires c κs = search needs
+returns c = rw (← told (c .before .before .before), c .before .refusal .given .1)
 
 returns-2 : tie.Need-returns-2
-unfolding judgedBy
-returns-2 c = rw (c .before .before .if1 .left, ← next-told (c .before), c .if2 .taken)
-
-cast-is-row : tie.Need-cast-is-row
-cast-is-row c = search needs
-
-add-is-row : tie.Need-add-is-row
-add-is-row c = search needs
-
-is-row-requires : tie.Need-is-row-requires
-is-row-requires c κs = search needs
-
-returns-3 : tie.Need-returns-3
-unfolding judgedBy
-returns-3 c = rw (c .before .before .before .before .before .if1 .left, ← next-told (c .before .before .before .before), c .before .before .before .if2 .left, ← row-told (c .before), c .if3 .taken)
-
-is-table-requires : tie.Need-is-table-requires
-is-table-requires c κs = search needs
-
-returns-4 : tie.Need-returns-4
-unfolding judgedBy
-returns-4 c = rw (c .before .before .before .before .before .before .before .if1 .left, ← next-told (c .before .before .before .before .before .before), c .before .before .before .before .before .if2 .left, ← row-told (c .before .before .before), c .before .before .if3 .left, ← c .before .is-table .ensures, c .if4 .taken)
-
-is-queue-requires : tie.Need-is-queue-requires
-is-queue-requires c κs = search needs
-
-returns-5 : tie.Need-returns-5
-unfolding judgedBy
-returns-5 c = rw (c .before .before .before .before .before .before .before .before .before .if1 .left, ← next-told (c .before .before .before .before .before .before .before .before), c .before .before .before .before .before .before .before .if2 .left, ← row-told (c .before .before .before .before .before), c .before .before .before .before .if3 .left, ← c .before .before .before .is-table .ensures, c .before .before .if4 .left, ← c .before .is-queue .ensures, c .if5 .taken)
-
-is-tag-out-of-range-requires : tie.Need-is-tag-out-of-range-requires
-is-tag-out-of-range-requires c κs = search needs
-
-returns-6 : tie.Need-returns-6
-unfolding judgedBy
-returns-6 c = rw (c .before .before .before .before .before .before .before .before .before .before .before .if1 .left, ← next-told (c .before .before .before .before .before .before .before .before .before .before), c .before .before .before .before .before .before .before .before .before .if2 .left, ← row-told (c .before .before .before .before .before .before .before), c .before .before .before .before .before .before .if3 .left, ← c .before .before .before .before .before .is-table .ensures, c .before .before .before .before .if4 .left, ← c .before .before .before .is-queue .ensures, c .before .before .if5 .left, ← c .before .is-tag-out-of-range .ensures, c .if6 .taken)
-
-returns-7 : tie.Need-returns-7
-unfolding judgedBy
-returns-7 c = rw (c .before .before .before .before .before .before .before .before .before .before .before .if1 .left, ← next-told (c .before .before .before .before .before .before .before .before .before .before), c .before .before .before .before .before .before .before .before .before .if2 .left, ← row-told (c .before .before .before .before .before .before .before), c .before .before .before .before .before .before .if3 .left, ← c .before .before .before .before .before .is-table .ensures, c .before .before .before .before .if4 .left, ← c .before .before .before .is-queue .ensures, c .before .before .if5 .left, ← c .before .is-tag-out-of-range .ensures, c .if6 .left)
+returns-2 c = rw (← told (c .before .before .before), c .before .enum-told .given .1) (c .judge-tag .ensures)
 
 pub judge-work-spec : {M : Type 1} → statement M
 judge-work-spec =
     tie.close
-    (tie.spec
-    returns
-    is-wrong-next-requires
-    returns-2
-    cast-is-row
-    add-is-row
-    is-row-requires
-    returns-3
-    is-table-requires
-    returns-4
-    is-queue-requires
-    returns-5
-    is-tag-out-of-range-requires
-    returns-6
-    returns-7)
+    (tie.spec judge-row-requires enum-known-refusal enum-told judge-tag-requires returns returns-2)
