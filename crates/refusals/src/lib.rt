@@ -13,6 +13,8 @@ pub enum Refusal {
     Layers,
     Missing,
     Covers,
+    NotHeld,
+    Slots,
 }
 
 // What a judge says: pass, or the lowest refusal that applies.
@@ -35,5 +37,7 @@ pub fn number_of(refusal: Refusal) -> u32
         Refusal::Layers => 7,
         Refusal::Missing => 8,
         Refusal::Covers => 9,
+        Refusal::NotHeld => 12,
+        Refusal::Slots => 13,
     }
 }
