@@ -1,2 +1,5 @@
 -- Laws that the proofs of this crate and of those above it cite.
 pub mod Wrapping
+pub mod Lists
+pub mod Effects
+pub mod Spreading

@@ -1,7 +1,6 @@
 -- How the code changes d: an amount added in one column of a row, another right of it.
 use mathlib.Core.Bool.{cond, _&&_}
 use mathlib.Core.List.{List}
-use mathlib.Core.Path.{_≡_}
 use Prim.Native.Nat.{ℕ, _+_, _*_, _/_, _%_, _≤_, _<_}
 use lib.Dec.{eqb, leb}
 use lib.IntN.{ℤ, _+ℤ_}
