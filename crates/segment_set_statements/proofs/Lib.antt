@@ -3,3 +3,5 @@ pub mod Wrapping
 pub mod Lists
 pub mod Effects
 pub mod Spreading
+pub mod Sames
+pub mod Steps
