@@ -3,5 +3,6 @@ pub mod Wrapping
 pub mod Lists
 pub mod Effects
 pub mod Spreading
+pub mod Changes
 pub mod Sames
 pub mod Steps

@@ -8,7 +8,7 @@ use lib.Signed.{remZ, quotZ}
 use mir.Syntax.{Width}
 use mir.Val.{SFits, hbits}
 use Rattle.laws.specs.Integer.{plus, minus, modℤ}
-use Rattle.laws.proofs.Machine.{Within, within, sfits}
+use Rattle.laws.proofs.Machine.{Within, within, sfits, small}
 use Rattle.laws.proofs.Mod.{unique, lifted, remainder}
 use Rattle.laws.proofs.Parts.{whole, equal, added, taken, difference}
 use Rattle.segment_set_statements.specs.Effect.{wrap}
@@ -133,3 +133,8 @@ module _ (w v : Width) (h : ℕ) (half : 2 ^ hbits w ≡ h) (room : 5 * h < 2 ^ 
         narrow = result-fits;
         result = lowered;
       }
+
+-- ---- the opposite, as the code takes it
+
+pub opposite-fits : (w : Width) (z : ℤ) → natAbs z < 2 ^ hbits w → SFits w (pos 0 -ℤ z)
+opposite-fits w z h = small w (pos 0 -ℤ z) (omega (arith, taken (pos 0) z))
