@@ -4,5 +4,6 @@ pub mod Lists
 pub mod Effects
 pub mod Spreading
 pub mod Changes
+pub mod Places
 pub mod Sames
 pub mod Steps

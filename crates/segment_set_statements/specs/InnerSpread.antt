@@ -1,16 +1,18 @@
 -- How the code changes d: an amount added in one column of a row, another right of it.
-use mathlib.Core.Bool.{cond, _&&_}
+use mathlib.Core.Bool.{Bool, cond, not, _&&_}
 use mathlib.Core.List.{List}
 use Prim.Native.Nat.{ℕ, _+_, _*_, _/_, _%_, _≤_, _<_}
-use lib.Dec.{eqb, leb}
+use lib.Dec.{eqb, leb, ltb}
 use lib.IntN.{ℤ, _+ℤ_}
 use lib.ListN.{length, getD}
 use Rattle.laws.specs.Lists.{tabulate, over}
+use Rattle.refusals.specs.Refusal.{Judgement, pass, unless}
 use Rattle.pixel_segment.specs.Field.{cpu, localYOf}
 use Rattle.cover_statements.specs.Carry.{absCover}
 use Rattle.cover_statements.specs.Cover.{coverAt}
 use Rattle.segment_set_statements.specs.Effect.{wrap}
-use Rattle.segment_set_statements.specs.Set.{State}
+use Rattle.segment_set_statements.specs.Set.{State, isHere}
+use Rattle.segment_set_statements.specs.declared.SegmentSet.{SegmentSet}
 
 unfoldable pub spreadBy : ℕ → ℕ → ℕ → ℤ → ℤ → List ℤ → List ℤ
 spreadBy n x y own past areas =
@@ -21,3 +23,11 @@ pub record Addable (s : State) (w : ℕ) : Type 0 where
   pub room : 256 ≤ length (s .areas)
   pub free : s .set .count < length (s .slots)
   pub small : getD (s .set .loads) (localYOf cpu w) 0 + absCover cpu w ≤ 127
+
+-- the verdict of letting out, by whether the word is held
+unfoldable pub letVerdictBy : SegmentSet → ℕ → Bool → List ℤ → Judgement
+letVerdictBy s w held areas =
+    unless (ltb (length areas) 256) 1
+    (unless (not (isHere s w)) 3
+    (unless (not held) 12
+    pass))
