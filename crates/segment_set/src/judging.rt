@@ -54,13 +54,20 @@ fn is_here(set: SegmentSet, word: u64) -> bool
     is_of(set.layer_id, set.tile_x, set.tile_y, word)
 }
 
+// The sum of two loads.
+fn total(load: u16, more: u16) -> u32
+    ensures { λ r. ⌜ r ≡ load + more ⌝ }
+{
+    load as u32 + more as u32
+}
+
 // The load of a segment's row with its own.
 fn load_with(loads: [u16; 16], word: u64) -> u32
     ensures { λ r. ⌜ r ≡ getD loads (localYOf cpu word) 0 + absCover cpu word ⌝ }
 {
     let segment = PixelSegment(word);
     let y = segment.local_y() as usize;
-    loads[y] as u32 + weight::cover_magnitude(segment.cover()) as u32
+    total(loads[y], weight::cover_magnitude(segment.cover()))
 }
 
 pub fn judge_beginning(

@@ -7,3 +7,4 @@ pub mod Changes
 pub mod Places
 pub mod Sames
 pub mod Steps
+pub mod Begins

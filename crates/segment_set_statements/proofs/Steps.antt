@@ -79,7 +79,7 @@ loads-at incoming part y h = getD-tabulate 16 (λ r. natAbs (coverAt incoming r)
 small-carry : (incoming : List ℤ) (part : List ℕ) → isLight cpu 16 incoming part ≡ true → (y : ℕ) → y < 16 → natAbs (coverAt incoming y +ℤ coverIn cpu y part) < 128
 small-carry incoming part l y h = rw (← carry-at cpu 16 incoming part y h) (omega (arith, carry-small (light l) y h))
 
-is-light : (incoming : List ℤ) (part : List ℕ) → ((y : ℕ) → y < 16 → natAbs (coverAt incoming y) + loadIn cpu y part ≤ 127) → isLight cpu 16 incoming part ≡ true
+pub is-light : (incoming : List ℤ) (part : List ℕ) → ((y : ℕ) → y < 16 → natAbs (coverAt incoming y) + loadIn cpu y part ≤ 127) → isLight cpu 16 incoming part ≡ true
 unfolding isLight
 is-light incoming part h =
     every-intro 16 (lightAt cpu incoming part) (λ y q. le-leb (natAbs (coverAt incoming y) + loadIn cpu y part) 127 (h y q))

@@ -1,6 +1,7 @@
 -- How the code changes d: an amount added in one column of a row, another right of it.
 use mathlib.Core.Bool.{Bool, cond, not, _&&_}
 use mathlib.Core.List.{List}
+use mathlib.Core.Path.{_≡_}
 use Prim.Native.Nat.{ℕ, _+_, _*_, _/_, _%_, _≤_, _<_}
 use lib.Dec.{eqb, leb, ltb}
 use lib.IntN.{ℤ, _+ℤ_}
@@ -11,7 +12,7 @@ use Rattle.pixel_segment.specs.Field.{cpu, localYOf}
 use Rattle.cover_statements.specs.Carry.{absCover}
 use Rattle.cover_statements.specs.Cover.{coverAt}
 use Rattle.segment_set_statements.specs.Effect.{wrap}
-use Rattle.segment_set_statements.specs.Set.{State, isHere}
+use Rattle.segment_set_statements.specs.Set.{State, heldOf, isHere, placeOf}
 use Rattle.segment_set_statements.specs.declared.SegmentSet.{SegmentSet}
 
 unfoldable pub spreadBy : ℕ → ℕ → ℕ → ℤ → ℤ → List ℤ → List ℤ
@@ -31,3 +32,11 @@ letVerdictBy s w held areas =
     (unless (not (isHere s w)) 3
     (unless (not held) 12
     pass))
+
+-- a word can be removed from its place
+pub record Removable (s : State) (w place held : ℕ) : Type 0 where
+  pub room : 256 ≤ length (s .areas)
+  pub place-is : place ≡ placeOf w (heldOf s)
+  pub held-is : held ≡ length (heldOf s)
+  pub within : place < held
+  pub long : held ≤ length (s .slots)
