@@ -8,3 +8,4 @@ pub mod Places
 pub mod Sames
 pub mod Steps
 pub mod Begins
+pub mod Keeping

@@ -1,8 +1,6 @@
 -- `judging::load_with` meets its contract. Assumes nothing.
 use borrow.Author.Needs.{needs}
-use mathlib.Core.Path.{ap₂}
-use native.Mathlib.Omega.{arith}
-use Prim.Native.Nat.{_+_}
+use mathlib.Core.Path.{_∙_}
 use mir.Syntax.{w8}
 use Rattle.laws.proofs.Machine.{kept}
 use Rattle.segment_set.proofs.judging.load_with.Statement.{statement}
@@ -14,14 +12,11 @@ local-y-requires c κs = search needs
 cast-y : tie.Need-cast-y
 cast-y c = search needs
 
-mul-result : tie.Need-mul-result
-mul-result c = search needs
+mul-total : tie.Need-mul-total
+mul-total c = search needs
 
-array-read-result : tie.Need-array-read-result
-array-read-result c = search needs
-
-cast-result : tie.Need-cast-result
-cast-result c = search needs
+array-read-total : tie.Need-array-read-total
+array-read-total c = search needs
 
 cover-requires : tie.Need-cover-requires
 cover-requires c κs = search needs
@@ -29,17 +24,15 @@ cover-requires c κs = search needs
 cover-magnitude-requires : tie.Need-cover-magnitude-requires
 cover-magnitude-requires c κs = search needs
 
-cast-result-2 : tie.Need-cast-result-2
-cast-result-2 c = search needs
-
-add-result : tie.Need-add-result
-add-result c = ?
+total-requires : tie.Need-total-requires
+total-requires c κs = search needs
 
 returns : tie.Need-returns
 returns c =
-    let k = c .before in
+    let m = c .before in
+    let k = m .before in
     let y = k .before in
-    rw (y .local-y .ensures, rw (kept w8 (k .cover .result) (k .cover .ok), k .cover .ensures) at (c .cover-magnitude .ensures .0))
+    rw (y .local-y .ensures, rw (kept w8 (k .cover .result) (k .cover .ok), k .cover .ensures) at (m .cover-magnitude .ensures .0)) at (c .total .ensures)
 
 pub load-with-spec : {M : Type 1} → statement M
 load-with-spec =
@@ -47,11 +40,9 @@ load-with-spec =
     (tie.spec
     local-y-requires
     cast-y
-    mul-result
-    array-read-result
-    cast-result
+    mul-total
+    array-read-total
     cover-requires
     cover-magnitude-requires
-    cast-result-2
-    add-result
+    total-requires
     returns)
