@@ -119,7 +119,7 @@ loads-none covers loads e m =
 -- ---- the loop over the part
 
 -- a set of a beginning with a carry, loads and a count
-abbrev setOf : Beginning → List ℤ → List ℕ → ℕ → SegmentSet
+abbrev pub setOf : Beginning → List ℤ → List ℕ → ℕ → SegmentSet
 setOf b covers loads count =
     record { «layer_id» = b .layer; «tile_x» = b .tileX; «tile_y» = b .tileY; carry = record { covers = covers }; loads = loads; count = count }
 

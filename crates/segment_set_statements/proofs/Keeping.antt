@@ -1,13 +1,13 @@
 -- The sets that were begun and edited are kept. Assumes nothing.
 use mathlib.Core.Path.{_≡_, refl, sym, ap, ap₂, subst, _∙_}
-use mathlib.Core.Bool.{Bool, true, false, cond, _&&_}
+use mathlib.Core.Bool.{Bool, true, false, cond, not, _&&_}
 use mathlib.Core.List.{List, [], _∷_, _++_}
 use mathlib.Core.Logic.{⊎-elim}
-use Prim.Native.Nat.{ℕ, suc, _+_, _-_, _/_, _%_, _≤_, _<_, min}
+use Prim.Native.Nat.{ℕ, zero, suc, _+_, _-_, _/_, _%_, _≤_, _<_, min}
 use native.Mathlib.Numerals.{add-one}
 use native.Mathlib.Omega.{arith}
 use borrow.Author.Tests.{ltb-true, ltb-false, leb-false, not-false}
-use lib.Dec.{eqb, ltb}
+use lib.Dec.{eqb, leb, ltb}
 use lib.IntN.{ℤ, pos, natAbs, _+ℤ_, _-ℤ_}
 use lib.ListN.{length, getD, take, drop, set, length-set, length-take}
 use lib.Seq.{take-suc, take-all, take-suc-set, take-set-le, take-set-lt, take-take, getD-take, length-take-le, set-getD}
@@ -35,6 +35,21 @@ use Rattle.segment_set_statements.proofs.Places.{held-by-place, place-h
 use Rattle.segment_set_statements.proofs.Sames.{same-sym, same-all}
 use Rattle.segment_set_statements.proofs.Steps.{areas-taken, areas-let, carry-taken, carry-let, loads-taken, loads-let, light-taken, light-let}
 
+-- ---- the lines of a verdict that passes
+
+three : (a b c : Bool) (i j k : ℕ) → unless a i (unless b j (unless c k pass)) ≡ pass → (a ≡ false) × (b ≡ false) × (c ≡ false)
+three a b c i j k e =
+    let p = passed a i (unless b j (unless c k pass)) e in
+    let q = passed b j (unless c k pass) (p .1) in
+    let r = passed c k pass (q .1) in
+    (p .0, q .0, r .0)
+
+four : (a b c d : Bool) (i j k l : ℕ) → unless a i (unless b j (unless c k (unless d l pass))) ≡ pass → (a ≡ false) × (b ≡ false) × (c ≡ false) × (d ≡ false)
+four a b c d i j k l e =
+    let p = passed a i (unless b j (unless c k (unless d l pass))) e in
+    let q = three b c d j k l (p .1) in
+    (p .0, q .0, q .1, q .2)
+
 -- ---- begun
 
 pub kept-begun : (b : Beginning) (slots : List ℕ) (areas : List ℤ) → Begun b slots areas → Kept (b .incoming) (fresh b slots areas)
@@ -56,6 +71,7 @@ kept-begun b slots areas p =
 -- ---- taken in
 
 pub record Takes (s : State) (w : ℕ) : Type 0 where
+  pub room : 256 ≤ length (s .areas)
   pub here : isHere (s .set) w ≡ true
   pub small : getD (s .set .loads) (localYOf cpu w) 0 + absCover cpu w ≤ 127
   pub free : s .set .count < length (s .slots)
@@ -63,14 +79,13 @@ pub record Takes (s : State) (w : ℕ) : Type 0 where
 pub take-passed : (s : State) (w : ℕ) → takeVerdict s w ≡ pass → Takes s w
 unfolding takeVerdict
 take-passed s w e =
-    let p = passed _ _ _ e in
-    let q = passed _ _ _ (p .1) in
-    let r = passed _ _ _ (q .1) in
-    let t = passed _ _ _ (r .1) in
+    let load = getD (s .set .loads) (localYOf cpu w) 0 + absCover cpu w in
+    let p = four (ltb (length (s .areas)) 256) (not (isHere (s .set) w)) (ltb 127 load) (leb (length (s .slots)) (s .set .count)) 1 3 9 13 e in
     record {
-      here = not-false _ (q .0);
-      small = ltb-false 127 (getD (s .set .loads) (localYOf cpu w) 0 + absCover cpu w) (r .0);
-      free = leb-false (length (s .slots)) (s .set .count) (t .0);
+      room = ltb-false (length (s .areas)) 256 (p .0);
+      here = not-false (isHere (s .set) w) (p .1);
+      small = ltb-false 127 load (p .2);
+      free = leb-false (length (s .slots)) (s .set .count) (p .3);
     }
 
 -- the held words, with one more at the end
@@ -115,18 +130,20 @@ module _ {incoming : List ℤ} {s : State} (k : Kept incoming s) where
 
 -- ---- let out
 
-pub let-passed : (s : State) (w : ℕ) → letVerdict s w ≡ pass → isHeld w (heldOf s) ≡ true
+pub record Lets (s : State) (w : ℕ) : Type 0 where
+  pub room : 256 ≤ length (s .areas)
+  pub held : isHeld w (heldOf s) ≡ true
+
+pub let-passed : (s : State) (w : ℕ) → letVerdict s w ≡ pass → Lets s w
 unfolding letVerdict
 let-passed s w e =
-    let p = passed _ _ _ e in
-    let q = passed _ _ _ (p .1) in
-    let r = passed _ _ _ (q .1) in
-    not-false _ (r .0)
+    let p = three (ltb (length (s .areas)) 256) (not (isHere (s .set) w)) (not (isHeld w (heldOf s))) 1 3 12 e in
+    record { room = ltb-false (length (s .areas)) 256 (p .0); held = not-false (isHeld w (heldOf s)) (p .2) }
 
 -- a word of a list replaced
 count-set : (v z : ℕ) (l : List ℕ) (p : ℕ) → p < length l → countBy (eqb v) (set l p z) + cond (eqb v (getD l p 0)) 1 0 ≡ countBy (eqb v) l + cond (eqb v z) 1 0
 count-set v z [] p h = absurd (omega arith)
-count-set v z (x ∷ l) 0 h = omega arith
+count-set v z (x ∷ l) zero h = omega arith
 count-set v z (x ∷ l) (suc p) h = omega (arith, count-set v z l p (omega arith))
 
 -- the last word put into the place of another: all words but that one
@@ -207,7 +224,7 @@ step-in w (refuse n) e h = h
 
 step-out : {incoming : List ℤ} {ins outs : List ℕ} {s : State} (w : ℕ) (j : Judgement) → letVerdict s w ≡ j → Holds incoming ins outs s → Holds incoming ins (accepted j w outs) (settled j (letOut s w) s)
 step-out {s = s} w pass e h =
-    let t = let-passed s w e in
+    let t = let-passed s w e .held in
     record { kept = kept-let s w t (h .kept); words = λ v. omega (arith, h .words v, same-let s w t .at v) }
 step-out w (refuse n) e h = h
 

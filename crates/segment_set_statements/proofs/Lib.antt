@@ -9,3 +9,4 @@ pub mod Sames
 pub mod Steps
 pub mod Begins
 pub mod Keeping
+pub mod Letting
