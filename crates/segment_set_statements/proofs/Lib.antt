@@ -10,3 +10,5 @@ pub mod Steps
 pub mod Begins
 pub mod Keeping
 pub mod Letting
+pub mod Starting
+pub mod Undoing

@@ -26,3 +26,8 @@ pub data Edits (b : Beginning) : List ℕ → List ℕ → State → Type 0 wher
       Edits b ins outs s →
       Gives (letVerdict s w) (letOf s w) r slots areas →
       Edits b ins (accepted (letVerdict s w) w outs) (state (r .set) slots areas)
+
+-- words taken in, one after the other
+abbrev pub takeAll : State → List ℕ → State
+takeAll s [] = s
+takeAll s (w ∷ ws) = takeAll (takeOf s w) ws

@@ -42,7 +42,7 @@ loop-again c =
     let l = a .before .before in
     next-area (l .loop .inv) (omega arith)
     (kept w16 (c .area-of .result) (c .area-of .ok)
-    ∙ rw (kept w8 (coverAt (l .before .args .covers) (l .loop .k % 16)) (a .area-of-arg .given)) at (c .area-of .ensures))
+    ∙ rw (kept w8 (coverAt (l .before .args .t1) (l .loop .k % 16)) (a .area-of-arg .given)) at (c .area-of .ensures))
 
 same-length : tie.Need-same-length Inv-loop μ-loop
 same-length c = c .before .loop .inv .long
