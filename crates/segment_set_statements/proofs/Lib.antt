@@ -12,3 +12,4 @@ pub mod Keeping
 pub mod Letting
 pub mod Starting
 pub mod Undoing
+pub mod Each

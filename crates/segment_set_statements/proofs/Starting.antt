@@ -4,7 +4,8 @@ use mathlib.Core.List.{List, []}
 use Prim.Native.Nat.{ℕ, _≤_}
 use native.Mathlib.Omega.{arith}
 use lib.IntN.{ℤ}
-use lib.ListN.{length}
+use lib.ListN.{length, take}
+use lib.Seq.{length-take-le}
 use Rattle.laws.specs.Lists.{over}
 use Rattle.laws.proofs.Rows.{length-over}
 use Rattle.pixel_segment.specs.Field.{cpu}
@@ -18,7 +19,7 @@ use Rattle.segment_set_statements.specs.Set.{State, state, Beginning, fr
 use Rattle.segment_set_statements.specs.declared.SegmentSet.{SegmentSet}
 use Rattle.segment_set_statements.proofs.Begins.{Begun, Adding, setOf, three, upTo, over-over, loads-none, add-start, add-end}
 
-module _ {b : Beginning} {slots : List ℕ} {areas start : List ℤ} (e : start ≡ over (areasOf cpu 16 (coverAt (b .incoming)) []) areas) where
+module _ (b : Beginning) (slots : List ℕ) (areas start : List ℤ) (e : start ≡ over (areasOf cpu 16 (coverAt (b .incoming)) []) areas) where
   long : length (areasOf cpu 16 (coverAt (b .incoming)) []) ≡ 256
   long = areas-length cpu 16 (coverAt (b .incoming)) []
 
@@ -45,3 +46,19 @@ module _ {b : Beginning} {slots : List ℕ} {areas start : List ℤ} (e : start 
 
   pub begin-end : {i : ℕ} {s : State} → Adding b slots start i s → length (b .part) ≤ i → s ≡ fresh b slots areas
   begin-end c h = add-end c h ∙ three refl refl (again (b .part))
+
+  -- the lent lists keep their lengths
+  pub start-length : 256 ≤ length areas → length start ≡ length areas
+  start-length h = ap length e ∙ length-over areas (areasOf cpu 16 (coverAt (b .incoming)) []) (omega (arith, long))
+
+-- and on the way too
+pub slots-length : {b : Beginning} {slots : List ℕ} {areas : List ℤ} {i : ℕ} {s : State} → Adding b slots areas i s → length (s .slots) ≡ length slots
+slots-length {b} {slots} {areas} {i} {s} c =
+    ap (λ (t : State). length (t .slots)) (c .so-far)
+    ∙ length-over slots (take i (b .part)) (omega (arith, c .begun .free, length-take-le i (b .part) (c .reached), c .reached))
+
+pub areas-long : {b : Beginning} {slots : List ℕ} {areas : List ℤ} {i : ℕ} {s : State} → Adding b slots areas i s → length (s .areas) ≡ length areas
+areas-long {b} {slots} {areas} {i} {s} c =
+    let d = areasOf cpu 16 (coverAt (b .incoming)) (take i (b .part)) in
+    ap (λ (t : State). length (t .areas)) (c .so-far)
+    ∙ length-over areas d (omega (arith, c .begun .room, areas-length cpu 16 (coverAt (b .incoming)) (take i (b .part))))

@@ -21,13 +21,16 @@ abbrev μ-loop : tie.MeasureT-loop
 μ-loop layer-id tile-x tile-y part slots₀ areas₀ set₀ i₀ slots areas set i = length part - i
 
 start-areas-requires : tie.Need-start-areas-requires Inv-loop μ-loop
-start-areas-requires c κs = ?
+start-areas-requires c κs = begin-passed (c .before .before .before .before .pre) .room
 
 start-loads-requires : tie.Need-start-loads-requires Inv-loop μ-loop
 start-loads-requires c κs = tt
 
 loop-holds : tie.Need-loop-holds Inv-loop μ-loop
-loop-holds c = ?
+loop-holds c =
+    let s = c .before .before .before .before .before .before .before in
+    rw (toZ-ofZ (s .fits .tile-x), toZ-ofZ (s .fits .tile-y))
+    (begin-start (beginning (s .args .layer-id) (s .args .tile-x) (s .args .tile-y) (s .args .cover .covers) (s .args .part .now)) (s .args .slots .now) (s .args .areas .now) _ (c .before .before .start-areas .ensures) (begin-passed (s .pre)) (search needs) (c .start-loads .ensures))
 
 mul-add : tie.Need-mul-add Inv-loop μ-loop
 mul-add c = omega arith
@@ -45,16 +48,21 @@ loop-less : tie.Need-loop-less Inv-loop μ-loop
 loop-less c = omega arith
 
 loop-again : tie.Need-loop-again Inv-loop μ-loop
-loop-again c = ?
+loop-again c = add-next (c .before .before .before .before .before .before .before .before .loop .inv) (omega arith) (c .before .before .before .add .ensures)
 
 same-length : tie.Need-same-length Inv-loop μ-loop
-same-length c = ?
+same-length c = slots-length (c .before .loop .inv)
 
 same-length-2 : tie.Need-same-length-2 Inv-loop μ-loop
-same-length-2 c = ?
+same-length-2 c =
+    let s = c .before .before .before .before .before .before .before .before .before in
+    areas-long (c .before .loop .inv) ∙ start-length (beginning (s .args .layer-id) (s .args .tile-x) (s .args .tile-y) (s .args .cover .covers) (s .args .part .now)) (s .args .slots .now) (s .args .areas .now) _ (c .before .before .before .before .start-areas .ensures) (begin-passed (s .pre) .room)
 
 returns : tie.Need-returns Inv-loop μ-loop
-returns c = ?
+returns c =
+    let s = c .before .before .before .before .before .before .before .before .before in
+    let held = rw (toZ-ofZ (s .fits .tile-x), toZ-ofZ (s .fits .tile-y)) at (c .before .loop .inv) in
+    begin-end (beginning (s .args .layer-id) (s .args .tile-x) (s .args .tile-y) (s .args .cover .covers) (s .args .part .now)) (s .args .slots .now) (s .args .areas .now) _ (c .before .before .before .before .start-areas .ensures) held (omega arith)
 
 pub begin-with-spec : {M : Type 1} → statement M
 begin-with-spec =
