@@ -1,5 +1,5 @@
-// What one segment changes in a kept set: d of the pixels of its row, from its column rightward, and its row's carry and
-// load. Where a segment is let out, the amounts are the opposites.
+// What one segment changes in a kept set: d of the pixels of its row, from its column rightward, and its row's carry
+// and load. Where a segment is let out, the amounts are the opposites.
 use cover::Cover;
 use pixel_segment::PixelSegment;
 use segment_set_statements::SegmentSet;

@@ -115,8 +115,8 @@ pub fn begin_with(
     slots: &mut [u64],
     areas: &mut [i16],
 ) -> SegmentSet
-    requires { ⌜ beginVerdict (beginning «layer_id» «tile_x» «tile_y» (cover .covers) (now part)) (now slots) (now areas)
-        ≡ pass ⌝ }
+    requires { ⌜ beginVerdict (beginning «layer_id» «tile_x» «tile_y» (cover .covers) (now part))
+        (now slots) (now areas) ≡ pass ⌝ }
     ensures { λ r. ⌜ state r (now (slots .exit)) (now (areas .exit))
         ≡ fresh (beginning «layer_id» «tile_x» «tile_y» (cover .covers) (now (part .entry)))
         (now (slots .entry)) (now (areas .entry)) ⌝ }
