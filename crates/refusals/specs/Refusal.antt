@@ -1,9 +1,10 @@
--- The numbers of the refusals, as the table of the scope ('Turned down') has them, with those that requests add (11: W-203), and what a judge says: pass, or the lowest number that applies.
+-- The numbers of the refusals, as the table of the scope ('Turned down') has them and as requests add to it, and what a judge says: pass, or the
+-- lowest number that applies.
 -- Definitions of verdicts are written in the table's numbers; the names stand in the code alone.
 use mathlib.Core.Bool.{Bool, cond}
 use Prim.Native.Nat.{ℕ}
 use Rattle.refusals.specs.declared.Refusal.{Refusal}
-use Rattle.refusals.specs.declared.Refusal.the-variants.{Room, Tile, Row, Table, Queue, Tag, Layers, Missing, Covers, Fields}
+use Rattle.refusals.specs.declared.Refusal.the-variants.{Room, Tile, Row, Table, Queue, Tag, Layers, Missing, Covers, Fields, NotHeld, Slots}
 use Rattle.refusals.specs.declared.Verdict.{Verdict}
 use Rattle.refusals.specs.declared.Verdict.the-variants.{Pass, Refuse}
 
@@ -18,6 +19,8 @@ numberOf Layers = 7
 numberOf Missing = 8
 numberOf Covers = 9
 numberOf Fields = 11
+numberOf NotHeld = 12
+numberOf Slots = 13
 
 -- what a judge says
 pub data Judgement : Type 0 where

@@ -14,6 +14,8 @@ pub enum Refusal {
     Missing,
     Covers,
     Fields,
+    NotHeld,
+    Slots,
 }
 
 // What a judge says: pass, or the lowest refusal that applies.
@@ -37,5 +39,7 @@ pub fn number_of(refusal: Refusal) -> u32
         Refusal::Missing => 8,
         Refusal::Covers => 9,
         Refusal::Fields => 11,
+        Refusal::NotHeld => 12,
+        Refusal::Slots => 13,
     }
 }

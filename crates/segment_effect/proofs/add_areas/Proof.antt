@@ -1,0 +1,65 @@
+-- `add_areas` meets its contract. Assumes nothing.
+use borrow.Author.Needs.{needs}
+use mathlib.Core.Path.{_∙_}
+use lib.IntN.{ℤ}
+use mir.Syntax.{w16}
+use Rattle.laws.proofs.Machine.{kept}
+use Rattle.pixel_segment.specs.Field.{cpu}
+use Rattle.segment_set_statements.proofs.Spreading.{spread-is}
+use Rattle.segment_effect.proofs.add_areas.Statement.{statement}
+use Rattle.segment_effect.proofs.add_areas.Tie as tie
+
+local-x-requires : tie.Need-local-x-requires
+local-x-requires c κs = search needs
+
+cast-x : tie.Need-cast-x
+cast-x c = search needs
+
+local-y-requires : tie.Need-local-y-requires
+local-y-requires c κs = search needs
+
+cast-y : tie.Need-cast-y
+cast-y c = search needs
+
+double-area-requires : tie.Need-double-area-requires
+double-area-requires c κs = search needs
+
+past-cover-requires : tie.Need-past-cover-requires
+past-cover-requires c κs = search needs
+
+spread-requires : tie.Need-spread-requires
+spread-requires c κs = search needs
+
+same-length : tie.Need-same-length
+same-length c = search needs
+
+returns : tie.Need-returns
+returns c =
+    let p = c .before .before in
+    let a = p .before in
+    let y = a .before .before in
+    let x = y .before in
+    let s = x .before in
+    rw (
+      kept w16 (p .past-cover .result) (p .past-cover .ok),
+      kept w16 (a .double-area .result) (a .double-area .ok),
+      p .past-cover .ensures,
+      a .double-area .ensures,
+      y .local-y .ensures,
+      x .local-x .ensures,
+    ) at (c .before .spread .ensures)
+    ∙ spread-is (λ (z : ℤ). z) cpu 16 (s .args .word) (s .args .areas .now)
+
+pub add-areas-spec : {M : Type 1} → statement M
+add-areas-spec =
+    tie.close
+    (tie.spec
+    local-x-requires
+    cast-x
+    local-y-requires
+    cast-y
+    double-area-requires
+    past-cover-requires
+    spread-requires
+    same-length
+    returns)

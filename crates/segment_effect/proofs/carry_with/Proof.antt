@@ -1,0 +1,30 @@
+-- `carry_with` meets its contract. Assumes nothing.
+use mathlib.Core.Path.{ap, _∙_}
+use borrow.Author.Needs.{needs, sfits-of}
+use lib.IntN.{ℤ}
+use lib.ListN.{set}
+use mir.Facts.{toZ-ofZ}
+use mir.Syntax.{w8}
+use Rattle.laws.proofs.Machine.{kept}
+use Rattle.segment_effect.proofs.carry_with.Statement.{statement}
+use Rattle.segment_effect.proofs.carry_with.Tie as tie
+
+array-copy-out-add-cover : tie.Need-array-copy-out-add-cover
+array-copy-out-add-cover c = search needs
+
+add-cover-requires : tie.Need-add-cover-requires
+add-cover-requires c κs = search needs
+
+array-set-from-covers : tie.Need-array-set-from-covers
+array-set-from-covers c = search needs
+
+returns : tie.Need-returns
+returns c =
+    let s = c .before .before .before in
+    ap (λ (z : ℤ). set (s .args .carry .covers) (s .args .y) z)
+    (kept w8 (c .add-cover .result) (c .add-cover .ok)
+    ∙ rw (toZ-ofZ (sfits-of {w = w8} (c .before .add-cover-arg .given)), toZ-ofZ (s .fits .cover)) at (c .add-cover .ensures))
+
+pub carry-with-spec : {M : Type 1} → statement M
+carry-with-spec =
+    tie.close (tie.spec array-copy-out-add-cover add-cover-requires array-set-from-covers returns)

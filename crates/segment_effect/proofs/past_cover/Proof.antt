@@ -1,0 +1,36 @@
+-- `past_cover` meets its contract. Assumes nothing.
+use borrow.Author.Needs.{needs}
+use native.Mathlib.Omega.{arith}
+use lib.IntN.{pos, _*ℤ_}
+use mir.Facts.{toZ-ofZ, sfits-widen}
+use mir.Syntax.{w8, w16}
+use mir.Val.{SFits}
+use Rattle.laws.proofs.Machine.{small, kept}
+use Rattle.laws.proofs.Parts.{whole, times}
+use Rattle.pixel_segment.specs.Field.{cpu, coverOf}
+use Rattle.pixel_segment.proofs.Widths.{in-cover, cover-fits}
+use Rattle.segment_effect.proofs.past_cover.Statement.{statement}
+use Rattle.segment_effect.proofs.past_cover.Tie as tie
+
+cover-requires : tie.Need-cover-requires
+cover-requires c κs = search needs
+
+wide : (c : tie.After-cover) → SFits w16 (coverOf cpu (c .before .args .segment .0))
+wide c = sfits-widen tt (cover-fits (c .before .args .segment .0))
+
+fits : (c : tie.After-cover) → SFits w16 (pos 32 *ℤ coverOf cpu (c .before .args .segment .0))
+fits c =
+    let w = c .before .args .segment .0 in
+    small w16 (pos 32 *ℤ coverOf cpu w) (omega (arith, times 32 (coverOf cpu w), whole (pos 32 *ℤ coverOf cpu w), in-cover w))
+
+cast-result : tie.Need-cast-result
+cast-result c = rw (kept w8 (c .cover .result) (c .cover .ok), c .cover .ensures) (wide c)
+
+mul-result : tie.Need-mul-result
+mul-result c = rw (kept w8 (c .cover .result) (c .cover .ok), c .cover .ensures, toZ-ofZ (wide c)) (fits c)
+
+returns : tie.Need-returns
+returns c = rw (kept w8 (c .cover .result) (c .cover .ok), c .cover .ensures, toZ-ofZ (wide c), toZ-ofZ (fits c))
+
+pub past-cover-spec : {M : Type 1} → statement M
+past-cover-spec = tie.close (tie.spec cover-requires cast-result mul-result returns)

@@ -1,0 +1,66 @@
+-- `removed` meets its contract. Assumes nothing.
+use borrow.Author.Needs.{needs}
+use native.Mathlib.Omega.{arith}
+use Prim.Native.Nat.{_-_}
+use lib.IntN.{negℤ, _-ℤ_, +ℤ-idl}
+use mir.Facts.{toZ-ofZ}
+use mir.Syntax.{w8}
+use Rattle.laws.proofs.Machine.{kept}
+use Rattle.pixel_segment.specs.Field.{cpu, coverOf}
+use Rattle.pixel_segment.proofs.Widths.{in-cover}
+use Rattle.segment_set_statements.specs.Effect.{carryAfter, loadsAfter}
+use Rattle.segment_set_statements.proofs.Changes.{changes}
+use Rattle.segment_set_statements.proofs.Wrapping.{opposite-fits}
+use Rattle.segment_effect.proofs.removed.Statement.{statement}
+use Rattle.segment_effect.proofs.removed.Tie as tie
+
+cover-requires : tie.Need-cover-requires
+cover-requires c κs = search needs
+
+local-y-requires : tie.Need-local-y-requires
+local-y-requires c κs = search needs
+
+cast-y : tie.Need-cast-y
+cast-y c = search needs
+
+sub-carry-with : tie.Need-sub-carry-with
+sub-carry-with c =
+    let k = c .before .before .before in
+    let w = k .before .args .word in
+    rw (kept w8 (k .cover .result) (k .cover .ok), k .cover .ensures)
+    (opposite-fits w8 (coverOf cpu w) (omega (arith, in-cover w)))
+
+carry-with-requires : tie.Need-carry-with-requires
+carry-with-requires c κs = search needs
+
+cover-magnitude-requires : tie.Need-cover-magnitude-requires
+cover-magnitude-requires c κs = search needs
+
+lower-requires : tie.Need-lower-requires
+lower-requires c κs = search needs
+
+returns : tie.Need-returns
+unfolding carryAfter loadsAfter
+returns c =
+    let m = c .before in
+    let w = m .before in
+    let o = w .before in
+    let y = o .before .before in
+    let k = y .before in
+    let s = k .before in
+    let cover = rw (toZ-ofZ (sub-carry-with o), kept w8 (k .cover .result) (k .cover .ok), k .cover .ensures, y .local-y .ensures, +ℤ-idl (negℤ (coverOf cpu (s .args .word)))) at (w .carry-with .ensures) in
+    let load = rw (kept w8 (k .cover .result) (k .cover .ok), k .cover .ensures) at (m .cover-magnitude .ensures .0) in
+    changes _-ℤ_ _-_ (s .args .word) (s .args .count) (s .args .set) cover (rw (load, y .local-y .ensures) at (c .lower .ensures))
+
+pub removed-spec : {M : Type 1} → statement M
+removed-spec =
+    tie.close
+    (tie.spec
+    cover-requires
+    local-y-requires
+    cast-y
+    sub-carry-with
+    carry-with-requires
+    cover-magnitude-requires
+    lower-requires
+    returns)

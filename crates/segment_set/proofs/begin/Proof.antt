@@ -1,0 +1,85 @@
+-- `begin` meets its contract. Assumes nothing.
+use borrow.Author.Needs.{needs}
+use mathlib.Core.Path.{_≡_, sym, ap, _∙_}
+use mir.Facts.{toZ-ofZ}
+use Rattle.refusals.specs.Refusal.{Judgement, judgementIn}
+use Rattle.segment_set_statements.specs.Set.{Beginning, state, nothing, beginning, beginVerdict, fresh, settled}
+use Rattle.segment_set_statements.specs.declared.SegmentSet.{SegmentSet}
+use Rattle.segment_set.proofs.begin.Statement.{statement}
+use Rattle.segment_set.proofs.begin.Tie as tie
+
+called : tie.Start → Beginning
+called s = beginning (s .args .layer-id) (s .args .tile-x) (s .args .tile-y) (s .args .cover .covers) (s .args .part .now)
+
+told : (c : tie.After-judge-beginning) → let s = c .before .before .before .before .before in judgementIn (c .judge-beginning .result) ≡ beginVerdict (called s) (s .args .slots .now) (s .args .areas .now)
+unfolding called
+told c =
+    let s = c .before .before .before .before .before in
+    rw (toZ-ofZ (s .fits .tile-x), toZ-ofZ (s .fits .tile-y)) at (c .judge-beginning .ensures)
+
+judge-beginning-requires : tie.Need-judge-beginning-requires
+judge-beginning-requires c κs = search needs
+
+enum-known-refusal : tie.Need-enum-known-refusal
+enum-known-refusal c = search needs
+
+empty-set-requires : tie.Need-empty-set-requires
+empty-set-requires c κs = search needs
+
+enum-told : tie.Need-enum-told
+enum-told c = search needs
+
+begin-with-requires : tie.Need-begin-with-requires
+unfolding called
+begin-with-requires c κs =
+    let s = c .before .before .before .before .before .before .before .before .before in
+    rw (toZ-ofZ (s .fits .tile-x), toZ-ofZ (s .fits .tile-y))
+    (sym (told (c .before .before .before .before)) ∙ ap judgementIn (c .before .before .enum-told .given .1))
+
+same-length : tie.Need-same-length
+same-length c = search needs
+
+same-length-2 : tie.Need-same-length-2
+same-length-2 c = search needs
+
+returns : tie.Need-returns
+unfolding called
+returns c =
+    let s = c .before .before .before .before .before .before .before .before .before in
+    let e = sym (told (c .before .before .before .before)) ∙ ap judgementIn (c .before .before .refusal .given .1) in
+    record {
+      answer = sym e;
+      leaves = ap (λ (r : SegmentSet). state r (s .args .slots .now) (s .args .areas .now)) (c .empty-set .ensures) ∙ sym (ap (λ (j : Judgement). settled j (fresh (called s) (s .args .slots .now) (s .args .areas .now)) (state nothing (s .args .slots .now) (s .args .areas .now))) e);
+    }
+
+same-length-3 : tie.Need-same-length-3
+same-length-3 c = search needs
+
+same-length-4 : tie.Need-same-length-4
+same-length-4 c = search needs
+
+returns-2 : tie.Need-returns-2
+unfolding called
+returns-2 c =
+    let s = c .before .before .before .before .before .before .before .before .before .before .before .before .before in
+    let e = sym (told (c .before .before .before .before .before .before .before .before)) ∙ ap judgementIn (c .before .before .before .before .before .before .enum-told .given .1) in
+    record {
+      answer = sym e;
+      leaves = rw (toZ-ofZ (s .fits .tile-x), toZ-ofZ (s .fits .tile-y)) at (c .before .before .before .begin-with .ensures) ∙ sym (ap (λ (j : Judgement). settled j (fresh (called s) (s .args .slots .now) (s .args .areas .now)) (state nothing (s .args .slots .now) (s .args .areas .now))) e);
+    }
+
+pub begin-spec : {M : Type 1} → statement M
+begin-spec =
+    tie.close
+    (tie.spec
+    judge-beginning-requires
+    enum-known-refusal
+    empty-set-requires
+    enum-told
+    begin-with-requires
+    same-length
+    same-length-2
+    returns
+    same-length-3
+    same-length-4
+    returns-2)

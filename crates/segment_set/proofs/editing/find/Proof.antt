@@ -1,0 +1,52 @@
+-- `editing::find` meets its contract. Assumes nothing.
+use Prim.Native.Nat.{_-_}
+use native.Mathlib.Omega.{arith}
+use borrow.Author.Needs.{needs}
+use Rattle.segment_set_statements.proofs.Places.{Looking, look-start, look-found, look-next, look-end}
+use Rattle.segment_set.proofs.editing.find.Statement.{statement}
+use Rattle.segment_set.proofs.editing.find.Tie as tie
+
+abbrev Inv-loop : tie.InvT-loop
+Inv-loop slots held word i₀ i = Looking word held slots i
+
+abbrev μ-loop : tie.MeasureT-loop
+μ-loop slots held word i₀ i = held - i
+
+loop-holds : tie.Need-loop-holds Inv-loop μ-loop
+loop-holds c = look-start (c .pre)
+
+mul-if1 : tie.Need-mul-if1 Inv-loop μ-loop
+mul-if1 c = omega arith
+
+shared-slice-read-if1 : tie.Need-shared-slice-read-if1 Inv-loop μ-loop
+shared-slice-read-if1 c = omega arith
+
+returns : tie.Need-returns Inv-loop μ-loop
+returns c = look-found (c .before .before .before .loop .inv) (omega arith) (c .if1 .taken)
+
+add-i : tie.Need-add-i Inv-loop μ-loop
+add-i c = omega arith
+
+loop-less : tie.Need-loop-less Inv-loop μ-loop
+loop-less c = omega arith
+
+loop-again : tie.Need-loop-again Inv-loop μ-loop
+loop-again c = look-next (c .before .before .before .loop .inv) (omega arith) (c .if1 .left)
+
+returns-2 : tie.Need-returns-2 Inv-loop μ-loop
+returns-2 c = look-end (c .before .loop .inv) (omega arith)
+
+pub find-spec : {M : Type 1} → statement M
+find-spec =
+    tie.close
+    (tie.spec
+    Inv-loop
+    μ-loop
+    loop-holds
+    mul-if1
+    shared-slice-read-if1
+    returns
+    add-i
+    loop-less
+    loop-again
+    returns-2)

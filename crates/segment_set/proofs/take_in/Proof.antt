@@ -1,0 +1,72 @@
+-- `take_in` meets its contract. Assumes nothing.
+use borrow.Author.Needs.{needs}
+use mathlib.Core.Path.{_≡_, sym, ap, _∙_}
+use Rattle.refusals.specs.Refusal.{Judgement, pass, judgementIn}
+use Rattle.segment_set_statements.specs.Set.{State, state, takeVerdict, takenIn, settled}
+use Rattle.segment_set_statements.proofs.Keeping.{take-passed}
+use Rattle.segment_set.proofs.take_in.Statement.{statement}
+use Rattle.segment_set.proofs.take_in.Tie as tie
+
+called : tie.Start → State
+called s = state (s .args .set) (s .args .slots .now) (s .args .areas .now)
+
+told : (c : tie.After-judge-taking) → let s = c .before .before .before .before in judgementIn (c .judge-taking .result) ≡ takeVerdict (called s) (s .args .word)
+unfolding called
+told c = c .judge-taking .ensures
+
+judge-taking-requires : tie.Need-judge-taking-requires
+judge-taking-requires c κs = search needs
+
+enum-known-refusal : tie.Need-enum-known-refusal
+enum-known-refusal c = search needs
+
+enum-told : tie.Need-enum-told
+enum-told c = search needs
+
+add-requires : tie.Need-add-requires
+unfolding called
+add-requires c κs =
+    let s = c .before .before .before .before .before .before .before .before in
+    let p = take-passed (called s) (s .args .word) (sym (told (c .before .before .before .before)) ∙ ap judgementIn (c .before .before .enum-told .given .1)) in
+    record { room = p .room; free = p .free; small = p .small }
+
+same-length : tie.Need-same-length
+same-length c = search needs
+
+same-length-2 : tie.Need-same-length-2
+same-length-2 c = search needs
+
+returns : tie.Need-returns
+unfolding called
+returns c =
+    let s = c .before .before .before .before .before .before .before in
+    let e = sym (told (c .before .before .before)) ∙ ap judgementIn (c .before .refusal .given .1) in
+    record { answer = sym e; leaves = sym (ap (λ (j : Judgement). settled j (takenIn (called s) (s .args .word)) (called s)) e) }
+
+same-length-3 : tie.Need-same-length-3
+same-length-3 c = search needs
+
+same-length-4 : tie.Need-same-length-4
+same-length-4 c = search needs
+
+returns-2 : tie.Need-returns-2
+unfolding called
+returns-2 c =
+    let s = c .before .before .before .before .before .before .before .before .before .before .before .before in
+    let e = sym (told (c .before .before .before .before .before .before .before .before)) ∙ ap judgementIn (c .before .before .before .before .before .before .enum-told .given .1) in
+    record { answer = sym e; leaves = c .before .before .before .add .ensures ∙ sym (ap (λ (j : Judgement). settled j (takenIn (called s) (s .args .word)) (called s)) e) }
+
+pub take-in-spec : {M : Type 1} → statement M
+take-in-spec =
+    tie.close
+    (tie.spec
+    judge-taking-requires
+    enum-known-refusal
+    enum-told
+    add-requires
+    same-length
+    same-length-2
+    returns
+    same-length-3
+    same-length-4
+    returns-2)

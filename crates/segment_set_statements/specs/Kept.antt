@@ -1,0 +1,32 @@
+-- When a set is kept: all that it holds equals a fresh working of its held words from the incoming cover it was begun with. Stands for W-207,
+-- 'after each edit all of it equals what a fresh working of the set gives'; and words that are the same, each as often, in any order.
+use mathlib.Core.Path.{_≡_}
+use mathlib.Core.Bool.{true}
+use mathlib.Core.List.{List}
+use Prim.Native.Nat.{ℕ, _≤_}
+use lib.Dec.{eqb}
+use lib.IntN.{ℤ}
+use lib.ListN.{length, take}
+use Rattle.laws.specs.Lists.{all}
+use Rattle.laws.specs.Sum.{countBy}
+use Rattle.pixel_segment.specs.Field.{cpu}
+use Rattle.cover_statements.specs.Area.{areasOf}
+use Rattle.cover_statements.specs.Carry.{isLight, carryOf}
+use Rattle.cover_statements.specs.Cover.{coverAt}
+use Rattle.segment_set_statements.specs.Set.{State, heldOf, isHere, loadsFrom}
+
+pub record Kept (incoming : List ℤ) (s : State) : Type 0 where
+  pub room : 256 ≤ length (s .areas)
+  pub within : s .set .count ≤ length (s .slots)
+  pub here : all (isHere (s .set)) (heldOf s) ≡ true
+  pub light : isLight cpu 16 incoming (heldOf s) ≡ true
+  pub areas-are : take 256 (s .areas) ≡ areasOf cpu 16 (coverAt incoming) (heldOf s)
+  pub carry-is : s .set .carry .covers ≡ carryOf cpu 16 incoming (heldOf s)
+  pub loads-are : s .set .loads ≡ loadsFrom cpu 16 incoming (heldOf s)
+
+-- how often a word stands in a list
+abbrev pub timesOf : ℕ → List ℕ → ℕ
+timesOf v words = countBy (eqb v) words
+
+pub record SameWords (xs ys : List ℕ) : Type 0 where
+  pub at : (v : ℕ) → timesOf v xs ≡ timesOf v ys

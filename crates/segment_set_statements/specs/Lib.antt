@@ -1,0 +1,6 @@
+-- Segments that come and go: what the operations promise.
+pub mod Effect
+pub mod Set
+pub mod Kept
+pub mod Edits
+pub mod InnerSpread
