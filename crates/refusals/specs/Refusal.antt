@@ -3,7 +3,7 @@
 use mathlib.Core.Bool.{Bool, cond}
 use Prim.Native.Nat.{ℕ}
 use Rattle.refusals.specs.declared.Refusal.{Refusal}
-use Rattle.refusals.specs.declared.Refusal.the-variants.{Room, Tile, Row, Table, Queue, Tag, Layers, Missing, Covers}
+use Rattle.refusals.specs.declared.Refusal.the-variants.{Room, Tile, Row, Table, Queue, Tag, Layers, Missing, Covers, Revisions}
 use Rattle.refusals.specs.declared.Verdict.{Verdict}
 use Rattle.refusals.specs.declared.Verdict.the-variants.{Pass, Refuse}
 
@@ -17,6 +17,7 @@ numberOf Tag = 6
 numberOf Layers = 7
 numberOf Missing = 8
 numberOf Covers = 9
+numberOf Revisions = 15
 
 -- what a judge says
 pub data Judgement : Type 0 where

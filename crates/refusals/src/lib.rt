@@ -13,6 +13,7 @@ pub enum Refusal {
     Layers,
     Missing,
     Covers,
+    Revisions,
 }
 
 // What a judge says: pass, or the lowest refusal that applies.
@@ -35,5 +36,6 @@ pub fn number_of(refusal: Refusal) -> u32
         Refusal::Layers => 7,
         Refusal::Missing => 8,
         Refusal::Covers => 9,
+        Refusal::Revisions => 15,
     }
 }
