@@ -2,3 +2,6 @@
 pub mod Adding
 pub mod Reaching
 pub mod Nearing
+pub mod Judging
+pub mod Walking
+pub mod Verdicts
