@@ -16,7 +16,9 @@ enum-told : tie.Need-enum-told
 enum-told c = search needs
 
 write-standing-requires : tie.Need-write-standing-requires
-write-standing-requires c κs = ?
+write-standing-requires c κs =
+    let p = passes (sym (c .before .before .before .before .judge-records .ensures) ∙ ap judgementIn (c .before .before .enum-told .given .1)) in
+    (judged p, long-colors p, table-room p)
 
 same-length : tie.Need-same-length
 same-length c = search needs
@@ -25,7 +27,7 @@ same-length-2 : tie.Need-same-length-2
 same-length-2 c = search needs
 
 returns : tie.Need-returns
-returns c = ?
+returns c = stands-refused _ _ _ (sym (ap judgementIn (c .before .refusal .given .1)) ∙ c .before .before .before .judge-records .ensures)
 
 same-length-3 : tie.Need-same-length-3
 same-length-3 c = search needs
@@ -34,7 +36,9 @@ same-length-4 : tie.Need-same-length-4
 same-length-4 c = search needs
 
 returns-2 : tie.Need-returns-2
-returns-2 c = ?
+returns-2 c =
+    let v = sym (c .before .before .before .before .before .before .before .before .before .judge-records .ensures) ∙ ap judgementIn (c .before .before .before .before .before .before .before .enum-told .given .1) in
+    stands-written (sym v) (rw (passes v .whole) at (c .before .before .before .before .write-standing .ensures))
 
 pub stand-spec : {M : Type 1} → statement M
 stand-spec =
