@@ -5,3 +5,5 @@ pub mod Nearing
 pub mod Judging
 pub mod Walking
 pub mod Verdicts
+pub mod Stood
+pub mod Orders
