@@ -7,3 +7,4 @@ pub mod Walking
 pub mod Verdicts
 pub mod Stood
 pub mod Orders
+pub mod Laws

@@ -155,7 +155,7 @@ no-twin : (s t : Sent) (ts : List Sent) → any (isTwin s) ts ≡ false → Amon
 no-twin s t (u ∷ us) h (inl e) = rw (← e) (or-left (isTwin s u) (any (isTwin s) us) h)
 no-twin s t (u ∷ us) h (inr a) = no-twin s t us (or-right (isTwin s u) (any (isTwin s) us) h) a
 
-no-twins : (a b : Sent) (ss : List Sent) → hasTwins ss ≡ false → Among a ss → Among b ss → idOf a ≡ idOf b → a .revision ≡ b .revision → a ≡ b
+pub no-twins : (a b : Sent) (ss : List Sent) → hasTwins ss ≡ false → Among a ss → Among b ss → idOf a ≡ idOf b → a .revision ≡ b .revision → a ≡ b
 unfolding hasTwins
 no-twins a b (s ∷ ss) h (inl p) (inl q) e r = sym p ∙ q
 no-twins a b (s ∷ ss) h (inl p) (inr q) e r =
