@@ -8,3 +8,4 @@ pub mod Verdicts
 pub mod Stood
 pub mod Orders
 pub mod Laws
+pub mod Tables

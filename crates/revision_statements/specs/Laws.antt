@@ -1,10 +1,15 @@
--- What the laws of standing records say (proofs/Stood, Orders, Tables), without the steps of `addSent`.
+-- What the laws of standing records say (proofs/Laws, Tables), without the steps of `addSent`.
 use mathlib.Core.Path.{_≡_}
 use mathlib.Core.Bool.{true}
 use mathlib.Core.Logic.{_⊎_}
-use mathlib.Core.List.{List, [], _∷_}
+use mathlib.Core.List.{List, [], _∷_, map}
 use Prim.Native.Nat.{ℕ, _≤_}
+use lib.Ieee.{Float}
+use Rattle.styling.specs.declared.Layer.{Layer}
+use Rattle.layer_table.specs.Record.{layerOf}
+use Rattle.layer_table.specs.Table.{tableOf, isTable}
 use Rattle.revision_statements.specs.Sent.{Sent, idOf, hasProperties}
+use Rattle.revision_statements.specs.Standing.{standingOf}
 
 -- a record is one of a list
 abbrev pub Among : Sent → List Sent → Type 0
@@ -27,3 +32,12 @@ pub data Reordered : List Sent → List Sent → Type 0 where
   keep : {s : Sent} {ss ts : List Sent} → Reordered ss ts → Reordered (s ∷ ss) (s ∷ ts)
   swap : {s t : Sent} {ss : List Sent} → Reordered (s ∷ (t ∷ ss)) (t ∷ (s ∷ ss))
   both : {ss ts us : List Sent} → Reordered ss ts → Reordered ts us → Reordered ss us
+
+-- the layer that a record's properties say
+abbrev pub layerFrom : Sent → Layer
+layerFrom s = layerOf (s .words) (s .color)
+
+-- rows can begin from a table: 1 and 4 don't apply to its n records, and its layers are those of the records that stand
+pub record Begins (ss : List Sent) (n : ℕ) (words : List ℕ) (floats : List Float) : Type 0 where
+  pub table : isTable words floats n ≡ true
+  pub layers : tableOf words floats n ≡ map layerFrom (standingOf ss)
