@@ -9,3 +9,4 @@ pub mod Stood
 pub mod Orders
 pub mod Laws
 pub mod Tables
+pub mod Cases

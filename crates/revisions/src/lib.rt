@@ -2,7 +2,6 @@
 // layer table of those that stand is written. A record is ten words (id, revision, kind, rule, func, span, clipped,
 // fill, blend mode, unchanged), kind 0 with properties and kind 1 a withdrawal, and four floats.
 pub mod judging;
-pub mod walking;
 pub mod writing;
 
 use refusals::Refusal;
@@ -38,7 +37,7 @@ pub fn judge_records(
     if judging::has_twins(records, n) {
         return Verdict::Refuse(Refusal::Revisions);
     }
-    let standing = walking::count_standing(records, n);
+    let standing = revision_walk::count_standing(records, n);
     if (n < count) | layer_table::is_short(layers, colors, standing) {
         return Verdict::Refuse(Refusal::Room);
     }
