@@ -46,21 +46,21 @@ withdrawn-alone = refl
 -- ---- number 15
 
 pub equal-highest : hasTwins (props 3 5 ∷ props 1 2 ∷ withdraws 3 9 ∷ props 1 1 ∷ props 3 9 ∷ []) ≡ true
-unfolding hasTwins
+unfolding hasTwins addAll addSent
 equal-highest = refl
 
 -- below the highest revision too
 pub equal-below : hasTwins (props 3 7 ∷ props 3 9 ∷ withdraws 3 7 ∷ []) ≡ true
-unfolding hasTwins
+unfolding hasTwins addAll addSent
 equal-below = refl
 
 pub one-apart : hasTwins (props 3 7 ∷ props 3 8 ∷ []) ≡ false
-unfolding hasTwins
+unfolding hasTwins addAll addSent
 one-apart = refl
 
 -- equal revisions of two layers
 pub two-layers : hasTwins (props 3 7 ∷ props 4 7 ∷ []) ≡ false
-unfolding hasTwins
+unfolding hasTwins addAll addSent
 two-layers = refl
 
 -- ---- number 4
