@@ -6,7 +6,7 @@ use Prim.Native.Nat.{ℕ}
 use lib.Ieee.{Float, nan}
 use Rattle.refusals.specs.Refusal.{pass, refuse}
 use Rattle.layer_table.specs.Table.{isTableShort}
-use Rattle.revision_statements.specs.Sent.{Sent, isGood, sentAt, sentOf}
+use Rattle.revision_statements.specs.Sent.{Sent, isGood, sentOf}
 use Rattle.revision_statements.specs.Standing.{addSent, addAll, standingOf}
 use Rattle.revision_statements.specs.Verdict.{hasTwins, verdictOn, standVerdict}
 

@@ -1,16 +1,15 @@
 -- The laws of standing records. Together `ascending`, `given-one`, `highest`, `nothing-lost` and `withdrawn` determine the table (`only-one`).
 -- Assumes nothing.
 use mathlib.Core.Path.{_≡_, refl, sym, ap, _∙_}
-use mathlib.Core.Bool.{Bool, true, false, cond, _&&_}
-use mathlib.Core.Logic.{_⊎_, inl, inr, ⊎-elim}
+use mathlib.Core.Bool.{Bool, true, false, cond}
+use mathlib.Core.Logic.{inr, ⊎-elim}
 use mathlib.Core.List.{List, [], _∷_, _++_}
 use Prim.Native.Nat.{ℕ, suc, _≤_, _<_, min}
 use native.Mathlib.Omega.{arith}
+use borrow.Author.Tests.{le-leb}
 use lib.Dec.{leb}
 use lib.Ieee.{Float}
-use borrow.Author.Tests.{le-leb}
-use lib.ListN.{length, getD}
-use Rattle.laws.specs.Lists.{tabulate, any, filter}
+use Rattle.laws.specs.Lists.{any, filter}
 use Rattle.laws.proofs.Bools.{both, clash}
 use Rattle.laws.proofs.Rows.{length-tabulate, getD-tabulate}
 use Rattle.refusals.proofs.Judging.{or-right}

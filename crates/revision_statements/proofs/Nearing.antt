@@ -1,6 +1,6 @@
 -- A pass over the records finds the first layer that is left, and its highest revision. Assumes nothing.
 use mathlib.Core.Path.{_≡_, refl, sym, ap, _∙_}
-use mathlib.Core.Bool.{Bool, true, false, cond, _&&_, _||_}
+use mathlib.Core.Bool.{false, _&&_, _||_}
 use mathlib.Core.Logic.{⊎-elim}
 use mathlib.Core.List.{List, [], _∷_}
 use Prim.Native.Nat.{ℕ, zero, suc, _+_, _≤_, _<_}
@@ -16,7 +16,7 @@ use Rattle.revision_statements.specs.Sent.{Sent, idOf}
 use Rattle.revision_statements.specs.Standing.{addSent, addAll, latestIn}
 use Rattle.revision_statements.specs.InnerWalk.{reached, nearerOf, nearestFrom, nearestOf, farthest, fromId}
 use Rattle.revision_statements.proofs.Adding.{Order, equal, less, more, order, Higher, stays, yields, higher, add-there, add-before, add-after, latest-ascends}
-use Rattle.revision_statements.proofs.Reaching.{from-add, from-below, from-head, from-next}
+use Rattle.revision_statements.proofs.Reaching.{from-add, from-below, from-next}
 
 -- ---- one record
 

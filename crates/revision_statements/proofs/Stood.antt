@@ -1,26 +1,24 @@
 -- Which records stand, said without the steps of adding: each is one of those given, the highest of its layer and no withdrawal (`stood`), and where
 -- no two records of a layer have equal revisions every such record stands (`stands`). Assumes nothing.
 use mathlib.Core.Path.{_≡_, refl, sym, ap, _∙_}
-use mathlib.Core.Bool.{Bool, true, false, cond, _&&_, _||_}
+use mathlib.Core.Bool.{Bool, true, false, cond}
 use mathlib.Core.Logic.{_⊎_, inl, inr, ⊎-elim, ⊎-map}
 use mathlib.Core.List.{List, [], _∷_}
-use Prim.Native.Nat.{ℕ, zero, suc, _≤_, _<_}
+use Prim.Native.Nat.{ℕ, suc, _≤_, _<_}
 use native.Mathlib.Nat.{le-antisymm}
 use native.Mathlib.Omega.{arith}
 use borrow.Author.Tests.{eq-eqb}
 use lib.Dec.{eqb}
-use lib.Ieee.{Float}
 use lib.ListN.{length, getD}
-use Rattle.laws.specs.Lists.{tabulate, any, filter}
+use Rattle.laws.specs.Lists.{any, filter}
 use Rattle.laws.proofs.Bools.{both, clash}
-use Rattle.laws.proofs.Rows.{length-tabulate, getD-tabulate}
 use Rattle.refusals.proofs.Judging.{or-left, or-right}
-use Rattle.styling.specs.Ascending.{strictlyAscendsFrom, strictlyAscends}
+use Rattle.styling.specs.Ascending.{strictlyAscendsFrom}
 use Rattle.styling.proofs.Ascents.{ascends-head, ascends-tail}
-use Rattle.revision_statements.specs.Sent.{Sent, idOf, hasProperties, sentAt, sentRoom, sentOf}
+use Rattle.revision_statements.specs.Sent.{Sent, idOf, hasProperties}
 use Rattle.revision_statements.specs.Standing.{higherOf, addSent, addAll, latestIn, standingOf, idsIn}
 use Rattle.revision_statements.specs.Verdict.{isTwin, hasTwins}
-use Rattle.revision_statements.specs.Laws.{Among, Highest, Stood}
+use Rattle.revision_statements.specs.Laws.{Among, Stood}
 use Rattle.revision_statements.proofs.Adding.{Order, equal, less, more, order, Higher, stays, yields, higher, add-there, add-before, add-after, latest-ascends}
 
 -- ---- a record is one of a list

@@ -1,31 +1,27 @@
 -- The written table passes 1 and 4 at its count, and its layers are those of the standing records: 'demands on rows begin from that table'.
 -- Assumes nothing.
 use mathlib.Core.Path.{_≡_, refl, sym, ap, ap₂, _∙_}
-use mathlib.Core.Bool.{Bool, true, false, cond, not, _&&_}
-use mathlib.Core.Logic.{_⊎_, inl, inr}
+use mathlib.Core.Bool.{Bool, true, false, _&&_}
+use mathlib.Core.Logic.{inl, inr}
 use mathlib.Core.List.{List, [], _∷_, _++_, map}
-use Prim.Native.Nat.{ℕ, zero, suc, _+_, _*_, _/_, _≤_, _<_, min}
+use Prim.Native.Nat.{ℕ, zero, suc, _+_, _*_, _<_}
 use native.Mathlib.Nat.{add-zero, le-of-suc-le-suc, not-suc-le-zero}
 use native.Mathlib.Omega.{arith}
 use borrow.Author.Tests.{le-ltb}
-use lib.Dec.{leb, eqb}
 use lib.Ieee.{Float, nan}
 use lib.ListN.{length, getD, drop, length-map, List·getD-map}
 use lib.Seq.{getD-drop, drop-cons}
-use Rattle.laws.specs.Answer.{refused, given}
+use Rattle.laws.specs.Answer.{given}
 use Rattle.laws.specs.Lists.{tabulate, all, over}
 use Rattle.laws.proofs.Bools.{both, left, right}
 use Rattle.laws.proofs.Rows.{is-tabulate, length-over}
 use Rattle.refusals.specs.Refusal.{Judgement, pass, refuse}
 use Rattle.styling.specs.Ascending.{strictlyAscends}
-use Rattle.styling.specs.declared.Color.{Color}
-use Rattle.styling.specs.declared.Layer.{Layer}
-use Rattle.layer_table.specs.declared.Words.{Words}
-use Rattle.layer_table.specs.Record.{layerLimit, inRange, layerOf}
+use Rattle.layer_table.specs.Record.{inRange, layerOf}
 use Rattle.layer_table.specs.Table.{wordsAt, colorAt, layerAt, tableOf, tableRoom, isTableShort, isValid, isTable}
-use Rattle.revision_statements.specs.Sent.{Sent, idOf, hasProperties, isGood, sentAt, sentOf}
-use Rattle.revision_statements.specs.Standing.{standingOf, idsIn}
-use Rattle.revision_statements.specs.Verdict.{standVerdict, answerBy, wordsIn, floatsIn, writtenBy, Stands}
+use Rattle.revision_statements.specs.Sent.{Sent, hasProperties, isGood, sentAt, sentOf}
+use Rattle.revision_statements.specs.Standing.{standingOf}
+use Rattle.revision_statements.specs.Verdict.{standVerdict, wordsIn, floatsIn, Stands}
 use Rattle.revision_statements.specs.Laws.{Among, layerFrom, Begins}
 use Rattle.revision_statements.proofs.Walking.{length-words, length-floats}
 use Rattle.revision_statements.proofs.Verdicts.{Passed, passes}

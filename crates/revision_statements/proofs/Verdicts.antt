@@ -1,8 +1,9 @@
 -- The judge's answers, one after the other, and what holds where it passes. Assumes nothing.
-use mathlib.Core.Path.{_≡_, refl, sym, ap, ap₂, _∙_}
-use mathlib.Core.Bool.{Bool, true, false, not, _||_}
+use mathlib.Core.Path.{_≡_, refl, sym, ap, _∙_}
+use mathlib.Core.Bool.{true, false, not, _||_}
 use mathlib.Core.List.{List}
-use Prim.Native.Nat.{ℕ, _*_, _/_, _≤_, _<_, min}
+use mathlib.Core.Logic.{⊎-elim}
+use Prim.Native.Nat.{ℕ, _*_, _≤_, _<_, min}
 use native.Mathlib.Omega.{arith}
 use borrow.Author.Tests.{lt-ltb, le-ltb, ltb-false, not-false}
 use lib.Dec.{ltb}
@@ -17,7 +18,6 @@ use Rattle.refusals.specs.Refusal.{Judgement, pass, refuse}
 use Rattle.refusals.proofs.Judging.{passed, or-left, or-right}
 use Rattle.layer_table.specs.Table.{isTableShort}
 use Rattle.layer_table.proofs.Judging.{Long, long}
-use mathlib.Core.Logic.{⊎-elim}
 use Rattle.revision_statements.specs.Sent.{Sent, isGood, sentAt, sentRoom, sentOf}
 use Rattle.revision_statements.specs.Standing.{standingOf}
 use Rattle.revision_statements.specs.Verdict.{hasTwins, standVerdict, Stands}

@@ -2,7 +2,7 @@
 -- 4, and a lent table too short for the standing layers with 1; 4 is judged first, then 15, then 1' (document 02, W-212). So this judge does
 -- not answer the lowest number that applies.
 use mathlib.Core.Path.{_≡_}
-use mathlib.Core.Bool.{Bool, true, false, not, _&&_, _||_}
+use mathlib.Core.Bool.{Bool, false, not, _&&_, _||_}
 use mathlib.Core.List.{List, [], _∷_}
 use Prim.Native.Nat.{ℕ}
 use lib.Dec.{eqb, ltb}

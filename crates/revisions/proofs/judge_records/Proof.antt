@@ -1,10 +1,9 @@
 -- `judge_records` meets its contract: the answers of `Verdicts`, in the order of the tests. Assumes nothing.
 use mathlib.Core.Path.{_≡_, sym, ap, _∙_}
-use mathlib.Core.List.{List}
 use Prim.Native.Nat.{min}
+use native.Mathlib.Omega.{arith}
 use borrow.Author.Needs.{needs}
 use borrow.Author.Tests.{not-true, not-false}
-use native.Mathlib.Omega.{arith}
 use Rattle.revision_statements.specs.Sent.{sentRoom}
 use Rattle.revision_statements.proofs.Verdicts.{says-4, says-15, says-1, says-pass}
 use Rattle.revisions.proofs.judge_records.Statement.{statement}

@@ -1,5 +1,5 @@
 -- `stand` meets its contract: a refusal leaves all as it was, and what passes is written. Assumes nothing.
-use mathlib.Core.Path.{_≡_, sym, ap, _∙_}
+use mathlib.Core.Path.{sym, ap, _∙_}
 use borrow.Author.Needs.{needs}
 use Rattle.refusals.specs.Refusal.{judgementIn}
 use Rattle.revision_statements.proofs.Verdicts.{passes, judged, long-colors, table-room, stands-refused, stands-written}

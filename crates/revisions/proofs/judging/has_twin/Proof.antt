@@ -1,6 +1,6 @@
 -- `has_twin` meets its contract: `Seeking` holds while the records after it are passed. Assumes nothing.
-use Prim.Native.Nat.{_≤_, _-_, _+_}
 use mathlib.Core.List.{List}
+use Prim.Native.Nat.{_≤_, _-_, _+_}
 use native.Mathlib.Omega.{arith}
 use lib.Ieee.{Float}
 use Rattle.revision_statements.specs.Sent.{sentAt}

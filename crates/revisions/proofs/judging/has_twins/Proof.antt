@@ -1,6 +1,6 @@
 -- `has_twins` meets its contract: `Pairing` holds while the records are passed. Assumes nothing.
-use Prim.Native.Nat.{_≤_, _-_}
 use mathlib.Core.List.{List}
+use Prim.Native.Nat.{_≤_, _-_}
 use native.Mathlib.Omega.{arith}
 use lib.Ieee.{Float}
 use Rattle.revision_statements.proofs.Judging.{Pairing, pair-first, pair-next, pair-last}
