@@ -5,3 +5,4 @@ pub mod Plates
 pub mod Work
 pub mod Painting
 pub mod Calls
+pub mod Revisions

@@ -8,5 +8,6 @@ pub mod layers;
 pub mod painting;
 pub mod plates;
 pub mod rows;
+pub mod standing;
 pub mod words;
 pub mod working;

@@ -121,7 +121,8 @@ pub fn is_short(layers: &[u32], colors: &[f32], count: usize) -> bool
     (layers.len() / 8 < count) | (colors.len() / 4 < count)
 }
 
-fn is_in_range(words: Words) -> bool
+// What refusal 4 asks of one record.
+pub fn is_in_range(words: Words) -> bool
     ensures { λ r. ⌜ r ≡ inRange words ⌝ }
 {
     (words.id <= LAYER_LIMIT)

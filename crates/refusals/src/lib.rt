@@ -16,6 +16,7 @@ pub enum Refusal {
     Fields,
     NotHeld,
     Slots,
+    Revisions,
 }
 
 // What a judge says: pass, or the lowest refusal that applies.
@@ -41,5 +42,6 @@ pub fn number_of(refusal: Refusal) -> u32
         Refusal::Fields => 11,
         Refusal::NotHeld => 12,
         Refusal::Slots => 13,
+        Refusal::Revisions => 15,
     }
 }

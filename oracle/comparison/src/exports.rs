@@ -74,6 +74,18 @@ extern "C" {
         colors_len: usize,
         count: usize,
     ) -> bool;
+    pub fn ffi_stand(
+        records: *const u32,
+        records_len: usize,
+        record_colors: *const f32,
+        record_colors_len: usize,
+        count: usize,
+        layers: *mut u32,
+        layers_len: usize,
+        colors: *mut f32,
+        colors_len: usize,
+        standing: *mut usize,
+    ) -> u32;
     pub fn ffi_layer_count(tile: *const [u8; 8], count: *mut u32) -> bool;
     pub fn ffi_solid_color(tile: *const [u8; 8], color: *mut [u8; 4]) -> bool;
     pub fn ffi_update_layer_count(tile: *mut [u8; 8], given: bool, count: u32, previous: *mut u32) -> bool;

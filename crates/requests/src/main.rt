@@ -1,0 +1,6 @@
+// Worked examples of the requests, run: a line for each, with what it gave.
+mod standing;
+
+fn main() {
+    standing::print_cases();
+}

@@ -1,0 +1,123 @@
+-- The judge's answers, one after the other, and what holds where it passes. Assumes nothing.
+use mathlib.Core.Path.{_≡_, refl, sym, ap, _∙_}
+use mathlib.Core.Bool.{true, false, not, _||_}
+use mathlib.Core.List.{List}
+use mathlib.Core.Logic.{⊎-elim}
+use Prim.Native.Nat.{ℕ, _*_, _≤_, _<_, min}
+use native.Mathlib.Omega.{arith}
+use borrow.Author.Tests.{lt-ltb, le-ltb, ltb-false, not-false}
+use lib.Dec.{ltb}
+use lib.Ieee.{Float}
+use lib.ListN.{length}
+use Rattle.laws.specs.Answer.{refused, given}
+use Rattle.laws.specs.Lists.{tabulate, all}
+use Rattle.laws.proofs.Every.{all-intro}
+use Rattle.laws.proofs.Orders.{le-or-lt}
+use Rattle.laws.proofs.Rows.{length-tabulate, getD-tabulate}
+use Rattle.refusals.specs.Refusal.{Judgement, pass, refuse}
+use Rattle.refusals.proofs.Judging.{passed, or-left, or-right}
+use Rattle.layer_table.specs.Table.{isTableShort}
+use Rattle.layer_table.proofs.Judging.{Long, long}
+use Rattle.revision_statements.specs.Sent.{Sent, isGood, sentAt, sentRoom, sentOf}
+use Rattle.revision_statements.specs.Standing.{standingOf}
+use Rattle.revision_statements.specs.Verdict.{hasTwins, standVerdict, Stands}
+use Rattle.revision_statements.specs.InnerWalk.{firstOf, Judged, Room, Written}
+use Rattle.revision_statements.proofs.Judging.{good-at}
+
+-- the records that are there
+module _ (records : List ℕ) (colors : List Float) (count n : ℕ) (there : n ≡ min count (sentRoom records colors)) where
+  first-is : firstOf records colors n ≡ sentOf records colors count
+  unfolding firstOf sentOf
+  first-is = rw there refl
+
+  lacks-is : ltb n count ≡ ltb (sentRoom records colors) count
+  lacks-is =
+      ⊎-elim
+      (λ (h : count ≤ sentRoom records colors). le-ltb n count (omega (arith, there)) ∙ sym (le-ltb (sentRoom records colors) count h))
+      (λ (h : sentRoom records colors < count). lt-ltb n count (omega (arith, there)) ∙ sym (lt-ltb (sentRoom records colors) count h))
+      (le-or-lt count (sentRoom records colors))
+
+  -- ---- the answers
+
+  module _ (words : List ℕ) (floats : List Float) where
+    pub says-4 : all isGood (firstOf records colors n) ≡ false → refuse 4 ≡ standVerdict records colors count words floats
+    unfolding standVerdict
+    says-4 g = rw (← first-is, g) refl
+
+    module _ (good : all isGood (firstOf records colors n) ≡ true) where
+      pub says-15 : hasTwins (firstOf records colors n) ≡ true → refuse 15 ≡ standVerdict records colors count words floats
+      unfolding standVerdict
+      says-15 t = rw (← first-is, good, t) refl
+
+      module _ (single : hasTwins (firstOf records colors n) ≡ false) {k : ℕ} (counted : k ≡ length (standingOf (firstOf records colors n))) where
+        pub says-1 : (ltb n count || isTableShort words floats k) ≡ true → refuse 1 ≡ standVerdict records colors count words floats
+        unfolding standVerdict
+        says-1 s = rw (← first-is, good, single, ← lacks-is, ← counted, s) refl
+
+        pub says-pass : (ltb n count || isTableShort words floats k) ≡ false → pass ≡ standVerdict records colors count words floats
+        unfolding standVerdict
+        says-pass s = rw (← first-is, good, single, ← lacks-is, ← counted, s) refl
+
+-- ---- where it passes
+
+-- whether records are good does not rest on their colours
+same-good : (records : List ℕ) (floats floats′ : List Float) (i : ℕ) → isGood (sentAt records floats i) ≡ true → isGood (sentAt records floats′ i) ≡ true
+unfolding isGood sentAt
+same-good records floats floats′ i e = e
+
+good-always : (records : List ℕ) (floats floats′ : List Float) (n : ℕ) → all isGood (firstOf records floats n) ≡ true → all isGood (firstOf records floats′ n) ≡ true
+unfolding firstOf
+good-always records floats floats′ n h =
+    let f = sentAt records floats′ in
+    all-intro isGood (tabulate n f) (f 0)
+    (λ i l. let p : i < n = omega (arith, length-tabulate n f) in rw (getD-tabulate n f (f 0) i p) (same-good records floats floats′ i (good-at records floats n h i p)))
+
+pub record Passed (records : List ℕ) (colors : List Float) (count : ℕ) (words : List ℕ) (floats : List Float) : Type 0 where
+  pub enough : count ≤ sentRoom records colors
+  pub whole : firstOf records colors count ≡ sentOf records colors count
+  pub good : all isGood (sentOf records colors count) ≡ true
+  pub single : hasTwins (sentOf records colors count) ≡ false
+  pub room : Room (length (standingOf (sentOf records colors count))) words floats
+
+module _ {records : List ℕ} {colors : List Float} {count : ℕ} {words : List ℕ} {floats : List Float} where
+  pub passes : standVerdict records colors count words floats ≡ pass → Passed records colors count words floats
+  unfolding standVerdict
+  passes e =
+      let ss = sentOf records colors count in
+      let lacking = ltb (sentRoom records colors) count in
+      let short = isTableShort words floats (length (standingOf ss)) in
+      let first = passed (not (all isGood ss)) 4 _ e in
+      let second = passed (hasTwins ss) 15 _ (first .1) in
+      let third = passed (lacking || short) 1 pass (second .1) in
+      let enough : count ≤ sentRoom records colors = ltb-false (sentRoom records colors) count (or-left lacking short (third .0)) in
+      let fits : Long words floats (length (standingOf ss)) = long (or-right lacking short (third .0)) in
+      record {
+        enough = enough;
+        whole = first-is records colors count count (omega (arith, enough));
+        good = not-false (all isGood ss) (first .0);
+        single = second .0;
+        room = record { words-long = fits .words-long; floats-long = fits .floats-long };
+      }
+
+  module _ (p : Passed records colors count words floats) where
+    -- what writing asks
+    pub judged : Judged records count
+    judged =
+        record {
+          long = omega (arith, p .enough);
+          good = λ fs. good-always records colors fs count (rw (p .whole) (p .good));
+        }
+
+    pub long-colors : 4 * count ≤ length colors
+    long-colors = omega (arith, p .enough)
+
+    pub table-room : Room (length (standingOf (firstOf records colors count))) words floats
+    table-room = rw (p .whole) (p .room)
+
+-- ---- what a call leaves
+
+pub stands-refused : {v : Judgement} {k : ℕ} (ss : List Sent) (words : List ℕ) (floats : List Float) → refuse k ≡ v → Stands v ss words floats (refused k) words floats
+stands-refused ss words floats e = rw (← e) (record { answer = refl; words-are = refl; floats-are = refl })
+
+pub stands-written : {v : Judgement} {ss : List Sent} {oldWords words : List ℕ} {oldFloats floats : List Float} {r : ℕ} → pass ≡ v → Written ss oldWords oldFloats r words floats → Stands v ss oldWords oldFloats (given r) words floats
+stands-written e w = rw (← e) (record { answer = ap given (w .count); words-are = w .words-are; floats-are = w .floats-are })

@@ -1,0 +1,67 @@
+-- What the operation answers and leaves: 'it refuses two records of one layer with equal revisions with 15, an out-of-range id, code or span with
+-- 4, and a lent table too short for the standing layers with 1; 4 is judged first, then 15, then 1' (document 02, W-212). So this judge does
+-- not answer the lowest number that applies.
+use mathlib.Core.Path.{_≡_}
+use mathlib.Core.Bool.{Bool, false, not, _&&_, _||_}
+use mathlib.Core.List.{List, [], _∷_}
+use Prim.Native.Nat.{ℕ}
+use lib.Dec.{eqb, ltb}
+use lib.Ieee.{Float}
+use lib.ListN.{length}
+use Rattle.laws.specs.Answer.{Answer, refused, given}
+use Rattle.laws.specs.Lists.{over, all, any}
+use Rattle.refusals.specs.Refusal.{Judgement, pass, refuse, unless, numberOf}
+use Rattle.layer_table.specs.Table.{isTableShort}
+use Rattle.revision_statements.specs.declared.Standing.{Standing}
+use Rattle.revision_statements.specs.declared.Standing.the-variants.{Layers, Refused}
+use Rattle.revision_statements.specs.Sent.{Sent, idOf, isGood, sentRoom, sentOf}
+use Rattle.revision_statements.specs.Standing.{standingOf}
+
+-- ---- the judge
+
+abbrev pub isTwin : Sent → Sent → Bool
+isTwin s t = eqb (idOf t) (idOf s) && eqb (t .revision) (s .revision)
+
+-- number 15: two records of one layer have equal revisions, the highest or not, properties or withdrawals
+unfoldable pub hasTwins : List Sent → Bool
+hasTwins [] = false
+hasTwins (s ∷ ss) = any (isTwin s) ss || hasTwins ss
+
+-- 4 and 15 are judged on the records that are there; 1 is that the table is too short for the standing layers, or the records for their count
+abbrev pub verdictOn : Bool → List Sent → List ℕ → List Float → Judgement
+verdictOn lacking ss words floats =
+    unless (not (all isGood ss)) 4 (unless (hasTwins ss) 15 (unless (lacking || isTableShort words floats (length (standingOf ss))) 1 pass))
+
+unfoldable pub standVerdict : List ℕ → List Float → ℕ → List ℕ → List Float → Judgement
+standVerdict records colors count words floats = verdictOn (ltb (sentRoom records colors) count) (sentOf records colors count) words floats
+
+-- ---- the answer: how many layers stand
+
+abbrev pub answerBy : Judgement → List Sent → Answer ℕ
+answerBy pass ss = given (length (standingOf ss))
+answerBy (refuse number) ss = refused number
+
+-- the cases of the code's answer
+abbrev pub standingAnswer : Standing → Answer ℕ
+standingAnswer (Layers n) = given n
+standingAnswer (Refused r) = refused (numberOf r)
+
+-- ---- the table: the eight words and four floats of each standing record, as they were sent; past them what it held
+
+unfoldable pub wordsIn : List Sent → List ℕ
+wordsIn [] = []
+wordsIn (s ∷ ss) =
+    s .words .id ∷ s .words .rule ∷ s .words .func ∷ s .words .span ∷ s .words .clipped ∷ s .words .fill ∷ s .words .mode ∷ s .words .unchanged ∷ wordsIn ss
+
+unfoldable pub floatsIn : List Sent → List Float
+floatsIn [] = []
+floatsIn (s ∷ ss) = s .color .r ∷ s .color .g ∷ s .color .b ∷ s .color .a ∷ floatsIn ss
+
+abbrev pub writtenBy {ℓ} : {A : Type ℓ} → Judgement → List A → List A → List A
+writtenBy pass new old = over new old
+writtenBy (refuse number) new old = old
+
+pub record Stands (v : Judgement) (ss : List Sent) (oldWords : List ℕ) (oldFloats : List Float) (r : Answer ℕ) (words : List ℕ) (floats : List Float) : Type 0 where
+  pub answer : r ≡ answerBy v ss
+  pub words-are : words ≡ writtenBy v (wordsIn (standingOf ss)) oldWords
+  pub floats-are : floats ≡ writtenBy v (floatsIn (standingOf ss)) oldFloats

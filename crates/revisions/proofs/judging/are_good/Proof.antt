@@ -1,0 +1,37 @@
+-- `are_good` meets its contract: `Passing` holds while the records are passed. Assumes nothing.
+use mathlib.Core.List.{List}
+use Prim.Native.Nat.{_≤_, _-_}
+use native.Mathlib.Omega.{arith}
+use lib.Ieee.{Float}
+use Rattle.revision_statements.proofs.Judging.{Passing, pass-first, pass-next, pass-last}
+use Rattle.revisions.proofs.judging.are_good.Statement.{statement}
+use Rattle.revisions.proofs.judging.are_good.Tie as tie
+
+abbrev Inv-loop : tie.InvT-loop
+Inv-loop records n ok₀ i₀ ok i = (i ≤ n) × ((floats : List Float) → Passing records floats n i ok)
+
+abbrev μ-loop : tie.MeasureT-loop
+μ-loop records n ok₀ i₀ ok i = n - i
+
+loop-holds : tie.Need-loop-holds Inv-loop μ-loop
+loop-holds c = (omega arith, λ floats. pass-first _ floats _)
+
+is-good-requires : tie.Need-is-good-requires Inv-loop μ-loop
+is-good-requires c κs = omega arith
+
+add-i : tie.Need-add-i Inv-loop μ-loop
+add-i c = omega arith
+
+loop-less : tie.Need-loop-less Inv-loop μ-loop
+loop-less c = omega arith
+
+loop-again : tie.Need-loop-again Inv-loop μ-loop
+loop-again c = (omega arith, λ floats. pass-next _ floats _ (c .before .before .loop .inv .1 floats) (c .before .loop-test .taken) (c .is-good .ensures floats))
+
+returns : tie.Need-returns Inv-loop μ-loop
+returns c = λ floats. pass-last _ floats _ (c .before .loop .inv .1 floats) (c .loop-test .left)
+
+pub are-good-spec : {M : Type 1} → statement M
+are-good-spec =
+    tie.close
+    (tie.spec Inv-loop μ-loop loop-holds is-good-requires add-i loop-less loop-again returns)
