@@ -5,10 +5,12 @@ use mathlib.Core.List.{List, [], _∷_, _++_}
 use Prim.Native.Nat.{ℕ, _+_, _≤_, _<_}
 use native.Mathlib.Omega.{arith}
 use native.Mathlib.Numerals.{add-one}
+use borrow.Author.Tests.{eqb-true, eq-eqb}
+use lib.Dec.{eqb}
 use lib.IntN.{ℤ, pos, negℤ, natAbs, _+ℤ_, +ℤ-idl, +ℤ-assoc, +ℤ-comm, negℤ-+ℤ}
 use lib.ListN.{length, getD, drop, drop-of-length-le}
 use lib.Seq.{drop-cons}
-use Rattle.laws.specs.Sum.{sumBy, sumℤ, sumℕ}
+use Rattle.laws.specs.Sum.{sumBy, sumℤ, sumℕ, countBy}
 use Rattle.laws.specs.Lists.{all, filter}
 use Rattle.laws.proofs.Parts.{added, equal}
 use Rattle.laws.proofs.Bools.{left, right}
@@ -123,3 +125,53 @@ sumℕ-le p q f (x ∷ xs) h = omega (arith, sumℕ-le p q f xs h, narrower (p x
     narrower true true n i = omega arith
     narrower true false n i = absurd (false≢true (i refl))
     narrower false b n i = omega arith
+
+-- ---- lists with the same elements, each as often
+
+-- a list without the first element that is x
+without : ℕ → List ℕ → List ℕ
+without x [] = []
+without x (y ∷ ys) = cond (eqb x y) ys (y ∷ without x ys)
+
+module _ {A : Type 0} (add : A → A → A) (z : A) (swap : (a b c : A) → add a (add b c) ≡ add b (add a c)) where
+  -- one element taken out and put first
+  sum-without : (p : ℕ → Bool) (f : ℕ → A) (x : ℕ) (ys : List ℕ) → 0 < countBy (eqb x) ys → sumBy add z p f ys ≡ add (cond (p x) (f x) z) (sumBy add z p f (without x ys))
+  unfolding without
+  sum-without p f x [] h = absurd (omega arith)
+  sum-without p f x (y ∷ ys) h = by (eqb x y) refl h (sum-without p f x ys)
+    where
+      by : (t : Bool) → eqb x y ≡ t → 0 < cond t 1 0 + countBy (eqb x) ys → (0 < countBy (eqb x) ys → sumBy add z p f ys ≡ add (cond (p x) (f x) z) (sumBy add z p f (without x ys))) → sumBy add z p f (y ∷ ys) ≡ add (cond (p x) (f x) z) (sumBy add z p f (cond t ys (y ∷ without x ys)))
+      by true e l r = ap (λ (v : ℕ). add (cond (p v) (f v) z) (sumBy add z p f ys)) (sym (eqb-true x y e))
+      by false e l r =
+          ap (add (cond (p y) (f y) z)) (r (omega arith))
+          ∙ swap (cond (p y) (f y) z) (cond (p x) (f x) z) (sumBy add z p f (without x ys))
+
+swapℕ : (a b c : ℕ) → a + (b + c) ≡ b + (a + c)
+swapℕ a b c = omega arith
+
+swapℤ : (a b c : ℤ) → a +ℤ (b +ℤ c) ≡ b +ℤ (a +ℤ c)
+swapℤ a b c = sym (+ℤ-assoc a b c) ∙ ap (λ (s : ℤ). s +ℤ c) (+ℤ-comm a b) ∙ +ℤ-assoc b a c
+
+-- an element of a list stands in it
+first-counted : (x : ℕ) (xs : List ℕ) → 0 < countBy (eqb x) (x ∷ xs)
+first-counted x xs = rw (eq-eqb x x refl) (omega arith)
+
+module _ {A : Type 0} (add : A → A → A) (z : A) (swap : (a b c : A) → add a (add b c) ≡ add b (add a c)) where
+  pub sum-same : (p : ℕ → Bool) (f : ℕ → A) (xs ys : List ℕ) → ((v : ℕ) → countBy (eqb v) xs ≡ countBy (eqb v) ys) → sumBy add z p f xs ≡ sumBy add z p f ys
+  sum-same p f [] [] h = refl
+  sum-same p f [] (y ∷ ys) h = absurd (omega (arith, h y, first-counted y ys))
+  sum-same p f (x ∷ xs) ys h =
+      let l : 0 < countBy (eqb x) ys = omega (arith, h x, first-counted x xs) in
+      ap (add (cond (p x) (f x) z))
+      (sum-same p f xs (without x ys) (λ v. omega (arith, h v, sum-without _+_ 0 swapℕ (eqb v) (λ w. 1) x ys l)))
+      ∙ sym (sum-without add z swap p f x ys l)
+
+pub sumℕ-same : (p : ℕ → Bool) (f : ℕ → ℕ) (xs ys : List ℕ) → ((v : ℕ) → countBy (eqb v) xs ≡ countBy (eqb v) ys) → sumℕ p f xs ≡ sumℕ p f ys
+sumℕ-same = sum-same _+_ 0 swapℕ
+
+pub sumℤ-same : (p : ℕ → Bool) (f : ℕ → ℤ) (xs ys : List ℕ) → ((v : ℕ) → countBy (eqb v) xs ≡ countBy (eqb v) ys) → sumℤ p f xs ≡ sumℤ p f ys
+sumℤ-same = sum-same _+ℤ_ (pos 0) swapℤ
+
+-- one element more
+pub sumℤ-more : (p : ℕ → Bool) (f : ℕ → ℤ) (w : ℕ) (xs ys : List ℕ) → ((v : ℕ) → countBy (eqb v) ys ≡ cond (eqb v w) 1 0 + countBy (eqb v) xs) → sumℤ p f ys ≡ cond (p w) (f w) (pos 0) +ℤ sumℤ p f xs
+sumℤ-more p f w xs ys h = sumℤ-same p f ys (w ∷ xs) h

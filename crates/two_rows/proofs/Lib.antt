@@ -1,0 +1,5 @@
+-- Laws of two rows.
+pub mod Words
+pub mod Layers
+pub mod Same
+pub mod Apart

@@ -1,0 +1,2 @@
+-- Two rows worked beside each other.
+pub mod Apart
