@@ -3,3 +3,4 @@ pub mod Words
 pub mod Layers
 pub mod Same
 pub mod Apart
+pub mod Example
