@@ -44,7 +44,7 @@ use Rattle.row_statements.proofs.Runs.{exists}
 
 -- ---- the row has words of 64 bits
 
-small : (i : ℕ) (l : List ℕ) → all (λ w. ltb w (2 ^ 64)) l ≡ true → getD l i 0 < 2 ^ 64
+pub small : (i : ℕ) (l : List ℕ) → all (λ w. ltb w (2 ^ 64)) l ≡ true → getD l i 0 < 2 ^ 64
 small i [] h = omega arith
 small zero (w ∷ l) h = ltb-true w (2 ^ 64) (left (ltb w (2 ^ 64)) (all (λ v. ltb v (2 ^ 64)) l) h)
 small (suc i) (w ∷ l) h = small i l (right (ltb w (2 ^ 64)) (all (λ v. ltb v (2 ^ 64)) l) h)

@@ -1,0 +1,6 @@
+-- Laws of two rows.
+pub mod Words
+pub mod Layers
+pub mod Same
+pub mod Apart
+pub mod Example

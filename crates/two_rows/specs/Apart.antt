@@ -1,0 +1,107 @@
+-- W-214: two rows that agree on one layer's segments and its fill rule, and may differ in all else, say the same of that layer.
+use mathlib.Core.Path.{_≡_}
+use mathlib.Core.Bool.{cond}
+use mathlib.Core.List.{List, [], _∷_, map}
+use mathlib.Core.Option.{Option, some, none}
+use Prim.Native.Nat.{ℕ, _%_, _^_}
+use lib.Dec.{eqb}
+use lib.Ieee.{Float}
+use lib.ListN.{take}
+use Rattle.laws.specs.Answer.{given}
+use Rattle.laws.specs.Lists.{filter}
+use Rattle.laws.specs.Sum.{countBy}
+use Rattle.pixel_segment.specs.Field.{cpu, shiftOf, layerIdOf}
+use Rattle.segment_rows.specs.Rows.{Words}
+use Rattle.queue_statements.specs.Queue.{Carry}
+use Rattle.layer_carrying.specs.Carrying.{ruleIn}
+use Rattle.pass_statements.specs.Entry.{Entry}
+use Rattle.layer_workbench.specs.Work.{entryOf}
+use Rattle.row_statements.specs.Lent.{Columns, carriesIn, entriesIn}
+use Rattle.row_statements.specs.State.{State, stateIn}
+use Rattle.row_statements.specs.Opening.{OpenCall, openOf, OpensRow}
+use Rattle.row_statements.specs.TileWork.{WorkLent, TileAnswer, workAnswer}
+use Rattle.row_statements.specs.Painting.{paintAnswer}
+use Rattle.row_statements.specs.Due.{OpenRow, Past, atFirst, WorkChoice, PaintChoice, tableOn, queueOn, layersOn, planeOn}
+use Rattle.row_statements.specs.Run.{openRow, Held, heldFirst, Event, Run}
+use Rattle.row_statements.specs.Claim.{pastAfter}
+use Rattle.row_statements.specs.declared.RowState.{RowState}
+use Rattle.row_statements.specs.declared.Opened.the-variants as opened
+use Rattle.row_statements.specs.declared.TileWorked.{TileWorked}
+use Rattle.row_statements.specs.declared.Painted.{Painted}
+
+-- a word without its tile y: the two rows may be different tile rows
+abbrev pub belowTileY : ℕ → ℕ
+belowTileY w = w % 2 ^ shiftOf cpu 0
+
+-- the layer's segments, so
+abbrev pub layerWords : ℕ → List ℕ → List ℕ
+layerWords id row = map belowTileY (filter (λ w. eqb (layerIdOf cpu w) id) row)
+
+-- the two rows begin at one tile and agree on the layer: its segments, each as often, and its fill rule. A layer that a table lacks counts as
+-- NonZero
+pub record AgreeOn (id : ℕ) (o o′ : OpenRow) : Type 0 where
+  pub first : o .from ≡ o′ .from
+  pub segments : (v : ℕ) → countBy (eqb v) (layerWords id (o .row)) ≡ countBy (eqb v) (layerWords id (o′ .row))
+  pub rule : ruleIn (tableOn o) id ≡ ruleIn (tableOn o′) id
+
+-- ---- what a list and a queue say of a layer: nothing, or its entry
+
+unfoldable pub entryIn : List Entry → ℕ → Option Entry
+entryIn [] id = none
+entryIn (e ∷ es) id = cond (eqb (e .id) id) (some e) (entryIn es id)
+
+unfoldable pub carryIn : List Carry → ℕ → Option Carry
+carryIn [] id = none
+carryIn (c ∷ q) id = cond (eqb (c .id) id) (some c) (carryIn q id)
+
+-- ---- tile from + n: the layer's carry before it, its entry in the list, its coverages
+pub record SameLayer (id : ℕ) (o o′ : OpenRow) (n : ℕ) : Type 0 where
+  pub carry : carryIn (queueOn o n) id ≡ carryIn (queueOn o′ n) id
+  pub entry : entryIn (map entryOf (layersOn o n)) id ≡ entryIn (map entryOf (layersOn o′ n)) id
+  pub plane : planeOn o n id ≡ planeOn o′ n id
+
+-- ---- along two runs
+
+-- a call of a run, with what the calls before it tell
+pub data Made (o : OpenRow) : Past → List Event → Past → Event → Type 0 where
+  here : {p : Past} {e : Event} {es : List Event} → Made o p (e ∷ es) p e
+  later : {p q : Past} {e f : Event} {es : List Event} → Made o (pastAfter o e p) es q f → Made o p (e ∷ es) q f
+
+-- what two accepted works of one tile say of the layer, read back from what they answered and left: its entry in the list, and the carry handed on
+pub record SameWork (id : ℕ) (t t′ : TileAnswer) (s s′ : State) (back back′ : WorkLent) : Type 0 where
+  pub entry : entryIn (entriesIn (t .listed) (back .list)) id ≡ entryIn (entriesIn (t′ .listed) (back′ .list)) id
+  pub carry : carryIn (carriesIn (s .left) (back .queue)) id ≡ carryIn (carriesIn (s′ .left) (back′ .queue)) id
+
+-- of two runs after accepted openings: the carry that each opens with; every tile that both work; and the 256 coverages of the layer wherever both
+-- paint it. Only the calls that are compared need be accepted
+pub record Apart (id : ℕ) (o o′ : OpenRow) (s s′ : State) (opened opened′ : Columns) (es es′ : List Event) : Type 0 where
+  pub opening : carryIn (carriesIn (s .left) opened) id ≡ carryIn (carriesIn (s′ .left) opened′) id
+  pub work : {p p′ : Past} {c c′ : WorkChoice} {r r′ : TileWorked} {back back′ : WorkLent} {t t′ : TileAnswer} →
+      Made o atFirst es p (Event.work c r back) →
+      Made o′ atFirst es′ p′ (Event.work c′ r′ back′) →
+      p .tiles ≡ p′ .tiles →
+      workAnswer (r .answer) ≡ given t →
+      workAnswer (r′ .answer) ≡ given t′ →
+      SameWork id t t′ (stateIn (r .state)) (stateIn (r′ .state)) back back′
+  pub paint : {p p′ : Past} {c c′ : PaintChoice} {r r′ : Painted} {back back′ : List Float} {mark mark′ : ℕ} →
+      Made o atFirst es p (Event.paint c r back) →
+      Made o′ atFirst es′ p′ (Event.paint c′ r′ back′) →
+      p .tiles ≡ p′ .tiles →
+      c .layer ≡ id →
+      c′ .layer ≡ id →
+      paintAnswer (r .answer) ≡ given mark →
+      paintAnswer (r′ .answer) ≡ given mark′ →
+      take 256 back ≡ take 256 back′
+
+-- the claim: whatever else differs
+abbrev pub LayersApart : Type 0
+LayersApart =
+    (id : ℕ) (c c′ : OpenCall) (lent lent′ back back′ : Columns) (s s′ : RowState) (es es′ : List Event) (h h′ : Held) →
+    Words (c .row) →
+    Words (c′ .row) →
+    OpensRow (openOf c lent) (opened.Row s) back →
+    OpensRow (openOf c′ lent′) (opened.Row s′) back′ →
+    AgreeOn id (openRow c) (openRow c′) →
+    Run (openRow c) (heldFirst s back) es h →
+    Run (openRow c′) (heldFirst s′ back′) es′ h′ →
+    Apart id (openRow c) (openRow c′) (stateIn s) (stateIn s′) back back′ es es′

@@ -1,0 +1,3 @@
+-- Two rows worked beside each other.
+pub mod Apart
+pub mod Example
