@@ -1,5 +1,5 @@
-//! Many rows on several threads: `cargo run --release --example plate [ROWS [TILES [THREADS]]]`. Prints how many tiles got
-//! each decision, and how long it took.
+//! Many rows on several threads: `cargo run --release --example plate [ROWS [TILES [THREADS]]]`. Prints how many tiles
+//! got each decision, and how long it took.
 
 mod support;
 

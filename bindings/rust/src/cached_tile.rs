@@ -4,7 +4,8 @@ use crate::{exports, Refusal};
 
 /// What the last frame left of a tile: how many layers it listed, and the colour that it was filled with.
 ///
-/// Eight bytes: a tag (1 the colour is kept, 2 the count is kept), the count's three, lowest first, and the colour's four.
+/// Eight bytes: a tag (1 the colour is kept, 2 the count is kept), the count's three, lowest first, and the colour's
+/// four.
 #[derive(Clone, Copy, Debug, Default, PartialEq, Eq, Hash)]
 pub struct CachedTile(pub [u8; 8]);
 
@@ -45,8 +46,8 @@ impl CachedTile {
     }
 }
 
-/// Settles a solid tile with its four display bytes. A cached tile keeps them; without one they are always to be written.
-/// Refused by 6 where the tag is above 3.
+/// Settles a solid tile with its four display bytes. A cached tile keeps them; without one they are always to be
+/// written. Refused by 6 where the tag is above 3.
 pub fn settle(cached: Option<&mut CachedTile>, color: [u8; 4]) -> Result<Settled, Refusal> {
     let mut none = CachedTile::default();
     let given = cached.is_some();

@@ -2,7 +2,8 @@
 
 use crate::{exports, segment, FillRule, PixelSegment, Refusal};
 
-/// How far a layer's outlines rose or fell left of some place, in sixteenths, for each of the 16 pixel rows of a tile row.
+/// How far a layer's outlines rose or fell left of some place, in sixteenths, for each of the 16 pixel rows of a tile
+/// row.
 #[derive(Clone, Copy, Debug, Default, PartialEq, Eq, Hash)]
 pub struct Cover(pub [i8; 16]);
 

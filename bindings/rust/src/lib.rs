@@ -1,14 +1,14 @@
 //! Tile rows of the forma CPU painter, proved.
 //!
 //! A figure service draws plates one row of tiles after another. This crate decides what a tile shows and computes its
-//! coverages: it takes the place of the coverage stage of forma's CPU painter (google/forma, commit 681e8bfd34), and ends
-//! there. Blending is the caller's. Below it is a static library whose every function is proved to meet its contract; the
-//! crate adds types and borrows, and no arithmetic.
+//! coverages: it takes the place of the coverage stage of forma's CPU painter (google/forma, commit 681e8bfd34), and
+//! ends there. Blending is the caller's. Below it is a static library whose every function is proved to meet its
+//! contract; the crate adds types and borrows, and no arithmetic.
 //!
 //! # A row
 //!
-//! A [`Plate`] has ordered [`PixelSegment`]s; [`Plate::row`] gives those of a row. A [`LayerTable`] says what each layer is.
-//! [`Row::open`] borrows both and gives tile after tile:
+//! A [`Plate`] has ordered [`PixelSegment`]s; [`Plate::row`] gives those of a row. A [`LayerTable`] says what each
+//! layer is. [`Row::open`] borrows both and gives tile after tile:
 //!
 //! ```
 //! use tile_rows::{Color, Decision, Fields, Frame, Layer, LayerTable, PixelSegment, Plane, Refusal, Row, Style};
@@ -56,15 +56,15 @@
 //!
 //! # Refusals
 //!
-//! A call that is turned down gives a [`Refusal`], the lowest that applies, and leaves everything as it was: the row can be
-//! used on, with the same tile or, after mending what was wrong, another.
+//! A call that is turned down gives a [`Refusal`], the lowest that applies, and leaves everything as it was: the row
+//! can be used on, with the same tile or, after mending what was wrong, another.
 //!
 //! # What is judged when
 //!
-//! The library's operations that judge row and table once for a whole row are not exported yet. [`Row`] therefore calls the
-//! public operations, which judge everything that they are lent in every call: the time of a tile grows with the row's
-//! segments. Nothing of the crate's interface rests on that; `Row` borrows what it was opened with, which is the premise of
-//! the faster operations.
+//! The library's operations that judge row and table once for a whole row are not exported yet. [`Row`] therefore calls
+//! the public operations, which judge everything that they are lent in every call: the time of a tile grows with the
+//! row's segments. Nothing of the crate's interface rests on that; `Row` borrows what it was opened with, which is the
+//! premise of the faster operations.
 //!
 //! # Memory of your own
 //!

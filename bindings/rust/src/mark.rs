@@ -2,8 +2,8 @@
 
 use crate::exports;
 
-/// Which octets of a plane a draw uses: bit 2 × column + half, where the half is 0 for the pixel rows 0 to 7 of a column
-/// and 1 for 8 to 15.
+/// Which octets of a plane a draw uses: bit 2 × column + half, where the half is 0 for the pixel rows 0 to 7 of a
+/// column and 1 for 8 to 15.
 #[derive(Clone, Copy, Debug, Default, PartialEq, Eq, Hash)]
 pub struct Mark(pub u32);
 

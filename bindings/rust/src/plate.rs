@@ -11,8 +11,8 @@ pub struct Plate<'a> {
 }
 
 impl<'a> Plate<'a> {
-    /// The plate of ascending segments. On others the painter's searches decide which segments a row gets; opening such a
-    /// row is then refused by 3.
+    /// The plate of ascending segments. On others the painter's searches decide which segments a row gets; opening such
+    /// a row is then refused by 3.
     pub fn new(segments: &'a [PixelSegment]) -> Plate<'a> {
         let start = exports::find_not_negative(segment::words_of(segments));
         Plate { segments: &segments[start..] }

@@ -2,8 +2,8 @@
 
 use std::{error::Error, fmt};
 
-/// Why a call is turned down: the conditions of the table of refusals, with their numbers. Of those that apply the lowest
-/// is answered. After a refusal everything that was lent to the call is as it was.
+/// Why a call is turned down: the conditions of the table of refusals, with their numbers. Of those that apply the
+/// lowest is answered. After a refusal everything that was lent to the call is as it was.
 ///
 /// Numbers 11 to 15 belong to operations that the library does not have yet.
 #[derive(Clone, Copy, Debug, PartialEq, Eq, PartialOrd, Ord, Hash)]
@@ -88,12 +88,12 @@ impl Refusal {
     pub const fn meaning(self) -> &'static str {
         match self {
             Refusal::Room => {
-                "lent memory is too short: a queue or list below 256 entries, a plane below 256 numbers, or a layer table \
-                 shorter than its count"
+                "lent memory is too short: a queue or list below 256 entries, a plane below 256 numbers, or a layer \
+                 table shorter than its count"
             }
             Refusal::Tile => {
-                "the tile is not the next (in painting: not the one just worked) or outside the row's tiles, the row number \
-                 is not 0 to 2046, the range of tiles is not within 0 to 4095, or a tile of 32767 was to be packed"
+                "the tile is not the next (in painting: not the one just worked) or outside the row's tiles, the row \
+                 number is not 0 to 2046, the range of tiles is not within 0 to 4095, or a tile of 32767 was to be packed"
             }
             Refusal::Row => "the row's segments descend, or one has another tile y",
             Refusal::Table => {

@@ -134,8 +134,8 @@ fn cover_at(covers: &[i8; 16 * ENTRIES], place: usize) -> Cover {
 /// list, so nothing that it was opened with can change between two calls.
 ///
 /// Tile after tile: [`work`](Row::work), then, by its decision, [`paint`](Row::paint) the shown layers, or mix their
-/// colours and [`settle`](Row::settle) the bytes. A call that is turned down leaves the row as it was, and it can be used
-/// on.
+/// colours and [`settle`](Row::settle) the bytes. A call that is turned down leaves the row as it was, and it can be
+/// used on.
 ///
 /// A row is `Send`: rows of a plate may be worked on several threads.
 #[derive(Clone, Debug)]
@@ -273,8 +273,9 @@ impl<'a> Row<'a> {
         self.handed.carries(self.state.counts[0])
     }
 
-    /// Paints a layer of the tile just worked: its coverages into the plane, and their mark. A clip becomes the painter's
-    /// clip and has mark 0; a draw that lacks a clip that it needs has mark 0 too, while its plane is written.
+    /// Paints a layer of the tile just worked: its coverages into the plane, and their mark. A clip becomes the
+    /// painter's clip and has mark 0; a draw that lacks a clip that it needs has mark 0 too, while its plane is
+    /// written.
     ///
     /// The painter paints the shown layers, ascending ([`paint_shown`](Row::paint_shown)); any layer of the table is
     /// accepted, by the same rules.
@@ -320,8 +321,8 @@ impl<'a> Row<'a> {
     }
 
     /// Settles the tile just worked with the four display bytes of its colour, due where the decision is
-    /// [`Solid`](Decision::Solid): whether they are to be written. The same as [`settle`](crate::settle), which needs no
-    /// row.
+    /// [`Solid`](Decision::Solid): whether they are to be written. The same as [`settle`](crate::settle), which needs
+    /// no row.
     ///
     /// Refused by 6 (the tag).
     pub fn settle(&self, cached: Option<&mut CachedTile>, color: [u8; 4]) -> Result<Settled, Refusal> {

@@ -6,8 +6,8 @@ use crate::{exports, Refusal};
 
 /// What a segment is packed from.
 ///
-/// The word keeps a tile y of -1 to 2,046, a tile x of -1 to 4,094, a layer id below 2,097,152, local places of 0 to 15, a
-/// multiplier of 0 to 63 and a cover of -32 to 31.
+/// The word keeps a tile y of -1 to 2,046, a tile x of -1 to 4,094, a layer id below 2,097,152, local places of 0 to
+/// 15, a multiplier of 0 to 63 and a cover of -32 to 31.
 #[derive(Clone, Copy, Debug, PartialEq, Eq, Hash)]
 pub struct Fields {
     /// The layer that the segment belongs to.

@@ -77,8 +77,8 @@ impl LayerTable {
         }
     }
 
-    /// A table of words and colours that were made elsewhere: eight words a record (id, rule, func, span, clipped, fill,
-    /// blend mode, unchanged), four floats a record, and how many records there are.
+    /// A table of words and colours that were made elsewhere: eight words a record (id, rule, func, span, clipped,
+    /// fill, blend mode, unchanged), four floats a record, and how many records there are.
     pub fn from_words(words: Vec<u32>, colors: Vec<f32>, count: usize) -> LayerTable {
         LayerTable { words, colors, count }
     }

@@ -135,7 +135,8 @@ fn openings_that_are_refused() {
     assert_eq!(Row::open(&high, &table, 0, 0..4).map(|_| ()), Err(Refusal::Covers));
 }
 
-/// P7: the painter keeps the end of the first clip, so the clipped draw past it lacks its clip: mark 0, its plane written.
+/// P7: the painter keeps the end of the first clip, so the clipped draw past it lacks its clip: mark 0, its plane
+/// written.
 #[test]
 fn a_draw_that_lacks_its_clip() {
     let clipped = Style { is_clipped: true, ..Style::solid(BLACK) };

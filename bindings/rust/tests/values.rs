@@ -1,4 +1,5 @@
-//! The small types: segments, refusals, covers, marks, planes, cached tiles, colours. The cases marked P are the scope's.
+//! The small types: segments, refusals, covers, marks, planes, cached tiles, colours. The cases marked P are the
+//! scope's.
 
 use std::{cmp::Ordering, collections::HashSet};
 

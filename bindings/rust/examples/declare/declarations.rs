@@ -10,8 +10,8 @@ struct Export {
     result: String,
 }
 
-/// How a parameter is passed: a number by itself, a number or an array of fixed length by a pointer, a slice by a pointer
-/// and a length.
+/// How a parameter is passed: a number by itself, a number or an array of fixed length by a pointer, a slice by a
+/// pointer and a length.
 enum Kind {
     Number(String),
     One { mutable: bool, target: String },
@@ -76,6 +76,39 @@ fn kind_of(kind: &str) -> Kind {
 
 const MADE: &str = "Made from crates/ffi/src by `cargo run --example declare` in bindings/rust; do not edit.";
 
+const RUST_HEAD: &str = "\
+//! The plain operations: each export of the library as a safe function, for callers with memory of their own.
+//!
+//! Each judges all that it is given, however it was made. A call that can be refused returns the number of the
+//! refusal ([`Refusal::judge`](crate::Refusal::judge)), or 0; a refused call leaves what it was lent as it was.
+//! The contracts stand in crates/ffi/src. Fill rules, modes and fills are numbers here, as in a layer record.
+
+";
+
+const SAFETY: &str = "\
+    // SAFETY: the references are those that the export takes, a slice with its own length; it is proved to keep
+    // to them for every value, and nothing of them is held after the call.
+";
+
+const C_HEAD: &str = "\
+/* The exports of target/staticlib/libffi.a, for x86-64. A slice is a pointer and a length, and the pointer is not NULL
+   even where the length is 0; an array of fixed length is a pointer. What a call may write must not overlap anything
+   else that it is lent. A call that can be refused returns the number of the refusal, or 0, and then leaves what it
+   was lent as it was. A bool that is lent holds 0 or 1. oracle/README.md, 'The exported names', tells of states and
+   answers. */
+
+#ifndef TILE_ROWS_H
+#define TILE_ROWS_H
+
+#include <stdbool.h>
+#include <stddef.h>
+#include <stdint.h>
+
+#ifdef __cplusplus
+extern \"C\" {
+#endif
+";
+
 impl Export {
     /// Its name without the library's prefix.
     fn call(&self) -> &str {
@@ -92,11 +125,7 @@ impl Export {
 
 /// The declarations, and a safe function for each that lends what it is given.
 fn rust(exports: &[Export]) -> String {
-    let mut text = format!("// {MADE}\n\n");
-    text += "//! The plain operations: each export of the library as a safe function, for callers with memory of their own.\n";
-    text += "//!\n//! Each judges all that it is given, however it was made. A call that can be refused returns the number of the\n";
-    text += "//! refusal ([`Refusal::judge`](crate::Refusal::judge)), or 0; a refused call leaves what it was lent as it was.\n";
-    text += "//! The contracts stand in crates/ffi/src. Fill rules, modes and fills are numbers here, as in a layer record.\n\n";
+    let mut text = format!("// {MADE}\n\n{RUST_HEAD}");
     text += "mod raw {\n    extern \"C\" {\n";
     for export in exports {
         let parameters = export.parameters.iter().map(|(name, kind)| declared(name, kind)).collect::<Vec<_>>();
@@ -113,8 +142,7 @@ fn rust(exports: &[Export]) -> String {
         let passed = export.parameters.iter().map(|(name, kind)| passed(name, kind)).collect::<Vec<_>>();
         writeln!(text, "#[inline]\npub fn {}({}) -> {} {{", export.call(), parameters.join(", "), export.result)
             .unwrap();
-        text += "    // SAFETY: the references are those that the export takes, a slice with its own length; it is proved to keep\n";
-        text += "    // to them for every value, and nothing of them is held after the call.\n";
+        text += SAFETY;
         writeln!(text, "    unsafe {{ raw::{}({}) }}\n}}", export.name, passed.join(", ")).unwrap();
     }
     formatted(&text)
@@ -164,14 +192,7 @@ fn formatted(text: &str) -> String {
 }
 
 fn header(exports: &[Export]) -> String {
-    let mut text = format!("/* {MADE} */\n\n");
-    text += "/* The exports of target/staticlib/libffi.a, for x86-64. A slice is a pointer and a length, and the pointer is not NULL\n";
-    text += "   even where the length is 0; an array of fixed length is a pointer. What a call may write must not overlap anything\n";
-    text += "   else that it is lent. A call that can be refused returns the number of the refusal, or 0, and then leaves what it\n";
-    text += "   was lent as it was. A bool that is lent holds 0 or 1. oracle/README.md, 'The exported names', tells of states and\n";
-    text += "   answers. */\n\n";
-    text += "#ifndef TILE_ROWS_H\n#define TILE_ROWS_H\n\n#include <stdbool.h>\n#include <stddef.h>\n#include <stdint.h>\n\n";
-    text += "#ifdef __cplusplus\nextern \"C\" {\n#endif\n";
+    let mut text = format!("/* {MADE} */\n\n{C_HEAD}");
     for export in exports {
         let told = export.told().join("\n   ");
         let parameters = export.parameters.iter().map(|(name, kind)| in_c(name, kind)).collect::<Vec<_>>();

@@ -1,5 +1,5 @@
-//! Makes the declarations of the library's exports from its sources: `cargo run --example declare` writes src/exports.rs
-//! and bindings/c/tile_rows.h. tests/declarations.rs holds both files to what this makes.
+//! Makes the declarations of the library's exports from its sources: `cargo run --example declare` writes
+//! src/exports.rs and bindings/c/tile_rows.h. tests/declarations.rs holds both files to what this makes.
 
 mod declarations;
 

@@ -1,7 +1,7 @@
 //! The inspector: one page, without a network, that shows a row as people think of it.
 //!
-//! `cargo run --example inspect JOB [FROM..TO] > row.html`. The page has the tiles of the range, or the first 100 that the
-//! job works.
+//! `cargo run --example inspect JOB [FROM..TO] > row.html`. The page has the tiles of the range, or the first 100 that
+//! the job works.
 
 mod page;
 mod pictures;

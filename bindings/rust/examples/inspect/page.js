@@ -3,7 +3,8 @@ const sections = [...document.querySelectorAll("section.tile")];
 const links = [...document.querySelectorAll("a.choose")];
 let at = 0;
 
-function choose(place, focus) {
+// `moved`: by the reader, who then sees where it is.
+function choose(place, moved) {
   if (!sections.length) return;
   at = Math.max(0, Math.min(sections.length - 1, place));
   sections.forEach((section, i) => section.classList.toggle("chosen", i === at));
@@ -11,8 +12,9 @@ function choose(place, focus) {
     link.classList.toggle("chosen", i === at);
     if (i === at) link.setAttribute("aria-current", "true"); else link.removeAttribute("aria-current");
   });
+  if (!moved) return;
+  links[at].focus({ preventScroll: true });
   links[at].scrollIntoView({ block: "nearest", inline: "nearest" });
-  if (focus) links[at].focus();
   history.replaceState(null, "", "#" + sections[at].id);
 }
 

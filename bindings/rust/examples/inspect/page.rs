@@ -99,10 +99,34 @@ impl Scene<'_> {
         Some((self.job.from + self.driven.tiles.len() as i32, refusal))
     }
 
+    /// The tile that is turned down, with what came to it: carries from the left and segments of its own.
     fn refused_tile(&self) -> String {
         let Some((tile, _)) = self.refused_at() else { return String::new() };
         let refusal = self.refusal_at("Its work is turned down");
-        format!("<section class=\"tile\" id=\"tile-{tile}\">\n<h2>Tile {tile}</h2>\n{refusal}</section>\n")
+        let opening = self.driven.opening.as_deref().unwrap_or_default();
+        let carries = self.driven.tiles.last().map_or(opening, |tile| &tile.carries);
+        let own = self.segments.iter().filter(|segment| i32::from(segment.tile_x()) == tile);
+        let carried = carries.iter().map(|carry| carry.id);
+        let mut ids: Vec<u32> = own.map(|segment| segment.layer_id()).chain(carried).collect();
+        ids.sort_unstable_by(|a, b| b.cmp(a));
+        ids.dedup();
+        let mut text = format!("<section class=\"tile\" id=\"tile-{tile}\">\n<h2>Tile {tile}: refused</h2>\n{refusal}");
+        text += "<table class=\"list\">\n<tr><th>from the left</th><th>layer</th><th>segments</th>\
+                 <th>most of a pixel row</th></tr>\n";
+        for id in ids {
+            let part = self.part(tile, id);
+            writeln!(
+                text,
+                "<tr><td class=\"flow\">{}</td><th>{}<small>{}</small></th><td>{}</td><td>{}</td></tr>",
+                self.carried(id, carries),
+                self.swatch(id),
+                self.layer_in_words(id),
+                segments_in_words(&part),
+                most_in_words(carries.iter().find(|carry| carry.id == id), &part)
+            )
+            .unwrap();
+        }
+        text + "</table>\n</section>\n"
     }
 
     /// A column for each tile, a line for each layer, the top one first, and an arrow for each carry between two tiles.
@@ -179,8 +203,7 @@ impl Scene<'_> {
         writeln!(text, "<p>{}</p>", decision_in_words(tile)).unwrap();
         writeln!(
             text,
-            "<p class=\"numbers\">The row program prints <code class=\"line\">{}</code>: {} listed, {} shown, {} used octets, \
-             {} carried.</p>",
+            "<p>The row program prints <code class=\"line\">{}</code>: {} listed, {} shown, {} used octets, {} carried.</p>",
             tile.line(),
             tile.list.len(),
             tile.shown(),
@@ -204,26 +227,29 @@ impl Scene<'_> {
         let id = listed.id;
         let color = self.color(id);
         let (state, words) = state_of(listed);
-        let carry = |carries: &[Carry]| {
-            let carry = carries.iter().find(|carry| carry.id == id);
-            carry.map_or("<small>nothing</small>".to_string(), |carry| {
-                let bars = pictures::bars(&carry.cover, self.widest, color);
-                let words = pictures::cover_in_words(&carry.cover);
-                format!("{}{bars}<small>{words}</small>", pictures::arrow(color, "carried"))
-            })
-        };
         let part: Vec<PixelSegment> = self.part(tile.tile, id);
         format!(
-            "<tr class=\"{state}\"><td>{}</td><th>{}<small>{}</small><b class=\"state\">{words}</b></th><td>{}</td>\
-             <td>{}</td><td>{}</td><td>{}</td></tr>\n",
-            carry(&tile.incoming),
+            "<tr class=\"{state}\"><td class=\"flow\">{}</td><th>{}<small>{}</small><b class=\"state\">{words}</b></th>\
+             <td>{}</td><td>{}</td><td>{}</td><td class=\"flow\">{}</td></tr>\n",
+            self.carried(id, &tile.incoming),
             self.swatch(id),
             self.layer_in_words(id),
             segments_in_words(&part),
             self.coverage(entry, &part),
             mark(entry, color),
-            carry(&tile.carries)
+            self.carried(id, &tile.carries)
         )
+    }
+
+    /// A layer's carry, as an arrow with its bars.
+    fn carried(&self, id: u32, carries: &[Carry]) -> String {
+        let color = self.color(id);
+        let carry = carries.iter().find(|carry| carry.id == id);
+        carry.map_or("<small>nothing</small>".to_string(), |carry| {
+            let bars = pictures::bars(&carry.cover, self.widest, color);
+            let words = pictures::cover_in_words(&carry.cover);
+            format!("{}{bars}<small>{words}</small>", pictures::arrow(color, "carried"))
+        })
     }
 
     /// The layer's segments in the tile.
@@ -242,7 +268,7 @@ impl Scene<'_> {
         result.expect("the tile was worked, so its covers are in range");
         let (plane, told) = match &entry.painted {
             Some((_, plane)) => (plane, "painted"),
-            None => (&alone, "not painted"),
+            None => (&alone, "its own; not painted"),
         };
         format!("{}<small class=\"pixel\">{told}</small>", pictures::coverage(plane, part, self.color(id)))
     }
@@ -302,6 +328,14 @@ fn segments_in_words(part: &[PixelSegment]) -> String {
             .unwrap();
     }
     text + "</small></details>"
+}
+
+/// The pixel row with the greatest sum of absolute covers, which refusal 9 goes by.
+fn most_in_words(carry: Option<&Carry>, part: &[PixelSegment]) -> String {
+    let mut sums = carry.map_or([0; 16], |carry| carry.cover.0.map(|cover| i32::from(cover).abs()));
+    part.iter().for_each(|segment| sums[usize::from(segment.local_y())] += i32::from(segment.cover()).abs());
+    let (row, sum) = sums.iter().enumerate().rev().max_by_key(|(_, &sum)| sum).expect("16 rows");
+    format!("{sum}<small>in row {row}, of 127</small>")
 }
 
 fn mark(entry: &Entry, color: &str) -> String {

@@ -4,8 +4,8 @@ use std::{collections::BTreeMap, fmt::Write};
 
 use tile_rows::{Cover, Mark, PixelSegment, Plane};
 
-/// Colours that colour-blind readers can tell apart (Okabe and Ito), without the yellow, which is pale on white. An id stands
-/// beside each, so that nothing is told by colour alone.
+/// Colours that colour-blind readers can tell apart (Okabe and Ito), without the yellow, which is pale on white. An id
+/// stands beside each, so that nothing is told by colour alone.
 const COLORS: [&str; 7] = ["#0072b2", "#d55e00", "#009e73", "#cc79a7", "#e69f00", "#56b4e9", "#444444"];
 
 /// The colour of the layer that stands at a place of the table.
@@ -29,8 +29,8 @@ pub fn cover_in_words(cover: &Cover) -> String {
     words.join(", ")
 }
 
-/// A bar for each pixel row, from the middle to the right where the cover is above 0, to the left where it is below. `widest`
-/// is the number that fills half the width.
+/// A bar for each pixel row, from the middle to the right where the cover is above 0, to the left where it is below.
+/// `widest` is the number that fills half the width.
 pub fn bars(cover: &Cover, widest: i32, color: &str) -> String {
     let mut svg = format!(
         "<svg class=\"bars\" viewBox=\"-33 0 66 64\" role=\"img\" aria-label=\"{0}\"><title>{0}</title>",
@@ -49,7 +49,8 @@ pub fn bars(cover: &Cover, widest: i32, color: &str) -> String {
 pub fn arrow(color: &str, told: &str) -> String {
     format!(
         "<svg class=\"arrow\" viewBox=\"0 0 24 12\" role=\"img\" aria-label=\"{told}\"><title>{told}</title>\
-         <path d=\"M0 6H17\" stroke=\"{color}\" stroke-width=\"3\"/><path d=\"M15 0L24 6L15 12Z\" fill=\"{color}\"/></svg>"
+         <path d=\"M0 6H17\" stroke=\"{color}\" stroke-width=\"3\"/>\
+         <path d=\"M15 0L24 6L15 12Z\" fill=\"{color}\"/></svg>"
     )
 }
 

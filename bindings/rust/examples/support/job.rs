@@ -27,8 +27,8 @@ impl Job {
         parse(text).ok_or(Refusal::JobText)
     }
 
-    /// The layer table. Every layer counts as changed; of its colour only alpha is not 0. A number below 0 is above every
-    /// range as a word, so a wrong code stays one.
+    /// The layer table. Every layer counts as changed; of its colour only alpha is not 0. A number below 0 is above
+    /// every range as a word, so a wrong code stays one.
     pub fn table(&self) -> LayerTable {
         let words = |&[id, rule, clip, span, clipped, fill, mode, _]: &[i32; 8]| {
             [id, rule, clip, span, clipped, fill, mode, 0].map(|number| number as u32)
@@ -41,8 +41,8 @@ impl Job {
         )
     }
 
-    /// The row's segments, each line repeated downward. Those of a row number out of range are packed for row 0: opening
-    /// refuses the number before it looks at them.
+    /// The row's segments, each line repeated downward. Those of a row number out of range are packed for row 0:
+    /// opening refuses the number before it looks at them.
     pub fn segments(&self) -> Result<Vec<PixelSegment>, Refusal> {
         let tile_y = if (0..=2046).contains(&self.row) { self.row as i16 } else { 0 };
         let repeated = |&[tile_x, layer, x, y, rows, mult, cover]: &[i32; 7]| {
