@@ -30,7 +30,9 @@ fn given(folder: PathBuf) -> PathBuf {
 /// The folder of the repository's own library, made where a source is newer.
 fn proved(repository: &Path) -> PathBuf {
     let repository = repository.canonicalize().expect("the crate stands in bindings/rust of the repository");
-    println!("cargo:rerun-if-changed={}", repository.join("crates").display());
+    for part in ["crates", "crates.txt"] {
+        println!("cargo:rerun-if-changed={}", repository.join(part).display());
+    }
     let folder = repository.join("target/staticlib");
     let made = changed(&folder.join("libffi.a"));
     if made.is_none() || made < newest(&repository.join("crates")) {
