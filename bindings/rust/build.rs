@@ -21,9 +21,12 @@ fn main() {
     println!("cargo:rustc-env=TILE_ROWS_LIB_FOLDER={}", folder.display());
 }
 
+/// The folder as it is named; where the library is missing, linking fails and this says why.
 fn given(folder: PathBuf) -> PathBuf {
     let file = folder.join("libffi.a");
-    assert!(file.is_file(), "TILE_ROWS_LIB: there is no {}", file.display());
+    if !file.is_file() {
+        println!("cargo:warning=TILE_ROWS_LIB: there is no {}", file.display());
+    }
     folder
 }
 

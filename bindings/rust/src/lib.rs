@@ -37,9 +37,9 @@
 //!     match worked.decision {
 //!         Decision::None => {} // the tile stays as the last frame left it
 //!         Decision::Solid { bottom, before } => {
-//!             // Mix the colours of `row.list()`'s shown layers above `bottom`, but the first `before` of them; make
+//!             // Mix the colours of `row.listed()`'s shown layers above `bottom`, but the first `before` of them; make
 //!             // the display bytes, and ask `row.settle` whether they are to be written.
-//!             let _to_mix = row.list().filter(|listed| listed.is_shown()).skip(before);
+//!             let _to_mix = row.listed().filter(|listed| listed.is_shown()).skip(before);
 //!             assert!(tile != 1 || bottom == black);
 //!         }
 //!         Decision::Paint => row.paint_shown(&mut plane, |listed, plane, mark| {

@@ -19,8 +19,9 @@ pub struct Frame {
     pub previous_clear: Option<Color>,
 }
 
-/// What the work on a tile gave. [`Row::list`] has its layers, [`Row::carries`] what it handed on.
+/// What the work on a tile gave. [`Row::listed`] has its layers, [`Row::carries`] what it handed on.
 #[derive(Clone, Copy, Debug, PartialEq)]
+#[non_exhaustive]
 pub struct Worked {
     /// The tile.
     pub tile: i32,
@@ -34,6 +35,7 @@ pub struct Worked {
 
 /// A layer in a tile's list.
 #[derive(Clone, Copy, Debug, PartialEq, Eq, Hash)]
+#[non_exhaustive]
 pub struct Listed {
     /// The layer's id.
     pub id: u32,
@@ -259,7 +261,7 @@ impl<'a> Row<'a> {
     }
 
     /// The list of the tile just worked, ascending: the bottom layer first. Empty before the first tile.
-    pub fn list(&self) -> impl DoubleEndedIterator<Item = Listed> + ExactSizeIterator + '_ {
+    pub fn listed(&self) -> impl DoubleEndedIterator<Item = Listed> + ExactSizeIterator + '_ {
         (0..self.list.count).map(|place| self.list.at(place))
     }
 

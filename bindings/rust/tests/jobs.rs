@@ -85,20 +85,32 @@ fn the_page_draws_what_it_counts() {
     }
 }
 
-/// In a browser: the first tile is chosen, and the numbers are there after the script ran.
+/// A page as Chromium leaves it after its scripts, and one more script, ran.
+fn loaded(name: &str, page: &str, script: &str) -> String {
+    let file = PathBuf::from(env!("CARGO_TARGET_TMPDIR")).join(name);
+    fs::write(&file, page.replace("</body>", &format!("<script>{script}</script></body>"))).unwrap();
+    let url = format!("file://{}", file.display());
+    let words = ["--headless", "--no-sandbox", "--disable-gpu", "--dump-dom", &url];
+    let output = Command::new("chromium").args(words).output().expect("chromium is on the path");
+    String::from_utf8(output.stdout).unwrap()
+}
+
+/// In a browser: the numbers are there, and a tile is chosen by nothing, by a key, by the mouse.
 #[test]
 #[ignore = "needs Chromium"]
 fn a_browser_loads_the_page() {
-    for name in ["example.job", "clip_that_is_used.job", "nine_120.job"] {
+    let key = "dispatchEvent(new KeyboardEvent('keydown', { key: 'End' }))";
+    let mouse = "document.querySelectorAll('a.choose')[1].click()";
+    for name in ["example.job", "clip_that_is_used.job", "nine_kept_carry.job"] {
         let (name, text, printed) = stored().into_iter().find(|(stored, ..)| stored == name).expect("a job file");
-        let file = PathBuf::from(env!("CARGO_TARGET_TMPDIR")).join(format!("{name}.html"));
-        fs::write(&file, page::page(&name, &text, None)).unwrap();
-        let url = format!("file://{}", file.display());
-        let words = ["--headless", "--no-sandbox", "--disable-gpu", "--dump-dom", &url];
-        let output = Command::new("chromium").args(words).output().expect("chromium is on the path");
-        let page = String::from_utf8(output.stdout).unwrap();
+        let page = page::page(&name, &text, None);
         let lines: Vec<&str> = printed.lines().filter(|&line| line != support::driven::NAMES).collect();
-        assert_eq!(texts(&page, "<code class=\"line\">"), lines, "{name}");
-        assert_eq!(page.matches("class=\"tile chosen\"").count(), 1, "{name}: the script chose a tile");
+        for (script, chosen) in [("", 0), (key, lines.len() - 1), (mouse, 1)] {
+            let page = loaded(&format!("{name}.html"), &page, script);
+            assert_eq!(texts(&page, "<code class=\"line\">"), lines, "{name}");
+            let section = format!("<section class=\"tile chosen\" id=\"tile-{chosen}\">");
+            assert!(page.contains(&section), "{name}: tile {chosen} is chosen after {script:?}");
+            assert_eq!(page.matches("class=\"tile chosen\"").count(), 1, "{name}: no other is");
+        }
     }
 }

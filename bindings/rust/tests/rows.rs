@@ -79,7 +79,7 @@ fn a_refused_row_is_used_on() {
     let mut plane = Plane::new();
     assert_eq!(row.paint(1, &mut plane), Err(Refusal::Tile), "no tile was worked");
     assert_eq!(row.work(1, &FIRST, None), Err(Refusal::Tile), "tile 0 is the next");
-    assert_eq!((row.next_tile(), row.list().len(), row.carries().len()), (0, 0, 0));
+    assert_eq!((row.next_tile(), row.listed().len(), row.carries().len()), (0, 0, 0));
 
     let mut damaged = CachedTile([4, 1, 2, 3, 4, 5, 6, 7]);
     assert_eq!(row.work(0, &FIRST, Some(&mut damaged)), Err(Refusal::Tag));
@@ -90,7 +90,7 @@ fn a_refused_row_is_used_on() {
     assert_eq!(row.paint(2, &mut plane), Err(Refusal::Missing), "the table has no layer 2");
     assert_eq!(row.paint(1, &mut plane).unwrap().octets(), 32);
     assert_eq!(row.work(0, &FIRST, None), Err(Refusal::Tile), "tile 0 was worked");
-    assert_eq!(row.list().len(), 1, "the list of tile 0 is still there");
+    assert_eq!(row.listed().len(), 1, "the list of tile 0 is still there");
     assert_eq!(row.paint(1, &mut plane).unwrap(), Mark(u32::MAX), "and it can be painted again");
     let carried: Vec<_> = row.carries().map(|carry| (carry.id, carry.cover)).collect();
     assert_eq!(carried, [(1, Cover([16; 16]))]);
@@ -195,7 +195,7 @@ fn an_open_row_tells_of_its_layers() {
     let segments = [edge(4, -1, 0, 16), edge(6, 0, 3, 8)].concat();
     let mut row = Row::open(&segments, &table, 0, 0..1).unwrap();
     row.work(0, &FIRST, None).unwrap();
-    let told: Vec<_> = row.list().map(|one| (one.id, one.cover.0[0], one.has_segments, one.is_shown())).collect();
+    let told: Vec<_> = row.listed().map(|one| (one.id, one.cover.0[0], one.has_segments, one.is_shown())).collect();
     assert_eq!(told, [(4, 16, false, true), (6, 0, true, true)]);
     assert_eq!(row.incoming().map(|carry| carry.id).collect::<Vec<_>>(), [4]);
     assert_eq!(row.carries().map(|carry| carry.id).collect::<Vec<_>>(), [4, 6]);

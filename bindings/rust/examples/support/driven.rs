@@ -59,7 +59,7 @@ pub struct Driven {
 /// Works the next tile, and paints its shown layers where that is due.
 pub fn work(row: &mut Row<'_>, tile: i32) -> Result<Tile, Refusal> {
     let worked = row.work(tile, &FRAME, None)?;
-    let mut list: Vec<Entry> = row.list().map(|listed| Entry { listed, painted: None }).collect();
+    let mut list: Vec<Entry> = row.listed().map(|listed| Entry { listed, painted: None }).collect();
     if worked.decision == Decision::Paint {
         let mut plane = Plane::new();
         row.paint_shown(&mut plane, |listed, plane, mark| {
