@@ -54,6 +54,17 @@
 //! # }
 //! ```
 //!
+//! # From frame to frame
+//!
+//! Keep a [`CachedTile`] for each tile, lend it to [`Row::work`] and [`Row::settle`], and say in the table which layers
+//! are unchanged and in [`Frame`] what the last clear colour was. A tile of which nothing changed is then decided as
+//! [`Decision::None`], and a solid one whose bytes are there already is [`Settled::Keep`].
+//!
+//! # Threads
+//!
+//! Rows don't depend on each other. A [`Row`] is `Send` and borrows its table, so that `std::thread::scope` can work
+//! the rows of a plate side by side; the example `plate` does.
+//!
 //! # Refusals
 //!
 //! A call that is turned down gives a [`Refusal`], the lowest that applies, and leaves everything as it was: the row
