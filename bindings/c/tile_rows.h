@@ -1,0 +1,212 @@
+/* Made from crates/ffi/src by `cargo run --example declare` in bindings/rust; do not edit. */
+
+/* The exports of target/staticlib/libffi.a, for x86-64. A slice is a pointer and a length, and the pointer is not NULL
+   even where the length is 0; an array of fixed length is a pointer. What a call may write must not overlap anything
+   else that it is lent. A call that can be refused returns the number of the refusal, or 0, and then leaves what it
+   was lent as it was. A bool that is lent holds 0 or 1. oracle/README.md, 'The exported names', tells of states and
+   answers. */
+
+#ifndef TILE_ROWS_H
+#define TILE_ROWS_H
+
+#include <stdbool.h>
+#include <stddef.h>
+#include <stdint.h>
+
+#ifdef __cplusplus
+extern "C" {
+#endif
+
+/* Whether the tile keeps a layer count; where it does, the count in `count`. */
+bool ffi_layer_count(const uint8_t tile[8], uint32_t *count);
+
+/* Whether the tile keeps a solid colour; where it does, its bytes in `color`. */
+bool ffi_solid_color(const uint8_t tile[8], uint8_t color[4]);
+
+/* The tile keeps the count, where one is given, or none. Whether it kept one before; where it did, that one in
+   `previous`. */
+bool ffi_update_layer_count(uint8_t tile[8], bool given, uint32_t count, uint32_t *previous);
+
+/* The tile keeps the colour, where one is given, or none. Whether it kept one before; where it did, its bytes in
+   `previous`. */
+bool ffi_update_solid_color(uint8_t tile[8], bool given, const uint8_t color[4], uint8_t previous[4]);
+
+/* Where a tile is given it keeps the bytes. 0 and whether they are to be written in `is_written`, or the number of the
+   refusal. The tile's bytes are stored where the call is accepted and a tile is given. */
+uint32_t ffi_settle(bool given, uint8_t tile[8], const uint8_t color[4], bool *is_written);
+
+/* `ffi_is_empty` of the library. */
+bool ffi_is_empty(const int8_t covers[16], uint32_t rule);
+
+/* `ffi_is_full` of the library. */
+bool ffi_is_full(const int8_t covers[16], uint32_t rule);
+
+/* 0 and the covers of the part added to those in `covers`, or the number of the refusal. */
+uint32_t ffi_carry(const uint64_t *part, size_t part_len, int8_t covers[16]);
+
+/* The coverage of a pixel that sees d. */
+float ffi_doubled_area_to_coverage(int16_t d, uint32_t rule);
+
+/* 0, the coverages in `plane` and their mark in `mark`, or the number of the refusal. */
+uint32_t ffi_paint_part(
+    const uint64_t *part, size_t part_len,
+    const int8_t covers[16],
+    uint32_t rule,
+    float *plane, size_t plane_len,
+    uint32_t *mark);
+
+/* 0 and the mark of any plane in `mark`, or the number of the refusal. */
+uint32_t ffi_mark_plane(const float *plane, size_t plane_len, uint32_t *mark);
+
+/* How many octets a mark has. */
+uint32_t ffi_octets(uint32_t mark);
+
+/* `ffi_color_eq` of the library. */
+bool ffi_color_eq(const float color[4], const float other[4]);
+
+/* Whether a draw with this fill, blend mode and colour hides what is below it. */
+bool ffi_is_opaque(uint32_t fill, uint32_t blend_mode, const float color[4]);
+
+/* The number of the blend mode of a number. */
+uint32_t ffi_blend_mode(uint32_t code);
+
+/* Whether the table is shorter than its count. */
+bool ffi_is_short(const uint32_t *layers, size_t layers_len, const float *colors, size_t colors_len, size_t count);
+
+/* Whether no refusal applies to the table. */
+bool ffi_is_table(const uint32_t *layers, size_t layers_len, const float *colors, size_t colors_len, size_t count);
+
+/* 0, the coverages in `plane`, their mark in `mark` and the state with the painter's clip, or the number of the
+   refusal. */
+uint32_t ffi_paint_layer(
+    uint32_t words[6],
+    size_t counts[2],
+    int32_t tile,
+    uint32_t layer,
+    const uint64_t *row, size_t row_len,
+    const uint32_t *layers, size_t layers_len,
+    const float *colors, size_t colors_len,
+    size_t count,
+    const uint32_t *ids, size_t ids_len,
+    const int8_t *covers, size_t covers_len,
+    float *plane, size_t plane_len,
+    uint32_t *mark);
+
+/* Where the segments start that have no negative tile y. */
+size_t ffi_find_not_negative(const uint64_t *segments, size_t segments_len);
+
+/* Where row j starts; in `end` where it ends, one past its last segment. */
+size_t ffi_find_row(const uint64_t *segments, size_t segments_len, size_t j, size_t *end);
+
+/* `ffi_is_in_crop` of the library. */
+bool ffi_is_in_crop(bool is_given, size_t start, size_t end, size_t j);
+
+/* 0, the carries in the lent queue and the state before the first tile in `words` and `counts`, or the number of the
+   refusal. */
+uint32_t ffi_open_tile_row(
+    int32_t tile_y,
+    int32_t from,
+    int32_t to,
+    const uint64_t *row, size_t row_len,
+    const uint32_t *layers, size_t layers_len,
+    const float *colors, size_t colors_len,
+    size_t count,
+    uint32_t *ids, size_t ids_len,
+    int8_t *covers, size_t covers_len,
+    uint32_t words[6],
+    size_t counts[2]);
+
+/* `ffi_pack` of the library. */
+uint32_t ffi_pack(
+    uint32_t layer_id,
+    int16_t tile_x,
+    int16_t tile_y,
+    uint8_t local_x,
+    uint8_t local_y,
+    uint8_t double_area_multiplier,
+    int8_t cover,
+    uint64_t *word);
+
+/* `ffi_layer_id` of the library. */
+uint32_t ffi_layer_id(uint64_t word);
+
+/* `ffi_tile_x` of the library. */
+int16_t ffi_tile_x(uint64_t word);
+
+/* `ffi_tile_y` of the library. */
+int16_t ffi_tile_y(uint64_t word);
+
+/* `ffi_local_x` of the library. */
+uint8_t ffi_local_x(uint64_t word);
+
+/* `ffi_local_y` of the library. */
+uint8_t ffi_local_y(uint64_t word);
+
+/* `ffi_double_area_multiplier` of the library. */
+uint8_t ffi_double_area_multiplier(uint64_t word);
+
+/* `ffi_double_area` of the library. */
+int16_t ffi_double_area(uint64_t word);
+
+/* `ffi_cover` of the library. */
+int8_t ffi_cover(uint64_t word);
+
+/* How a segment compares with another: 0 less, 1 equal, 2 greater. */
+uint8_t ffi_cmp(uint64_t word, uint64_t other);
+
+/* `ffi_does_ascend` of the library. */
+bool ffi_does_ascend(const uint64_t *row, size_t row_len);
+
+/* `ffi_is_row` of the library. */
+bool ffi_is_row(const uint64_t *row, size_t row_len, uint64_t stored_tile_y);
+
+/* `ffi_search_last_by_tile_y` of the library. */
+bool ffi_search_last_by_tile_y(const uint64_t *segments, size_t segments_len, int16_t tile_y, size_t *place);
+
+/* `ffi_search_last_by_tile_x` of the library. */
+bool ffi_search_last_by_tile_x(const uint64_t *segments, size_t segments_len, int16_t tile_x, size_t *place);
+
+/* `ffi_search_last_by_layer_id` of the library. */
+bool ffi_search_last_by_layer_id(const uint64_t *segments, size_t segments_len, uint32_t layer_id, size_t *place);
+
+/* `ffi_search_last_by_tile_x_at_least` of the library. */
+bool ffi_search_last_by_tile_x_at_least(
+    const uint64_t *segments, size_t segments_len,
+    int16_t start,
+    bool wanted,
+    size_t *place);
+
+/* `ffi_search_last_by_tile_y_not_negative` of the library. */
+bool ffi_search_last_by_tile_y_not_negative(const uint64_t *segments, size_t segments_len, bool wanted, size_t *place);
+
+/* 0, the list, the carries handed on, the cached tile, the answer and the state past the tile, or the number of the
+   refusal. The bytes of the cached tile are stored where the call is accepted and a tile is given. */
+uint32_t ffi_work_tile(
+    uint32_t words[6],
+    size_t counts[2],
+    int32_t tile,
+    const uint64_t *row, size_t row_len,
+    const uint32_t *layers, size_t layers_len,
+    const float *colors, size_t colors_len,
+    size_t count,
+    bool is_kept,
+    uint8_t kept[8],
+    const float clear[4],
+    bool is_previous,
+    const float previous[4],
+    const uint32_t *ids, size_t ids_len,
+    const int8_t *covers, size_t covers_len,
+    uint32_t *next_ids, size_t next_ids_len,
+    int8_t *next_covers, size_t next_covers_len,
+    uint32_t *list_ids, size_t list_ids_len,
+    int8_t *list_covers, size_t list_covers_len,
+    bool *list_segments, size_t list_segments_len,
+    bool *list_unmasked, size_t list_unmasked_len,
+    size_t told[4],
+    float bottom[4]);
+
+#ifdef __cplusplus
+}
+#endif
+
+#endif

@@ -1,0 +1,77 @@
+//! A made plate of many rows, and its rows worked on several threads.
+
+use std::{
+    ops::Range,
+    sync::atomic::{AtomicUsize, Ordering},
+    thread,
+};
+
+use tile_rows::{Fields, Layer, LayerTable, PixelSegment, Plate, Refusal, Row, Style};
+
+use super::driven::{self, FRAME};
+
+/// How many layers the made plate has.
+const LAYERS: u32 = 8;
+
+/// The next number of a linear congruence, 0 to 65,535.
+fn draw(state: &mut u32) -> u32 {
+    *state = state.wrapping_mul(1_664_525).wrapping_add(1_013_904_223);
+    *state >> 16
+}
+
+/// The segments of a plate, in order: closed outlines, so that a row's covers come back to 0.
+pub fn made(seed: u32, rows: i16, tiles: i16) -> Vec<PixelSegment> {
+    let mut state = seed;
+    let mut segments = Vec::new();
+    for tile_y in 0..rows {
+        for layer_id in 0..LAYERS {
+            let first = (draw(&mut state) % tiles as u32) as i16;
+            let last = first + (draw(&mut state) % (tiles - first) as u32) as i16;
+            let edges = [(first, draw(&mut state), 16), (last, draw(&mut state), -16)];
+            for (tile_x, place, cover) in edges {
+                let local_x = (place % 16) as u8;
+                let edge = (0..16).map(|local_y| {
+                    let fields =
+                        Fields { layer_id, tile_x, tile_y, local_x, local_y, double_area_multiplier: 16, cover };
+                    PixelSegment::new(fields).expect("each field is in its range")
+                });
+                segments.extend(edge);
+            }
+        }
+    }
+    segments.sort_by(PixelSegment::compare);
+    segments
+}
+
+/// The table of the made plate.
+pub fn table() -> LayerTable {
+    let layers: Vec<Layer> = (0..LAYERS).map(|id| Layer::draw(id, Style::solid(FRAME.clear))).collect();
+    LayerTable::new(&layers)
+}
+
+/// The lines of a row, as the row program has them.
+pub fn lines(plate: &Plate<'_>, table: &LayerTable, j: usize, tiles: Range<i32>) -> Result<Vec<String>, Refusal> {
+    let mut row = Row::open(plate.row(j), table, j as i32, tiles)?;
+    row.tiles().map(|tile| driven::work(&mut row, tile).map(|tile| tile.line())).collect()
+}
+
+/// The lines of so many rows, worked on so many threads: each takes the next row that nobody has.
+pub fn worked(
+    segments: &[PixelSegment],
+    rows: usize,
+    tiles: Range<i32>,
+    threads: usize,
+) -> Result<Vec<Vec<String>>, Refusal> {
+    let (plate, table, next) = (Plate::new(segments), table(), AtomicUsize::new(0));
+    let work = || -> Result<Vec<(usize, Vec<String>)>, Refusal> {
+        let taken = std::iter::repeat_with(|| next.fetch_add(1, Ordering::Relaxed)).take_while(|&j| j < rows);
+        taken.map(|j| Ok((j, lines(&plate, &table, j, tiles.clone())?))).collect()
+    };
+    let results: Vec<_> = thread::scope(|scope| {
+        let workers: Vec<_> = (0..threads).map(|_| scope.spawn(work)).collect();
+        workers.into_iter().map(|worker| worker.join().expect("a worker does not panic")).collect()
+    });
+    let mut all = results.into_iter().collect::<Result<Vec<_>, _>>()?.concat();
+    all.sort();
+    Ok(all.into_iter().map(|(_, lines)| lines).collect())
+}

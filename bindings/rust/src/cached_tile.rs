@@ -1,0 +1,58 @@
+//! Cached tiles: what the last frame left of a tile.
+
+use crate::{exports, Refusal};
+
+/// What the last frame left of a tile: how many layers it listed, and the colour that it was filled with.
+///
+/// Eight bytes: a tag (1 the colour is kept, 2 the count is kept), the count's three, lowest first, and the colour's
+/// four.
+#[derive(Clone, Copy, Debug, Default, PartialEq, Eq, Hash)]
+pub struct CachedTile(pub [u8; 8]);
+
+/// What is to be done with the display bytes of a solid tile.
+#[derive(Clone, Copy, Debug, PartialEq, Eq, Hash)]
+pub enum Settled {
+    /// They are to be written.
+    Write,
+    /// The tile shows them already.
+    Keep,
+}
+
+impl CachedTile {
+    /// How many layers were listed, where that is kept.
+    pub fn layer_count(&self) -> Option<u32> {
+        let mut count = 0;
+        exports::layer_count(&self.0, &mut count).then_some(count)
+    }
+
+    /// The colour that the tile was filled with, where that is kept.
+    pub fn solid_color(&self) -> Option<[u8; 4]> {
+        let mut color = [0; 4];
+        exports::solid_color(&self.0, &mut color).then_some(color)
+    }
+
+    /// Keeps the low 24 bits of a count, or none. Gives what was kept before.
+    pub fn update_layer_count(&mut self, count: Option<u32>) -> Option<u32> {
+        let mut previous = 0;
+        exports::update_layer_count(&mut self.0, count.is_some(), count.unwrap_or(0), &mut previous).then_some(previous)
+    }
+
+    /// Keeps a colour, or none. Gives what was kept before.
+    pub fn update_solid_color(&mut self, color: Option<[u8; 4]>) -> Option<[u8; 4]> {
+        let mut previous = [0; 4];
+        let given = color.is_some();
+        let color = color.unwrap_or([0; 4]);
+        exports::update_solid_color(&mut self.0, given, &color, &mut previous).then_some(previous)
+    }
+}
+
+/// Settles a solid tile with its four display bytes. A cached tile keeps them; without one they are always to be
+/// written. Refused by 6 where the tag is above 3.
+pub fn settle(cached: Option<&mut CachedTile>, color: [u8; 4]) -> Result<Settled, Refusal> {
+    let mut none = CachedTile::default();
+    let given = cached.is_some();
+    let tile = cached.unwrap_or(&mut none);
+    let mut is_written = false;
+    Refusal::judge(exports::settle(given, &mut tile.0, &color, &mut is_written))?;
+    Ok(if is_written { Settled::Write } else { Settled::Keep })
+}

@@ -1,0 +1,30 @@
+//! What is to be done with a tile.
+
+use crate::Color;
+
+/// What is to be done with a tile that was worked.
+#[derive(Clone, Copy, Debug, PartialEq)]
+pub enum Decision {
+    /// Nothing: it shows what the last frame left there.
+    None,
+    /// It is filled with one colour: `bottom`, with the shown layers mixed above it but the first `before` of them.
+    Solid {
+        /// The colour at the bottom.
+        bottom: Color,
+        /// How many shown layers lie before those to mix, 0 or 1.
+        before: usize,
+    },
+    /// Its shown layers are painted, ascending.
+    Paint,
+}
+
+impl Decision {
+    /// The word that the row program prints.
+    pub const fn word(&self) -> &'static str {
+        match self {
+            Decision::None => "none",
+            Decision::Solid { .. } => "solid",
+            Decision::Paint => "paint",
+        }
+    }
+}

@@ -1,0 +1,645 @@
+// Made from crates/ffi/src by `cargo run --example declare` in bindings/rust; do not edit.
+
+//! The plain operations: each export of the library as a safe function, for callers with memory of their own.
+//!
+//! Each judges all that it is given, however it was made. A call that can be refused returns the number of the
+//! refusal ([`Refusal::judge`](crate::Refusal::judge)), or 0; a refused call leaves what it was lent as it was.
+//! The contracts stand in crates/ffi/src. Fill rules, modes and fills are numbers here, as in a layer record.
+
+mod raw {
+    extern "C" {
+        pub fn ffi_layer_count(tile: *const [u8; 8], count: *mut u32) -> bool;
+        pub fn ffi_solid_color(tile: *const [u8; 8], color: *mut [u8; 4]) -> bool;
+        pub fn ffi_update_layer_count(tile: *mut [u8; 8], given: bool, count: u32, previous: *mut u32) -> bool;
+        pub fn ffi_update_solid_color(
+            tile: *mut [u8; 8],
+            given: bool,
+            color: *const [u8; 4],
+            previous: *mut [u8; 4],
+        ) -> bool;
+        pub fn ffi_settle(given: bool, tile: *mut [u8; 8], color: *const [u8; 4], is_written: *mut bool) -> u32;
+        pub fn ffi_is_empty(covers: *const [i8; 16], rule: u32) -> bool;
+        pub fn ffi_is_full(covers: *const [i8; 16], rule: u32) -> bool;
+        pub fn ffi_carry(part: *const u64, part_len: usize, covers: *mut [i8; 16]) -> u32;
+        pub fn ffi_doubled_area_to_coverage(d: i16, rule: u32) -> f32;
+        pub fn ffi_paint_part(
+            part: *const u64,
+            part_len: usize,
+            covers: *const [i8; 16],
+            rule: u32,
+            plane: *mut f32,
+            plane_len: usize,
+            mark: *mut u32,
+        ) -> u32;
+        pub fn ffi_mark_plane(plane: *const f32, plane_len: usize, mark: *mut u32) -> u32;
+        pub fn ffi_octets(mark: u32) -> u32;
+        pub fn ffi_color_eq(color: *const [f32; 4], other: *const [f32; 4]) -> bool;
+        pub fn ffi_is_opaque(fill: u32, blend_mode: u32, color: *const [f32; 4]) -> bool;
+        pub fn ffi_blend_mode(code: u32) -> u32;
+        pub fn ffi_is_short(
+            layers: *const u32,
+            layers_len: usize,
+            colors: *const f32,
+            colors_len: usize,
+            count: usize,
+        ) -> bool;
+        pub fn ffi_is_table(
+            layers: *const u32,
+            layers_len: usize,
+            colors: *const f32,
+            colors_len: usize,
+            count: usize,
+        ) -> bool;
+        pub fn ffi_paint_layer(
+            words: *mut [u32; 6],
+            counts: *mut [usize; 2],
+            tile: i32,
+            layer: u32,
+            row: *const u64,
+            row_len: usize,
+            layers: *const u32,
+            layers_len: usize,
+            colors: *const f32,
+            colors_len: usize,
+            count: usize,
+            ids: *const u32,
+            ids_len: usize,
+            covers: *const i8,
+            covers_len: usize,
+            plane: *mut f32,
+            plane_len: usize,
+            mark: *mut u32,
+        ) -> u32;
+        pub fn ffi_find_not_negative(segments: *const u64, segments_len: usize) -> usize;
+        pub fn ffi_find_row(segments: *const u64, segments_len: usize, j: usize, end: *mut usize) -> usize;
+        pub fn ffi_is_in_crop(is_given: bool, start: usize, end: usize, j: usize) -> bool;
+        pub fn ffi_open_tile_row(
+            tile_y: i32,
+            from: i32,
+            to: i32,
+            row: *const u64,
+            row_len: usize,
+            layers: *const u32,
+            layers_len: usize,
+            colors: *const f32,
+            colors_len: usize,
+            count: usize,
+            ids: *mut u32,
+            ids_len: usize,
+            covers: *mut i8,
+            covers_len: usize,
+            words: *mut [u32; 6],
+            counts: *mut [usize; 2],
+        ) -> u32;
+        pub fn ffi_pack(
+            layer_id: u32,
+            tile_x: i16,
+            tile_y: i16,
+            local_x: u8,
+            local_y: u8,
+            double_area_multiplier: u8,
+            cover: i8,
+            word: *mut u64,
+        ) -> u32;
+        pub fn ffi_layer_id(word: u64) -> u32;
+        pub fn ffi_tile_x(word: u64) -> i16;
+        pub fn ffi_tile_y(word: u64) -> i16;
+        pub fn ffi_local_x(word: u64) -> u8;
+        pub fn ffi_local_y(word: u64) -> u8;
+        pub fn ffi_double_area_multiplier(word: u64) -> u8;
+        pub fn ffi_double_area(word: u64) -> i16;
+        pub fn ffi_cover(word: u64) -> i8;
+        pub fn ffi_cmp(word: u64, other: u64) -> u8;
+        pub fn ffi_does_ascend(row: *const u64, row_len: usize) -> bool;
+        pub fn ffi_is_row(row: *const u64, row_len: usize, stored_tile_y: u64) -> bool;
+        pub fn ffi_search_last_by_tile_y(
+            segments: *const u64,
+            segments_len: usize,
+            tile_y: i16,
+            place: *mut usize,
+        ) -> bool;
+        pub fn ffi_search_last_by_tile_x(
+            segments: *const u64,
+            segments_len: usize,
+            tile_x: i16,
+            place: *mut usize,
+        ) -> bool;
+        pub fn ffi_search_last_by_layer_id(
+            segments: *const u64,
+            segments_len: usize,
+            layer_id: u32,
+            place: *mut usize,
+        ) -> bool;
+        pub fn ffi_search_last_by_tile_x_at_least(
+            segments: *const u64,
+            segments_len: usize,
+            start: i16,
+            wanted: bool,
+            place: *mut usize,
+        ) -> bool;
+        pub fn ffi_search_last_by_tile_y_not_negative(
+            segments: *const u64,
+            segments_len: usize,
+            wanted: bool,
+            place: *mut usize,
+        ) -> bool;
+        pub fn ffi_work_tile(
+            words: *mut [u32; 6],
+            counts: *mut [usize; 2],
+            tile: i32,
+            row: *const u64,
+            row_len: usize,
+            layers: *const u32,
+            layers_len: usize,
+            colors: *const f32,
+            colors_len: usize,
+            count: usize,
+            is_kept: bool,
+            kept: *mut [u8; 8],
+            clear: *const [f32; 4],
+            is_previous: bool,
+            previous: *const [f32; 4],
+            ids: *const u32,
+            ids_len: usize,
+            covers: *const i8,
+            covers_len: usize,
+            next_ids: *mut u32,
+            next_ids_len: usize,
+            next_covers: *mut i8,
+            next_covers_len: usize,
+            list_ids: *mut u32,
+            list_ids_len: usize,
+            list_covers: *mut i8,
+            list_covers_len: usize,
+            list_segments: *mut bool,
+            list_segments_len: usize,
+            list_unmasked: *mut bool,
+            list_unmasked_len: usize,
+            told: *mut [usize; 4],
+            bottom: *mut [f32; 4],
+        ) -> u32;
+    }
+}
+
+/// Whether the tile keeps a layer count; where it does, the count in `count`.
+#[inline]
+pub fn layer_count(tile: &[u8; 8], count: &mut u32) -> bool {
+    // SAFETY: the references are those that the export takes, a slice with its own length; it is proved to keep
+    // to them for every value, and nothing of them is held after the call.
+    unsafe { raw::ffi_layer_count(tile, count) }
+}
+
+/// Whether the tile keeps a solid colour; where it does, its bytes in `color`.
+#[inline]
+pub fn solid_color(tile: &[u8; 8], color: &mut [u8; 4]) -> bool {
+    // SAFETY: the references are those that the export takes, a slice with its own length; it is proved to keep
+    // to them for every value, and nothing of them is held after the call.
+    unsafe { raw::ffi_solid_color(tile, color) }
+}
+
+/// The tile keeps the count, where one is given, or none. Whether it kept one before; where it did, that one in
+/// `previous`.
+#[inline]
+pub fn update_layer_count(tile: &mut [u8; 8], given: bool, count: u32, previous: &mut u32) -> bool {
+    // SAFETY: the references are those that the export takes, a slice with its own length; it is proved to keep
+    // to them for every value, and nothing of them is held after the call.
+    unsafe { raw::ffi_update_layer_count(tile, given, count, previous) }
+}
+
+/// The tile keeps the colour, where one is given, or none. Whether it kept one before; where it did, its bytes in
+/// `previous`.
+#[inline]
+pub fn update_solid_color(tile: &mut [u8; 8], given: bool, color: &[u8; 4], previous: &mut [u8; 4]) -> bool {
+    // SAFETY: the references are those that the export takes, a slice with its own length; it is proved to keep
+    // to them for every value, and nothing of them is held after the call.
+    unsafe { raw::ffi_update_solid_color(tile, given, color, previous) }
+}
+
+/// Where a tile is given it keeps the bytes. 0 and whether they are to be written in `is_written`, or the number of the
+/// refusal. The tile's bytes are stored where the call is accepted and a tile is given.
+#[inline]
+pub fn settle(given: bool, tile: &mut [u8; 8], color: &[u8; 4], is_written: &mut bool) -> u32 {
+    // SAFETY: the references are those that the export takes, a slice with its own length; it is proved to keep
+    // to them for every value, and nothing of them is held after the call.
+    unsafe { raw::ffi_settle(given, tile, color, is_written) }
+}
+
+/// `ffi_is_empty` of the library.
+#[inline]
+pub fn is_empty(covers: &[i8; 16], rule: u32) -> bool {
+    // SAFETY: the references are those that the export takes, a slice with its own length; it is proved to keep
+    // to them for every value, and nothing of them is held after the call.
+    unsafe { raw::ffi_is_empty(covers, rule) }
+}
+
+/// `ffi_is_full` of the library.
+#[inline]
+pub fn is_full(covers: &[i8; 16], rule: u32) -> bool {
+    // SAFETY: the references are those that the export takes, a slice with its own length; it is proved to keep
+    // to them for every value, and nothing of them is held after the call.
+    unsafe { raw::ffi_is_full(covers, rule) }
+}
+
+/// 0 and the covers of the part added to those in `covers`, or the number of the refusal.
+#[inline]
+pub fn carry(part: &[u64], covers: &mut [i8; 16]) -> u32 {
+    // SAFETY: the references are those that the export takes, a slice with its own length; it is proved to keep
+    // to them for every value, and nothing of them is held after the call.
+    unsafe { raw::ffi_carry(part.as_ptr(), part.len(), covers) }
+}
+
+/// The coverage of a pixel that sees d.
+#[inline]
+pub fn doubled_area_to_coverage(d: i16, rule: u32) -> f32 {
+    // SAFETY: the references are those that the export takes, a slice with its own length; it is proved to keep
+    // to them for every value, and nothing of them is held after the call.
+    unsafe { raw::ffi_doubled_area_to_coverage(d, rule) }
+}
+
+/// 0, the coverages in `plane` and their mark in `mark`, or the number of the refusal.
+#[inline]
+pub fn paint_part(part: &[u64], covers: &[i8; 16], rule: u32, plane: &mut [f32], mark: &mut u32) -> u32 {
+    // SAFETY: the references are those that the export takes, a slice with its own length; it is proved to keep
+    // to them for every value, and nothing of them is held after the call.
+    unsafe { raw::ffi_paint_part(part.as_ptr(), part.len(), covers, rule, plane.as_mut_ptr(), plane.len(), mark) }
+}
+
+/// 0 and the mark of any plane in `mark`, or the number of the refusal.
+#[inline]
+pub fn mark_plane(plane: &[f32], mark: &mut u32) -> u32 {
+    // SAFETY: the references are those that the export takes, a slice with its own length; it is proved to keep
+    // to them for every value, and nothing of them is held after the call.
+    unsafe { raw::ffi_mark_plane(plane.as_ptr(), plane.len(), mark) }
+}
+
+/// How many octets a mark has.
+#[inline]
+pub fn octets(mark: u32) -> u32 {
+    // SAFETY: the references are those that the export takes, a slice with its own length; it is proved to keep
+    // to them for every value, and nothing of them is held after the call.
+    unsafe { raw::ffi_octets(mark) }
+}
+
+/// `ffi_color_eq` of the library.
+#[inline]
+pub fn color_eq(color: &[f32; 4], other: &[f32; 4]) -> bool {
+    // SAFETY: the references are those that the export takes, a slice with its own length; it is proved to keep
+    // to them for every value, and nothing of them is held after the call.
+    unsafe { raw::ffi_color_eq(color, other) }
+}
+
+/// Whether a draw with this fill, blend mode and colour hides what is below it.
+#[inline]
+pub fn is_opaque(fill: u32, blend_mode: u32, color: &[f32; 4]) -> bool {
+    // SAFETY: the references are those that the export takes, a slice with its own length; it is proved to keep
+    // to them for every value, and nothing of them is held after the call.
+    unsafe { raw::ffi_is_opaque(fill, blend_mode, color) }
+}
+
+/// The number of the blend mode of a number.
+#[inline]
+pub fn blend_mode(code: u32) -> u32 {
+    // SAFETY: the references are those that the export takes, a slice with its own length; it is proved to keep
+    // to them for every value, and nothing of them is held after the call.
+    unsafe { raw::ffi_blend_mode(code) }
+}
+
+/// Whether the table is shorter than its count.
+#[inline]
+pub fn is_short(layers: &[u32], colors: &[f32], count: usize) -> bool {
+    // SAFETY: the references are those that the export takes, a slice with its own length; it is proved to keep
+    // to them for every value, and nothing of them is held after the call.
+    unsafe { raw::ffi_is_short(layers.as_ptr(), layers.len(), colors.as_ptr(), colors.len(), count) }
+}
+
+/// Whether no refusal applies to the table.
+#[inline]
+pub fn is_table(layers: &[u32], colors: &[f32], count: usize) -> bool {
+    // SAFETY: the references are those that the export takes, a slice with its own length; it is proved to keep
+    // to them for every value, and nothing of them is held after the call.
+    unsafe { raw::ffi_is_table(layers.as_ptr(), layers.len(), colors.as_ptr(), colors.len(), count) }
+}
+
+/// 0, the coverages in `plane`, their mark in `mark` and the state with the painter's clip, or the number of the
+/// refusal.
+#[allow(clippy::too_many_arguments)]
+#[inline]
+pub fn paint_layer(
+    words: &mut [u32; 6],
+    counts: &mut [usize; 2],
+    tile: i32,
+    layer: u32,
+    row: &[u64],
+    layers: &[u32],
+    colors: &[f32],
+    count: usize,
+    ids: &[u32],
+    covers: &[i8],
+    plane: &mut [f32],
+    mark: &mut u32,
+) -> u32 {
+    // SAFETY: the references are those that the export takes, a slice with its own length; it is proved to keep
+    // to them for every value, and nothing of them is held after the call.
+    unsafe {
+        raw::ffi_paint_layer(
+            words,
+            counts,
+            tile,
+            layer,
+            row.as_ptr(),
+            row.len(),
+            layers.as_ptr(),
+            layers.len(),
+            colors.as_ptr(),
+            colors.len(),
+            count,
+            ids.as_ptr(),
+            ids.len(),
+            covers.as_ptr(),
+            covers.len(),
+            plane.as_mut_ptr(),
+            plane.len(),
+            mark,
+        )
+    }
+}
+
+/// Where the segments start that have no negative tile y.
+#[inline]
+pub fn find_not_negative(segments: &[u64]) -> usize {
+    // SAFETY: the references are those that the export takes, a slice with its own length; it is proved to keep
+    // to them for every value, and nothing of them is held after the call.
+    unsafe { raw::ffi_find_not_negative(segments.as_ptr(), segments.len()) }
+}
+
+/// Where row j starts; in `end` where it ends, one past its last segment.
+#[inline]
+pub fn find_row(segments: &[u64], j: usize, end: &mut usize) -> usize {
+    // SAFETY: the references are those that the export takes, a slice with its own length; it is proved to keep
+    // to them for every value, and nothing of them is held after the call.
+    unsafe { raw::ffi_find_row(segments.as_ptr(), segments.len(), j, end) }
+}
+
+/// `ffi_is_in_crop` of the library.
+#[inline]
+pub fn is_in_crop(is_given: bool, start: usize, end: usize, j: usize) -> bool {
+    // SAFETY: the references are those that the export takes, a slice with its own length; it is proved to keep
+    // to them for every value, and nothing of them is held after the call.
+    unsafe { raw::ffi_is_in_crop(is_given, start, end, j) }
+}
+
+/// 0, the carries in the lent queue and the state before the first tile in `words` and `counts`, or the number of the
+/// refusal.
+#[allow(clippy::too_many_arguments)]
+#[inline]
+pub fn open_tile_row(
+    tile_y: i32,
+    from: i32,
+    to: i32,
+    row: &[u64],
+    layers: &[u32],
+    colors: &[f32],
+    count: usize,
+    ids: &mut [u32],
+    covers: &mut [i8],
+    words: &mut [u32; 6],
+    counts: &mut [usize; 2],
+) -> u32 {
+    // SAFETY: the references are those that the export takes, a slice with its own length; it is proved to keep
+    // to them for every value, and nothing of them is held after the call.
+    unsafe {
+        raw::ffi_open_tile_row(
+            tile_y,
+            from,
+            to,
+            row.as_ptr(),
+            row.len(),
+            layers.as_ptr(),
+            layers.len(),
+            colors.as_ptr(),
+            colors.len(),
+            count,
+            ids.as_mut_ptr(),
+            ids.len(),
+            covers.as_mut_ptr(),
+            covers.len(),
+            words,
+            counts,
+        )
+    }
+}
+
+/// `ffi_pack` of the library.
+#[allow(clippy::too_many_arguments)]
+#[inline]
+pub fn pack(
+    layer_id: u32,
+    tile_x: i16,
+    tile_y: i16,
+    local_x: u8,
+    local_y: u8,
+    double_area_multiplier: u8,
+    cover: i8,
+    word: &mut u64,
+) -> u32 {
+    // SAFETY: the references are those that the export takes, a slice with its own length; it is proved to keep
+    // to them for every value, and nothing of them is held after the call.
+    unsafe { raw::ffi_pack(layer_id, tile_x, tile_y, local_x, local_y, double_area_multiplier, cover, word) }
+}
+
+/// `ffi_layer_id` of the library.
+#[inline]
+pub fn layer_id(word: u64) -> u32 {
+    // SAFETY: the references are those that the export takes, a slice with its own length; it is proved to keep
+    // to them for every value, and nothing of them is held after the call.
+    unsafe { raw::ffi_layer_id(word) }
+}
+
+/// `ffi_tile_x` of the library.
+#[inline]
+pub fn tile_x(word: u64) -> i16 {
+    // SAFETY: the references are those that the export takes, a slice with its own length; it is proved to keep
+    // to them for every value, and nothing of them is held after the call.
+    unsafe { raw::ffi_tile_x(word) }
+}
+
+/// `ffi_tile_y` of the library.
+#[inline]
+pub fn tile_y(word: u64) -> i16 {
+    // SAFETY: the references are those that the export takes, a slice with its own length; it is proved to keep
+    // to them for every value, and nothing of them is held after the call.
+    unsafe { raw::ffi_tile_y(word) }
+}
+
+/// `ffi_local_x` of the library.
+#[inline]
+pub fn local_x(word: u64) -> u8 {
+    // SAFETY: the references are those that the export takes, a slice with its own length; it is proved to keep
+    // to them for every value, and nothing of them is held after the call.
+    unsafe { raw::ffi_local_x(word) }
+}
+
+/// `ffi_local_y` of the library.
+#[inline]
+pub fn local_y(word: u64) -> u8 {
+    // SAFETY: the references are those that the export takes, a slice with its own length; it is proved to keep
+    // to them for every value, and nothing of them is held after the call.
+    unsafe { raw::ffi_local_y(word) }
+}
+
+/// `ffi_double_area_multiplier` of the library.
+#[inline]
+pub fn double_area_multiplier(word: u64) -> u8 {
+    // SAFETY: the references are those that the export takes, a slice with its own length; it is proved to keep
+    // to them for every value, and nothing of them is held after the call.
+    unsafe { raw::ffi_double_area_multiplier(word) }
+}
+
+/// `ffi_double_area` of the library.
+#[inline]
+pub fn double_area(word: u64) -> i16 {
+    // SAFETY: the references are those that the export takes, a slice with its own length; it is proved to keep
+    // to them for every value, and nothing of them is held after the call.
+    unsafe { raw::ffi_double_area(word) }
+}
+
+/// `ffi_cover` of the library.
+#[inline]
+pub fn cover(word: u64) -> i8 {
+    // SAFETY: the references are those that the export takes, a slice with its own length; it is proved to keep
+    // to them for every value, and nothing of them is held after the call.
+    unsafe { raw::ffi_cover(word) }
+}
+
+/// How a segment compares with another: 0 less, 1 equal, 2 greater.
+#[inline]
+pub fn cmp(word: u64, other: u64) -> u8 {
+    // SAFETY: the references are those that the export takes, a slice with its own length; it is proved to keep
+    // to them for every value, and nothing of them is held after the call.
+    unsafe { raw::ffi_cmp(word, other) }
+}
+
+/// `ffi_does_ascend` of the library.
+#[inline]
+pub fn does_ascend(row: &[u64]) -> bool {
+    // SAFETY: the references are those that the export takes, a slice with its own length; it is proved to keep
+    // to them for every value, and nothing of them is held after the call.
+    unsafe { raw::ffi_does_ascend(row.as_ptr(), row.len()) }
+}
+
+/// `ffi_is_row` of the library.
+#[inline]
+pub fn is_row(row: &[u64], stored_tile_y: u64) -> bool {
+    // SAFETY: the references are those that the export takes, a slice with its own length; it is proved to keep
+    // to them for every value, and nothing of them is held after the call.
+    unsafe { raw::ffi_is_row(row.as_ptr(), row.len(), stored_tile_y) }
+}
+
+/// `ffi_search_last_by_tile_y` of the library.
+#[inline]
+pub fn search_last_by_tile_y(segments: &[u64], tile_y: i16, place: &mut usize) -> bool {
+    // SAFETY: the references are those that the export takes, a slice with its own length; it is proved to keep
+    // to them for every value, and nothing of them is held after the call.
+    unsafe { raw::ffi_search_last_by_tile_y(segments.as_ptr(), segments.len(), tile_y, place) }
+}
+
+/// `ffi_search_last_by_tile_x` of the library.
+#[inline]
+pub fn search_last_by_tile_x(segments: &[u64], tile_x: i16, place: &mut usize) -> bool {
+    // SAFETY: the references are those that the export takes, a slice with its own length; it is proved to keep
+    // to them for every value, and nothing of them is held after the call.
+    unsafe { raw::ffi_search_last_by_tile_x(segments.as_ptr(), segments.len(), tile_x, place) }
+}
+
+/// `ffi_search_last_by_layer_id` of the library.
+#[inline]
+pub fn search_last_by_layer_id(segments: &[u64], layer_id: u32, place: &mut usize) -> bool {
+    // SAFETY: the references are those that the export takes, a slice with its own length; it is proved to keep
+    // to them for every value, and nothing of them is held after the call.
+    unsafe { raw::ffi_search_last_by_layer_id(segments.as_ptr(), segments.len(), layer_id, place) }
+}
+
+/// `ffi_search_last_by_tile_x_at_least` of the library.
+#[inline]
+pub fn search_last_by_tile_x_at_least(segments: &[u64], start: i16, wanted: bool, place: &mut usize) -> bool {
+    // SAFETY: the references are those that the export takes, a slice with its own length; it is proved to keep
+    // to them for every value, and nothing of them is held after the call.
+    unsafe { raw::ffi_search_last_by_tile_x_at_least(segments.as_ptr(), segments.len(), start, wanted, place) }
+}
+
+/// `ffi_search_last_by_tile_y_not_negative` of the library.
+#[inline]
+pub fn search_last_by_tile_y_not_negative(segments: &[u64], wanted: bool, place: &mut usize) -> bool {
+    // SAFETY: the references are those that the export takes, a slice with its own length; it is proved to keep
+    // to them for every value, and nothing of them is held after the call.
+    unsafe { raw::ffi_search_last_by_tile_y_not_negative(segments.as_ptr(), segments.len(), wanted, place) }
+}
+
+/// 0, the list, the carries handed on, the cached tile, the answer and the state past the tile, or the number of the
+/// refusal. The bytes of the cached tile are stored where the call is accepted and a tile is given.
+#[allow(clippy::too_many_arguments)]
+#[inline]
+pub fn work_tile(
+    words: &mut [u32; 6],
+    counts: &mut [usize; 2],
+    tile: i32,
+    row: &[u64],
+    layers: &[u32],
+    colors: &[f32],
+    count: usize,
+    is_kept: bool,
+    kept: &mut [u8; 8],
+    clear: &[f32; 4],
+    is_previous: bool,
+    previous: &[f32; 4],
+    ids: &[u32],
+    covers: &[i8],
+    next_ids: &mut [u32],
+    next_covers: &mut [i8],
+    list_ids: &mut [u32],
+    list_covers: &mut [i8],
+    list_segments: &mut [bool],
+    list_unmasked: &mut [bool],
+    told: &mut [usize; 4],
+    bottom: &mut [f32; 4],
+) -> u32 {
+    // SAFETY: the references are those that the export takes, a slice with its own length; it is proved to keep
+    // to them for every value, and nothing of them is held after the call.
+    unsafe {
+        raw::ffi_work_tile(
+            words,
+            counts,
+            tile,
+            row.as_ptr(),
+            row.len(),
+            layers.as_ptr(),
+            layers.len(),
+            colors.as_ptr(),
+            colors.len(),
+            count,
+            is_kept,
+            kept,
+            clear,
+            is_previous,
+            previous,
+            ids.as_ptr(),
+            ids.len(),
+            covers.as_ptr(),
+            covers.len(),
+            next_ids.as_mut_ptr(),
+            next_ids.len(),
+            next_covers.as_mut_ptr(),
+            next_covers.len(),
+            list_ids.as_mut_ptr(),
+            list_ids.len(),
+            list_covers.as_mut_ptr(),
+            list_covers.len(),
+            list_segments.as_mut_ptr(),
+            list_segments.len(),
+            list_unmasked.as_mut_ptr(),
+            list_unmasked.len(),
+            told,
+            bottom,
+        )
+    }
+}

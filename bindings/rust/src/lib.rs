@@ -1,0 +1,115 @@
+//! Tile rows of the forma CPU painter, proved.
+//!
+//! A figure service draws plates one row of tiles after another. This crate decides what a tile shows and computes its
+//! coverages: it takes the place of the coverage stage of forma's CPU painter (google/forma, commit 681e8bfd34), and
+//! ends there. Blending is the caller's. Below it is a static library whose every function is proved to meet its
+//! contract; the crate adds types and borrows, and no arithmetic.
+//!
+//! # A row
+//!
+//! A [`Plate`] has ordered [`PixelSegment`]s; [`Plate::row`] gives those of a row. A [`LayerTable`] says what each
+//! layer is. [`Row::open`] borrows both and gives tile after tile:
+//!
+//! ```
+//! use tile_rows::{Color, Decision, Fields, Frame, Layer, LayerTable, PixelSegment, Plane, Refusal, Row, Style};
+//!
+//! # fn main() -> Result<(), Refusal> {
+//! // One opaque layer: an edge goes up at the left of tile 0, and down in the middle of tile 2.
+//! let black = Color { r: 0.0, g: 0.0, b: 0.0, a: 1.0 };
+//! let table = LayerTable::new(&[Layer::draw(1, Style::solid(black))]);
+//! let edge = |tile_x, local_x, cover| {
+//!     (0..16).map(move |local_y| {
+//!         let double_area_multiplier = 32;
+//!         PixelSegment::new(Fields {
+//!             layer_id: 1, tile_x, tile_y: 0, local_x, local_y, double_area_multiplier, cover,
+//!         })
+//!     })
+//! };
+//! let segments = edge(0, 0, 16).chain(edge(2, 8, -16)).collect::<Result<Vec<_>, _>>()?;
+//!
+//! let frame = Frame { clear: Color { r: 1.0, g: 1.0, b: 1.0, a: 1.0 }, previous_clear: None };
+//! let mut plane = Plane::new();
+//! let mut words = Vec::new();
+//! let mut row = Row::open(&segments, &table, 0, 0..4)?;
+//! for tile in row.tiles() {
+//!     let worked = row.work(tile, &frame, None)?;
+//!     words.push(worked.decision.word());
+//!     match worked.decision {
+//!         Decision::None => {} // the tile stays as the last frame left it
+//!         Decision::Solid { bottom, before } => {
+//!             // Mix the colours of `row.listed()`'s shown layers above `bottom`, but the first `before` of them; make
+//!             // the display bytes, and ask `row.settle` whether they are to be written.
+//!             let _to_mix = row.listed().filter(|listed| listed.is_shown()).skip(before);
+//!             assert!(tile != 1 || bottom == black);
+//!         }
+//!         Decision::Paint => row.paint_shown(&mut plane, |listed, plane, mark| {
+//!             // Blend the layer by its coverages, in the octets that the mark names.
+//!             assert_eq!((listed.id, plane.at(0, 0)), (1, 1.0));
+//!             assert_eq!(mark.octets(), if tile == 0 { 32 } else { 16 });
+//!         })?,
+//!     }
+//! }
+//! assert_eq!(words, ["paint", "solid", "paint", "solid"]);
+//! # Ok(())
+//! # }
+//! ```
+//!
+//! # From frame to frame
+//!
+//! Keep a [`CachedTile`] for each tile, lend it to [`Row::work`] and [`Row::settle`], and say in the table which layers
+//! are unchanged and in [`Frame`] what the last clear colour was. A tile of which nothing changed is then decided as
+//! [`Decision::None`], and a solid one whose bytes are there already is [`Settled::Keep`].
+//!
+//! # Threads
+//!
+//! Rows don't depend on each other. A [`Row`] is `Send` and borrows its table, so that `std::thread::scope` can work
+//! the rows of a plate side by side; the example `plate` does.
+//!
+//! # Refusals
+//!
+//! A call that is turned down gives a [`Refusal`], the lowest that applies, and leaves everything as it was: the row
+//! can be used on, with the same tile or, after mending what was wrong, another.
+//!
+//! # What is judged when
+//!
+//! The library's operations that judge row and table once for a whole row are not exported yet. [`Row`] therefore calls
+//! the public operations, which judge everything that they are lent in every call: the time of a tile grows with the
+//! row's segments. Nothing of the crate's interface rests on that; `Row` borrows what it was opened with, which is the
+//! premise of the faster operations.
+//!
+//! # Memory of your own
+//!
+//! [`exports`] has every operation of the library as a safe function over lent slices and numbers. It is made from the
+//! library's sources by `cargo run --example declare`, and a test holds it to them.
+
+#![deny(missing_docs, unsafe_code)]
+
+pub mod cached_tile;
+mod color;
+mod cover;
+mod decision;
+#[allow(unsafe_code)] // the declarations, and one call of each
+pub mod exports;
+mod mark;
+pub mod plane;
+pub mod plate;
+mod refusal;
+mod row;
+pub mod segment;
+mod style;
+mod table;
+
+pub use crate::{
+    cached_tile::{settle, CachedTile, Settled},
+    color::Color,
+    cover::Cover,
+    decision::Decision,
+    mark::Mark,
+    plane::Plane,
+    plate::Plate,
+    refusal::Refusal,
+    row::{Carry, Frame, Listed, Row, Worked},
+    segment::{Fields, PixelSegment},
+    style::{BlendMode, Fill, FillRule, Style},
+    table::{Func, Layer, LayerTable},
+};

@@ -1,0 +1,333 @@
+//! A row of tiles, worked from left to right.
+
+use std::{mem, ops::Range};
+
+use crate::{
+    cached_tile, exports, segment, CachedTile, Color, Cover, Decision, LayerTable, Mark, PixelSegment, Plane, Refusal,
+    Settled,
+};
+
+/// How many entries the library asks of every queue and list.
+const ENTRIES: usize = 256;
+
+/// The colours behind all layers, in this frame and, where there was one, in the last.
+#[derive(Clone, Copy, Debug, PartialEq)]
+pub struct Frame {
+    /// The clear colour.
+    pub clear: Color,
+    /// The clear colour of the last frame.
+    pub previous_clear: Option<Color>,
+}
+
+/// What the work on a tile gave. [`Row::listed`] has its layers, [`Row::carries`] what it handed on.
+#[derive(Clone, Copy, Debug, PartialEq)]
+#[non_exhaustive]
+pub struct Worked {
+    /// The tile.
+    pub tile: i32,
+    /// What is to be done with it.
+    pub decision: Decision,
+    /// How many layers are listed.
+    pub listed: usize,
+    /// How many of them, from the bottom, are passed over as covered.
+    pub passed_over: usize,
+}
+
+/// A layer in a tile's list.
+#[derive(Clone, Copy, Debug, PartialEq, Eq, Hash)]
+#[non_exhaustive]
+pub struct Listed {
+    /// The layer's id.
+    pub id: u32,
+    /// Its cover from the left.
+    pub cover: Cover,
+    /// Whether it has segments in the tile.
+    pub has_segments: bool,
+    /// Whether a pass over clips masked it off.
+    pub is_masked_off: bool,
+    /// Whether a layer above hides it.
+    pub is_passed_over: bool,
+}
+
+impl Listed {
+    /// Whether it is neither masked off nor passed over.
+    pub fn is_shown(&self) -> bool {
+        !self.is_masked_off && !self.is_passed_over
+    }
+}
+
+/// What a tile hands on to the next of a layer.
+#[derive(Clone, Copy, Debug, PartialEq, Eq, Hash)]
+pub struct Carry {
+    /// The layer's id.
+    pub id: u32,
+    /// Its cover.
+    pub cover: Cover,
+}
+
+/// Where a caller stands in a row, as the library keeps it: tile y, from, to, the next tile, whether the painter has a
+/// clip, the clip's last layer; and how many carries are handed on and were taken in.
+#[derive(Clone, Copy, Debug, Default, PartialEq, Eq)]
+struct State {
+    words: [u32; 6],
+    counts: [usize; 2],
+}
+
+/// A queue of carries, by columns.
+#[derive(Clone, Debug)]
+struct Queue {
+    ids: [u32; ENTRIES],
+    covers: [i8; 16 * ENTRIES],
+}
+
+impl Queue {
+    const fn new() -> Queue {
+        Queue { ids: [0; ENTRIES], covers: [0; 16 * ENTRIES] }
+    }
+
+    fn cover(&self, place: usize) -> Cover {
+        cover_at(&self.covers, place)
+    }
+
+    fn carries(&self, count: usize) -> impl ExactSizeIterator<Item = Carry> + '_ {
+        (0..count).map(|place| Carry { id: self.ids[place], cover: self.cover(place) })
+    }
+}
+
+/// A tile's list, by columns.
+#[derive(Clone, Debug)]
+struct List {
+    ids: [u32; ENTRIES],
+    covers: [i8; 16 * ENTRIES],
+    segments: [bool; ENTRIES],
+    unmasked: [bool; ENTRIES],
+    count: usize,
+    passed_over: usize,
+}
+
+impl List {
+    const fn new() -> List {
+        List {
+            ids: [0; ENTRIES],
+            covers: [0; 16 * ENTRIES],
+            segments: [false; ENTRIES],
+            unmasked: [false; ENTRIES],
+            count: 0,
+            passed_over: 0,
+        }
+    }
+
+    fn at(&self, place: usize) -> Listed {
+        Listed {
+            id: self.ids[place],
+            cover: cover_at(&self.covers, place),
+            has_segments: self.segments[place],
+            is_masked_off: !self.unmasked[place],
+            is_passed_over: place < self.passed_over,
+        }
+    }
+}
+
+fn cover_at(covers: &[i8; 16 * ENTRIES], place: usize) -> Cover {
+    Cover(covers[16 * place..16 * place + 16].try_into().expect("16 covers an entry"))
+}
+
+/// An open row: it borrows the row's segments and the layer table for its life, and owns the queues of carries and the
+/// list, so nothing that it was opened with can change between two calls.
+///
+/// Tile after tile: [`work`](Row::work), then, by its decision, [`paint`](Row::paint) the shown layers, or mix their
+/// colours and [`settle`](Row::settle) the bytes. A call that is turned down leaves the row as it was, and it can be
+/// used on.
+///
+/// A row is `Send`: rows of a plate may be worked on several threads.
+#[derive(Clone, Debug)]
+pub struct Row<'a> {
+    segments: &'a [PixelSegment],
+    table: &'a LayerTable,
+    state: State,
+    /// The queue that the tile just worked took in: painting reads it.
+    taken: Box<Queue>,
+    /// The queue that it handed on: the next tile takes it in.
+    handed: Box<Queue>,
+    list: Box<List>,
+}
+
+impl<'a> Row<'a> {
+    /// Opens row `tile_y` for the tiles of a range, with a carry for each layer that has segments left of the first.
+    ///
+    /// Refused by 2 (row number or range), 3 (the segments are no row), 4 and 1 (the table), 7 (more than 256 layers to
+    /// the left) and 9 (their covers).
+    pub fn open(
+        segments: &'a [PixelSegment],
+        table: &'a LayerTable,
+        tile_y: i32,
+        tiles: Range<i32>,
+    ) -> Result<Row<'a>, Refusal> {
+        let mut row = Row {
+            segments,
+            table,
+            state: State::default(),
+            taken: Box::new(Queue::new()),
+            handed: Box::new(Queue::new()),
+            list: Box::new(List::new()),
+        };
+        let (layers, colors, count) = table.lent();
+        Refusal::judge(exports::open_tile_row(
+            tile_y,
+            tiles.start,
+            tiles.end,
+            segment::words_of(segments),
+            layers,
+            colors,
+            count,
+            &mut row.handed.ids,
+            &mut row.handed.covers,
+            &mut row.state.words,
+            &mut row.state.counts,
+        ))?;
+        Ok(row)
+    }
+
+    /// The row's segments.
+    pub fn segments(&self) -> &'a [PixelSegment] {
+        self.segments
+    }
+
+    /// The layer table.
+    pub fn table(&self) -> &'a LayerTable {
+        self.table
+    }
+
+    /// The tiles that the row was opened for.
+    pub fn tiles(&self) -> Range<i32> {
+        // An opened range is within 0 to 4,095.
+        self.state.words[1] as i32..self.state.words[2] as i32
+    }
+
+    /// The tile that is worked next; the end of [`tiles`](Row::tiles) after the last.
+    pub fn next_tile(&self) -> i32 {
+        self.state.words[3] as i32
+    }
+
+    /// Works a tile: lists its layers, decides, and hands the carries on. Where a cached tile is given, its count is
+    /// updated, and its colour let go where the tile is painted.
+    ///
+    /// Refused by 2 (not the next tile, or past the last), 6 (the tag), 7, 8 (a listed layer that the table lacks), 9.
+    pub fn work(&mut self, tile: i32, frame: &Frame, cached: Option<&mut CachedTile>) -> Result<Worked, Refusal> {
+        let mut none = CachedTile::default();
+        let is_cached = cached.is_some();
+        let cached = cached.unwrap_or(&mut none);
+        let previous = frame.previous_clear.unwrap_or_default();
+        let (layers, colors, count) = self.table.lent();
+        let mut told = [0; 4];
+        let mut bottom = [0.0; 4];
+        // The public operation, which judges row, table and queue again. That they pass is known here: the borrow keeps
+        // row and table as they were opened, and nobody else can write the queue. When the library exports the inner
+        // operation, whose premise that is, this call and the one in `paint` are all that changes.
+        Refusal::judge(exports::work_tile(
+            &mut self.state.words,
+            &mut self.state.counts,
+            tile,
+            segment::words_of(self.segments),
+            layers,
+            colors,
+            count,
+            is_cached,
+            &mut cached.0,
+            &frame.clear.numbers(),
+            frame.previous_clear.is_some(),
+            &previous.numbers(),
+            &self.handed.ids,
+            &self.handed.covers,
+            &mut self.taken.ids,
+            &mut self.taken.covers,
+            &mut self.list.ids,
+            &mut self.list.covers,
+            &mut self.list.segments,
+            &mut self.list.unmasked,
+            &mut told,
+            &mut bottom,
+        ))?;
+        // What was handed on is now taken in, and what was written is handed on.
+        mem::swap(&mut self.taken, &mut self.handed);
+        let [decision, before, listed, passed_over] = told;
+        (self.list.count, self.list.passed_over) = (listed, passed_over);
+        let decision = match decision {
+            0 => Decision::None,
+            1 => Decision::Solid { bottom: Color::from(bottom), before },
+            _ => Decision::Paint,
+        };
+        Ok(Worked { tile, decision, listed, passed_over })
+    }
+
+    /// The list of the tile just worked, ascending: the bottom layer first. Empty before the first tile.
+    pub fn listed(&self) -> impl DoubleEndedIterator<Item = Listed> + ExactSizeIterator + '_ {
+        (0..self.list.count).map(|place| self.list.at(place))
+    }
+
+    /// What the tile just worked took in, ascending by layer. Empty before the first tile.
+    pub fn incoming(&self) -> impl ExactSizeIterator<Item = Carry> + '_ {
+        self.taken.carries(self.state.counts[1])
+    }
+
+    /// What is handed on to the next tile, ascending by layer; before the first tile what the row opened with.
+    pub fn carries(&self) -> impl ExactSizeIterator<Item = Carry> + '_ {
+        self.handed.carries(self.state.counts[0])
+    }
+
+    /// Paints a layer of the tile just worked: its coverages into the plane, and their mark. A clip becomes the
+    /// painter's clip and has mark 0; a draw that lacks a clip that it needs has mark 0 too, while its plane is
+    /// written.
+    ///
+    /// The painter paints the shown layers, ascending ([`paint_shown`](Row::paint_shown)); any layer of the table is
+    /// accepted, by the same rules.
+    ///
+    /// Refused by 2 (no tile was worked yet), 8 (the table lacks the layer).
+    pub fn paint(&mut self, layer: u32, plane: &mut Plane) -> Result<Mark, Refusal> {
+        let (layers, colors, count) = self.table.lent();
+        let tile = self.next_tile() - 1;
+        let mut mark = 0;
+        // The public operation, as in `work`.
+        Refusal::judge(exports::paint_layer(
+            &mut self.state.words,
+            &mut self.state.counts,
+            tile,
+            layer,
+            segment::words_of(self.segments),
+            layers,
+            colors,
+            count,
+            &self.taken.ids,
+            &self.taken.covers,
+            plane.as_numbers_mut(),
+            &mut mark,
+        ))?;
+        Ok(Mark(mark))
+    }
+
+    /// Paints the shown layers of the tile just worked, ascending, each into the same plane, and tells of each. This is
+    /// due where the decision is [`Paint`](Decision::Paint).
+    pub fn paint_shown(
+        &mut self,
+        plane: &mut Plane,
+        mut painted: impl FnMut(Listed, &Plane, Mark),
+    ) -> Result<(), Refusal> {
+        for place in self.list.passed_over..self.list.count {
+            let listed = self.list.at(place);
+            if listed.is_shown() {
+                let mark = self.paint(listed.id, plane)?;
+                painted(listed, plane, mark);
+            }
+        }
+        Ok(())
+    }
+
+    /// Settles the tile just worked with the four display bytes of its colour, due where the decision is
+    /// [`Solid`](Decision::Solid): whether they are to be written. The same as [`settle`](crate::settle), which needs
+    /// no row.
+    ///
+    /// Refused by 6 (the tag).
+    pub fn settle(&self, cached: Option<&mut CachedTile>, color: [u8; 4]) -> Result<Settled, Refusal> {
+        cached_tile::settle(cached, color)
+    }
+}

@@ -1,0 +1,111 @@
+//! The layer table: what the painter asks of a layer.
+
+use crate::{exports, Color, Fill, FillRule, Refusal, Style};
+
+/// What a layer does.
+#[derive(Clone, Copy, Debug, PartialEq)]
+pub enum Func {
+    /// It is drawn.
+    Draw(Style),
+    /// It cuts the clipped draws of the `span` layers above it.
+    Clip {
+        /// How many ids above its own it reaches, 0 to 2,097,151.
+        span: u32,
+    },
+}
+
+/// A record of the table.
+#[derive(Clone, Copy, Debug, PartialEq)]
+pub struct Layer {
+    /// 0 to 2,097,151; a layer lies above those of lower ids.
+    pub id: u32,
+    /// Which windings are inside.
+    pub rule: FillRule,
+    /// What it does.
+    pub func: Func,
+    /// Whether nothing of it changed since the last frame.
+    pub is_unchanged: bool,
+}
+
+impl Layer {
+    /// A changed draw by NonZero.
+    pub const fn draw(id: u32, style: Style) -> Layer {
+        Layer { id, rule: FillRule::NonZero, func: Func::Draw(style), is_unchanged: false }
+    }
+
+    /// A changed clip by NonZero.
+    pub const fn clip(id: u32, span: u32) -> Layer {
+        Layer { id, rule: FillRule::NonZero, func: Func::Clip { span }, is_unchanged: false }
+    }
+
+    /// Its words in the table: id, rule, func, span, clipped, fill, blend mode, unchanged.
+    fn words(&self) -> [u32; 8] {
+        let unchanged = u32::from(self.is_unchanged);
+        match self.func {
+            Func::Draw(Style { is_clipped, fill, blend_mode }) => {
+                [self.id, self.rule.code(), 0, 0, u32::from(is_clipped), fill.code(), blend_mode.code(), unchanged]
+            }
+            Func::Clip { span } => [self.id, self.rule.code(), 1, span, 0, 0, 0, unchanged],
+        }
+    }
+
+    fn color(&self) -> Color {
+        match self.func {
+            Func::Draw(Style { fill: Fill::Solid(color), .. }) => color,
+            _ => Color::default(),
+        }
+    }
+}
+
+/// The layer table as the library reads it: eight words and four floats a record, made once.
+///
+/// Making one judges nothing; [`judge`](LayerTable::judge) and every call that is lent the table do.
+#[derive(Clone, Debug, Default)]
+pub struct LayerTable {
+    words: Vec<u32>,
+    colors: Vec<f32>,
+    count: usize,
+}
+
+impl LayerTable {
+    /// The table of these layers, in their order.
+    pub fn new(layers: &[Layer]) -> LayerTable {
+        LayerTable {
+            words: layers.iter().flat_map(Layer::words).collect(),
+            colors: layers.iter().flat_map(|layer| layer.color().numbers()).collect(),
+            count: layers.len(),
+        }
+    }
+
+    /// A table of words and colours that were made elsewhere: eight words a record (id, rule, func, span, clipped,
+    /// fill, blend mode, unchanged), four floats a record, and how many records there are.
+    pub fn from_words(words: Vec<u32>, colors: Vec<f32>, count: usize) -> LayerTable {
+        LayerTable { words, colors, count }
+    }
+
+    /// How many records it has.
+    pub fn len(&self) -> usize {
+        self.count
+    }
+
+    /// Whether it has no record.
+    pub fn is_empty(&self) -> bool {
+        self.count == 0
+    }
+
+    /// Whether a call would turn the table down: by 1 where it is shorter than its count, by 4 where an id, a code or a
+    /// span is not as it should be.
+    pub fn judge(&self) -> Result<(), Refusal> {
+        if exports::is_short(&self.words, &self.colors, self.count) {
+            Err(Refusal::Room)
+        } else if exports::is_table(&self.words, &self.colors, self.count) {
+            Ok(())
+        } else {
+            Err(Refusal::Table)
+        }
+    }
+
+    pub(crate) fn lent(&self) -> (&[u32], &[f32], usize) {
+        (&self.words, &self.colors, self.count)
+    }
+}

@@ -1,0 +1,28 @@
+//! The declarations are those of the library's sources, and the C header compiles and links.
+
+#[path = "../examples/declare/declarations.rs"]
+mod declarations;
+
+use std::{fs, path::PathBuf, process::Command};
+
+#[test]
+fn the_files_are_what_the_sources_make() {
+    for (path, text) in declarations::files() {
+        let kept = fs::read_to_string(&path).unwrap();
+        assert!(kept == text, "{}: run `cargo run --example declare`", path.display());
+        assert!(text.matches("ffi_").count() > 30, "the sources have exports");
+    }
+}
+
+#[test]
+fn a_c_program_packs_a_segment_and_opens_a_row() {
+    let here = PathBuf::from(env!("CARGO_MANIFEST_DIR"));
+    let program = PathBuf::from(env!("CARGO_TARGET_TMPDIR")).join("header");
+    let library = PathBuf::from(env!("TILE_ROWS_LIB_FOLDER")).join("libffi.a");
+    let mut gcc = Command::new("gcc");
+    gcc.args(["-std=c99", "-Wall", "-Wextra", "-Werror", "-pedantic", "-I"]).arg(here.join("../c"));
+    gcc.arg(here.join("tests/header.c")).arg(library).arg("-o").arg(&program);
+    assert!(gcc.status().expect("gcc is on the path").success(), "the header compiles and links");
+    let output = Command::new(program).output().unwrap();
+    assert_eq!(String::from_utf8_lossy(&output.stdout), "word 0020060000534810\nopening 0, carries 0\nplane 1\n");
+}

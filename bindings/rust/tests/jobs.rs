@@ -1,0 +1,116 @@
+//! What the row program prints, made again through the crate, and the inspector's page of the same jobs.
+
+#[path = "../examples/support/mod.rs"]
+mod support;
+
+#[path = "../examples/inspect/page.rs"]
+mod page;
+#[path = "../examples/inspect/pictures.rs"]
+mod pictures;
+
+use std::{fs, path::PathBuf, process::Command};
+
+fn jobs(name: &str) -> PathBuf {
+    PathBuf::from(env!("CARGO_MANIFEST_DIR")).join("../../crates/jobs").join(name)
+}
+
+/// The name, the text and the printed answer of each job file.
+fn stored() -> Vec<(String, Vec<u8>, String)> {
+    let names = fs::read_to_string(jobs("args")).unwrap();
+    let names: Vec<&str> = names.lines().collect();
+    let printed = fs::read_to_string(jobs("stdout")).unwrap();
+    let mut lines = printed.lines().peekable();
+    let mut stored = Vec::new();
+    for (place, &name) in names.iter().enumerate() {
+        assert_eq!(lines.next(), Some(name), "the program names the file before its answer");
+        let next = names.get(place + 1).copied();
+        let mut answer = String::new();
+        while let Some(line) = lines.next_if(|&line| Some(line) != next) {
+            answer += line;
+            answer += "\n";
+        }
+        stored.push((name.to_string(), fs::read(jobs("data").join(name)).unwrap(), answer));
+    }
+    stored
+}
+
+#[test]
+fn each_job_gives_what_the_row_program_prints() {
+    let stored = stored();
+    assert!(stored.len() > 150, "there are job files");
+    for (name, text, printed) in stored {
+        assert_eq!(support::driven::answer(&text), printed, "{name}");
+    }
+}
+
+/// The texts of elements of a class that hold no others.
+fn texts<'a>(page: &'a str, start: &str) -> Vec<&'a str> {
+    let ends = |rest: &'a str| rest.split('<').next().unwrap();
+    page.split(start).skip(1).map(ends).collect()
+}
+
+#[test]
+fn the_page_has_the_numbers_of_the_row_program() {
+    for (name, text, printed) in stored() {
+        let page = page::page(&name, &text, Some(0..4095));
+        let lines: Vec<&str> = printed.lines().filter(|&line| line != support::driven::NAMES).collect();
+        assert_eq!(texts(&page, "<code class=\"line\">"), lines, "{name}");
+        let refused_open = !page.contains("class=\"strip\"");
+        let tiles = texts(&page, "href=\"#tile-").len();
+        assert_eq!(tiles, if refused_open { 0 } else { lines.len() }, "{name}: the strip has each tile");
+        for line in lines.iter().filter(|line| !line.starts_with("refused")) {
+            let fields: Vec<&str> = line.split(' ').collect();
+            let [tile, op, listed, shown, octets, carried] = fields[..] else { panic!("{line}") };
+            let strip = format!("href=\"#tile-{tile}\">{tile}<b>{op}</b>");
+            assert!(page.contains(&strip), "{name}: {line} in the strip");
+            let words =
+                format!(">{line}</code>: {listed} listed, {shown} shown, {octets} used octets, {carried} carried");
+            assert!(page.contains(&words), "{name}: {line} in words");
+        }
+    }
+}
+
+/// Each octet that a page draws, each carry and each listed layer is one that the row program counts.
+#[test]
+fn the_page_draws_what_it_counts() {
+    for (name, text, printed) in stored() {
+        let page = page::page(&name, &text, Some(0..4095));
+        let sum = |field: usize| -> usize {
+            let lines = printed.lines().filter(|line| line.starts_with(|first: char| first.is_ascii_digit()));
+            lines.map(|line| line.split(' ').nth(field).unwrap().parse::<usize>().unwrap()).sum()
+        };
+        assert_eq!(page.matches("height=\"7.7\"").count(), sum(4), "{name}: octets");
+        assert_eq!(page.matches("<svg class=\"plane\"").count(), sum(2), "{name}: listed layers");
+        assert_eq!(page.matches("<b class=\"state\">shown</b>").count(), sum(3), "{name}: shown layers");
+    }
+}
+
+/// A page as Chromium leaves it after its scripts, and one more script, ran.
+fn loaded(name: &str, page: &str, script: &str) -> String {
+    let file = PathBuf::from(env!("CARGO_TARGET_TMPDIR")).join(name);
+    fs::write(&file, page.replace("</body>", &format!("<script>{script}</script></body>"))).unwrap();
+    let url = format!("file://{}", file.display());
+    let words = ["--headless", "--no-sandbox", "--disable-gpu", "--dump-dom", &url];
+    let output = Command::new("chromium").args(words).output().expect("chromium is on the path");
+    String::from_utf8(output.stdout).unwrap()
+}
+
+/// In a browser: the numbers are there, and a tile is chosen by nothing, by a key, by the mouse.
+#[test]
+#[ignore = "needs Chromium"]
+fn a_browser_loads_the_page() {
+    let key = "dispatchEvent(new KeyboardEvent('keydown', { key: 'End' }))";
+    let mouse = "document.querySelectorAll('a.choose')[1].click()";
+    for name in ["example.job", "clip_that_is_used.job", "nine_kept_carry.job"] {
+        let (name, text, printed) = stored().into_iter().find(|(stored, ..)| stored == name).expect("a job file");
+        let page = page::page(&name, &text, None);
+        let lines: Vec<&str> = printed.lines().filter(|&line| line != support::driven::NAMES).collect();
+        for (script, chosen) in [("", 0), (key, lines.len() - 1), (mouse, 1)] {
+            let page = loaded(&format!("{name}.html"), &page, script);
+            assert_eq!(texts(&page, "<code class=\"line\">"), lines, "{name}");
+            let section = format!("<section class=\"tile chosen\" id=\"tile-{chosen}\">");
+            assert!(page.contains(&section), "{name}: tile {chosen} is chosen after {script:?}");
+            assert_eq!(page.matches("class=\"tile chosen\"").count(), 1, "{name}: no other is");
+        }
+    }
+}

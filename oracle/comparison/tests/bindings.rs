@@ -1,0 +1,121 @@
+//! The crate bindings/rust against the Rust: random rows over several frames, tile after tile.
+
+use comparison::{
+    random::Random,
+    scene::{any_scene, Picture, Scene},
+};
+use reference::{
+    painter::row,
+    plain::{self, Cached, Record, Worked},
+    Table,
+};
+use tile_rows::{
+    segment, settle, BlendMode, CachedTile, Color, Cover, Decision, Fill, FillRule, Frame, Func, Layer, LayerTable,
+    PixelSegment, Plane, Row, Settled, Style,
+};
+
+fn layer(record: &Record) -> Layer {
+    let fill = [Fill::Solid(Color::from(record.color)), Fill::Gradient, Fill::Texture][record.fill as usize];
+    let blend_mode = BlendMode::ALL[record.mode as usize];
+    let style = Style { is_clipped: record.clipped == 1, fill, blend_mode };
+    Layer {
+        id: record.id,
+        rule: [FillRule::NonZero, FillRule::EvenOdd][record.rule as usize],
+        func: if record.func == 1 { Func::Clip { span: record.span } } else { Func::Draw(style) },
+        is_unchanged: record.unchanged == 1,
+    }
+}
+
+fn bits(numbers: [f32; 4]) -> [u32; 4] {
+    numbers.map(f32::to_bits)
+}
+
+/// Which decision, and of a solid tile the bottom colour and how many layers lie before those to mix.
+fn decided(decision: &Decision) -> (u32, [u32; 4], usize) {
+    match decision {
+        Decision::None => (0, [0; 4], 0),
+        Decision::Solid { bottom, before } => (1, bits(bottom.numbers()), *before),
+        Decision::Paint => (2, [0; 4], 0),
+    }
+}
+
+fn decided_by_rust(decision: &plain::Decision) -> (u32, [u32; 4], usize) {
+    match decision {
+        plain::Decision::None => (0, [0; 4], 0),
+        plain::Decision::Solid { bottom, before, .. } => (1, bits(*bottom), *before),
+        plain::Decision::Paint => (2, [0; 4], 0),
+    }
+}
+
+/// The list, what is passed over, the carries, and each painted layer, as the Rust has them.
+fn check_tile(row: &mut Row<'_>, decision: &Decision, rust: &Worked, scene: &Scene) {
+    assert_eq!(decided(decision), decided_by_rust(&rust.decision), "{scene:?}");
+    let ours: Vec<_> = row.listed().map(|one| (one.id, one.cover, one.has_segments, !one.is_masked_off)).collect();
+    let wanted = rust.list.iter().map(|one| (one.id, Cover(one.cover), one.has_segments, one.shown));
+    assert_eq!(ours, wanted.collect::<Vec<_>>(), "{scene:?}");
+    assert_eq!(row.listed().filter(|one| one.is_passed_over).count(), rust.skipped, "{scene:?}");
+    let carries: Vec<_> = row.carries().map(|carry| (carry.id, carry.cover)).collect();
+    assert_eq!(carries, rust.queue.iter().map(|carry| (carry.id, Cover(carry.cover))).collect::<Vec<_>>(), "{scene:?}");
+    if *decision == Decision::Paint {
+        let mut painted = rust.painted.iter();
+        let told = row.paint_shown(&mut Plane::new(), |listed, plane, mark| {
+            let wanted = painted.next().expect("the Rust paints as many");
+            assert_eq!((listed.id, mark.0), (wanted.id, wanted.mark), "{scene:?}");
+            // The Rust's planes are stored column by column.
+            let columns: Vec<u32> = plane.columns().flatten().map(f32::to_bits).collect();
+            assert_eq!(columns, wanted.plane.map(f32::to_bits), "{scene:?}");
+        });
+        assert_eq!((told, painted.next().is_none()), (Ok(()), true), "{scene:?}");
+    }
+}
+
+/// A tile's cached bytes after its work, and after settling a solid one.
+fn check_cached(mut kept: Option<CachedTile>, rust: &Worked, scene: &Scene) -> Option<CachedTile> {
+    assert_eq!(kept.map(|kept| kept.0), rust.cached.map(|(worked, _)| worked.0), "{scene:?}");
+    if let Some((bytes, is_written)) = rust.settled {
+        let settled = if is_written { Settled::Write } else { Settled::Keep };
+        assert_eq!(settle(kept.as_mut(), bytes), Ok(settled), "{scene:?}");
+    }
+    assert_eq!(kept.map(|kept| kept.0), rust.cached.map(|(_, settled)| settled.0), "{scene:?}");
+    kept
+}
+
+/// One frame; gives how many tiles got each decision.
+fn check_frame(scene: &Scene, picture: &Picture, cached: &mut [CachedTile]) -> [u32; 3] {
+    let segments = segment::segments_of(&picture.words);
+    assert!(segments.iter().all(|segment| PixelSegment::new(segment.fields()) == Ok(*segment)));
+    let table = LayerTable::new(&picture.records.iter().map(layer).collect::<Vec<_>>());
+    let clear = Color::from(picture.frame.clear);
+    let frame = Frame { clear, previous_clear: picture.frame.previous_clear.map(Color::from) };
+    let rust_table = Table::new(&picture.records);
+    let mut rust = row::Row::open(scene.tile_y, scene.from, scene.to, &picture.words, &rust_table);
+    let tiles = scene.from as i32..scene.to as i32;
+    let mut row = Row::open(segments, &table, scene.tile_y as i32, tiles).expect("a scene meets no condition");
+    let mut decisions = [0; 3];
+    for tile in row.tiles() {
+        let place = &mut cached[tile as usize];
+        let mut kept = scene.caches.then_some(*place);
+        let theirs = rust.work(tile as usize, &picture.frame, kept.map(|kept| Cached(kept.0)));
+        let ours = row.work(tile, &frame, kept.as_mut()).expect("a scene meets no condition");
+        check_tile(&mut row, &ours.decision, &theirs, scene);
+        *place = check_cached(kept, &theirs, scene).unwrap_or(*place);
+        decisions[decided(&ours.decision).0 as usize] += 1;
+    }
+    decisions
+}
+
+#[test]
+fn rows_through_the_crate_are_those_of_the_rust() {
+    let mut random = Random::new(36);
+    let mut decisions = [0; 3];
+    for _ in 0..4000 {
+        let scene = any_scene(&mut random);
+        let mut cached = vec![CachedTile::default(); scene.tiles];
+        for picture in &scene.pictures {
+            let counted = check_frame(&scene, picture, &mut cached);
+            (0..3).for_each(|at| decisions[at] += counted[at]);
+        }
+    }
+    assert!(decisions.iter().all(|&count| count > 1000), "the scenes lack a decision: {decisions:?}");
+    println!("tiles compared, by decision none, solid, paint: {decisions:?}");
+}
