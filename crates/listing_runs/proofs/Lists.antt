@@ -28,7 +28,7 @@ use Rattle.row_statements.specs.Due.{OpenRow, atFirst, tableOn, queueOn, layers
 use Rattle.row_statements.specs.InnerHolding.{IsOpen}
 use Rattle.row_statements.proofs.Works.{is-next, list-passed}
 use Rattle.listing_statements.specs.Listing.{TileList, isTileListShort, listedOver}
-use Rattle.listing_statements.specs.InnerLists.{Says}
+use Rattle.listing_statements.specs.InnerLists.{ListSays}
 use Rattle.listing_statements.proofs.Lists.{listed-ids, written}
 use Rattle.listing_runs.specs.Run.{HeldList, Among}
 use Rattle.listing_runs.specs.InnerHolding.{HoldsList, HoldsLists}
@@ -52,7 +52,7 @@ module _ {o : OpenRow} (is-open : IsOpen o) (n : ℕ) where
       record {
         tile = is-next (stateOn o (record { tiles = n; clip = atFirst .clip })) tile due .is-tile;
         decidable = record { few = l .few; ascends = ap strictlyAscends (listed-ids (layersOn o n)) ∙ layers-ascend (is-open .in-order) (tableOn o) (o .from) n; known = l .known };
-        says = subst (λ (m : ℕ). Says (layersOn o n) m list) (sym many) (subst (Says (layersOn o n) (length (layersOn o n))) (sym is) says);
+        says = subst (λ (m : ℕ). ListSays (layersOn o n) m list) (sym many) (subst (ListSays (layersOn o n) (length (layersOn o n))) (sym is) says);
       }
 
 -- ---- one of the lists

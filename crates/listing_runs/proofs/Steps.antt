@@ -31,7 +31,7 @@ use Rattle.row_statements.proofs.Run.{facts}
 use Rattle.listing_statements.specs.Listing.{TileList, ListLent, ListGiven, entriesFrom, isTileListShort, listedOver, listingOut, listingOf, listAnswer, ListsTile}
 use Rattle.listing_statements.specs.Deciding.{DecideGiven, decidingOut, decidingOf, DecidesTile}
 use Rattle.listing_statements.specs.Succession.{lentPart}
-use Rattle.listing_statements.specs.InnerLists.{Says}
+use Rattle.listing_statements.specs.InnerLists.{ListSays}
 use Rattle.listing_statements.specs.declared.ListAnswer.{ListAnswer}
 use Rattle.listing_statements.specs.declared.ListAnswer.the-variants as listed
 use Rattle.listing_statements.specs.declared.TileListed.{TileListed}
@@ -161,7 +161,7 @@ after-event is-open p (Event.otherPaint a plane r back) ls right hl = hl
 -- ---- deciding
 
 -- the memory that a caller keeps a list in says what the list says
-same-says : {n : ℕ} {ls : List Listed} {a b : TileList} → SameEntries n a b → Says ls n a → Says ls n b
+same-says : {n : ℕ} {ls : List Listed} {a b : TileList} → SameEntries n a b → ListSays ls n a → ListSays ls n b
 same-says same says = record { count = says .count; room = same .room ∙ says .room; ids = same .ids ∙ says .ids; entries = same .reads ∙ says .entries }
 
 module _ {o : OpenRow} (is-open : IsOpen o) (n : ℕ) (l : HeldList) (holds : HoldsList o n l) (c : DecideChoice) (et : l .tile ≡ c .tile) (same : SameEntries (l .count) (l .list) (c .list)) where

@@ -5,14 +5,14 @@ use Prim.Native.Nat.{ℕ, zero, suc, _+_}
 use lib.IntN.{pos}
 use Rattle.row_statements.specs.Due.{OpenRow, Past, tableOn, layersOn}
 use Rattle.row_statements.specs.InnerHolding.{Holds}
-use Rattle.listing_statements.specs.InnerLists.{Decidable, Says}
+use Rattle.listing_statements.specs.InnerLists.{Decidable, ListSays}
 use Rattle.listing_runs.specs.Run.{HeldList, HeldAll}
 
 -- the list of the tile from + n
 pub record HoldsList (o : OpenRow) (n : ℕ) (l : HeldList) : Type 0 where
   pub tile : l .tile ≡ pos (o .from + n)
   pub decidable : Decidable (tableOn o) (layersOn o n)
-  pub says : Says (layersOn o n) (l .count) (l .list)
+  pub says : ListSays (layersOn o n) (l .count) (l .list)
 
 abbrev pub HoldsLists : OpenRow → ℕ → List HeldList → Type 0
 HoldsLists o zero [] = Unit {0}

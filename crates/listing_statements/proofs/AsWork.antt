@@ -12,7 +12,7 @@ use Rattle.layer_workbench.specs.declared.PreviousClear.the-variants.{Absent}
 use Rattle.row_statements.specs.Lent.{listColumns}
 use Rattle.row_statements.specs.State.{State}
 use Rattle.row_statements.specs.TileWork.{WorkCall, WorkLent, WorkGiven, TileAnswer, TileSays, workCall, workLent, argsVerdict, layersVerdict, saysFor, workOut, workOf}
-use Rattle.listing_statements.specs.Listing.{ListCall, ListLent, ListGiven, isTileListShort, callVerdict, listingVerdict, listingOut, listingOf}
+use Rattle.listing_statements.specs.Listing.{ListCall, ListLent, ListGiven, isTileListShort, listCallVerdict, listingVerdict, listingOut, listingOf}
 use Rattle.listing_statements.specs.Succession.{lentPart}
 
 abbrev pub noColor : Color
@@ -44,8 +44,8 @@ out-same lent t s pass = refl
 
 module _ (c : ListCall) (lent : ListLent) where
   -- 1 to 5 are judged alike, and 6 never applies
-  pub args-same : argsVerdict (asWork c) (asLent lent) ≡ callVerdict c lent
-  unfolding argsVerdict callVerdict
+  pub args-same : argsVerdict (asWork c) (asLent lent) ≡ listCallVerdict c lent
+  unfolding argsVerdict listCallVerdict
   args-same = rw (or-false (isTileListShort (lent .list)))
 
   pub listing-is : listingOf c lent ≡ withoutDecision (workOf (asWork c) (asLent lent))

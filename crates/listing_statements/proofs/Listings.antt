@@ -17,19 +17,19 @@ use Rattle.row_statements.specs.State.{State, stateIn, nextState}
 use Rattle.row_statements.specs.InnerWork.{judgedBy}
 use Rattle.row_statements.specs.declared.RowState.{RowState}
 use Rattle.row_statements.proofs.Works as works
-use Rattle.listing_statements.specs.Listing.{ListCall, ListLent, isListingShort, callVerdict, listedBy, listingOut, ListsTile}
-use Rattle.listing_statements.specs.InnerListing.{refusedListing, doneListing, Judged}
+use Rattle.listing_statements.specs.Listing.{ListCall, ListLent, isListingShort, listCallVerdict, listedBy, listingOut, ListsTile}
+use Rattle.listing_statements.specs.InnerListing.{refusedListing, doneListing, ListingJudged}
 use Rattle.listing_statements.specs.declared.TileListed.{TileListed}
 use Rattle.listing_statements.proofs.AsWork.{asWork, asLent, args-same}
 
 module _ (c : ListCall) (lent : ListLent) where
   -- ---- 1 to 5
 
-  pub judged-call : judgedBy (isListingShort c lent) (c .state) (c .tile) (c .row) (c .table) (c .queue .ids) ≡ callVerdict c lent
-  unfolding judgedBy callVerdict
+  pub judged-call : judgedBy (isListingShort c lent) (c .state) (c .tile) (c .row) (c .table) (c .queue .ids) ≡ listCallVerdict c lent
+  unfolding judgedBy listCallVerdict
   judged-call = refl
 
-  pub judged : Words (c .row) → callVerdict c lent ≡ pass → Judged c lent
+  pub judged : Words (c .row) → listCallVerdict c lent ≡ pass → ListingJudged c lent
   judged w e =
       let j = works.judged (asWork c) (asLent lent) w (works.args-passed (asWork c) (asLent lent) (args-same c lent ∙ e)) in
       record {

@@ -24,8 +24,8 @@ use Rattle.layer_workbench.specs.Work.{outcomeByEntries, outcomeIn}
 use Rattle.layer_workbench.proofs.Entries.{entries-are}
 use Rattle.row_statements.specs.Lent.{layersOf, isLentShort, isLentTable}
 use Rattle.listing_statements.specs.Listing.{TileList, isTileListShort, listedOver}
-use Rattle.listing_statements.specs.Deciding.{DecideCall, areInTable, linesFor, decidingVerdict, decidingOut, outcomeBy, decidingOf}
-use Rattle.listing_statements.specs.InnerLists.{Decidable, Says}
+use Rattle.listing_statements.specs.Deciding.{DecideCall, areInTable, linesFor, decidingVerdict, decidingOut, decidedOutcome, decidingOf}
+use Rattle.listing_statements.specs.InnerLists.{Decidable, ListSays}
 
 -- ---- the ids of a list
 
@@ -39,7 +39,7 @@ in-table table (l ∷ ls) = ap (λ (b : Bool). isGiven (lookup table (l .id)) &&
 
 -- ---- layers written to the columns of a list
 
-pub written : (ls : List Listed) (l : TileList) → isTileListShort l ≡ false → length ls ≤ 256 → areWide (incomingOf ls) ≡ true → Says ls (length ls) (listedOver ls l)
+pub written : (ls : List Listed) (l : TileList) → isTileListShort l ≡ false → length ls ≤ 256 → areWide (incomingOf ls) ≡ true → ListSays ls (length ls) (listedOver ls l)
 written ls l short few wide =
     let i = ltb (length (l .ids)) 256 in
     let v = ltb (length (l .covers) / 16) 256 in
@@ -63,7 +63,7 @@ written ls l short few wide =
 
 -- ---- a deciding from a list that says its layers
 
-module _ (c : DecideCall) (unmasked : List Bool) {ls : List Listed} (short : isLentShort (c .table) ≡ false) (table : isLentTable (c .table) ≡ true) (d : Decidable (layersOf (c .table)) ls) (says : Says ls (c .count) (c .list)) where
+module _ (c : DecideCall) (unmasked : List Bool) {ls : List Listed} (short : isLentShort (c .table) ≡ false) (table : isLentTable (c .table) ≡ true) (d : Decidable (layersOf (c .table)) ls) (says : ListSays ls (c .count) (c .list)) where
   -- only the mask column and the tag are left to judge
   pub verdict-is : decidingVerdict c unmasked ≡ unless (ltb (length unmasked) 256) 1 (unless (tagOutOfRange (c .kept)) 6 pass)
   unfolding linesFor
@@ -74,7 +74,7 @@ module _ (c : DecideCall) (unmasked : List Bool) {ls : List Listed} (short : isL
       or-false true = refl
       or-false false = refl
 
-  pub outcome-is : outcomeBy c ≡ outcomeIn (layersOf (c .table)) (c .kept) (c .clear) (c .previous) ls
+  pub outcome-is : decidedOutcome c ≡ outcomeIn (layersOf (c .table)) (c .kept) (c .clear) (c .previous) ls
   outcome-is = ap (outcomeByEntries (layersOf (c .table)) (c .kept) (c .clear) (c .previous)) (says .entries)
 
   pub decided : decidingOf c unmasked ≡ decidingOut (unless (ltb (length unmasked) 256) 1 (unless (tagOutOfRange (c .kept)) 6 pass)) (outcomeIn (layersOf (c .table)) (c .kept) (c .clear) (c .previous) ls) (length ls) (c .kept) unmasked

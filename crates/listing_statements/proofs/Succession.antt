@@ -31,10 +31,10 @@ use Rattle.row_statements.specs.State.{isWrongNext}
 use Rattle.row_statements.specs.Conditions.{firstFive}
 use Rattle.row_statements.specs.TileWork.{WorkCall, WorkLent, WorkGiven, isShortFor, listedFor, argsVerdict, layersVerdict, saysFor, workOut}
 use Rattle.row_statements.proofs.Works.{Passed, args-passed, judged, list-passed}
-use Rattle.listing_statements.specs.Listing.{ListGiven, isTileListShort, listedOver, isListingShort, callVerdict, listingOut}
+use Rattle.listing_statements.specs.Listing.{ListGiven, isTileListShort, listedOver, isListingShort, listCallVerdict, listingOut}
 use Rattle.listing_statements.specs.Deciding.{DecideGiven, decidingVerdict, decidingOut, decidingOf}
 use Rattle.listing_statements.specs.Succession.{listingPart, lentPart, listingFirst, decidingPart, decidedBy, thenDeciding, Succeeds, Succession}
-use Rattle.listing_statements.specs.InnerLists.{Decidable, Says}
+use Rattle.listing_statements.specs.InnerLists.{Decidable, ListSays}
 use Rattle.listing_statements.proofs.Lists.{listed-ids, written, verdict-is, decided}
 
 -- how many an answer says
@@ -77,8 +77,8 @@ module _ (c : WorkCall) (lent : WorkLent) (w : Words (c .row)) (e : argsVerdict 
   not-short : isListingShort (listingPart c) (lentPart lent) ≡ false
   not-short = rw (args .queue-room, args .next-room, table-room, list-room)
 
-  lines : (callVerdict (listingPart c) (lentPart lent) ≡ pass) × (tagOutOfRange (c .kept) ≡ false)
-  unfolding argsVerdict callVerdict
+  lines : (listCallVerdict (listingPart c) (lentPart lent) ≡ pass) × (tagOutOfRange (c .kept) ≡ false)
+  unfolding argsVerdict listCallVerdict
   lines =
       fewer (isShortFor c lent) (isListingShort (listingPart c) (lentPart lent)) (isWrongNext (c .state) (c .tile)) (c .state .tileY) (c .row) (c .table) (c .state .left) (c .queue .ids) (tagOutOfRange (c .kept)) not-short e
 
@@ -102,7 +102,7 @@ module _ (c : WorkCall) (lent : WorkLent) (w : Words (c .row)) (e : argsVerdict 
           known = l .known;
         }
 
-    says : Says ls (length ls) (listedOver ls (lentPart lent .list))
+    says : ListSays ls (length ls) (listedOver ls (lentPart lent .list))
     says = written ls (lentPart lent .list) list-room (decidable .few) wide
 
   -- ---- the two calls

@@ -82,11 +82,11 @@ decidingOut pass o n k unmasked =
     record { answer = given (record { decision = o .decision; skipped = o .skipped }); kept = keptAfter o k n; unmasked = over (o .unmasked) unmasked }
 
 -- what the passes make of the list, by its entries
-abbrev pub outcomeBy : DecideCall → Outcome
-outcomeBy c = outcomeByEntries (layersOf (c .table)) (c .kept) (c .clear) (c .previous) (entriesFrom (c .count) (c .list))
+abbrev pub decidedOutcome : DecideCall → Outcome
+decidedOutcome c = outcomeByEntries (layersOf (c .table)) (c .kept) (c .clear) (c .previous) (entriesFrom (c .count) (c .list))
 
 abbrev pub decidingOf : DecideCall → List Bool → DecideGiven
-decidingOf c unmasked = decidingOut (decidingVerdict c unmasked) (outcomeBy c) (c .count) (c .kept) unmasked
+decidingOf c unmasked = decidingOut (decidingVerdict c unmasked) (decidedOutcome c) (c .count) (c .kept) unmasked
 
 -- ---- the promise
 

@@ -33,7 +33,7 @@ doneListing s n left =
     }
 
 -- room for 256 entries in a list and in a queue
-pub record Rooms (listIds : List ℕ) (listCovers : List ℤ) (segments : List Bool) (queueIds : List ℕ) (queueCovers : List ℤ) : Type 0 where
+pub record ListingRooms (listIds : List ℕ) (listCovers : List ℤ) (segments : List Bool) (queueIds : List ℕ) (queueCovers : List ℤ) : Type 0 where
   pub list-ids : 256 ≤ length listIds
   pub list-covers : 4096 ≤ length listCovers
   pub list-segments : 256 ≤ length segments
@@ -41,11 +41,11 @@ pub record Rooms (listIds : List ℕ) (listCovers : List ℤ) (segments : List B
   pub queue-covers : 4096 ≤ length queueCovers
 
 -- what 1 to 5 leave: the tile is one of a row's, the queue and the tile's part ascend, the table is in order, and there is room
-pub record Judged (c : ListCall) (lent : ListLent) : Type 0 where
+pub record ListingJudged (c : ListCall) (lent : ListLent) : Type 0 where
   pub tile-natural : minus (c .tile) ≡ 0
   pub tile-low : plus (c .tile) ≤ 4094
   pub next-low : c .state .next ≤ 4094
   pub walks : Walks (c .state .left) (c .queue .ids) (tilePart (c .tile) (c .row))
   pub covers-long : 16 * c .state .left ≤ length (c .queue .covers)
   pub in-table : Table (c .table .words) (c .table .floats) (c .table .count)
-  pub rooms : Rooms (lent .list .ids) (lent .list .covers) (lent .list .segments) (lent .queue .ids) (lent .queue .covers)
+  pub rooms : ListingRooms (lent .list .ids) (lent .list .covers) (lent .list .segments) (lent .queue .ids) (lent .queue .covers)

@@ -18,7 +18,7 @@ pub record Decidable (table : List Layer) (ls : List Listed) : Type 0 where
   pub known : areKnown table ls ≡ true
 
 -- the first n entries of the list are these layers
-pub record Says (ls : List Listed) (n : ℕ) (l : TileList) : Type 0 where
+pub record ListSays (ls : List Listed) (n : ℕ) (l : TileList) : Type 0 where
   pub count : n ≡ length ls
   pub room : isTileListShort l ≡ false
   pub ids : take n (l .ids) ≡ idsIn (incomingOf ls)

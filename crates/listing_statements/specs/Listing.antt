@@ -80,8 +80,8 @@ abbrev pub isListingShort : ListCall → ListLent → Bool
 isListingShort c lent = isQueueShort (c .queue) || isQueueShort (lent .queue) || isLentShort (c .table) || isTileListShort (lent .list)
 
 -- the lowest of 1 to 5 that applies
-unfoldable pub callVerdict : ListCall → ListLent → Judgement
-callVerdict c lent =
+unfoldable pub listCallVerdict : ListCall → ListLent → Judgement
+listCallVerdict c lent =
     firstFive (isListingShort c lent) (isWrongNext (c .state) (c .tile)) (c .state .tileY) (c .row) (c .table) (c .state .left) (c .queue .ids) pass
 
 -- the layers of the tile
@@ -93,7 +93,7 @@ abbrev pub listedVerdict : ListCall → Judgement
 listedVerdict c = listVerdict (layersOf (c .table)) (listedBy c)
 
 abbrev pub listingVerdict : ListCall → ListLent → Judgement
-listingVerdict c lent = andThen (callVerdict c lent) (listedVerdict c)
+listingVerdict c lent = andThen (listCallVerdict c lent) (listedVerdict c)
 
 -- ---- what a listing gives: how many layers it listed, the state, and the lent lists at exit
 

@@ -15,7 +15,7 @@ use Rattle.decimal.specs.declared.Unsigned.the-variants.{Natural, Missing}
 use Rattle.decimal.specs.Parse.{parsed}
 use Rattle.decimal.specs.Read.{UnsignedRead}
 use Rattle.load_statements.specs.Load.{asked}
-use Rattle.load_statements.specs.Input.{ended, parseField, afterCount, afterTiles, afterSeed, ask}
+use Rattle.load_statements.specs.Input.{lineEnded, parseField, afterCount, afterTiles, afterSeed, ask}
 use Rattle.load_numbers.specs.declared.input.Field.the-variants.{Number, Broken}
 use Rattle.load_numbers.specs.Read.{FieldRead}
 
@@ -24,27 +24,27 @@ use Rattle.load_numbers.specs.Read.{FieldRead}
 module _ {limit : ℕ} (end : ℕ) {s : List ℕ} {at : ℕ} where
   pub missing : UnsignedRead limit s at Missing → FieldRead limit end s at Broken
   unfolding parseField
-  missing u = record { answer = ap (ended end) (u .answer); within = omega arith }
+  missing u = record { answer = ap (lineEnded end) (u .answer); within = omega arith }
 
   module _ {n next : ℕ} (u : UnsignedRead limit s at (Natural n next)) where
     pub no-end : length s ≤ next → FieldRead limit end s at Broken
     unfolding parseField
     no-end h = record {
-      answer = ap (λ (t : List ℕ). ended end (parsed n t)) (sym (drop-of-length-le s h)) ∙ ap (ended end) (u .answer);
+      answer = ap (λ (t : List ℕ). lineEnded end (parsed n t)) (sym (drop-of-length-le s h)) ∙ ap (lineEnded end) (u .answer);
       within = omega arith;
     }
 
     pub other-end : next < length s → (getD s next 0 ≡ end → ⊥) → FieldRead limit end s at Broken
     unfolding parseField
     other-end h e = record {
-      answer = rw (drop-cons s next 0 h, ne-eqb (getD s next 0) end e) at (ap (ended end) (u .answer));
+      answer = rw (drop-cons s next 0 h, ne-eqb (getD s next 0) end e) at (ap (lineEnded end) (u .answer));
       within = omega arith;
     }
 
     pub number : next < length s → getD s next 0 ≡ end → FieldRead limit end s at (Number n (next + 1))
     unfolding parseField
     number h e = record {
-      answer = simp add-one (rw (drop-cons s next 0 h, eq-eqb (getD s next 0) end e) at (ap (ended end) (u .answer)));
+      answer = simp add-one (rw (drop-cons s next 0 h, eq-eqb (getD s next 0) end e) at (ap (lineEnded end) (u .answer)));
       within = omega arith;
     }
 

@@ -19,14 +19,14 @@ inputOf input.Malformed = none
 
 -- ---- what the inner reader promises: a field as what is read from the front of a text, the place after it as the text from there on
 
-abbrev pub fieldOf : List ℕ → Field → Parsed ℕ
-fieldOf s (Number n next) = parsed n (drop next s)
-fieldOf s Broken = failed
+abbrev pub readField : List ℕ → Field → Parsed ℕ
+readField s (Number n next) = parsed n (drop next s)
+readField s Broken = failed
 
 abbrev pub afterField : Field → ℕ
 afterField (Number n next) = next
 afterField Broken = 0
 
 pub record FieldRead (limit end : ℕ) (s : List ℕ) (at : ℕ) (r : Field) : Type 0 where
-  pub answer : fieldOf s r ≡ parseField limit end (drop at s)
+  pub answer : readField s r ≡ parseField limit end (drop at s)
   pub within : afterField r ≤ length s

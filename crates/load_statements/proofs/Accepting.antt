@@ -13,10 +13,10 @@ use Rattle.job_lines.specs.Rules.{segmentCount}
 use Rattle.job_statements.specs.Read as reading
 use Rattle.job_statements.specs.Read.{hasRoom, jobOutcome}
 use Rattle.load_statements.specs.Load.{Asked, loadOf}
-use Rattle.load_statements.specs.Input.{InRange}
+use Rattle.load_statements.specs.Input.{AskedInRange}
 use Rattle.load_statements.proofs.Forming.{one-row-each, read-back}
 
-module _ (a : Asked) (h : InRange a) (layers : List ℕ) (colors : List Float) (row : List ℕ) (l : 64 ≤ length layers) (c : 32 ≤ length colors) (r : a .count ≤ length row) where
+module _ (a : Asked) (h : AskedInRange a) (layers : List ℕ) (colors : List Float) (row : List ℕ) (l : 64 ≤ length layers) (c : 32 ≤ length colors) (r : a .count ≤ length row) where
   room : hasRoom layers colors row (loadOf a) ≡ true
   unfolding hasRoom loadOf
   room =

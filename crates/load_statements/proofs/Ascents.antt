@@ -21,9 +21,9 @@ use Rattle.segment_rows.proofs.Ascending.{from-intro}
 use Rattle.job_lines.specs.declared.segment.SegmentLine.{SegmentLine}
 use Rattle.job_statements.specs.Row.{segmentWord, rowTile, rowWords}
 use Rattle.load_statements.specs.Draw.{drawAt}
-use Rattle.load_statements.specs.Load.{Asked, slotOf, segmentFrom, segmentOf, loadOf}
-use Rattle.load_statements.specs.Input.{InRange}
-use Rattle.load_statements.specs.Made.{rowOf}
+use Rattle.load_statements.specs.Load.{Asked, slotOf, segmentFrom, loadSegment, loadOf}
+use Rattle.load_statements.specs.Input.{AskedInRange}
+use Rattle.load_statements.specs.Made.{loadRow}
 use Rattle.load_statements.proofs.Slots.{slots-ascend}
 use Rattle.load_statements.proofs.Fields.{slot-small}
 use Rattle.load_statements.proofs.Forming.{all-tabulated}
@@ -63,19 +63,19 @@ words-are zero f h = refl
 words-are (suc n) f h =
     ap₂ _++_ (ap (λ (z : ℤ). tabulate (plus z) (segmentWord (pos 0) (f 0))) (h 0)) (words-are n (λ i. f (suc i)) (λ i. h (suc i)))
 
-module _ (a : Asked) (h : InRange a) where
+module _ (a : Asked) (h : AskedInRange a) where
   pub wordOf-segment : ℕ → ℕ
-  wordOf-segment k = segmentWord (pos 0) (segmentOf a k) 0
+  wordOf-segment k = segmentWord (pos 0) (loadSegment a k) 0
 
-  pub row-is : rowOf a ≡ tabulate (a .count) wordOf-segment
+  pub row-is : loadRow a ≡ tabulate (a .count) wordOf-segment
   unfolding wordOf-segment loadOf segmentFrom
-  row-is = words-are (a .count) (segmentOf a) (λ i. refl)
+  row-is = words-are (a .count) (loadSegment a) (λ i. refl)
 
   pub word-ordered : (k : ℕ) → k < a .count → Ordered (wordOf-segment k) (slotOf (a .tiles) (a .count) k / 8) (slotOf (a .tiles) (a .count) k % 8)
   unfolding wordOf-segment
   word-ordered k l = from-ordered _ _ (slot-small a h k l)
 
-  pub ascending : isRow cpu 1 (rowOf a) ≡ true
+  pub ascending : isRow cpu 1 (loadRow a) ≡ true
   ascending =
       let ws = tabulate (a .count) wordOf-segment in
       let long : length ws ≡ a .count = length-tabulate (a .count) wordOf-segment in

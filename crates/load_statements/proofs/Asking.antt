@@ -16,7 +16,7 @@ use Rattle.decimal.proofs.Laws as numbers
 use Rattle.decimal.proofs.Laws.{parseℕ-complete, parseℕ-sound}
 use Rattle.lines.specs.Text.{lineText}
 use Rattle.load_statements.specs.Load.{Asked, asked}
-use Rattle.load_statements.specs.Input.{Asks, ended, parseField, afterCount, afterTiles, afterSeed, ask}
+use Rattle.load_statements.specs.Input.{Asks, lineEnded, parseField, afterCount, afterTiles, afterSeed, ask}
 
 -- ---- a field
 
@@ -33,7 +33,7 @@ pub field-sound : (limit end : ℕ) (s : List ℕ) (n : ℕ) (t : List ℕ) → 
 unfolding parseField
 field-sound limit end s n t h e = by (parseℕ limit s) refl e
   where
-    by : (g : Parsed ℕ) → parseℕ limit s ≡ g → ended end g ≡ parsed n t → FieldIs limit end s n t
+    by : (g : Parsed ℕ) → parseℕ limit s ≡ g → lineEnded end g ≡ parsed n t → FieldIs limit end s n t
     by failed p q = numbers.never refl q
     by (parsed m []) p q = numbers.never refl q
     by (parsed m (b ∷ u)) p q =

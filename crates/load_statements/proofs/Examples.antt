@@ -13,9 +13,9 @@ use Rattle.lines.specs.Text.{lineText, linesText, blockText}
 use Rattle.job_text_statements.specs.Text.{blocksText}
 use Rattle.job_text_statements.specs.Job.{segmentValues, render}
 use Rattle.load_statements.specs.Draw.{next, stateAfter, drawAt}
-use Rattle.load_statements.specs.Load.{Asked, asked, layerOf, slotOf, segmentFrom, segmentOf, loadOf}
+use Rattle.load_statements.specs.Load.{Asked, asked, loadLayer, slotOf, segmentFrom, loadSegment, loadOf}
 use Rattle.load_statements.specs.Input.{parseField, ask}
-use Rattle.load_statements.specs.Answer.{answerText}
+use Rattle.load_statements.specs.Answer.{loadAnswerText}
 
 pub draws : tabulate 8 (λ i. drawAt 0 (suc i)) ≡ 15470 ∷ 18256 ∷ 53708 ∷ 43769 ∷ 25170 ∷ 40750 ∷ 22526 ∷ 41945 ∷ []
 unfolding stateAfter next
@@ -23,7 +23,7 @@ draws = refl
 
 -- the lines of a load's segments
 abbrev segments : Asked → List ℕ
-segments a = linesText (tabulate (a .count) (λ k. segmentValues (segmentOf a k)))
+segments a = linesText (tabulate (a .count) (λ k. segmentValues (loadSegment a k)))
 
 pub four : segments (asked 0 4 4) ≡ bytes "0 0 14 0 1 17 -5\n1 0 2 14 1 20 -14\n2 0 13 0 1 8 9\n3 0 3 6 1 13 -8\n"
 unfolding linesText lineText decimal decimalIn segmentFrom slotOf stateAfter next
@@ -37,8 +37,8 @@ pub greatest-seed : segments (asked 4294967295 1 3) ≡ bytes "0 0 5 7 1 24 11\n
 unfolding linesText lineText decimal decimalIn segmentFrom slotOf stateAfter next
 greatest-seed = refl
 
-pub one : answerText (bytes "0 1 1\n") ≡ bytes "row tiles from to\n0 1 0 1\nlayer rule clip span clipped fill mode alpha\n0 0 0 0 0 0 0 256\n1 0 0 0 0 0 0 256\n2 0 0 0 0 0 0 256\n3 0 0 0 0 0 0 256\n4 0 0 0 0 0 0 256\n5 0 0 0 0 0 0 256\n6 0 0 0 0 0 0 256\n7 0 0 0 0 0 0 256\ntile_x layer x y rows mult cover\n0 0 14 0 1 17 -5\n"
-unfolding answerText ask parseField parseℕ moreDigits render loadOf blocksText blockText linesText lineText decimal decimalIn layerOf segmentFrom slotOf stateAfter next
+pub one : loadAnswerText (bytes "0 1 1\n") ≡ bytes "row tiles from to\n0 1 0 1\nlayer rule clip span clipped fill mode alpha\n0 0 0 0 0 0 0 256\n1 0 0 0 0 0 0 256\n2 0 0 0 0 0 0 256\n3 0 0 0 0 0 0 256\n4 0 0 0 0 0 0 256\n5 0 0 0 0 0 0 256\n6 0 0 0 0 0 0 256\n7 0 0 0 0 0 0 256\ntile_x layer x y rows mult cover\n0 0 14 0 1 17 -5\n"
+unfolding loadAnswerText ask parseField parseℕ moreDigits render loadOf blocksText blockText linesText lineText decimal decimalIn loadLayer segmentFrom slotOf stateAfter next
 one = refl
 
 -- ---- lines at the edges, and lines that ask for no load

@@ -11,12 +11,12 @@ use Rattle.decimal.proofs.Print.{length-at-most}
 use Rattle.lines.specs.Text.{lineText}
 use Rattle.job_text_statements.specs.Job.{headValues, layerValues, segmentValues}
 use Rattle.load_statements.specs.Draw.{drawAt}
-use Rattle.load_statements.specs.Load.{Asked, headOf, layerOf, slotOf, segmentFrom, segmentOf}
-use Rattle.load_statements.specs.Input.{InRange}
+use Rattle.load_statements.specs.Load.{Asked, loadHead, loadLayer, slotOf, segmentFrom, loadSegment}
+use Rattle.load_statements.specs.Input.{AskedInRange}
 use Rattle.load_statements.proofs.Slots.{slot-within}
 
 -- the slot of a segment of a load is below 8 × 4,095
-pub slot-small : (a : Asked) → InRange a → (k : ℕ) → k < a .count → slotOf (a .tiles) (a .count) k < 32760
+pub slot-small : (a : Asked) → AskedInRange a → (k : ℕ) → k < a .count → slotOf (a .tiles) (a .count) k < 32760
 slot-small a h k l = omega (arith, slot-within (a .tiles) (a .count) k (h .tiles .0) l, h .tiles)
 
 -- a remainder by 33, less 16, is -16 to 16
@@ -30,13 +30,13 @@ three (negsuc n) p m = omega (arith, length-at-most 1 (suc n) m)
 
 -- ---- the bytes of a line
 
-pub head-long : (tiles : ℕ) → tiles ≤ 4095 → length (lineText (headValues (headOf tiles))) ≤ 14
+pub head-long : (tiles : ℕ) → tiles ≤ 4095 → length (lineText (headValues (loadHead tiles))) ≤ 14
 unfolding lineText
 head-long tiles h =
     simp length-append (omega (arith, length-at-most 0 0 (omega arith), length-at-most 3 tiles (omega arith)))
 
-pub layer-long : (id : ℕ) → id < 8 → length (lineText (layerValues (layerOf id))) ≤ 18
-unfolding lineText layerOf
+pub layer-long : (id : ℕ) → id < 8 → length (lineText (layerValues (loadLayer id))) ≤ 18
+unfolding lineText loadLayer
 layer-long id h =
     simp length-append (omega (arith, length-at-most 0 id (omega arith), length-at-most 0 0 (omega arith), length-at-most 2 256 (omega arith)))
 
@@ -53,5 +53,5 @@ from-long s slot h =
     let cover = three (pos (drawAt s 4 % 33) -ℤ pos 16) (omega (arith, c)) (omega (arith, c)) in
     simp length-append (omega (arith, tile, layer, x, y, rows, mult, cover))
 
-pub segment-long : (a : Asked) → InRange a → (k : ℕ) → k < a .count → length (lineText (segmentValues (segmentOf a k))) ≤ 22
+pub segment-long : (a : Asked) → AskedInRange a → (k : ℕ) → k < a .count → length (lineText (segmentValues (loadSegment a k))) ≤ 22
 segment-long a h k l = from-long _ _ (slot-small a h k l)

@@ -24,8 +24,8 @@ use Rattle.job_text_statements.specs.Job.{headValues, layerValues, segmentValue
 use Rattle.job_text_statements.specs.Parse.{parse}
 use Rattle.job_text_statements.proofs.Laws.{complete}
 use Rattle.load_statements.specs.Draw.{drawAt}
-use Rattle.load_statements.specs.Load.{Asked, headOf, layerOf, segmentFrom, segmentOf, loadOf}
-use Rattle.load_statements.specs.Input.{InRange}
+use Rattle.load_statements.specs.Load.{Asked, loadHead, loadLayer, segmentFrom, loadSegment, loadOf}
+use Rattle.load_statements.specs.Input.{AskedInRange}
 use Rattle.load_statements.proofs.Fields.{slot-small, cover-small, head-long, layer-long, segment-long}
 use Rattle.load_statements.proofs.Rules.{layer-passes, segment-passes}
 
@@ -55,11 +55,11 @@ counted (suc n) f h = omega (arith, h 0, counted n (λ i. f (suc i)) (λ i. h (s
 
 -- ---- the numbers of a load's lines have few digits
 
-head-fields : (tiles : ℕ) → tiles ≤ 4095 → Fields 4 (headValues (headOf tiles))
+head-fields : (tiles : ℕ) → tiles ≤ 4095 → Fields 4 (headValues (loadHead tiles))
 head-fields tiles h = record { count = refl; short = (omega arith, (omega arith, (omega arith, (omega arith, tt)))) }
 
-layer-fields : (id : ℕ) → id < 8 → Fields 8 (layerValues (layerOf id))
-unfolding layerOf
+layer-fields : (id : ℕ) → id < 8 → Fields 8 (layerValues (loadLayer id))
+unfolding loadLayer
 layer-fields id h = record {
   count = refl;
   short = (omega arith, (omega arith, (omega arith, (omega arith, (omega arith, (omega arith, (omega arith, (omega arith, tt))))))));
@@ -77,18 +77,18 @@ from-fields s slot h =
 
 -- ---- the job
 
-pub segment-lines : (a : Asked) → map segmentValues (tabulate (a .count) (segmentOf a)) ≡ tabulate (a .count) (λ i. segmentValues (segmentOf a i))
-segment-lines a = map-tabulate segmentValues (a .count) (segmentOf a)
+pub segment-lines : (a : Asked) → map segmentValues (tabulate (a .count) (loadSegment a)) ≡ tabulate (a .count) (λ i. segmentValues (loadSegment a i))
+segment-lines a = map-tabulate segmentValues (a .count) (loadSegment a)
 
-module _ (a : Asked) (h : InRange a) where
-  segment-fields : (k : ℕ) → k < a .count → Fields 7 (segmentValues (segmentOf a k))
+module _ (a : Asked) (h : AskedInRange a) where
+  segment-fields : (k : ℕ) → k < a .count → Fields 7 (segmentValues (loadSegment a k))
   segment-fields k l = from-fields _ _ (slot-small a h k l)
 
-  layers-long : length (linesText (map layerValues (tabulate 8 layerOf))) ≤ 144
-  layers-long = lines-long 18 8 (λ i. layerValues (layerOf i)) layer-long
+  layers-long : length (linesText (map layerValues (tabulate 8 loadLayer))) ≤ 144
+  layers-long = lines-long 18 8 (λ i. layerValues (loadLayer i)) layer-long
 
-  segments-long : length (linesText (map segmentValues (tabulate (a .count) (segmentOf a)))) ≤ 22 * a .count
-  segments-long = rw (segment-lines a) (lines-long 22 (a .count) (λ i. segmentValues (segmentOf a i)) (segment-long a h))
+  segments-long : length (linesText (map segmentValues (tabulate (a .count) (loadSegment a)))) ≤ 22 * a .count
+  segments-long = rw (segment-lines a) (lines-long 22 (a .count) (λ i. segmentValues (loadSegment a i)) (segment-long a h))
 
   one-line : (vs : List ℤ) → length (linesText (vs ∷ [])) ≡ length (lineText vs)
   unfolding linesText
@@ -99,7 +99,7 @@ module _ (a : Asked) (h : InRange a) where
   unfolding render loadOf blocksText blockText
   text-long =
       simp length-append
-      (omega (arith, one-line (headValues (headOf (a .tiles))), head-long (a .tiles) (h .tiles .1), layers-long, segments-long, h .count))
+      (omega (arith, one-line (headValues (loadHead (a .tiles))), head-long (a .tiles) (h .tiles .1), layers-long, segments-long, h .count))
 
   short-text : length (blocksText (blocksOf (loadOf a))) ≤ 65536
   unfolding render
@@ -111,22 +111,22 @@ module _ (a : Asked) (h : InRange a) where
     one-head = refl;
     head = (head-fields (a .tiles) (h .tiles .1), tt);
     few-layers = omega arith;
-    layers = (all-fields 8 8 (λ i. layerValues (layerOf i)) layer-fields);
-    few-lines = omega (arith, length-map (tabulate (a .count) (segmentOf a)) segmentValues, length-tabulate (a .count) (segmentOf a), h .count);
-    segments = rw (segment-lines a) (all-fields 7 (a .count) (λ i. segmentValues (segmentOf a i)) segment-fields);
+    layers = (all-fields 8 8 (λ i. layerValues (loadLayer i)) layer-fields);
+    few-lines = omega (arith, length-map (tabulate (a .count) (loadSegment a)) segmentValues, length-tabulate (a .count) (loadSegment a), h .count);
+    segments = rw (segment-lines a) (all-fields 7 (a .count) (λ i. segmentValues (loadSegment a i)) segment-fields);
     size = short-text;
   }
 
   pub one-row-each : segmentCount (loadOf a .segments) ≡ a .count
   unfolding loadOf segmentFrom
-  one-row-each = counted (a .count) (segmentOf a) (λ i. refl)
+  one-row-each = counted (a .count) (loadSegment a) (λ i. refl)
 
   allowed : isAllowed (loadOf a) ≡ true
   unfolding isAllowed loadOf
   allowed =
       rw (
-        all-tabulated layerRule 8 layerOf (λ i l. layer-passes i),
-        all-tabulated segmentRule (a .count) (segmentOf a) (λ k l. segment-passes _ _ (slot-small a h k l)),
+        all-tabulated layerRule 8 loadLayer (λ i l. layer-passes i),
+        all-tabulated segmentRule (a .count) (loadSegment a) (λ k l. segment-passes _ _ (slot-small a h k l)),
       )
       (le-leb (segmentCount (loadOf a .segments)) 2048 (omega (arith, one-row-each, h .count)))
 

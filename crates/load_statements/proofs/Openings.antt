@@ -27,23 +27,23 @@ use Rattle.queue_statements.specs.Opening.{addAll, isLightOpening}
 use Rattle.row_statements.specs.Lent.{Columns, isQueueShort, isLentShort, isLentTable}
 use Rattle.row_statements.specs.Opening.{openVerdict, openState, openOf}
 use Rattle.job_statements.specs.Table.{tableWords, tableColors}
-use Rattle.load_statements.specs.Load.{Asked, layerOf, loadOf}
-use Rattle.load_statements.specs.Input.{InRange}
-use Rattle.load_statements.specs.Made.{rowOf, tableOf, openingOf}
+use Rattle.load_statements.specs.Load.{Asked, loadLayer, loadOf}
+use Rattle.load_statements.specs.Input.{AskedInRange}
+use Rattle.load_statements.specs.Made.{loadRow, loadTable, openingOf}
 use Rattle.load_statements.proofs.Forming.{all-tabulated}
 use Rattle.load_statements.proofs.Ascents.{wordOf-segment, row-is, word-ordered, ascending}
 
 -- the same eight layers for every load
-pub in-table : (a : Asked) → isLentTable (tableOf a) ≡ true
-unfolding table.isTable table.isTableShort table.isValid strictlyAscendsFrom tableWords tableColors flatten loadOf layerOf
+pub in-table : (a : Asked) → isLentTable (loadTable a) ≡ true
+unfolding table.isTable table.isTableShort table.isValid strictlyAscendsFrom tableWords tableColors flatten loadOf loadLayer
 in-table a = refl
 
-short : (a : Asked) → isLentShort (tableOf a) ≡ false
+short : (a : Asked) → isLentShort (loadTable a) ≡ false
 unfolding table.isTableShort tableWords tableColors flatten loadOf
 short a = refl
 
-module _ (a : Asked) (h : InRange a) where
-  words : Words (rowOf a)
+module _ (a : Asked) (h : AskedInRange a) where
+  words : Words (loadRow a)
   words = record { small = λ i. rw (row-is a h) (by i) }
     where
       by : (i : ℕ) → getD (tabulate (a .count) (wordOf-segment a h)) i 0 < 2 ^ 64
@@ -54,11 +54,11 @@ module _ (a : Asked) (h : InRange a) where
           (λ (p : i < a .count). rw (getD-tabulate (a .count) (wordOf-segment a h) 0 i p) (word-ordered a h i p .small))
           (le-or-lt (a .count) i)
 
-  none-left : leftPart (pos 0) (rowOf a) ≡ []
+  none-left : leftPart (pos 0) (loadRow a) ≡ []
   unfolding tileOf
   none-left =
-      left-part 1 1 (rowOf a) words (ascending a h)
-      ∙ filter-none (λ w. ltb (tileXOf cpu w) 1) (rowOf a)
+      left-part 1 1 (loadRow a) words (ascending a h)
+      ∙ filter-none (λ w. ltb (tileXOf cpu w) 1) (loadRow a)
       (rw (row-is a h)
       (all-tabulated (λ w. not (ltb (tileXOf cpu w) 1)) (a .count) (wordOf-segment a h)
       (λ i p. ap not (le-ltb (tileXOf cpu (wordOf-segment a h i)) 1 (omega (arith, word-ordered a h i p .tile-x))))))

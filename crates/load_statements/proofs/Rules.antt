@@ -14,15 +14,15 @@ use Rattle.pixel_segment.specs.Pack.{isPackable}
 use Rattle.pixel_segment.proofs.Ranges.{cpu-layout, packable}
 use Rattle.job_lines.specs.Rules.{layerRule, segmentRule}
 use Rattle.load_statements.specs.Draw.{drawAt}
-use Rattle.load_statements.specs.Load.{layerOf, segmentFrom}
+use Rattle.load_statements.specs.Load.{loadLayer, segmentFrom}
 use Rattle.load_statements.proofs.Fields.{cover-small}
 
 is-within : (low high v : ℤ) → plus low + minus v ≤ plus v + minus low → plus v + minus high ≤ plus high + minus v → isWithin low high v ≡ true
 unfolding isWithin
 is-within low high v h l = both (leZ low v) (leZ v high) (true-le low v h) (true-le v high l)
 
-pub layer-passes : (id : ℕ) → layerRule (layerOf id) ≡ true
-unfolding layerRule isWithin layerOf
+pub layer-passes : (id : ℕ) → layerRule (loadLayer id) ≡ true
+unfolding layerRule isWithin loadLayer
 layer-passes id = refl
 
 -- a segment line of a load packs, and is repeated within the tile

@@ -8,9 +8,9 @@ use Rattle.report.specs.Text.{refusalText}
 use Rattle.load_statements.specs.Load.{Asked, loadOf}
 use Rattle.load_statements.specs.Input.{ask}
 
-abbrev pub answerBy : Option Asked → List ℕ
-answerBy none = refusalText 10
-answerBy (some a) = render (loadOf a)
+abbrev pub loadAnswer : Option Asked → List ℕ
+loadAnswer none = refusalText 10
+loadAnswer (some a) = render (loadOf a)
 
-unfoldable pub answerText : List ℕ → List ℕ
-answerText text = answerBy (ask text)
+unfoldable pub loadAnswerText : List ℕ → List ℕ
+loadAnswerText text = loadAnswer (ask text)

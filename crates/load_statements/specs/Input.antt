@@ -12,27 +12,27 @@ use Rattle.decimal.specs.Parse.{Parsed, parsed, failed, parseℕ}
 use Rattle.lines.specs.Text.{lineText}
 use Rattle.load_statements.specs.Load.{Asked, asked}
 
-pub record InRange (a : Asked) : Type 0 where
+pub record AskedInRange (a : Asked) : Type 0 where
   pub seed : a .seed < 2 ^ 32
   pub tiles : (1 ≤ a .tiles) × (a .tiles ≤ 4095)
   pub count : (1 ≤ a .count) × (a .count ≤ 512)
 
 -- the text is the line that asks for a load
 pub record Asks (text : List ℕ) (a : Asked) : Type 0 where
-  pub range : InRange a
+  pub range : AskedInRange a
   pub printed : text ≡ lineText (pos (a .seed) ∷ pos (a .tiles) ∷ pos (a .count) ∷ [])
 
 -- ---- reading
 
 -- after a number: the byte that ends its field
-abbrev pub ended : ℕ → Parsed ℕ → Parsed ℕ
-ended end failed = failed
-ended end (parsed n []) = failed
-ended end (parsed n (b ∷ t)) = cond (eqb b end) (parsed n t) failed
+abbrev pub lineEnded : ℕ → Parsed ℕ → Parsed ℕ
+lineEnded end failed = failed
+lineEnded end (parsed n []) = failed
+lineEnded end (parsed n (b ∷ t)) = cond (eqb b end) (parsed n t) failed
 
 -- a number below `limit` and the byte that ends its field
 unfoldable pub parseField : ℕ → ℕ → List ℕ → Parsed ℕ
-parseField limit end s = ended end (parseℕ limit s)
+parseField limit end s = lineEnded end (parseℕ limit s)
 
 -- after each field: nothing stands behind the last, and neither tiles nor segments are 0
 abbrev pub afterCount : ℕ → ℕ → Parsed ℕ → Option Asked

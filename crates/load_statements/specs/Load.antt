@@ -20,12 +20,12 @@ pub record Asked : Type 0 where
 abbrev pub asked : ℕ → ℕ → ℕ → Asked
 asked seed tiles count = record { seed = seed; tiles = tiles; count = count }
 
-abbrev pub headOf : ℕ → Head
-headOf tiles = record { row = pos 0; tiles = pos tiles; from = pos 0; to = pos tiles }
+abbrev pub loadHead : ℕ → Head
+loadHead tiles = record { row = pos 0; tiles = pos tiles; from = pos 0; to = pos tiles }
 
 -- rule 0 is NonZero, clip 0 a draw, fill 0 solid, mode 0 Over, and alpha 256 is 1
-unfoldable pub layerOf : ℕ → LayerLine
-layerOf id = record { layer = pos id; rule = pos 0; clip = pos 0; span = pos 0; clipped = pos 0; fill = pos 0; mode = pos 0; alpha = pos 256 }
+unfoldable pub loadLayer : ℕ → LayerLine
+loadLayer id = record { layer = pos id; rule = pos 0; clip = pos 0; span = pos 0; clipped = pos 0; fill = pos 0; mode = pos 0; alpha = pos 256 }
 
 unfoldable pub slotOf : ℕ → ℕ → ℕ → ℕ
 slotOf tiles n k = k * 8 * tiles / n
@@ -44,8 +44,8 @@ segmentFrom s slot =
     }
 
 -- segment k: four draws for each segment before it were made
-abbrev pub segmentOf : Asked → ℕ → SegmentLine
-segmentOf a k = segmentFrom (stateAfter (a .seed) (4 * k)) (slotOf (a .tiles) (a .count) k)
+abbrev pub loadSegment : Asked → ℕ → SegmentLine
+loadSegment a k = segmentFrom (stateAfter (a .seed) (4 * k)) (slotOf (a .tiles) (a .count) k)
 
 unfoldable pub loadOf : Asked → Job
-loadOf a = record { head = headOf (a .tiles); layers = tabulate 8 layerOf; segments = tabulate (a .count) (segmentOf a) }
+loadOf a = record { head = loadHead (a .tiles); layers = tabulate 8 loadLayer; segments = tabulate (a .count) (loadSegment a) }

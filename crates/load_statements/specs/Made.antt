@@ -22,28 +22,28 @@ use Rattle.load_statements.specs.Load.{Asked, loadOf}
 use Rattle.load_statements.specs.Input.{Asks}
 
 -- the row and the layer table that reading leaves of a load, and its opening
-abbrev pub rowOf : Asked → List ℕ
-rowOf a = rowWords (pos 0) (loadOf a .segments)
+abbrev pub loadRow : Asked → List ℕ
+loadRow a = rowWords (pos 0) (loadOf a .segments)
 
-abbrev pub tableOf : Asked → LentTable
-tableOf a = lentTable (tableWords (loadOf a .layers)) (tableColors (loadOf a .layers)) 8
+abbrev pub loadTable : Asked → LentTable
+loadTable a = lentTable (tableWords (loadOf a .layers)) (tableColors (loadOf a .layers)) 8
 
 abbrev pub openingOf : Asked → OpenCall
-openingOf a = openCall (pos 0) (pos 0) (pos (a .tiles)) (rowOf a) (tableOf a)
+openingOf a = openCall (pos 0) (pos 0) (pos (a .tiles)) (loadRow a) (loadTable a)
 
-pub record Made (a : Asked) : Type 0 where
+pub record LoadMade (a : Asked) : Type 0 where
   -- lent arrays that hold eight layers and its segments are written, and the answer is the numbers of its job
   pub accepted : (layers : List ℕ) (colors : List Float) (row : List ℕ) → 64 ≤ length layers → 32 ≤ length colors → a .count ≤ length row
       → jobOutcome (render (loadOf a)) layers colors row ≡ reading.accepted (loadOf a)
   -- tile y is stored plus 1: the row is in order, and each of its words has tile y 0
-  pub ascends : isRow cpu 1 (rowOf a) ≡ true
-  pub table : isLentTable (tableOf a) ≡ true
+  pub ascends : isRow cpu 1 (loadRow a) ≡ true
+  pub table : isLentTable (loadTable a) ≡ true
   -- no segment lies left of tile 0: no carry, and the lent queue as it was
   pub opens : (lent : Columns) → isQueueShort lent ≡ false
       → openOf (openingOf a) lent ≡ record { answer = given (openState (pos 0) (pos 0) (pos (a .tiles)) 0); lent = lent }
 
 -- ---- what reading a line tells: the load that it asks for, or that it is no such line
 
-abbrev pub Tells : List ℕ → Option Asked → Type 0
-Tells text (some a) = Asks text a × Made a
-Tells text none = (a : Asked) → Asks text a → ⊥
+abbrev pub LoadTells : List ℕ → Option Asked → Type 0
+LoadTells text (some a) = Asks text a × LoadMade a
+LoadTells text none = (a : Asked) → Asks text a → ⊥

@@ -18,9 +18,9 @@ use Rattle.report.specs.Put.{Put, LineWritten}
 use Rattle.report.specs.declared.Printed.{Printed}
 use Rattle.report.proofs.Lines.{at-front}
 use Rattle.load_statements.specs.Draw.{stateAfter}
-use Rattle.load_statements.specs.Load.{Asked, headOf, layerOf, slotOf, segmentFrom, segmentOf, loadOf}
-use Rattle.load_statements.specs.Input.{InRange, ask}
-use Rattle.load_statements.specs.Answer.{answerBy, answerText}
+use Rattle.load_statements.specs.Load.{Asked, loadHead, loadLayer, slotOf, segmentFrom, loadSegment, loadOf}
+use Rattle.load_statements.specs.Input.{AskedInRange, ask}
+use Rattle.load_statements.specs.Answer.{loadAnswer, loadAnswerText}
 use Rattle.load_statements.proofs.Asking.{ask-sound}
 use Rattle.load_statements.proofs.Fields.{head-long, segment-long}
 use Rattle.load_statements.proofs.Forming.{segment-lines}
@@ -33,25 +33,25 @@ one-line : (vs : List ℤ) → linesText (vs ∷ []) ≡ lineText vs
 unfolding linesText
 one-line vs = append-nil (lineText vs)
 
-pub head-printed : {out out₁ out₂ : List ℕ} {p r : ℕ} {line : List ℤ} (tiles : ℕ) → tiles ≤ 4095 → Printing headNames out 0 p out₁ → line ≡ headValues (headOf tiles)
+pub head-printed : {out out₁ out₂ : List ℕ} {p r : ℕ} {line : List ℤ} (tiles : ℕ) → tiles ≤ 4095 → Printing headNames out 0 p out₁ → line ≡ headValues (loadHead tiles)
     → Printing (lineText line) out₁ p r out₂ → Printing (headBlock tiles) out 0 r out₂ × (r ≤ 32)
 unfolding headBlock
 head-printed {out₁ = out₁} {out₂ = out₂} {p = p} {r = r} tiles h q e l =
-    let k : Printing (linesText (headValues (headOf tiles) ∷ [])) out₁ p r out₂
-    = rw (one-line (headValues (headOf tiles))) (subst (λ (x : List ℤ). Printing (lineText x) out₁ p r out₂) e l) in
-    (block headNames (headValues (headOf tiles) ∷ []) q k, omega (arith, q .answer, ap (λ (x : List ℤ). length (lineText x)) e, l .answer, head-long tiles h))
+    let k : Printing (linesText (headValues (loadHead tiles) ∷ [])) out₁ p r out₂
+    = rw (one-line (headValues (loadHead tiles))) (subst (λ (x : List ℤ). Printing (lineText x) out₁ p r out₂) e l) in
+    (block headNames (headValues (loadHead tiles) ∷ []) q k, omega (arith, q .answer, ap (λ (x : List ℤ). length (lineText x)) e, l .answer, head-long tiles h))
 
 -- ---- block 2
 
-pub eight : (id : ℕ) {line : List ℤ} → line ≡ layerValues (layerOf id) → 12 * length line ≡ 96
+pub eight : (id : ℕ) {line : List ℤ} → line ≡ layerValues (loadLayer id) → 12 * length line ≡ 96
 eight id e = ap (λ (l : List ℤ). 12 * length l) e
 
-pub layers-printed : {out out₁ out₂ : List ℕ} {at p r id : ℕ} → Printing layerNames out at p out₁ → LinesPrinting (λ i. layerValues (layerOf i)) 8 18 out₁ p r id out₂ → 8 ≤ id
+pub layers-printed : {out out₁ out₂ : List ℕ} {at p r id : ℕ} → Printing layerNames out at p out₁ → LinesPrinting (λ i. layerValues (loadLayer i)) 8 18 out₁ p r id out₂ → 8 ≤ id
     → Printing layersBlock out at r out₂ × (r ≤ at + 189)
 unfolding layersBlock
 layers-printed q v l =
     let e = end-of v l in
-    (block layerNames (tabulate 8 (λ i. layerValues (layerOf i))) q (e .0), omega (arith, e .1, q .answer))
+    (block layerNames (tabulate 8 (λ i. layerValues (loadLayer i))) q (e .0), omega (arith, e .1, q .answer))
 
 -- ---- block 3
 
@@ -61,7 +61,7 @@ seven s slot e = ap (λ (l : List ℤ). 12 * length l) e
 -- the lines so far, and the generator after their draws
 
 pub record Making (a : Asked) (out₀ : List ℕ) (at end s k : ℕ) (out : List ℕ) : Type 0 where
-  pub lines : LinesPrinting (λ i. segmentValues (segmentOf a i)) (a .count) 22 out₀ at end k out
+  pub lines : LinesPrinting (λ i. segmentValues (loadSegment a i)) (a .count) 22 out₀ at end k out
   pub state : s ≡ stateAfter (a .seed) (4 * k)
 
 pub make : (a : Asked) {out : List ℕ} {at : ℕ} → Making a out at at (a .seed) 0 out
@@ -73,7 +73,7 @@ after-four : (s k : ℕ) → stateAfter (stateAfter s (4 * k)) 4 ≡ stateAfter 
 unfolding stateAfter
 after-four s k = ap (stateAfter s) (let e : suc (suc (suc (suc (4 * k)))) ≡ 4 * (k + 1) = omega arith in e)
 
-module _ {a : Asked} (h : InRange a) {out₀ : List ℕ} {at end s k : ℕ} {out : List ℕ} (v : Making a out₀ at end s k out) where
+module _ {a : Asked} (h : AskedInRange a) {out₀ : List ℕ} {at end s k : ℕ} {out : List ℕ} (v : Making a out₀ at end s k out) where
   pub make-next : {slot r t : ℕ} {line : List ℤ} {out′ : List ℕ} → k < a .count → slot ≡ slotOf (a .tiles) (a .count) k → line ≡ segmentValues (segmentFrom s slot)
       → t ≡ stateAfter s 4 → length out′ ≡ length out → Printing (lineText line) out end r out′ → Making a out₀ at r t (k + 1) out′
   make-next l j e d n p = record {
@@ -86,7 +86,7 @@ pub segments-printed : {a : Asked} {out out₁ out₂ : List ℕ} {at p r s k : 
 unfolding segmentsBlock
 segments-printed {a} q v l =
     let e = end-of (v .lines) l in
-    (block segmentNames (tabulate (a .count) (λ i. segmentValues (segmentOf a i))) q (e .0), omega (arith, e .1, q .answer))
+    (block segmentNames (tabulate (a .count) (λ i. segmentValues (loadSegment a i))) q (e .0), omega (arith, e .1, q .answer))
 
 -- ---- the text
 
@@ -103,10 +103,10 @@ text-printed a {out} {out₃ = out₃} {r = r} p q s h =
 -- ---- the answer
 
 module _ {text : List ℕ} {o : Option Asked} (e : o ≡ ask text) where
-  pub answered : {out : List ℕ} {at : ℕ} {r : Printed} {out′ : List ℕ} → Put (answerBy o) out at r out′ → LoadPrinted text out at r out′
-  unfolding answerText
-  answered {out} {at} {r} {out′} p = record { put = subst (λ (x : Option Asked). Put (answerBy x) out at r out′) e p; tells = tells text }
+  pub answered : {out : List ℕ} {at : ℕ} {r : Printed} {out′ : List ℕ} → Put (loadAnswer o) out at r out′ → LoadPrinted text out at r out′
+  unfolding loadAnswerText
+  answered {out} {at} {r} {out′} p = record { put = subst (λ (x : Option Asked). Put (loadAnswer x) out at r out′) e p; tells = tells text }
 
 -- what a line asks for is in range
-pub in-range : (text : List ℕ) {a : Asked} → some a ≡ ask text → InRange a
+pub in-range : (text : List ℕ) {a : Asked} → some a ≡ ask text → AskedInRange a
 in-range text {a} e = ask-sound text a (sym e) .range

@@ -7,23 +7,23 @@ use Rattle.job_text_statements.specs.Text.{headNames, layerNames, segmentNames}
 use Rattle.job_text_statements.specs.Job.{headValues, layerValues, segmentValues}
 use Rattle.report.specs.Put.{Put}
 use Rattle.report.specs.declared.Printed.{Printed}
-use Rattle.load_statements.specs.Load.{Asked, headOf, layerOf, segmentOf}
+use Rattle.load_statements.specs.Load.{Asked, loadHead, loadLayer, loadSegment}
 use Rattle.load_statements.specs.Input.{ask}
-use Rattle.load_statements.specs.Answer.{answerText}
-use Rattle.load_statements.specs.Made.{Tells}
+use Rattle.load_statements.specs.Answer.{loadAnswerText}
+use Rattle.load_statements.specs.Made.{LoadTells}
 
 pub record LoadPrinted (text out : List ℕ) (at : ℕ) (r : Printed) (out′ : List ℕ) : Type 0 where
-  pub put : Put (answerText text) out at r out′
-  pub tells : Tells text (ask text)
+  pub put : Put (loadAnswerText text) out at r out′
+  pub tells : LoadTells text (ask text)
 
 -- ---- the blocks of a load's text, as the inner writers print them
 
 unfoldable pub headBlock : ℕ → List ℕ
-headBlock tiles = blockText headNames (headValues (headOf tiles) ∷ [])
+headBlock tiles = blockText headNames (headValues (loadHead tiles) ∷ [])
 
 -- every load has the same layers
 unfoldable pub layersBlock : List ℕ
-layersBlock = blockText layerNames (tabulate 8 (λ i. layerValues (layerOf i)))
+layersBlock = blockText layerNames (tabulate 8 (λ i. layerValues (loadLayer i)))
 
 unfoldable pub segmentsBlock : Asked → List ℕ
-segmentsBlock a = blockText segmentNames (tabulate (a .count) (λ k. segmentValues (segmentOf a k)))
+segmentsBlock a = blockText segmentNames (tabulate (a .count) (λ k. segmentValues (loadSegment a k)))

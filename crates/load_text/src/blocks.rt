@@ -7,14 +7,14 @@ ghost use Prim.Native.Nat.{_+_, _*_, _≤_, _<_};
 ghost use lib.ListN.{length};
 ghost use Rattle.decimal.specs.Print.{Printing};
 ghost use Rattle.job_text_statements.specs.Job.{headValues, layerValues};
-ghost use Rattle.load_statements.specs.Load.{asked, headOf, layerOf};
-ghost use Rattle.load_statements.specs.Input.{InRange};
+ghost use Rattle.load_statements.specs.Load.{asked, loadHead, loadLayer};
+ghost use Rattle.load_statements.specs.Input.{AskedInRange};
 ghost use Rattle.load_text.specs.Print.{headBlock, layersBlock, segmentsBlock};
 
 // The values of block 1: row 0, and all tiles.
 fn head_line(tiles: u32) -> [i32; 4]
     requires { ⌜ tiles ≤ 4095 ⌝ }
-    ensures { λ r. ⌜ r ≡ headValues (headOf tiles) ⌝ }
+    ensures { λ r. ⌜ r ≡ headValues (loadHead tiles) ⌝ }
 {
     let to = tiles as i32;
     [0, to, 0, to]
@@ -33,7 +33,7 @@ pub fn print_head(out: &mut [u8], tiles: u32) -> usize
 // The line of a layer: a NonZero draw, unclipped, solid, mode Over, alpha 1.
 fn layer_line(id: u32) -> [i32; 8]
     requires { ⌜ id < 8 ⌝ }
-    ensures { λ r. ⌜ r ≡ layerValues (layerOf id) ⌝ }
+    ensures { λ r. ⌜ r ≡ layerValues (loadLayer id) ⌝ }
 {
     [id as i32, 0, 0, 0, 0, 0, 0, 256]
 }
@@ -55,7 +55,7 @@ pub fn print_layers(out: &mut [u8], at: usize) -> usize
 
 // Block 3: its names, and at most 22 bytes a line.
 pub fn print_segments(out: &mut [u8], at: usize, seed: u32, tiles: u32, count: u32) -> usize
-    requires { ⌜ (InRange (asked seed tiles count)) × (at + 33 + 22 * count + 84 ≤ length (now out)) ⌝ }
+    requires { ⌜ (AskedInRange (asked seed tiles count)) × (at + 33 + 22 * count + 84 ≤ length (now out)) ⌝ }
     ensures { λ r. ⌜ (Printing (segmentsBlock (asked seed tiles count)) (now (out .entry)) at r (now (out .exit)))
         × (r ≤ at + 33 + 22 * count) ⌝ }
 {

@@ -10,14 +10,14 @@ ghost use Prim.Native.Nat.{_≤_};
 ghost use lib.ListN.{length};
 ghost use Rattle.job_text_statements.specs.Job.{render};
 ghost use Rattle.load_statements.specs.Load.{asked, loadOf};
-ghost use Rattle.load_statements.specs.Input.{InRange};
+ghost use Rattle.load_statements.specs.Input.{AskedInRange};
 ghost use Rattle.report.specs.Put.{Put, LineWritten};
 ghost use Rattle.load_text.specs.Print.{LoadPrinted};
 
 // Writes the text of a load at the front of `out`, and answers its length. A text has at most 11,518 bytes; printing a
 // line asks for 84 past the lines that may come.
 fn write_load(out: &mut [u8], seed: u32, tiles: u32, count: u32) -> usize
-    requires { ⌜ (InRange (asked seed tiles count)) × (11602 ≤ length (now out)) ⌝ }
+    requires { ⌜ (AskedInRange (asked seed tiles count)) × (11602 ≤ length (now out)) ⌝ }
     ensures { λ r. ⌜ LineWritten (render (loadOf (asked seed tiles count))) (now (out .entry)) r (now (out .exit)) ⌝ }
 {
     let head_end = blocks::print_head(out, tiles);
@@ -27,7 +27,7 @@ fn write_load(out: &mut [u8], seed: u32, tiles: u32, count: u32) -> usize
 
 // Prints the text of a load from place `at` on, where it has room.
 fn put_load(seed: u32, tiles: u32, count: u32, out: &mut [u8], at: usize) -> Printed
-    requires { ⌜ InRange (asked seed tiles count) ⌝ }
+    requires { ⌜ AskedInRange (asked seed tiles count) ⌝ }
     ensures { λ r. ⌜ Put (render (loadOf (asked seed tiles count))) (now (out .entry)) at r (now (out .exit)) ⌝ }
 {
     let mut text = [0u8; 11602];

@@ -12,7 +12,7 @@ use Rattle.laws.proofs.Orders.{le-or-lt, eq-or-ne}
 use Rattle.styling.specs.Ascending.{strictlyAscendsFrom, strictlyAscends}
 use Rattle.styling.proofs.Ascents.{ascends-head, ascends-tail}
 use Rattle.revision_statements.specs.Sent.{Sent, idOf}
-use Rattle.revision_statements.specs.Standing.{higherOf, addSent, addAll, latestIn, idsIn}
+use Rattle.revision_statements.specs.Standing.{higherOf, addSent, addSents, latestIn, sentIds}
 
 -- ---- two numbers, and two records of one layer, as cases
 
@@ -62,30 +62,30 @@ module _ (s t : Sent) (ts : List Sent) where
 
 -- ---- the ids ascend
 
-pub ascends-add : (low : ℕ) (s : Sent) (ts : List Sent) → low ≤ idOf s → strictlyAscendsFrom low (idsIn ts) ≡ true → strictlyAscendsFrom low (idsIn (addSent s ts)) ≡ true
+pub ascends-add : (low : ℕ) (s : Sent) (ts : List Sent) → low ≤ idOf s → strictlyAscendsFrom low (sentIds ts) ≡ true → strictlyAscendsFrom low (sentIds (addSent s ts)) ≡ true
 unfolding addSent strictlyAscendsFrom
 ascends-add low s [] p h = both (leb low (idOf s)) true (le-leb low (idOf s) p) refl
-ascends-add low s (t ∷ ts) p h = by (λ l. ascends-add (suc (idOf t)) s ts l (ascends-tail low (idOf t) (idsIn ts) h)) (order (idOf t) (idOf s))
+ascends-add low s (t ∷ ts) p h = by (λ l. ascends-add (suc (idOf t)) s ts l (ascends-tail low (idOf t) (sentIds ts) h)) (order (idOf t) (idOf s))
   where
-    tail : strictlyAscendsFrom (suc (idOf t)) (idsIn ts) ≡ true
-    tail = ascends-tail low (idOf t) (idsIn ts) h
+    tail : strictlyAscendsFrom (suc (idOf t)) (sentIds ts) ≡ true
+    tail = ascends-tail low (idOf t) (sentIds ts) h
 
-    by : (suc (idOf t) ≤ idOf s → strictlyAscendsFrom (suc (idOf t)) (idsIn (addSent s ts)) ≡ true) → Order (idOf t) (idOf s) → strictlyAscendsFrom low (idsIn (addSent s (t ∷ ts))) ≡ true
+    by : (suc (idOf t) ≤ idOf s → strictlyAscendsFrom (suc (idOf t)) (sentIds (addSent s ts)) ≡ true) → Order (idOf t) (idOf s) → strictlyAscendsFrom low (sentIds (addSent s (t ∷ ts))) ≡ true
     by rest (equal e) = rw (add-there s t ts e, higher-id t s e) h
     by rest (more l) =
         rw (add-before s t ts l)
-        (both (leb low (idOf s)) (leb (suc (idOf s)) (idOf t) && strictlyAscendsFrom (suc (idOf t)) (idsIn ts)) (le-leb low (idOf s) p)
-        (both (leb (suc (idOf s)) (idOf t)) (strictlyAscendsFrom (suc (idOf t)) (idsIn ts)) (le-leb (suc (idOf s)) (idOf t) l) tail))
+        (both (leb low (idOf s)) (leb (suc (idOf s)) (idOf t) && strictlyAscendsFrom (suc (idOf t)) (sentIds ts)) (le-leb low (idOf s) p)
+        (both (leb (suc (idOf s)) (idOf t)) (strictlyAscendsFrom (suc (idOf t)) (sentIds ts)) (le-leb (suc (idOf s)) (idOf t) l) tail))
     by rest (less l) =
         rw (add-after s t ts l)
-        (both (leb low (idOf t)) (strictlyAscendsFrom (suc (idOf t)) (idsIn (addSent s ts))) (le-leb low (idOf t) (ascends-head low (idOf t) (idsIn ts) h))
+        (both (leb low (idOf t)) (strictlyAscendsFrom (suc (idOf t)) (sentIds (addSent s ts))) (le-leb low (idOf t) (ascends-head low (idOf t) (sentIds ts) h))
         (rest l))
 
-ascends-all : (ss ts : List Sent) → strictlyAscends (idsIn ts) ≡ true → strictlyAscends (idsIn (addAll ss ts)) ≡ true
-unfolding addAll
+ascends-all : (ss ts : List Sent) → strictlyAscends (sentIds ts) ≡ true → strictlyAscends (sentIds (addSents ss ts)) ≡ true
+unfolding addSents
 ascends-all [] ts h = h
 ascends-all (s ∷ ss) ts h = ascends-all ss (addSent s ts) (ascends-add 0 s ts (omega arith) h)
 
-pub latest-ascends : (ss : List Sent) → strictlyAscends (idsIn (latestIn ss)) ≡ true
+pub latest-ascends : (ss : List Sent) → strictlyAscends (sentIds (latestIn ss)) ≡ true
 unfolding strictlyAscendsFrom
 latest-ascends ss = ascends-all ss [] refl

@@ -7,7 +7,7 @@ use lib.Ieee.{Float, nan}
 use Rattle.refusals.specs.Refusal.{pass, refuse}
 use Rattle.layer_table.specs.Table.{isTableShort}
 use Rattle.revision_statements.specs.Sent.{Sent, isGood, sentOf}
-use Rattle.revision_statements.specs.Standing.{addSent, addAll, standingOf}
+use Rattle.revision_statements.specs.Standing.{addSent, addSents, standingOf}
 use Rattle.revision_statements.specs.Verdict.{hasTwins, verdictOn, standVerdict}
 
 -- ---- records of an id and a revision: properties with a blend mode, and a withdrawal, whose other words play no part
@@ -31,36 +31,36 @@ withdraws id revision = sends id revision 1 0
 
 -- the withdrawal of layer 3 is its highest revision
 pub two-stand : standingOf (props 3 5 ∷ props 1 2 ∷ withdraws 3 9 ∷ props 1 1 ∷ props 2 4294967295 ∷ []) ≡ props 1 2 ∷ props 2 4294967295 ∷ []
-unfolding standingOf addAll addSent
+unfolding standingOf addSents addSent
 two-stand = refl
 
 -- properties above a withdrawal stand again
 pub three-stand : standingOf (props 3 5 ∷ props 1 2 ∷ withdraws 3 9 ∷ props 1 1 ∷ props 2 4294967295 ∷ props 3 10 ∷ []) ≡ props 1 2 ∷ props 2 4294967295 ∷ props 3 10 ∷ []
-unfolding standingOf addAll addSent
+unfolding standingOf addSents addSent
 three-stand = refl
 
 pub withdrawn-alone : standingOf (withdraws 7 0 ∷ []) ≡ []
-unfolding standingOf addAll addSent
+unfolding standingOf addSents addSent
 withdrawn-alone = refl
 
 -- ---- number 15
 
 pub equal-highest : hasTwins (props 3 5 ∷ props 1 2 ∷ withdraws 3 9 ∷ props 1 1 ∷ props 3 9 ∷ []) ≡ true
-unfolding hasTwins addAll addSent
+unfolding hasTwins addSents addSent
 equal-highest = refl
 
 -- below the highest revision too
 pub equal-below : hasTwins (props 3 7 ∷ props 3 9 ∷ withdraws 3 7 ∷ []) ≡ true
-unfolding hasTwins addAll addSent
+unfolding hasTwins addSents addSent
 equal-below = refl
 
 pub one-apart : hasTwins (props 3 7 ∷ props 3 8 ∷ []) ≡ false
-unfolding hasTwins addAll addSent
+unfolding hasTwins addSents addSent
 one-apart = refl
 
 -- equal revisions of two layers
 pub two-layers : hasTwins (props 3 7 ∷ props 4 7 ∷ []) ≡ false
-unfolding hasTwins addAll addSent
+unfolding hasTwins addSents addSent
 two-layers = refl
 
 -- ---- number 4
@@ -107,19 +107,19 @@ abbrev floats : List Float
 floats = nan ∷ nan ∷ nan ∷ nan ∷ []
 
 pub two-in-one : verdictOn false (props 4 0 ∷ props 9 0 ∷ []) words floats ≡ refuse 1
-unfolding isGood hasTwins standingOf addAll addSent isTableShort
+unfolding isGood hasTwins standingOf addSents addSent isTableShort
 two-in-one = refl
 
 -- a withdrawn layer takes no room
 pub one-in-one : verdictOn false (props 4 0 ∷ props 9 0 ∷ withdraws 9 1 ∷ []) words floats ≡ pass
-unfolding isGood hasTwins standingOf addAll addSent isTableShort
+unfolding isGood hasTwins standingOf addSents addSent isTableShort
 one-in-one = refl
 
 pub none-in-none : verdictOn false (withdraws 7 0 ∷ []) [] [] ≡ pass
-unfolding isGood hasTwins standingOf addAll addSent isTableShort
+unfolding isGood hasTwins standingOf addSents addSent isTableShort
 none-in-none = refl
 
 -- records that are fewer than their count
 pub record-missing : standVerdict [] [] 1 words floats ≡ refuse 1
-unfolding standVerdict sentOf isGood hasTwins standingOf addAll addSent isTableShort
+unfolding standVerdict sentOf isGood hasTwins standingOf addSents addSent isTableShort
 record-missing = refl

@@ -16,7 +16,7 @@ use Rattle.refusals.proofs.Judging.{or-right}
 use Rattle.styling.specs.Ascending.{strictlyAscendsFrom, strictlyAscends}
 use Rattle.styling.proofs.Ascents.{ascends-head, ascends-tail, ascends-weaken}
 use Rattle.revision_statements.specs.Sent.{Sent, idOf, hasProperties, sentAt, sentRoom, sentOf}
-use Rattle.revision_statements.specs.Standing.{latestIn, standingOf, idsIn}
+use Rattle.revision_statements.specs.Standing.{latestIn, standingOf, sentIds}
 use Rattle.revision_statements.specs.Verdict.{isTwin, hasTwins}
 use Rattle.revision_statements.specs.Laws.{Among, Highest, Stood, Reordered}
 use Rattle.revision_statements.proofs.Adding.{latest-ascends}
@@ -25,19 +25,19 @@ use Rattle.revision_statements.proofs.Orders.{turned, moved, reordered-
 
 -- ---- ids ascending
 
-filter-ascends : (p : Sent → Bool) (low : ℕ) (ss : List Sent) → strictlyAscendsFrom low (idsIn ss) ≡ true → strictlyAscendsFrom low (idsIn (filter p ss)) ≡ true
+filter-ascends : (p : Sent → Bool) (low : ℕ) (ss : List Sent) → strictlyAscendsFrom low (sentIds ss) ≡ true → strictlyAscendsFrom low (sentIds (filter p ss)) ≡ true
 unfolding strictlyAscendsFrom
 filter-ascends p low [] h = refl
-filter-ascends p low (s ∷ ss) h = by (p s) (filter-ascends p (suc (idOf s)) ss (ascends-tail low (idOf s) (idsIn ss) h))
+filter-ascends p low (s ∷ ss) h = by (p s) (filter-ascends p (suc (idOf s)) ss (ascends-tail low (idOf s) (sentIds ss) h))
   where
     head : low ≤ idOf s
-    head = ascends-head low (idOf s) (idsIn ss) h
+    head = ascends-head low (idOf s) (sentIds ss) h
 
-    by : (b : Bool) → strictlyAscendsFrom (suc (idOf s)) (idsIn (filter p ss)) ≡ true → strictlyAscendsFrom low (idsIn (cond b (s ∷ filter p ss) (filter p ss))) ≡ true
-    by true rest = both (leb low (idOf s)) (strictlyAscendsFrom (suc (idOf s)) (idsIn (filter p ss))) (le-leb low (idOf s) head) rest
-    by false rest = ascends-weaken (suc (idOf s)) low (idsIn (filter p ss)) (omega (arith, head)) rest
+    by : (b : Bool) → strictlyAscendsFrom (suc (idOf s)) (sentIds (filter p ss)) ≡ true → strictlyAscendsFrom low (sentIds (cond b (s ∷ filter p ss) (filter p ss))) ≡ true
+    by true rest = both (leb low (idOf s)) (strictlyAscendsFrom (suc (idOf s)) (sentIds (filter p ss))) (le-leb low (idOf s) head) rest
+    by false rest = ascends-weaken (suc (idOf s)) low (sentIds (filter p ss)) (omega (arith, head)) rest
 
-pub ascending : (ss : List Sent) → strictlyAscends (idsIn (standingOf ss)) ≡ true
+pub ascending : (ss : List Sent) → strictlyAscends (sentIds (standingOf ss)) ≡ true
 unfolding standingOf
 ascending ss = filter-ascends hasProperties 0 (latestIn ss) (latest-ascends ss)
 
@@ -73,7 +73,7 @@ withdrawn s ss h a k p t b e =
     clash (rw same at (w .properties)) p
 
 -- a list that says the same is the table
-pub only-one : (ss ts : List Sent) → hasTwins ss ≡ false → strictlyAscends (idsIn ts) ≡ true → ((s : Sent) → Among s ts → Stood s ss) → ((s : Sent) → Stood s ss → Among s ts) → ts ≡ standingOf ss
+pub only-one : (ss ts : List Sent) → hasTwins ss ≡ false → strictlyAscends (sentIds ts) ≡ true → ((s : Sent) → Among s ts → Stood s ss) → ((s : Sent) → Stood s ss → Among s ts) → ts ≡ standingOf ss
 only-one ss ts h a f g = same-records 0 ts (standingOf ss) a (ascending ss) (λ s b. stands s ss h (f s b)) (λ s b. g s (stood s ss b))
 
 -- ---- in any order

@@ -13,18 +13,18 @@ use Rattle.laws.proofs.Bools.{not-right}
 use Rattle.laws.proofs.Orders.{le-or-lt}
 use Rattle.revision_statements.specs.declared.Nearest.{Nearest}
 use Rattle.revision_statements.specs.Sent.{Sent, idOf}
-use Rattle.revision_statements.specs.Standing.{addSent, addAll, latestIn}
-use Rattle.revision_statements.specs.InnerWalk.{reached, nearerOf, nearestFrom, nearestOf, farthest, fromId}
+use Rattle.revision_statements.specs.Standing.{addSent, addSents, latestIn}
+use Rattle.revision_statements.specs.InnerWalk.{walkReached, nearerOf, nearestFrom, nearestOf, farthest, fromId}
 use Rattle.revision_statements.proofs.Adding.{Order, equal, less, more, order, Higher, stays, yields, higher, add-there, add-before, add-after, latest-ascends}
 use Rattle.revision_statements.proofs.Reaching.{from-add, from-below, from-next}
 
 -- ---- one record
 
 module _ (low : ℕ) (best : Nearest) (s : Sent) (place : ℕ) where
-  taken-less : low ≤ idOf s → idOf s < best .id → nearerOf low best s place ≡ reached s place
+  taken-less : low ≤ idOf s → idOf s < best .id → nearerOf low best s place ≡ walkReached s place
   taken-less h l = rw (le-leb low (idOf s) h, lt-ltb (idOf s) (best .id) l) refl
 
-  taken-higher : low ≤ idOf s → idOf s ≡ best .id → best .revision < s .revision → nearerOf low best s place ≡ reached s place
+  taken-higher : low ≤ idOf s → idOf s ≡ best .id → best .revision < s .revision → nearerOf low best s place ≡ walkReached s place
   taken-higher h e l =
       rw (le-leb low (idOf s) h, le-ltb (idOf s) (best .id) (omega (arith, e)), eq-eqb (idOf s) (best .id) e, lt-ltb (best .revision) (s .revision) l) refl
 
@@ -52,7 +52,7 @@ pub data Heads (n : ℕ) (f : ℕ → Sent) (i : ℕ) (best : Nearest) (left : L
 
 module _ (low n : ℕ) (f : ℕ → Sent) where
   -- the record at place i, new at the front
-  first : (i : ℕ) (left rest : List Sent) (best : Nearest) → best ≡ reached (f i) i → left ≡ f i ∷ rest → Heads n f (suc i) best left
+  first : (i : ℕ) (left rest : List Sent) (best : Nearest) → best ≡ walkReached (f i) i → left ≡ f i ∷ rest → Heads n f (suc i) best left
   first i left rest best e q = rw (e, q) (leader rest refl refl refl (omega arith))
 
   -- it does not come to the front
@@ -96,8 +96,8 @@ module _ (low n : ℕ) (f : ℕ → Sent) where
       (λ (h : idOf (f i) < low). rw (from-below low (f i) ts h, passed-below low best (f i) i h) (later i best (fromId low ts) v))
       (le-or-lt low (idOf (f i)))
 
-  walk : (k i : ℕ) (g : ℕ → Sent) (best : Nearest) (ts : List Sent) → ((j : ℕ) → j < k → g j ≡ f (i + j)) → ((j : ℕ) → j < k → idOf (g j) < 4294967295) → Heads n f i best (fromId low ts) → Heads n f (i + k) (nearestFrom low i best (tabulate k g)) (fromId low (addAll (tabulate k g) ts))
-  unfolding nearestFrom addAll
+  walk : (k i : ℕ) (g : ℕ → Sent) (best : Nearest) (ts : List Sent) → ((j : ℕ) → j < k → g j ≡ f (i + j)) → ((j : ℕ) → j < k → idOf (g j) < 4294967295) → Heads n f i best (fromId low ts) → Heads n f (i + k) (nearestFrom low i best (tabulate k g)) (fromId low (addSents (tabulate k g) ts))
+  unfolding nearestFrom addSents
   walk zero i g best ts e b v = rw (add-zero i) v
   walk (suc k) i g best ts e b v =
       let here : g 0 ≡ f i = e 0 (omega arith) ∙ ap f (add-zero i) in

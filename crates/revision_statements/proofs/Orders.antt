@@ -12,7 +12,7 @@ use Rattle.laws.proofs.Bools.{same}
 use Rattle.styling.specs.Ascending.{strictlyAscendsFrom}
 use Rattle.styling.proofs.Ascents.{ascends-tail}
 use Rattle.revision_statements.specs.Sent.{Sent, idOf}
-use Rattle.revision_statements.specs.Standing.{idsIn}
+use Rattle.revision_statements.specs.Standing.{sentIds}
 use Rattle.revision_statements.specs.Verdict.{isTwin, hasTwins}
 use Rattle.revision_statements.specs.Laws.{Among, Reordered, none, keep, swap, both}
 use Rattle.revision_statements.proofs.Stood.{among-low}
@@ -78,10 +78,10 @@ reordered-twins (both r q) = reordered-twins r ∙ reordered-twins q
 -- ---- two ascending lists of the same records are equal
 
 -- what is among those after the first is not the first
-not-first : (s t u : Sent) (ss : List Sent) → strictlyAscendsFrom (suc (idOf s)) (idsIn ss) ≡ true → t ≡ s → Among u ss → t ≡ u → ⊥
+not-first : (s t u : Sent) (ss : List Sent) → strictlyAscendsFrom (suc (idOf s)) (sentIds ss) ≡ true → t ≡ s → Among u ss → t ≡ u → ⊥
 not-first s t u ss h e a q = omega (arith, among-low (suc (idOf s)) u ss h a, ap idOf e, ap idOf q)
 
-pub same-records : (low : ℕ) (ss ts : List Sent) → strictlyAscendsFrom low (idsIn ss) ≡ true → strictlyAscendsFrom low (idsIn ts) ≡ true → ((u : Sent) → Among u ss → Among u ts) → ((u : Sent) → Among u ts → Among u ss) → ss ≡ ts
+pub same-records : (low : ℕ) (ss ts : List Sent) → strictlyAscendsFrom low (sentIds ss) ≡ true → strictlyAscendsFrom low (sentIds ts) ≡ true → ((u : Sent) → Among u ss → Among u ts) → ((u : Sent) → Among u ts → Among u ss) → ss ≡ ts
 same-records low [] [] h k f g = refl
 same-records low [] (t ∷ ts) h k f g = absurd (g t (inl refl))
 same-records low (s ∷ ss) [] h k f g = absurd (f s (inl refl))
@@ -91,11 +91,11 @@ same-records low (s ∷ ss) (t ∷ ts) h k f g =
     (λ u a. later t ts u (f u (inr a)) (not-first s t u ss after-s first a))
     (λ u a. later s ss u (g u (inr a)) (not-first t s u ts after-t (sym first) a)))
   where
-    after-s : strictlyAscendsFrom (suc (idOf s)) (idsIn ss) ≡ true
-    after-s = ascends-tail low (idOf s) (idsIn ss) h
+    after-s : strictlyAscendsFrom (suc (idOf s)) (sentIds ss) ≡ true
+    after-s = ascends-tail low (idOf s) (sentIds ss) h
 
-    after-t : strictlyAscendsFrom (suc (idOf t)) (idsIn ts) ≡ true
-    after-t = ascends-tail low (idOf t) (idsIn ts) k
+    after-t : strictlyAscendsFrom (suc (idOf t)) (sentIds ts) ≡ true
+    after-t = ascends-tail low (idOf t) (sentIds ts) k
 
     first : t ≡ s
     first =

@@ -10,7 +10,7 @@ use Rattle.laws.proofs.Orders.{le-or-lt}
 use Rattle.styling.specs.Ascending.{strictlyAscendsFrom}
 use Rattle.styling.proofs.Ascents.{ascends-head, ascends-tail}
 use Rattle.revision_statements.specs.Sent.{Sent, idOf}
-use Rattle.revision_statements.specs.Standing.{higherOf, addSent, idsIn}
+use Rattle.revision_statements.specs.Standing.{higherOf, addSent, sentIds}
 use Rattle.revision_statements.specs.InnerWalk.{fromId}
 use Rattle.revision_statements.proofs.Adding.{Order, equal, less, more, order, higher-id, add-there, add-before, add-after}
 
@@ -68,13 +68,13 @@ from-below low s (t ∷ ts) h = by (from-below low s ts h) (order (idOf t) (idOf
 
 -- ---- an ascending list
 
-pub from-all : (low from : ℕ) (ts : List Sent) → low ≤ from → strictlyAscendsFrom from (idsIn ts) ≡ true → fromId low ts ≡ ts
+pub from-all : (low from : ℕ) (ts : List Sent) → low ≤ from → strictlyAscendsFrom from (sentIds ts) ≡ true → fromId low ts ≡ ts
 unfolding fromId
 from-all low from [] p h = refl
 from-all low from (t ∷ ts) p h =
-    let head : from ≤ idOf t = ascends-head from (idOf t) (idsIn ts) h in
+    let head : from ≤ idOf t = ascends-head from (idOf t) (sentIds ts) h in
     from-keep low t ts (omega arith)
-    ∙ ap (λ (l : List Sent). t ∷ l) (from-all low (suc (idOf t)) ts (omega arith) (ascends-tail from (idOf t) (idsIn ts) h))
+    ∙ ap (λ (l : List Sent). t ∷ l) (from-all low (suc (idOf t)) ts (omega arith) (ascends-tail from (idOf t) (sentIds ts) h))
 
 -- the first layer that is left is `low` or more
 pub from-head : (low : ℕ) (ts : List Sent) (s : Sent) (rest : List Sent) → fromId low ts ≡ s ∷ rest → low ≤ idOf s
@@ -87,7 +87,7 @@ from-head low (t ∷ ts) s rest e =
     (le-or-lt low (idOf t))
 
 -- past the first layer that is `low` or more are those above it
-pub from-next : (low from : ℕ) (ts : List Sent) (s : Sent) (rest : List Sent) → strictlyAscendsFrom from (idsIn ts) ≡ true → fromId low ts ≡ s ∷ rest → fromId (suc (idOf s)) ts ≡ rest
+pub from-next : (low from : ℕ) (ts : List Sent) (s : Sent) (rest : List Sent) → strictlyAscendsFrom from (sentIds ts) ≡ true → fromId low ts ≡ s ∷ rest → fromId (suc (idOf s)) ts ≡ rest
 unfolding fromId
 from-next low from [] s rest h e = absurd (let z : _≡_ {A = ℕ} 0 1 = cc in omega arith)
 from-next low from (t ∷ ts) s rest h e =
@@ -106,5 +106,5 @@ from-next low from (t ∷ ts) s rest h e =
     from-skip (suc (idOf s)) t ts (omega (arith, from-head low ts s rest later)) ∙ from-next low (suc (idOf t)) ts s rest tail later)
     (le-or-lt low (idOf t))
   where
-    tail : strictlyAscendsFrom (suc (idOf t)) (idsIn ts) ≡ true
-    tail = ascends-tail from (idOf t) (idsIn ts) h
+    tail : strictlyAscendsFrom (suc (idOf t)) (sentIds ts) ≡ true
+    tail = ascends-tail from (idOf t) (sentIds ts) h

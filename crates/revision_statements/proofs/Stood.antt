@@ -16,7 +16,7 @@ use Rattle.refusals.proofs.Judging.{or-left, or-right}
 use Rattle.styling.specs.Ascending.{strictlyAscendsFrom}
 use Rattle.styling.proofs.Ascents.{ascends-head, ascends-tail}
 use Rattle.revision_statements.specs.Sent.{Sent, idOf, hasProperties}
-use Rattle.revision_statements.specs.Standing.{higherOf, addSent, addAll, latestIn, standingOf, idsIn}
+use Rattle.revision_statements.specs.Standing.{higherOf, addSent, addSents, latestIn, standingOf, sentIds}
 use Rattle.revision_statements.specs.Verdict.{isTwin, hasTwins}
 use Rattle.revision_statements.specs.Laws.{Among, Stood}
 use Rattle.revision_statements.proofs.Adding.{Order, equal, less, more, order, Higher, stays, yields, higher, add-there, add-before, add-after, latest-ascends}
@@ -111,20 +111,20 @@ topped-old r s ts (top u a p h) = found ts a
 
 -- ---- all records added
 
-all-among : (r : Sent) (ss ts : List Sent) → Among r (addAll ss ts) → Among r ss ⊎ Among r ts
-unfolding addAll
+all-among : (r : Sent) (ss ts : List Sent) → Among r (addSents ss ts) → Among r ss ⊎ Among r ts
+unfolding addSents
 all-among r [] ts a = inr a
 all-among r (s ∷ ss) ts a =
     ⊎-elim (λ (w : Among r ss). inl (inr w)) (λ (w : Among r (addSent s ts)). ⊎-map (λ (e : s ≡ r). inl e) (λ (v : Among r ts). v) (among-added r s ts w))
     (all-among r ss (addSent s ts) a)
 
-all-topped : (r : Sent) (ss ts : List Sent) → Topped r ts → Topped r (addAll ss ts)
-unfolding addAll
+all-topped : (r : Sent) (ss ts : List Sent) → Topped r ts → Topped r (addSents ss ts)
+unfolding addSents
 all-topped r [] ts t = t
 all-topped r (s ∷ ss) ts t = all-topped r ss (addSent s ts) (topped-old r s ts t)
 
-sent-topped : (r : Sent) (ss ts : List Sent) → Among r ss → Topped r (addAll ss ts)
-unfolding addAll
+sent-topped : (r : Sent) (ss ts : List Sent) → Among r ss → Topped r (addSents ss ts)
+unfolding addSents
 sent-topped r (s ∷ ss) ts (inl e) = all-topped r ss (addSent s ts) (rw e (topped-new r ts))
 sent-topped r (s ∷ ss) ts (inr a) = sent-topped r ss (addSent s ts) a
 
@@ -133,18 +133,18 @@ latest-among r ss a = ⊎-elim (λ (w : Among r ss). w) (λ (w : Among r []). ab
 
 -- ---- one record for each layer, and one for each layer and revision
 
-pub among-low : (low : ℕ) (s : Sent) (ts : List Sent) → strictlyAscendsFrom low (idsIn ts) ≡ true → Among s ts → low ≤ idOf s
-among-low low s (t ∷ ts) h (inl e) = rw (← e) (ascends-head low (idOf t) (idsIn ts) h)
+pub among-low : (low : ℕ) (s : Sent) (ts : List Sent) → strictlyAscendsFrom low (sentIds ts) ≡ true → Among s ts → low ≤ idOf s
+among-low low s (t ∷ ts) h (inl e) = rw (← e) (ascends-head low (idOf t) (sentIds ts) h)
 among-low low s (t ∷ ts) h (inr a) =
-    omega (arith, ascends-head low (idOf t) (idsIn ts) h, among-low (suc (idOf t)) s ts (ascends-tail low (idOf t) (idsIn ts) h) a)
+    omega (arith, ascends-head low (idOf t) (sentIds ts) h, among-low (suc (idOf t)) s ts (ascends-tail low (idOf t) (sentIds ts) h) a)
 
-one-of-layer : (low : ℕ) (a b : Sent) (ts : List Sent) → strictlyAscendsFrom low (idsIn ts) ≡ true → Among a ts → Among b ts → idOf a ≡ idOf b → a ≡ b
+one-of-layer : (low : ℕ) (a b : Sent) (ts : List Sent) → strictlyAscendsFrom low (sentIds ts) ≡ true → Among a ts → Among b ts → idOf a ≡ idOf b → a ≡ b
 one-of-layer low a b (t ∷ ts) h (inl p) (inl q) e = sym p ∙ q
 one-of-layer low a b (t ∷ ts) h (inl p) (inr q) e =
-    absurd (omega (arith, ap idOf p, e, among-low (suc (idOf t)) b ts (ascends-tail low (idOf t) (idsIn ts) h) q))
+    absurd (omega (arith, ap idOf p, e, among-low (suc (idOf t)) b ts (ascends-tail low (idOf t) (sentIds ts) h) q))
 one-of-layer low a b (t ∷ ts) h (inr p) (inl q) e =
-    absurd (omega (arith, ap idOf q, e, among-low (suc (idOf t)) a ts (ascends-tail low (idOf t) (idsIn ts) h) p))
-one-of-layer low a b (t ∷ ts) h (inr p) (inr q) e = one-of-layer (suc (idOf t)) a b ts (ascends-tail low (idOf t) (idsIn ts) h) p q e
+    absurd (omega (arith, ap idOf q, e, among-low (suc (idOf t)) a ts (ascends-tail low (idOf t) (sentIds ts) h) p))
+one-of-layer low a b (t ∷ ts) h (inr p) (inr q) e = one-of-layer (suc (idOf t)) a b ts (ascends-tail low (idOf t) (sentIds ts) h) p q e
 
 is-twin : (s t : Sent) → idOf t ≡ idOf s → t .revision ≡ s .revision → isTwin s t ≡ true
 is-twin s t p q = both (eqb (idOf t) (idOf s)) (eqb (t .revision) (s .revision)) (eq-eqb (idOf t) (idOf s) p) (eq-eqb (t .revision) (s .revision) q)

@@ -21,13 +21,13 @@ use Rattle.layer_table.proofs.Judging.{Long, long}
 use Rattle.revision_statements.specs.Sent.{Sent, isGood, sentAt, sentRoom, sentOf}
 use Rattle.revision_statements.specs.Standing.{standingOf}
 use Rattle.revision_statements.specs.Verdict.{hasTwins, standVerdict, Stands}
-use Rattle.revision_statements.specs.InnerWalk.{firstOf, Judged, Room, Written}
+use Rattle.revision_statements.specs.InnerWalk.{firstSent, RecordsJudged, Room, Written}
 use Rattle.revision_statements.proofs.Judging.{good-at}
 
 -- the records that are there
 module _ (records : List ℕ) (colors : List Float) (count n : ℕ) (there : n ≡ min count (sentRoom records colors)) where
-  first-is : firstOf records colors n ≡ sentOf records colors count
-  unfolding firstOf sentOf
+  first-is : firstSent records colors n ≡ sentOf records colors count
+  unfolding firstSent sentOf
   first-is = rw there refl
 
   lacks-is : ltb n count ≡ ltb (sentRoom records colors) count
@@ -40,16 +40,16 @@ module _ (records : List ℕ) (colors : List Float) (count n : ℕ) (there : n �
   -- ---- the answers
 
   module _ (words : List ℕ) (floats : List Float) where
-    pub says-4 : all isGood (firstOf records colors n) ≡ false → refuse 4 ≡ standVerdict records colors count words floats
+    pub says-4 : all isGood (firstSent records colors n) ≡ false → refuse 4 ≡ standVerdict records colors count words floats
     unfolding standVerdict
     says-4 g = rw (← first-is, g) refl
 
-    module _ (good : all isGood (firstOf records colors n) ≡ true) where
-      pub says-15 : hasTwins (firstOf records colors n) ≡ true → refuse 15 ≡ standVerdict records colors count words floats
+    module _ (good : all isGood (firstSent records colors n) ≡ true) where
+      pub says-15 : hasTwins (firstSent records colors n) ≡ true → refuse 15 ≡ standVerdict records colors count words floats
       unfolding standVerdict
       says-15 t = rw (← first-is, good, t) refl
 
-      module _ (single : hasTwins (firstOf records colors n) ≡ false) {k : ℕ} (counted : k ≡ length (standingOf (firstOf records colors n))) where
+      module _ (single : hasTwins (firstSent records colors n) ≡ false) {k : ℕ} (counted : k ≡ length (standingOf (firstSent records colors n))) where
         pub says-1 : (ltb n count || isTableShort words floats k) ≡ true → refuse 1 ≡ standVerdict records colors count words floats
         unfolding standVerdict
         says-1 s = rw (← first-is, good, single, ← lacks-is, ← counted, s) refl
@@ -65,8 +65,8 @@ same-good : (records : List ℕ) (floats floats′ : List Float) (i : ℕ) → i
 unfolding isGood sentAt
 same-good records floats floats′ i e = e
 
-good-always : (records : List ℕ) (floats floats′ : List Float) (n : ℕ) → all isGood (firstOf records floats n) ≡ true → all isGood (firstOf records floats′ n) ≡ true
-unfolding firstOf
+good-always : (records : List ℕ) (floats floats′ : List Float) (n : ℕ) → all isGood (firstSent records floats n) ≡ true → all isGood (firstSent records floats′ n) ≡ true
+unfolding firstSent
 good-always records floats floats′ n h =
     let f = sentAt records floats′ in
     all-intro isGood (tabulate n f) (f 0)
@@ -74,7 +74,7 @@ good-always records floats floats′ n h =
 
 pub record Passed (records : List ℕ) (colors : List Float) (count : ℕ) (words : List ℕ) (floats : List Float) : Type 0 where
   pub enough : count ≤ sentRoom records colors
-  pub whole : firstOf records colors count ≡ sentOf records colors count
+  pub whole : firstSent records colors count ≡ sentOf records colors count
   pub good : all isGood (sentOf records colors count) ≡ true
   pub single : hasTwins (sentOf records colors count) ≡ false
   pub room : Room (length (standingOf (sentOf records colors count))) words floats
@@ -101,7 +101,7 @@ module _ {records : List ℕ} {colors : List Float} {count : ℕ} {words : List 
 
   module _ (p : Passed records colors count words floats) where
     -- what writing asks
-    pub judged : Judged records count
+    pub judged : RecordsJudged records count
     judged =
         record {
           long = omega (arith, p .enough);
@@ -111,7 +111,7 @@ module _ {records : List ℕ} {colors : List Float} {count : ℕ} {words : List 
     pub long-colors : 4 * count ≤ length colors
     long-colors = omega (arith, p .enough)
 
-    pub table-room : Room (length (standingOf (firstOf records colors count))) words floats
+    pub table-room : Room (length (standingOf (firstSent records colors count))) words floats
     table-room = rw (p .whole) (p .room)
 
 -- ---- what a call leaves

@@ -37,9 +37,9 @@ standVerdict records colors count words floats = verdictOn (ltb (sentRoom record
 
 -- ---- the answer: how many layers stand
 
-abbrev pub answerBy : Judgement → List Sent → Answer ℕ
-answerBy pass ss = given (length (standingOf ss))
-answerBy (refuse number) ss = refused number
+abbrev pub standAnswer : Judgement → List Sent → Answer ℕ
+standAnswer pass ss = given (length (standingOf ss))
+standAnswer (refuse number) ss = refused number
 
 -- the cases of the code's answer
 abbrev pub standingAnswer : Standing → Answer ℕ
@@ -57,11 +57,11 @@ unfoldable pub floatsIn : List Sent → List Float
 floatsIn [] = []
 floatsIn (s ∷ ss) = s .color .r ∷ s .color .g ∷ s .color .b ∷ s .color .a ∷ floatsIn ss
 
-abbrev pub writtenBy {ℓ} : {A : Type ℓ} → Judgement → List A → List A → List A
-writtenBy pass new old = over new old
-writtenBy (refuse number) new old = old
+abbrev pub standWritten {ℓ} : {A : Type ℓ} → Judgement → List A → List A → List A
+standWritten pass new old = over new old
+standWritten (refuse number) new old = old
 
 pub record Stands (v : Judgement) (ss : List Sent) (oldWords : List ℕ) (oldFloats : List Float) (r : Answer ℕ) (words : List ℕ) (floats : List Float) : Type 0 where
-  pub answer : r ≡ answerBy v ss
-  pub words-are : words ≡ writtenBy v (wordsIn (standingOf ss)) oldWords
-  pub floats-are : floats ≡ writtenBy v (floatsIn (standingOf ss)) oldFloats
+  pub answer : r ≡ standAnswer v ss
+  pub words-are : words ≡ standWritten v (wordsIn (standingOf ss)) oldWords
+  pub floats-are : floats ≡ standWritten v (floatsIn (standingOf ss)) oldFloats

@@ -11,7 +11,7 @@ ghost use lib.ListN.{length, getD, drop};
 ghost use Rattle.laws.specs.Lists.{all, any};
 ghost use Rattle.revision_statements.specs.Sent.{sentWordsAt, sentAt, isGood};
 ghost use Rattle.revision_statements.specs.Verdict.{isTwin, hasTwins};
-ghost use Rattle.revision_statements.specs.InnerWalk.{firstOf};
+ghost use Rattle.revision_statements.specs.InnerWalk.{firstSent};
 
 // The largest layer id.
 const LAYER_LIMIT: u32 = 2097151;
@@ -51,7 +51,7 @@ fn is_good(records: &[u32], i: usize) -> bool
 // Whether number 4 does not apply to the first `n` records. No early exit: records are good more often than not.
 pub fn are_good(records: &[u32], n: usize) -> bool
     requires { ⌜ 10 * n ≤ length (now records) ⌝ }
-    ensures { λ r. ⌜ ((floats : List Float) → r ≡ all isGood (firstOf (now (records .entry)) floats n)) ⌝ }
+    ensures { λ r. ⌜ ((floats : List Float) → r ≡ all isGood (firstSent (now (records .entry)) floats n)) ⌝ }
 {
     let mut ok = true;
     let mut i: usize = 0;
@@ -76,7 +76,7 @@ fn is_sent(records: &[u32], i: usize, id: u32, revision: u32) -> bool
 fn has_twin(records: &[u32], n: usize, i: usize) -> bool
     requires { ⌜ (10 * n ≤ length (now records)) × (i < n) ⌝ }
     ensures { λ r. ⌜ ((floats : List Float) → r ≡ any (isTwin (sentAt (now (records .entry)) floats i))
-        (drop (i + 1) (firstOf (now (records .entry)) floats n))) ⌝ }
+        (drop (i + 1) (firstSent (now (records .entry)) floats n))) ⌝ }
 {
     let id = records[10 * i];
     let revision = records[10 * i + 1];
@@ -92,7 +92,7 @@ fn has_twin(records: &[u32], n: usize, i: usize) -> bool
 // Whether number 15 applies to the first `n` records: each is held against those after it.
 pub fn has_twins(records: &[u32], n: usize) -> bool
     requires { ⌜ 10 * n ≤ length (now records) ⌝ }
-    ensures { λ r. ⌜ ((floats : List Float) → r ≡ hasTwins (firstOf (now (records .entry)) floats n)) ⌝ }
+    ensures { λ r. ⌜ ((floats : List Float) → r ≡ hasTwins (firstSent (now (records .entry)) floats n)) ⌝ }
 {
     let mut found = false;
     let mut i: usize = 0;

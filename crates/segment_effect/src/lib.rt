@@ -11,7 +11,7 @@ ghost use Rattle.pixel_segment.specs.Field.{cpu, localYOf, coverOf};
 ghost use Rattle.cover_statements.specs.Carry.{absCover};
 ghost use Rattle.cover_statements.specs.Cover.{coverAt};
 ghost use Rattle.segment_set_statements.specs.Effect.{wrap, areasAfter};
-ghost use Rattle.segment_set_statements.specs.Set.{changed};
+ghost use Rattle.segment_set_statements.specs.Set.{setChanged};
 ghost use Rattle.segment_set_statements.specs.InnerSpread.{spreadBy};
 
 // The sum of two numbers, brought back into 16 bits. With a multiple of 65,536 and its half added, no sum is negative.
@@ -112,7 +112,7 @@ pub fn remove_areas(word: u64, areas: &mut [i16])
 // A set with a segment's cover and load added, and another count.
 pub fn added(mut set: SegmentSet, word: u64, count: usize) -> SegmentSet
     requires { ⌜ getD (set .loads) (localYOf cpu word) 0 + absCover cpu word ≤ 127 ⌝ }
-    ensures { λ r. ⌜ r ≡ changed _+ℤ_ _+_ word count set ⌝ }
+    ensures { λ r. ⌜ r ≡ setChanged _+ℤ_ _+_ word count set ⌝ }
 {
     let segment = PixelSegment(word);
     let cover = segment.cover();
@@ -129,7 +129,7 @@ pub fn added(mut set: SegmentSet, word: u64, count: usize) -> SegmentSet
 
 // A set with a segment's cover and load taken off, and another count.
 pub fn removed(mut set: SegmentSet, word: u64, count: usize) -> SegmentSet
-    ensures { λ r. ⌜ r ≡ changed _-ℤ_ _-_ word count set ⌝ }
+    ensures { λ r. ⌜ r ≡ setChanged _-ℤ_ _-_ word count set ⌝ }
 {
     let segment = PixelSegment(word);
     let cover = segment.cover();

@@ -12,8 +12,8 @@ ghost use Rattle.pixel_segment.specs.Field.{cpu};
 ghost use Rattle.cover_statements.specs.Area.{areasOf};
 ghost use Rattle.cover_statements.specs.Cover.{coverAt};
 ghost use Rattle.cover_statements.specs.Load.{Magnitudes};
-ghost use Rattle.segment_set_statements.specs.Set.{state, beginning, beginVerdict, fresh};
-ghost use Rattle.segment_set_statements.specs.Set.{takenIn, letOut, placeOf};
+ghost use Rattle.segment_set_statements.specs.Set.{state, beginning, beginVerdict, freshSet};
+ghost use Rattle.segment_set_statements.specs.Set.{takenIn, letOut, heldPlace};
 ghost use Rattle.segment_set_statements.specs.InnerSpread.{Addable, Removable};
 
 // A word added: in the next slot, in d, in the carry and in the loads.
@@ -42,7 +42,7 @@ pub fn held_count(count: usize, slots: &[u64]) -> usize
 // The place of the first of the held words that is `word`, and their number where none is.
 pub fn find(slots: &[u64], held: usize, word: u64) -> usize
     requires { ⌜ held ≤ length (now slots) ⌝ }
-    ensures { λ r. ⌜ r ≡ placeOf word (take held (now (slots .entry))) ⌝ }
+    ensures { λ r. ⌜ r ≡ heldPlace word (take held (now (slots .entry))) ⌝ }
 {
     let mut i = 0;
     while i < held {
@@ -118,7 +118,7 @@ pub fn begin_with(
     requires { ⌜ beginVerdict (beginning «layer_id» «tile_x» «tile_y» (cover .covers) (now part))
         (now slots) (now areas) ≡ pass ⌝ }
     ensures { λ r. ⌜ state r (now (slots .exit)) (now (areas .exit))
-        ≡ fresh (beginning «layer_id» «tile_x» «tile_y» (cover .covers) (now (part .entry)))
+        ≡ freshSet (beginning «layer_id» «tile_x» «tile_y» (cover .covers) (now (part .entry)))
         (now (slots .entry)) (now (areas .entry)) ⌝ }
 {
     let covers = cover.covers;

@@ -1,4 +1,4 @@
--- A set begun with nothing and then word by word is the fresh working of the part. Assumes nothing.
+-- A set begun with nothing and then word by word is the freshSet working of the part. Assumes nothing.
 use mathlib.Core.Path.{_≡_, refl, sym, ap, ap₂, _∙_}
 use mathlib.Core.Bool.{Bool, true, false, cond}
 use mathlib.Core.List.{List, [], _∷_, _++_, map}
@@ -24,7 +24,7 @@ use Rattle.cover_statements.specs.Load.{Magnitudes}
 use Rattle.cover_statements.proofs.Carries.{light, carry-none}
 use Rattle.cover_statements.proofs.Planes.{areas-length, areas-at}
 use Rattle.segment_set_statements.specs.Effect.{areasAfter, carryAfter, loadsAfter}
-use Rattle.segment_set_statements.specs.Set.{State, state, Beginning, beginning, beginVerdict, freshSet, fresh, isOf, loadsFrom, takenIn}
+use Rattle.segment_set_statements.specs.Set.{SetState, state, Beginning, beginning, beginVerdict, freshSet, freshSet, isOf, loadsFrom, takenIn}
 use Rattle.segment_set_statements.specs.Kept.{SameWords}
 use Rattle.segment_set_statements.specs.InnerSpread.{Addable}
 use Rattle.segment_set_statements.specs.declared.SegmentSet.{SegmentSet}
@@ -139,17 +139,17 @@ light-front incoming part i l =
     let p : loadIn cpu y (take i part ++ drop i part) ≡ loadIn cpu y part = ap (loadIn cpu y) (take-append-drop i part) in
     omega (arith, light l .at y h, e, p))
 
-pub record Adding (b : Beginning) (slots : List ℕ) (areas : List ℤ) (i : ℕ) (s : State) : Type 0 where
+pub record Adding (b : Beginning) (slots : List ℕ) (areas : List ℤ) (i : ℕ) (s : SetState) : Type 0 where
   pub reached : i ≤ length (b .part)
   pub begun : Begun b slots areas
-  pub so-far : s ≡ fresh (upTo b i) slots areas
+  pub so-far : s ≡ freshSet (upTo b i) slots areas
 
 module _ {b : Beginning} {slots : List ℕ} {areas : List ℤ} where
   -- with nothing, over d of nothing
-  pub add-start : {s : State} → Begun b slots areas → s ≡ fresh (upTo b 0) slots areas → Adding b slots areas 0 s
+  pub add-start : {s : SetState} → Begun b slots areas → s ≡ freshSet (upTo b 0) slots areas → Adding b slots areas 0 s
   add-start h e = record { reached = omega arith; begun = h; so-far = e }
 
-  module _ {i : ℕ} {s : State} (c : Adding b slots areas i s) (h : i < length (b .part)) where
+  module _ {i : ℕ} {s : SetState} (c : Adding b slots areas i s) (h : i < length (b .part)) where
     more : take (i + 1) (b .part) ≡ take i (b .part) ++ (getD (b .part) i 0 ∷ [])
     more = rw (add-one i) (take-suc (b .part) i 0 h)
 
@@ -193,16 +193,16 @@ module _ {b : Beginning} {slots : List ℕ} {areas : List ℤ} where
     taken-set : setOf b (carryAfter _+ℤ_ cpu (getD (b .part) i 0) (carryOf cpu 16 (b .incoming) (take i (b .part)))) (loadsAfter _+_ cpu (getD (b .part) i 0) (loadsFrom cpu 16 (b .incoming) (take i (b .part)))) (length (take i (b .part)) + 1) ≡ freshSet (upTo b (i + 1))
     taken-set = rw (carry-taken (b .incoming) (getD (b .part) i 0) same lit, loads-taken (b .incoming) (getD (b .part) i 0) same, count-more)
 
-    pub add-next : {t : State} → t ≡ takenIn s (getD (b .part) i 0) → Adding b slots areas (i + 1) t
+    pub add-next : {t : SetState} → t ≡ takenIn s (getD (b .part) i 0) → Adding b slots areas (i + 1) t
     add-next {t} e =
         record {
           reached = omega arith;
           begun = c .begun;
           so-far =
               e
-              ∙ ap (λ (u : State). takenIn u (getD (b .part) i 0)) (c .so-far)
+              ∙ ap (λ (u : SetState). takenIn u (getD (b .part) i 0)) (c .so-far)
               ∙ three taken-set taken-slots taken-areas;
         }
 
-  pub add-end : {i : ℕ} {s : State} → Adding b slots areas i s → length (b .part) ≤ i → s ≡ fresh b slots areas
-  add-end {i} {s} c h = c .so-far ∙ ap (λ (p : List ℕ). fresh (beginning (b .layer) (b .tileX) (b .tileY) (b .incoming) p) slots areas) (take-all i (b .part) h)
+  pub add-end : {i : ℕ} {s : SetState} → Adding b slots areas i s → length (b .part) ≤ i → s ≡ freshSet b slots areas
+  add-end {i} {s} c h = c .so-far ∙ ap (λ (p : List ℕ). freshSet (beginning (b .layer) (b .tileX) (b .tileY) (b .incoming) p) slots areas) (take-all i (b .part) h)

@@ -26,7 +26,7 @@ use Rattle.cover_statements.specs.Cover.{coverAt}
 use Rattle.cover_statements.specs.Paint.{AreasInRange}
 use Rattle.cover_statements.proofs.Planes.{areas-length, areas-in-range}
 use Rattle.segment_set_statements.specs.Effect.{areasAfter, carryAfter, loadsAfter}
-use Rattle.segment_set_statements.specs.Set.{State, state, Beginning, beginVerdict, nothing, fresh, heldOf, isHere, isHeld, placeOf, loadsFrom, takeVerdict, takenIn, letVerdict, letOut, Gives, beginOf, takeOf, letOf, settled}
+use Rattle.segment_set_statements.specs.Set.{SetState, state, Beginning, beginVerdict, nothing, freshSet, heldOf, isHere, isWordHeld, heldPlace, loadsFrom, takeVerdict, takenIn, letVerdict, letOut, Gives, beginOf, takeOf, letOf, settled}
 use Rattle.segment_set_statements.specs.Kept.{Kept, SameWords, timesOf}
 use Rattle.segment_set_statements.specs.Edits.{Edits, accepted}
 use Rattle.segment_set_statements.specs.Edits.Edits.{begun, taken, let-out}
@@ -52,7 +52,7 @@ four a b c d i j k l e =
 
 -- ---- begun
 
-pub kept-begun : (b : Beginning) (slots : List ℕ) (areas : List ℤ) → Begun b slots areas → Kept (b .incoming) (fresh b slots areas)
+pub kept-begun : (b : Beginning) (slots : List ℕ) (areas : List ℤ) → Begun b slots areas → Kept (b .incoming) (freshSet b slots areas)
 unfolding heldOf
 kept-begun b slots areas p =
     let d = areasOf cpu 16 (coverAt (b .incoming)) (b .part) in
@@ -70,13 +70,13 @@ kept-begun b slots areas p =
 
 -- ---- taken in
 
-pub record Takes (s : State) (w : ℕ) : Type 0 where
+pub record Takes (s : SetState) (w : ℕ) : Type 0 where
   pub room : 256 ≤ length (s .areas)
   pub here : isHere (s .set) w ≡ true
   pub small : getD (s .set .loads) (localYOf cpu w) 0 + absCover cpu w ≤ 127
   pub free : s .set .count < length (s .slots)
 
-pub take-passed : (s : State) (w : ℕ) → takeVerdict s w ≡ pass → Takes s w
+pub take-passed : (s : SetState) (w : ℕ) → takeVerdict s w ≡ pass → Takes s w
 unfolding takeVerdict
 take-passed s w e =
     let load = getD (s .set .loads) (localYOf cpu w) 0 + absCover cpu w in
@@ -89,14 +89,14 @@ take-passed s w e =
     }
 
 -- the held words, with one more at the end
-pub held-taken : (s : State) (w : ℕ) → s .set .count < length (s .slots) → heldOf (takenIn s w) ≡ heldOf s ++ (w ∷ [])
+pub held-taken : (s : SetState) (w : ℕ) → s .set .count < length (s .slots) → heldOf (takenIn s w) ≡ heldOf s ++ (w ∷ [])
 unfolding heldOf
 held-taken s w h = rw (add-one (s .set .count)) (take-suc-set (s .slots) (s .set .count) w h)
 
-pub same-taken : (s : State) (w : ℕ) → Takes s w → SameWords (heldOf (takenIn s w)) (w ∷ heldOf s)
+pub same-taken : (s : SetState) (w : ℕ) → Takes s w → SameWords (heldOf (takenIn s w)) (w ∷ heldOf s)
 same-taken s w t = rw (held-taken s w (t .free)) (same-snoc w (heldOf s))
 
-module _ {incoming : List ℤ} {s : State} (k : Kept incoming s) where
+module _ {incoming : List ℤ} {s : SetState} (k : Kept incoming s) where
   front-length : length (areasOf cpu 16 (coverAt incoming) (heldOf s)) ≡ 256
   front-length = areas-length cpu 16 (coverAt incoming) (heldOf s)
 
@@ -130,15 +130,15 @@ module _ {incoming : List ℤ} {s : State} (k : Kept incoming s) where
 
 -- ---- let out
 
-pub record Lets (s : State) (w : ℕ) : Type 0 where
+pub record Lets (s : SetState) (w : ℕ) : Type 0 where
   pub room : 256 ≤ length (s .areas)
-  pub held : isHeld w (heldOf s) ≡ true
+  pub held : isWordHeld w (heldOf s) ≡ true
 
-pub let-passed : (s : State) (w : ℕ) → letVerdict s w ≡ pass → Lets s w
+pub let-passed : (s : SetState) (w : ℕ) → letVerdict s w ≡ pass → Lets s w
 unfolding letVerdict
 let-passed s w e =
-    let p = three (ltb (length (s .areas)) 256) (not (isHere (s .set) w)) (not (isHeld w (heldOf s))) 1 3 12 e in
-    record { room = ltb-false (length (s .areas)) 256 (p .0); held = not-false (isHeld w (heldOf s)) (p .2) }
+    let p = three (ltb (length (s .areas)) 256) (not (isHere (s .set) w)) (not (isWordHeld w (heldOf s))) 1 3 12 e in
+    record { room = ltb-false (length (s .areas)) 256 (p .0); held = not-false (isWordHeld w (heldOf s)) (p .2) }
 
 -- a word of a list replaced
 count-set : (v z : ℕ) (l : List ℕ) (p : ℕ) → p < length l → countBy (eqb v) (set l p z) + cond (eqb v (getD l p 0)) 1 0 ≡ countBy (eqb v) l + cond (eqb v z) 1 0
@@ -167,9 +167,9 @@ module _ (l : List ℕ) (m p : ℕ) (e : length l ≡ m + 1) (h : p < m + 1) whe
       (eq-or-ne p m)
 
 -- the held words without one
-module _ (s : State) (w : ℕ) (h : isHeld w (heldOf s) ≡ true) where
-  place-low : placeOf w (heldOf s) < length (heldOf s)
-  place-low = ltb-true (placeOf w (heldOf s)) (length (heldOf s)) (sym (held-by-place w (heldOf s)) ∙ h)
+module _ (s : SetState) (w : ℕ) (h : isWordHeld w (heldOf s) ≡ true) where
+  place-low : heldPlace w (heldOf s) < length (heldOf s)
+  place-low = ltb-true (heldPlace w (heldOf s)) (length (heldOf s)) (sym (held-by-place w (heldOf s)) ∙ h)
 
   pub same-let : SameWords (heldOf s) (w ∷ heldOf (letOut s w))
   unfolding heldOf
@@ -177,7 +177,7 @@ module _ (s : State) (w : ℕ) (h : isHeld w (heldOf s) ≡ true) where
       let count = s .set .count in
       let slots = s .slots in
       let l = take count slots in
-      let p = placeOf w l in
+      let p = heldPlace w l in
       let m = length l - 1 in
       let low : p < length l = place-low in
       let most : length l ≤ count = omega (arith, length-take count slots) in
@@ -201,7 +201,7 @@ module _ (s : State) (w : ℕ) (h : isHeld w (heldOf s) ≡ true) where
         let last = length (heldOf s) - 1 in
         record {
           room = rw areas-without (written k held .0);
-          within = omega (arith, length-take (s .set .count) (s .slots), length-set (s .slots) (placeOf w (heldOf s)) (getD (s .slots) last 0));
+          within = omega (arith, length-take (s .set .count) (s .slots), length-set (s .slots) (heldPlace w (heldOf s)) (getD (s .slots) last 0));
           here = right (isHere (s .set) w) (all (isHere (s .set)) held) (same-all (isHere (s .set)) same-let (k .here));
           light = lit-let;
           areas-are = ap (take 256) areas-without ∙ written k held .1;
@@ -212,28 +212,28 @@ module _ (s : State) (w : ℕ) (h : isHeld w (heldOf s) ≡ true) where
 -- ---- any list of edits
 
 -- the set is kept, and holds the words taken in less those let out, each as often
-pub record Holds (incoming : List ℤ) (ins outs : List ℕ) (s : State) : Type 0 where
+pub record Holds (incoming : List ℤ) (ins outs : List ℕ) (s : SetState) : Type 0 where
   pub kept : Kept incoming s
   pub words : (v : ℕ) → timesOf v (heldOf s) + timesOf v outs ≡ timesOf v ins
 
-step-in : {incoming : List ℤ} {ins outs : List ℕ} {s : State} (w : ℕ) (j : Judgement) → takeVerdict s w ≡ j → Holds incoming ins outs s → Holds incoming (accepted j w ins) outs (settled j (takenIn s w) s)
+step-in : {incoming : List ℤ} {ins outs : List ℕ} {s : SetState} (w : ℕ) (j : Judgement) → takeVerdict s w ≡ j → Holds incoming ins outs s → Holds incoming (accepted j w ins) outs (settled j (takenIn s w) s)
 step-in {s = s} w pass e h =
     let t = take-passed s w e in
     record { kept = kept-taken (h .kept) w t; words = λ v. omega (arith, h .words v, same-taken s w t .at v) }
 step-in w (refuse n) e h = h
 
-step-out : {incoming : List ℤ} {ins outs : List ℕ} {s : State} (w : ℕ) (j : Judgement) → letVerdict s w ≡ j → Holds incoming ins outs s → Holds incoming ins (accepted j w outs) (settled j (letOut s w) s)
+step-out : {incoming : List ℤ} {ins outs : List ℕ} {s : SetState} (w : ℕ) (j : Judgement) → letVerdict s w ≡ j → Holds incoming ins outs s → Holds incoming ins (accepted j w outs) (settled j (letOut s w) s)
 step-out {s = s} w pass e h =
     let t = let-passed s w e .held in
     record { kept = kept-let s w t (h .kept); words = λ v. omega (arith, h .words v, same-let s w t .at v) }
 step-out w (refuse n) e h = h
 
--- W-207: after any edits, refused ones included, all of the set equals a fresh working of its held words
-pub kept : {b : Beginning} {ins outs : List ℕ} {s : State} → Edits b ins outs s → Holds (b .incoming) ins outs s
+-- W-207: after any edits, refused ones included, all of the set equals a freshSet working of its held words
+pub kept : {b : Beginning} {ins outs : List ℕ} {s : SetState} → Edits b ins outs s → Holds (b .incoming) ins outs s
 unfolding heldOf
 kept {b} (begun lentSlots lentAreas e g) =
     let p = begin-passed e in
-    let is = g .leaves ∙ ap (λ (j : Judgement). settled j (fresh b lentSlots lentAreas) (state nothing lentSlots lentAreas)) e in
+    let is = g .leaves ∙ ap (λ (j : Judgement). settled j (freshSet b lentSlots lentAreas) (state nothing lentSlots lentAreas)) e in
     rw is
     (record {
       kept = kept-begun b lentSlots lentAreas p;
@@ -243,5 +243,5 @@ kept (taken {s = s} w h g) = rw (g .leaves) (step-in w (takeVerdict s w) refl (k
 kept (let-out {s = s} w h g) = rw (g .leaves) (step-out w (letVerdict s w) refl (kept h))
 
 -- on a kept set |d| is at most 8,001, so nothing is wrapped
-pub small : {incoming : List ℤ} {s : State} → Kept incoming s → AreasInRange (take 256 (s .areas))
+pub small : {incoming : List ℤ} {s : SetState} → Kept incoming s → AreasInRange (take 256 (s .areas))
 small {incoming} {s} k = rw (k .areas-are) (areas-in-range incoming (heldOf s) (k .light))

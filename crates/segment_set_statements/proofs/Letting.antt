@@ -12,7 +12,7 @@ use lib.ListN.{length, take, length-take}
 use lib.Seq.{take-all}
 use Rattle.laws.proofs.Orders.{le-or-lt}
 use Rattle.refusals.specs.Refusal.{pass}
-use Rattle.segment_set_statements.specs.Set.{State, state, heldOf, isHeld, placeOf, letVerdict}
+use Rattle.segment_set_statements.specs.Set.{SetState, state, heldOf, isWordHeld, heldPlace, letVerdict}
 use Rattle.segment_set_statements.specs.InnerSpread.{letVerdictBy, Removable}
 use Rattle.segment_set_statements.specs.declared.SegmentSet.{SegmentSet}
 use Rattle.segment_set_statements.proofs.Keeping.{let-passed}
@@ -25,7 +25,7 @@ take-min {A = A} n l =
     (λ (h : length l < n). take-all (min n (length l)) l (omega arith) ∙ sym (take-all n l (omega arith)))
     (le-or-lt n (length l))
 
-module _ (s : SegmentSet) (w : ℕ) (slots : List ℕ) (areas : List ℤ) {held place : ℕ} (count : held ≡ min (s .count) (length slots)) (found : place ≡ placeOf w (take held slots)) where
+module _ (s : SegmentSet) (w : ℕ) (slots : List ℕ) (areas : List ℤ) {held place : ℕ} (count : held ≡ min (s .count) (length slots)) (found : place ≡ heldPlace w (take held slots)) where
   held-is : take held slots ≡ heldOf (state s slots areas)
   unfolding heldOf
   held-is = ap (λ (m : ℕ). take m slots) count ∙ take-min (s .count) slots
@@ -33,8 +33,8 @@ module _ (s : SegmentSet) (w : ℕ) (slots : List ℕ) (areas : List ℤ) {held 
   number : held ≡ length (heldOf (state s slots areas))
   number = sym (ap length (sym held-is) ∙ length-take held slots ∙ omega (arith, count))
 
-  test : ltb place held ≡ isHeld w (heldOf (state s slots areas))
-  test = ap₂ ltb (found ∙ ap (placeOf w) held-is) number ∙ sym (held-by-place w (heldOf (state s slots areas)))
+  test : ltb place held ≡ isWordHeld w (heldOf (state s slots areas))
+  test = ap₂ ltb (found ∙ ap (heldPlace w) held-is) number ∙ sym (held-by-place w (heldOf (state s slots areas)))
 
   pub let-judged : letVerdictBy s w (ltb place held) areas ≡ letVerdict (state s slots areas) w
   unfolding letVerdictBy letVerdict
@@ -45,7 +45,7 @@ module _ (s : SegmentSet) (w : ℕ) (slots : List ℕ) (areas : List ℤ) {held 
       let p = let-passed (state s slots areas) w e in
       record {
         room = p .room;
-        place-is = found ∙ ap (placeOf w) held-is;
+        place-is = found ∙ ap (heldPlace w) held-is;
         held-is = number;
         within = ltb-true place held (test ∙ p .held);
         long = omega (arith, count);

@@ -15,7 +15,7 @@ use Rattle.cover_statements.specs.Cover.{coverAt}
 use Rattle.cover_statements.specs.Load.{Magnitudes}
 use Rattle.cover_statements.proofs.Carries.{carry-none}
 use Rattle.cover_statements.proofs.Planes.{areas-length}
-use Rattle.segment_set_statements.specs.Set.{State, state, Beginning, fresh, freshSet, loadsFrom}
+use Rattle.segment_set_statements.specs.Set.{SetState, state, Beginning, freshSet, freshSet, loadsFrom}
 use Rattle.segment_set_statements.specs.declared.SegmentSet.{SegmentSet}
 use Rattle.segment_set_statements.proofs.Begins.{Begun, Adding, setOf, three, upTo, over-over, loads-none, add-start, add-end}
 
@@ -44,7 +44,7 @@ module _ (b : Beginning) (slots : List ℕ) (areas start : List ℤ) (e : start 
       refl
       (e ∙ sym (again [])))
 
-  pub begin-end : {i : ℕ} {s : State} → Adding b slots start i s → length (b .part) ≤ i → s ≡ fresh b slots areas
+  pub begin-end : {i : ℕ} {s : SetState} → Adding b slots start i s → length (b .part) ≤ i → s ≡ freshSet b slots areas
   begin-end c h = add-end c h ∙ three refl refl (again (b .part))
 
   -- the lent lists keep their lengths
@@ -52,13 +52,13 @@ module _ (b : Beginning) (slots : List ℕ) (areas start : List ℤ) (e : start 
   start-length h = ap length e ∙ length-over areas (areasOf cpu 16 (coverAt (b .incoming)) []) (omega (arith, long))
 
 -- and on the way too
-pub slots-length : {b : Beginning} {slots : List ℕ} {areas : List ℤ} {i : ℕ} {s : State} → Adding b slots areas i s → length (s .slots) ≡ length slots
+pub slots-length : {b : Beginning} {slots : List ℕ} {areas : List ℤ} {i : ℕ} {s : SetState} → Adding b slots areas i s → length (s .slots) ≡ length slots
 slots-length {b} {slots} {areas} {i} {s} c =
-    ap (λ (t : State). length (t .slots)) (c .so-far)
+    ap (λ (t : SetState). length (t .slots)) (c .so-far)
     ∙ length-over slots (take i (b .part)) (omega (arith, c .begun .free, length-take-le i (b .part) (c .reached), c .reached))
 
-pub areas-long : {b : Beginning} {slots : List ℕ} {areas : List ℤ} {i : ℕ} {s : State} → Adding b slots areas i s → length (s .areas) ≡ length areas
+pub areas-long : {b : Beginning} {slots : List ℕ} {areas : List ℤ} {i : ℕ} {s : SetState} → Adding b slots areas i s → length (s .areas) ≡ length areas
 areas-long {b} {slots} {areas} {i} {s} c =
     let d = areasOf cpu 16 (coverAt (b .incoming)) (take i (b .part)) in
-    ap (λ (t : State). length (t .areas)) (c .so-far)
+    ap (λ (t : SetState). length (t .areas)) (c .so-far)
     ∙ length-over areas d (omega (arith, c .begun .room, areas-length cpu 16 (coverAt (b .incoming)) (take i (b .part))))

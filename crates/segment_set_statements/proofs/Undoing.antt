@@ -19,7 +19,7 @@ use Rattle.cover_statements.specs.Area.{areasOf}
 use Rattle.cover_statements.specs.Cover.{coverAt}
 use Rattle.cover_statements.proofs.Planes.{areas-length}
 use Rattle.segment_set_statements.specs.Effect.{isReached, areaAfter, areasAfter, carryAfter, loadsAfter}
-use Rattle.segment_set_statements.specs.Set.{State, heldOf, isHeld, takeVerdict, takenIn, letOut}
+use Rattle.segment_set_statements.specs.Set.{SetState, heldOf, isWordHeld, takeVerdict, takenIn, letOut}
 use Rattle.segment_set_statements.specs.Kept.{Kept, SameWords}
 use Rattle.segment_set_statements.proofs.Begins.{over-over}
 use Rattle.segment_set_statements.proofs.Keeping.{Takes, take-passed, held-taken, same-taken, new-areas, kept-taken, same-let, areas-without, kept-let}
@@ -48,11 +48,11 @@ module _ (op : ℤ → ℤ → ℤ) (ws : List ℕ) (n w : ℕ) where
 
 -- ---- a segment taken in and let out again
 
-last-held : (w : ℕ) (xs : List ℕ) → isHeld w (xs ++ (w ∷ [])) ≡ true
+last-held : (w : ℕ) (xs : List ℕ) → isWordHeld w (xs ++ (w ∷ [])) ≡ true
 last-held w [] = rw (eq-eqb w w refl)
 last-held w (x ∷ xs) = by (eqb x w) (last-held w xs)
   where
-    by : (t : Bool) → isHeld w (xs ++ (w ∷ [])) ≡ true → (t || isHeld w (xs ++ (w ∷ []))) ≡ true
+    by : (t : Bool) → isWordHeld w (xs ++ (w ∷ [])) ≡ true → (t || isWordHeld w (xs ++ (w ∷ []))) ≡ true
     by true e = refl
     by false e = e
 
@@ -60,16 +60,16 @@ over-own : {A : Type 0} (l : List A) (n : ℕ) → n ≤ length l → over (take
 unfolding over
 over-own {A = A} l n h = ap (λ (m : ℕ). take n l ++ drop m l) (length-take-le n l h) ∙ take-append-drop n l
 
-pub record Undone (s t : State) : Type 0 where
+pub record Undone (s t : SetState) : Type 0 where
   pub areas-are : t .areas ≡ s .areas
   pub carry-is : t .set .carry .covers ≡ s .set .carry .covers
   pub loads-are : t .set .loads ≡ s .set .loads
 
-pub undone : {incoming : List ℤ} {s : State} → Kept incoming s → (w : ℕ) → takeVerdict s w ≡ pass → Undone s (letOut (takenIn s w) w)
+pub undone : {incoming : List ℤ} {s : SetState} → Kept incoming s → (w : ℕ) → takeVerdict s w ≡ pass → Undone s (letOut (takenIn s w) w)
 undone {incoming} {s} k w e =
     let p = take-passed s w e in
     let u = takenIn s w in
-    let held : isHeld w (heldOf u) ≡ true = ap (isHeld w) (held-taken s w (p .free)) ∙ last-held w (heldOf s) in
+    let held : isWordHeld w (heldOf u) ≡ true = ap (isWordHeld w) (held-taken s w (p .free)) ∙ last-held w (heldOf s) in
     let t = letOut u w in
     let one = kept-taken k w p in
     let two = kept-let u w held one in

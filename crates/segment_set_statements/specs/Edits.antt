@@ -5,7 +5,7 @@ use mathlib.Core.List.{List, [], _∷_}
 use Prim.Native.Nat.{ℕ}
 use lib.IntN.{ℤ}
 use Rattle.refusals.specs.Refusal.{Judgement, pass, refuse}
-use Rattle.segment_set_statements.specs.Set.{State, state, Beginning, Gives, beginVerdict, beginOf, takeVerdict, takeOf, letVerdict, letOf}
+use Rattle.segment_set_statements.specs.Set.{SetState, state, Beginning, Gives, beginVerdict, beginOf, takeVerdict, takeOf, letVerdict, letOf}
 use Rattle.segment_set_statements.specs.declared.Edited.{Edited}
 
 -- the words accepted, with one more where a verdict passes
@@ -13,21 +13,21 @@ abbrev pub accepted : Judgement → ℕ → List ℕ → List ℕ
 accepted pass w ws = w ∷ ws
 accepted (refuse number) w ws = ws
 
-pub data Edits (b : Beginning) : List ℕ → List ℕ → State → Type 0 where
+pub data Edits (b : Beginning) : List ℕ → List ℕ → SetState → Type 0 where
   begun : (lentSlots : List ℕ) (lentAreas : List ℤ) {slots : List ℕ} {areas : List ℤ} {r : Edited} →
       beginVerdict b lentSlots lentAreas ≡ pass →
       Gives (beginVerdict b lentSlots lentAreas) (beginOf b lentSlots lentAreas) r slots areas →
       Edits b (b .part) [] (state (r .set) slots areas)
-  taken : {ins outs : List ℕ} {s : State} (w : ℕ) {slots : List ℕ} {areas : List ℤ} {r : Edited} →
+  taken : {ins outs : List ℕ} {s : SetState} (w : ℕ) {slots : List ℕ} {areas : List ℤ} {r : Edited} →
       Edits b ins outs s →
       Gives (takeVerdict s w) (takeOf s w) r slots areas →
       Edits b (accepted (takeVerdict s w) w ins) outs (state (r .set) slots areas)
-  let-out : {ins outs : List ℕ} {s : State} (w : ℕ) {slots : List ℕ} {areas : List ℤ} {r : Edited} →
+  let-out : {ins outs : List ℕ} {s : SetState} (w : ℕ) {slots : List ℕ} {areas : List ℤ} {r : Edited} →
       Edits b ins outs s →
       Gives (letVerdict s w) (letOf s w) r slots areas →
       Edits b ins (accepted (letVerdict s w) w outs) (state (r .set) slots areas)
 
 -- words taken in, one after the other
-abbrev pub takeAll : State → List ℕ → State
+abbrev pub takeAll : SetState → List ℕ → SetState
 takeAll s [] = s
 takeAll s (w ∷ ws) = takeAll (takeOf s w) ws

@@ -12,7 +12,7 @@ use Rattle.pixel_segment.specs.Field.{cpu, localYOf}
 use Rattle.cover_statements.specs.Carry.{absCover}
 use Rattle.cover_statements.specs.Cover.{coverAt}
 use Rattle.segment_set_statements.specs.Effect.{wrap}
-use Rattle.segment_set_statements.specs.Set.{State, heldOf, isHere, placeOf}
+use Rattle.segment_set_statements.specs.Set.{SetState, heldOf, isHere, heldPlace}
 use Rattle.segment_set_statements.specs.declared.SegmentSet.{SegmentSet}
 
 unfoldable pub spreadBy : ℕ → ℕ → ℕ → ℤ → ℤ → List ℤ → List ℤ
@@ -20,7 +20,7 @@ spreadBy n x y own past areas =
     over (tabulate (16 * n) (λ k. cond (eqb y (k % n) && leb x (k / n)) (wrap 16 (coverAt areas k +ℤ cond (eqb x (k / n)) own past)) (coverAt areas k))) areas
 
 -- a segment can be added: d is long enough, a slot is free, and its row's load stays small
-pub record Addable (s : State) (w : ℕ) : Type 0 where
+pub record Addable (s : SetState) (w : ℕ) : Type 0 where
   pub room : 256 ≤ length (s .areas)
   pub free : s .set .count < length (s .slots)
   pub small : getD (s .set .loads) (localYOf cpu w) 0 + absCover cpu w ≤ 127
@@ -34,9 +34,9 @@ letVerdictBy s w held areas =
     pass))
 
 -- a word can be removed from its place
-pub record Removable (s : State) (w place held : ℕ) : Type 0 where
+pub record Removable (s : SetState) (w place held : ℕ) : Type 0 where
   pub room : 256 ≤ length (s .areas)
-  pub place-is : place ≡ placeOf w (heldOf s)
+  pub place-is : place ≡ heldPlace w (heldOf s)
   pub held-is : held ≡ length (heldOf s)
   pub within : place < held
   pub long : held ≤ length (s .slots)

@@ -13,9 +13,9 @@ use Rattle.pixel_segment.specs.Field.{cpu}
 use Rattle.cover_statements.specs.Area.{areasOf}
 use Rattle.cover_statements.specs.Carry.{isLight, carryOf}
 use Rattle.cover_statements.specs.Cover.{coverAt}
-use Rattle.segment_set_statements.specs.Set.{State, heldOf, isHere, loadsFrom}
+use Rattle.segment_set_statements.specs.Set.{SetState, heldOf, isHere, loadsFrom}
 
-pub record Kept (incoming : List ℤ) (s : State) : Type 0 where
+pub record Kept (incoming : List ℤ) (s : SetState) : Type 0 where
   pub room : 256 ≤ length (s .areas)
   pub within : s .set .count ≤ length (s .slots)
   pub here : all (isHere (s .set)) (heldOf s) ≡ true

@@ -20,16 +20,16 @@ use Rattle.segment_set_statements.specs.declared.SegmentSet.{SegmentSet}
 use Rattle.segment_set_statements.specs.declared.Edited.{Edited}
 
 -- what a caller holds between calls: the set, the lent slots and the lent d
-pub record State : Type 0 where
+pub record SetState : Type 0 where
   pub set : SegmentSet
   pub slots : List ℕ
   pub areas : List ℤ
 
-abbrev pub state : SegmentSet → List ℕ → List ℤ → State
+abbrev pub state : SegmentSet → List ℕ → List ℤ → SetState
 state s slots areas = record { set = s; slots = slots; areas = areas }
 
 -- the held words: the first slots, as many as are counted
-unfoldable pub heldOf : State → List ℕ
+unfoldable pub heldOf : SetState → List ℕ
 heldOf s = take (s .set .count) (s .slots)
 
 -- segment w is of a layer and a tile
@@ -65,7 +65,7 @@ beginVerdict b slots areas =
     (unless (ltb (length slots) (length (b .part))) 13
     pass)))
 
--- a fresh working of the part: its words in the slots, its d, its carry and its loads
+-- a freshSet working of the part: its words in the slots, its d, its carry and its loads
 abbrev pub freshSet : Beginning → SegmentSet
 freshSet b =
     record {
@@ -77,8 +77,8 @@ freshSet b =
       count = length (b .part);
     }
 
-abbrev pub fresh : Beginning → List ℕ → List ℤ → State
-fresh b slots areas =
+abbrev pub freshSet : Beginning → List ℕ → List ℤ → SetState
+freshSet b slots areas =
     state (freshSet b) (over (b .part) slots) (over (areasOf cpu 16 (coverAt (b .incoming)) (b .part)) areas)
 
 -- a set of nothing: what a refused beginning gives
@@ -95,7 +95,7 @@ nothing =
 
 -- ---- taking in
 
-unfoldable pub takeVerdict : State → ℕ → Judgement
+unfoldable pub takeVerdict : SetState → ℕ → Judgement
 takeVerdict s w =
     unless (ltb (length (s .areas)) 256) 1
     (unless (not (isHere (s .set) w)) 3
@@ -103,9 +103,9 @@ takeVerdict s w =
     (unless (leb (length (s .slots)) (s .set .count)) 13
     pass)))
 
--- a set whose carry and loads are changed by a segment, with another count
-abbrev pub changed : (ℤ → ℤ → ℤ) → (ℕ → ℕ → ℕ) → ℕ → ℕ → SegmentSet → SegmentSet
-changed op opℕ w count s =
+-- a set whose carry and loads are setChanged by a segment, with another count
+abbrev pub setChanged : (ℤ → ℤ → ℤ) → (ℕ → ℕ → ℕ) → ℕ → ℕ → SegmentSet → SegmentSet
+setChanged op opℕ w count s =
     record {
       «layer_id» = s .«layer_id»;
       «tile_x» = s .«tile_x»;
@@ -116,50 +116,50 @@ changed op opℕ w count s =
     }
 
 -- the word stands in the next slot
-abbrev pub takenIn : State → ℕ → State
+abbrev pub takenIn : SetState → ℕ → SetState
 takenIn s w =
-    state (changed _+ℤ_ _+_ w (s .set .count + 1) (s .set)) (set (s .slots) (s .set .count) w) (areasAfter _+ℤ_ cpu 16 w (s .areas))
+    state (setChanged _+ℤ_ _+_ w (s .set .count + 1) (s .set)) (set (s .slots) (s .set .count) w) (areasAfter _+ℤ_ cpu 16 w (s .areas))
 
 -- ---- letting out
 
-abbrev pub isHeld : ℕ → List ℕ → Bool
-isHeld w held = any (λ v. eqb v w) held
+abbrev pub isWordHeld : ℕ → List ℕ → Bool
+isWordHeld w held = any (λ v. eqb v w) held
 
 -- the place of the first word that is w; the length where there is none
-unfoldable pub placeOf : ℕ → List ℕ → ℕ
-placeOf w [] = 0
-placeOf w (v ∷ vs) = cond (eqb v w) 0 (suc (placeOf w vs))
+unfoldable pub heldPlace : ℕ → List ℕ → ℕ
+heldPlace w [] = 0
+heldPlace w (v ∷ vs) = cond (eqb v w) 0 (suc (heldPlace w vs))
 
-unfoldable pub letVerdict : State → ℕ → Judgement
+unfoldable pub letVerdict : SetState → ℕ → Judgement
 letVerdict s w =
     unless (ltb (length (s .areas)) 256) 1
     (unless (not (isHere (s .set) w)) 3
-    (unless (not (isHeld w (heldOf s))) 12
+    (unless (not (isWordHeld w (heldOf s))) 12
     pass))
 
 -- the last held word is put in its place, so the held slots are again the first ones
-abbrev pub letOut : State → ℕ → State
+abbrev pub letOut : SetState → ℕ → SetState
 letOut s w =
     let last = length (heldOf s) - 1 in
-    state (changed _-ℤ_ _-_ w last (s .set)) (set (s .slots) (placeOf w (heldOf s)) (getD (s .slots) last 0)) (areasAfter _-ℤ_ cpu 16 w (s .areas))
+    state (setChanged _-ℤ_ _-_ w last (s .set)) (set (s .slots) (heldPlace w (heldOf s)) (getD (s .slots) last 0)) (areasAfter _-ℤ_ cpu 16 w (s .areas))
 
 -- ---- the promise
 
 -- by the verdict: the state after, or the one that a refusal leaves
-abbrev pub settled : Judgement → State → State → State
+abbrev pub settled : Judgement → SetState → SetState → SetState
 settled pass after before = after
 settled (refuse number) after before = before
 
-abbrev pub beginOf : Beginning → List ℕ → List ℤ → State
-beginOf b slots areas = settled (beginVerdict b slots areas) (fresh b slots areas) (state nothing slots areas)
+abbrev pub beginOf : Beginning → List ℕ → List ℤ → SetState
+beginOf b slots areas = settled (beginVerdict b slots areas) (freshSet b slots areas) (state nothing slots areas)
 
-abbrev pub takeOf : State → ℕ → State
+abbrev pub takeOf : SetState → ℕ → SetState
 takeOf s w = settled (takeVerdict s w) (takenIn s w) s
 
-abbrev pub letOf : State → ℕ → State
+abbrev pub letOf : SetState → ℕ → SetState
 letOf s w = settled (letVerdict s w) (letOut s w) s
 
 -- what an operation answers, and what it leaves of set and lists
-pub record Gives (verdict : Judgement) (after : State) (r : Edited) (slots : List ℕ) (areas : List ℤ) : Type 0 where
+pub record Gives (verdict : Judgement) (after : SetState) (r : Edited) (slots : List ℕ) (areas : List ℤ) : Type 0 where
   pub answer : judgementIn (r .verdict) ≡ verdict
   pub leaves : state (r .set) slots areas ≡ after

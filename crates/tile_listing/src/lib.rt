@@ -20,7 +20,7 @@ ghost use Rattle.layer_carrying.specs.Carrying.{handedOn, Hands};
 ghost use Rattle.row_statements.specs.Lent.{columns, lentTable};
 ghost use Rattle.row_statements.specs.State.{stateIn};
 ghost use Rattle.listing_statements.specs.Listing.{tileList, listCall, listLent, listingOf, ListsTile};
-ghost use Rattle.listing_statements.specs.InnerListing.{refusedListing, doneListing, Rooms, Judged, listedWith};
+ghost use Rattle.listing_statements.specs.InnerListing.{refusedListing, doneListing, ListingRooms, ListingJudged, listedWith};
 
 fn refuse(state: RowState, refusal: Refusal) -> TileListed
     ensures { λ r. ⌜ r ≡ refusedListing state refusal ⌝ }
@@ -67,7 +67,7 @@ fn write_tile(
     list_segments: &mut [bool],
 ) -> usize
     requires { ⌜ Walks n (now ids) (now part) × (16 * n ≤ length (now covers)) × Table (now layers) (now colors) count
-        × Rooms (now «list_ids») (now «list_covers») (now «list_segments») (now «next_ids») (now «next_covers»)
+        × ListingRooms (now «list_ids») (now «list_covers») (now «list_segments») (now «next_ids») (now «next_covers»)
         × (areLight (layersIn (queueOf n (now ids) (now covers)) (now part)) ≡ true)
         × (length (layersIn (queueOf n (now ids) (now covers)) (now part)) ≤ 256) ⌝ }
     ensures list { λ _. ⌜ Lists (layersIn (queueOf n (now (ids .entry)) (now (covers .entry))) (now (part .entry)))
@@ -107,7 +107,7 @@ fn list_judged(
     list_covers: &mut [i8],
     list_segments: &mut [bool],
 ) -> TileListed
-    requires { ⌜ Judged
+    requires { ⌜ ListingJudged
         (listCall (stateIn state) tile (now row) (lentTable (now layers) (now colors) count)
         (columns (now ids) (now covers)))
         (listLent (columns (now «next_ids») (now «next_covers»))

@@ -28,13 +28,13 @@ use Rattle.row_statements.specs.InnerHolding.{IsOpen, Holds}
 use Rattle.row_statements.specs.declared.TileWorked.{TileWorked}
 use Rattle.row_statements.specs.declared.Painted.{Painted}
 use Rattle.row_statements.proofs.Run.{accepted, is-open, held-first, run}
-use Rattle.two_rows.specs.Apart.{AgreeOn, entryIn, carryIn, Made, SameWork, Apart, LayersApart}
+use Rattle.two_rows.specs.Apart.{AgreeOn, entryIn, carryIn, MadeCall, SameWork, Apart, LayersApart}
 use Rattle.two_rows.proofs.Same.{same-layer}
 
 -- every call of a run is right
-made-right : {o : OpenRow} {p q : Past} {es : List Event} {e : Event} → AllRight o p es → Made o p es q e → Right o q e
-made-right all Made.here = all .0
-made-right all (Made.later m) = made-right (all .1) m
+made-right : {o : OpenRow} {p q : Past} {es : List Event} {e : Event} → AllRight o p es → MadeCall o p es q e → Right o q e
+made-right all MadeCall.here = all .0
+made-right all (MadeCall.later m) = made-right (all .1) m
 
 module _ (o : OpenRow) where
   -- what an accepted work answers and leaves, read back, is the row's
@@ -81,7 +81,7 @@ module _ {o o′ : OpenRow} (i : IsOpen o) (i′ : IsOpen o′) {id : ℕ} (agre
 
   module _ {es es′ : List Event} (all : AllRight o atFirst es) (all′ : AllRight o′ atFirst es′) where
     paint-same : {p p′ : Past} {c c′ : PaintChoice} {r r′ : Painted} {back back′ : List Float} {mark mark′ : ℕ}
-        → Made o atFirst es p (Event.paint c r back) → Made o′ atFirst es′ p′ (Event.paint c′ r′ back′) → p .tiles ≡ p′ .tiles → c .layer ≡ id → c′ .layer ≡ id
+        → MadeCall o atFirst es p (Event.paint c r back) → MadeCall o′ atFirst es′ p′ (Event.paint c′ r′ back′) → p .tiles ≡ p′ .tiles → c .layer ≡ id → c′ .layer ≡ id
         → paintAnswer (r .answer) ≡ given mark → paintAnswer (r′ .answer) ≡ given mark′ → take 256 back ≡ take 256 back′
     paint-same {p} {p′} {c} {c′} {r} {r′} {back} {back′} m m′ e l l′ a a′ =
         paint-read o p c (made-right all m) a

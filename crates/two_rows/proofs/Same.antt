@@ -39,7 +39,7 @@ use Rattle.row_carries.proofs.Merged.{ownIn, list-held, list-own}
 use Rattle.row_carries.proofs.Parts.{tile-layer, left-layer}
 use Rattle.row_statements.specs.Due.{OpenRow, tableOn, queueOn, layersOn, planeOn}
 use Rattle.row_statements.specs.InnerHolding.{IsOpen}
-use Rattle.two_rows.specs.Apart.{belowTileY, layerWords, AgreeOn, entryIn, carryIn, SameLayer}
+use Rattle.two_rows.specs.Apart.{belowTileY, layerSegments, AgreeOn, entryIn, carryIn, SameLayer}
 use Rattle.two_rows.proofs.Words.{tile-x-below, local-x-below, local-y-below, cover-below, area-below, layer-sum}
 use Rattle.two_rows.proofs.Layers.{long-same, any-filter, carry-in, entry-in, handed-has}
 
@@ -48,13 +48,13 @@ use Rattle.two_rows.proofs.Layers.{long-same, any-filter, carry-in, ent
 add-idl : (n : ℕ) → 0 + n ≡ n
 add-idl n = omega arith
 
-module _ (id : ℕ) (row row′ : List ℕ) (segments : (v : ℕ) → countBy (eqb v) (layerWords id row) ≡ countBy (eqb v) (layerWords id row′)) where
+module _ (id : ℕ) (row row′ : List ℕ) (segments : (v : ℕ) → countBy (eqb v) (layerSegments id row) ≡ countBy (eqb v) (layerSegments id row′)) where
   -- sums over the layer's segments in a place that no tile y plays a part in
   part-ℤ : (on p : ℕ → Bool) (f : ℕ → ℤ) → ((w : ℕ) → on (belowTileY w) ≡ on w) → ((w : ℕ) → p (belowTileY w) ≡ p w) → ((w : ℕ) → f (belowTileY w) ≡ f w)
       → sumℤ p f (filter (λ w. on w && eqb (layerIdOf cpu w) id) row) ≡ sumℤ p f (filter (λ w. on w && eqb (layerIdOf cpu w) id) row′)
   part-ℤ on p f ho hp hf =
       layer-sum _+ℤ_ (pos 0) +ℤ-idl on p f id row ho hp hf
-      ∙ sumℤ-same (λ w. on w && p w) f (layerWords id row) (layerWords id row′) segments
+      ∙ sumℤ-same (λ w. on w && p w) f (layerSegments id row) (layerSegments id row′) segments
       ∙ sym (layer-sum _+ℤ_ (pos 0) +ℤ-idl on p f id row′ ho hp hf)
 
   part-any : (on : ℕ → Bool) → ((w : ℕ) → on (belowTileY w) ≡ on w)
@@ -62,7 +62,7 @@ module _ (id : ℕ) (row row′ : List ℕ) (segments : (v : ℕ) → countBy (e
   part-any on ho =
       long-same (filter (λ w. on w && eqb (layerIdOf cpu w) id) row) (filter (λ w. on w && eqb (layerIdOf cpu w) id) row′)
       (layer-sum _+_ 0 add-idl on (λ w. true) (λ w. 1) id row ho (λ w. refl) (λ w. refl)
-      ∙ sumℕ-same (λ w. on w && true) (λ w. 1) (layerWords id row) (layerWords id row′) segments
+      ∙ sumℕ-same (λ w. on w && true) (λ w. 1) (layerSegments id row) (layerSegments id row′) segments
       ∙ sym (layer-sum _+_ 0 add-idl on (λ w. true) (λ w. 1) id row′ ho (λ w. refl) (λ w. refl)))
 
   tile-on : (t w : ℕ) → eqb (tileXOf cpu (belowTileY w)) t ≡ eqb (tileXOf cpu w) t

@@ -10,7 +10,7 @@ use Rattle.laws.specs.Lists.{filter}
 use Rattle.laws.specs.Sum.{sumBy}
 use Rattle.laws.proofs.Sums.{sum-ext, sum-filter}
 use Rattle.pixel_segment.specs.Field.{cpu, tileXOf, layerIdOf, localXOf, localYOf, multiplierOf, signedOf, coverOf, doubleAreaOf}
-use Rattle.two_rows.specs.Apart.{belowTileY, layerWords}
+use Rattle.two_rows.specs.Apart.{belowTileY, layerSegments}
 
 -- ---- the fields below tile y
 
@@ -50,7 +50,7 @@ module _ {A : Type 0} (add : A → A → A) (z : A) where
     and-swap false false c = refl
 
     pub layer-sum : (on p : ℕ → Bool) (f : ℕ → A) (id : ℕ) (row : List ℕ) → ((w : ℕ) → on (belowTileY w) ≡ on w) → ((w : ℕ) → p (belowTileY w) ≡ p w) → ((w : ℕ) → f (belowTileY w) ≡ f w)
-        → sumBy add z p f (filter (λ w. on w && eqb (layerIdOf cpu w) id) row) ≡ sumBy add z (λ w. on w && p w) f (layerWords id row)
+        → sumBy add z p f (filter (λ w. on w && eqb (layerIdOf cpu w) id) row) ≡ sumBy add z (λ w. on w && p w) f (layerSegments id row)
     layer-sum on p f id row ho hp hf =
         sym (sum-filter add z idl (λ w. on w && eqb (layerIdOf cpu w) id) p f row)
         ∙ sum-ext add z (λ w. on w && eqb (layerIdOf cpu w) id && p w) (λ w. eqb (layerIdOf cpu w) id && (on w && p w)) f f row (λ w. ap (λ (t : Bool). cond t (f w) z) (and-swap (on w) (eqb (layerIdOf cpu w) id) (p w)))

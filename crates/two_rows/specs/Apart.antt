@@ -34,14 +34,14 @@ abbrev pub belowTileY : ℕ → ℕ
 belowTileY w = w % 2 ^ shiftOf cpu 0
 
 -- the layer's segments, so
-abbrev pub layerWords : ℕ → List ℕ → List ℕ
-layerWords id row = map belowTileY (filter (λ w. eqb (layerIdOf cpu w) id) row)
+abbrev pub layerSegments : ℕ → List ℕ → List ℕ
+layerSegments id row = map belowTileY (filter (λ w. eqb (layerIdOf cpu w) id) row)
 
 -- the two rows begin at one tile and agree on the layer: its segments, each as often, and its fill rule. A layer that a table lacks counts as
 -- NonZero
 pub record AgreeOn (id : ℕ) (o o′ : OpenRow) : Type 0 where
   pub first : o .from ≡ o′ .from
-  pub segments : (v : ℕ) → countBy (eqb v) (layerWords id (o .row)) ≡ countBy (eqb v) (layerWords id (o′ .row))
+  pub segments : (v : ℕ) → countBy (eqb v) (layerSegments id (o .row)) ≡ countBy (eqb v) (layerSegments id (o′ .row))
   pub rule : ruleIn (tableOn o) id ≡ ruleIn (tableOn o′) id
 
 -- ---- what a list and a queue say of a layer: nothing, or its entry
@@ -63,9 +63,9 @@ pub record SameLayer (id : ℕ) (o o′ : OpenRow) (n : ℕ) : Type 0 where
 -- ---- along two runs
 
 -- a call of a run, with what the calls before it tell
-pub data Made (o : OpenRow) : Past → List Event → Past → Event → Type 0 where
-  here : {p : Past} {e : Event} {es : List Event} → Made o p (e ∷ es) p e
-  later : {p q : Past} {e f : Event} {es : List Event} → Made o (pastAfter o e p) es q f → Made o p (e ∷ es) q f
+pub data MadeCall (o : OpenRow) : Past → List Event → Past → Event → Type 0 where
+  here : {p : Past} {e : Event} {es : List Event} → MadeCall o p (e ∷ es) p e
+  later : {p q : Past} {e f : Event} {es : List Event} → MadeCall o (pastAfter o e p) es q f → MadeCall o p (e ∷ es) q f
 
 -- what two accepted works of one tile say of the layer, read back from what they answered and left: its entry in the list, and the carry handed on
 pub record SameWork (id : ℕ) (t t′ : TileAnswer) (s s′ : State) (back back′ : WorkLent) : Type 0 where
@@ -77,15 +77,15 @@ pub record SameWork (id : ℕ) (t t′ : TileAnswer) (s s′ : State) (back back
 pub record Apart (id : ℕ) (o o′ : OpenRow) (s s′ : State) (opened opened′ : Columns) (es es′ : List Event) : Type 0 where
   pub opening : carryIn (carriesIn (s .left) opened) id ≡ carryIn (carriesIn (s′ .left) opened′) id
   pub work : {p p′ : Past} {c c′ : WorkChoice} {r r′ : TileWorked} {back back′ : WorkLent} {t t′ : TileAnswer} →
-      Made o atFirst es p (Event.work c r back) →
-      Made o′ atFirst es′ p′ (Event.work c′ r′ back′) →
+      MadeCall o atFirst es p (Event.work c r back) →
+      MadeCall o′ atFirst es′ p′ (Event.work c′ r′ back′) →
       p .tiles ≡ p′ .tiles →
       workAnswer (r .answer) ≡ given t →
       workAnswer (r′ .answer) ≡ given t′ →
       SameWork id t t′ (stateIn (r .state)) (stateIn (r′ .state)) back back′
   pub paint : {p p′ : Past} {c c′ : PaintChoice} {r r′ : Painted} {back back′ : List Float} {mark mark′ : ℕ} →
-      Made o atFirst es p (Event.paint c r back) →
-      Made o′ atFirst es′ p′ (Event.paint c′ r′ back′) →
+      MadeCall o atFirst es p (Event.paint c r back) →
+      MadeCall o′ atFirst es′ p′ (Event.paint c′ r′ back′) →
       p .tiles ≡ p′ .tiles →
       c .layer ≡ id →
       c′ .layer ≡ id →

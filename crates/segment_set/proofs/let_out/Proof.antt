@@ -2,12 +2,12 @@
 use borrow.Author.Needs.{needs}
 use mathlib.Core.Path.{_≡_, sym, ap, _∙_}
 use Rattle.refusals.specs.Refusal.{Judgement, pass, judgementIn}
-use Rattle.segment_set_statements.specs.Set.{State, state, letVerdict, letOut, settled}
+use Rattle.segment_set_statements.specs.Set.{SetState, state, letVerdict, letOut, settled}
 use Rattle.segment_set_statements.proofs.Letting.{let-judged, let-ready}
 use Rattle.segment_set.proofs.let_out.Statement.{statement}
 use Rattle.segment_set.proofs.let_out.Tie as tie
 
-called : tie.Start → State
+called : tie.Start → SetState
 called s = state (s .args .set) (s .args .slots .now) (s .args .areas .now)
 
 told : (c : tie.After-judge-letting) → let s = c .before .before .before .before .before .before .before in judgementIn (c .judge-letting .result) ≡ letVerdict (called s) (s .args .word)

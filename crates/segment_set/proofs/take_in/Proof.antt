@@ -2,12 +2,12 @@
 use borrow.Author.Needs.{needs}
 use mathlib.Core.Path.{_≡_, sym, ap, _∙_}
 use Rattle.refusals.specs.Refusal.{Judgement, pass, judgementIn}
-use Rattle.segment_set_statements.specs.Set.{State, state, takeVerdict, takenIn, settled}
+use Rattle.segment_set_statements.specs.Set.{SetState, state, takeVerdict, takenIn, settled}
 use Rattle.segment_set_statements.proofs.Keeping.{take-passed}
 use Rattle.segment_set.proofs.take_in.Statement.{statement}
 use Rattle.segment_set.proofs.take_in.Tie as tie
 
-called : tie.Start → State
+called : tie.Start → SetState
 called s = state (s .args .set) (s .args .slots .now) (s .args .areas .now)
 
 told : (c : tie.After-judge-taking) → let s = c .before .before .before .before in judgementIn (c .judge-taking .result) ≡ takeVerdict (called s) (s .args .word)

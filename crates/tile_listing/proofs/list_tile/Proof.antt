@@ -5,7 +5,7 @@ use mir.Facts.{toZ-ofZ}
 use Rattle.refusals.specs.Refusal.{Judgement, pass, judgementIn, andThen}
 use Rattle.row_statements.specs.Lent.{columns, lentTable}
 use Rattle.row_statements.specs.State.{stateIn}
-use Rattle.listing_statements.specs.Listing.{ListCall, ListLent, tileList, listCall, listLent, callVerdict, listedVerdict}
+use Rattle.listing_statements.specs.Listing.{ListCall, ListLent, tileList, listCall, listLent, listCallVerdict, listedVerdict}
 use Rattle.listing_statements.proofs.Listings.{judged-call, judged, refused-by}
 use Rattle.tile_listing.proofs.list_tile.Statement.{statement}
 use Rattle.tile_listing.proofs.list_tile.Tie as tie
@@ -23,13 +23,13 @@ lentTo s =
     listLent (columns (a .next-ids .now) (a .next-covers .now)) (tileList (a .list-ids .now) (a .list-covers .now) (a .list-segments .now))
 
 -- what the judge of 1 to 5 says
-told : (c : tie.After-judge-row) → judgementIn (c .judge-row .result) ≡ callVerdict (called (c .before .before .before .before .before .before .before .before .before .before .before .before .before .before .before .before .before)) (lentTo (c .before .before .before .before .before .before .before .before .before .before .before .before .before .before .before .before .before))
+told : (c : tie.After-judge-row) → judgementIn (c .judge-row .result) ≡ listCallVerdict (called (c .before .before .before .before .before .before .before .before .before .before .before .before .before .before .before .before .before)) (lentTo (c .before .before .before .before .before .before .before .before .before .before .before .before .before .before .before .before .before))
 unfolding called lentTo
 told c =
     (rw (toZ-ofZ (c .before .before .before .before .before .before .before .before .before .before .before .before .before .before .before .before .before .fits .tile), c .before .are-entries-short .ensures, c .before .before .before .before .before .is-short3 .ensures, c .before .before .before .before .before .before .is-short2 .ensures, c .before .before .before .before .before .before .before .before .before .is-short .ensures) at (c .judge-row .ensures))
     ∙ judged-call (called (c .before .before .before .before .before .before .before .before .before .before .before .before .before .before .before .before .before)) (lentTo (c .before .before .before .before .before .before .before .before .before .before .before .before .before .before .before .before .before))
 
-passes : (c : tie.After-enum-told) → callVerdict (called (c .before .before .before .before .before .before .before .before .before .before .before .before .before .before .before .before .before .before .before)) (lentTo (c .before .before .before .before .before .before .before .before .before .before .before .before .before .before .before .before .before .before .before)) ≡ pass
+passes : (c : tie.After-enum-told) → listCallVerdict (called (c .before .before .before .before .before .before .before .before .before .before .before .before .before .before .before .before .before .before .before)) (lentTo (c .before .before .before .before .before .before .before .before .before .before .before .before .before .before .before .before .before .before .before)) ≡ pass
 passes c = sym (told (c .before .before)) ∙ ap judgementIn (c .enum-told .given .1)
 
 is-short-requires : tie.Need-is-short-requires

@@ -3,7 +3,7 @@ use native.Mathlib.Omega.{arith}
 use borrow.Author.Needs.{needs}
 use mir.Syntax.{w32}
 use mir.ValLaws.{toZ-pos}
-use Rattle.load_statements.specs.Load.{layerOf}
+use Rattle.load_statements.specs.Load.{loadLayer}
 use Rattle.load_text.proofs.blocks.layer_line.Statement.{statement}
 use Rattle.load_text.proofs.blocks.layer_line.Tie as tie
 
@@ -11,7 +11,7 @@ cast-t2 : tie.Need-cast-t2
 cast-t2 c = search needs
 
 returns : tie.Need-returns
-unfolding layerOf
+unfolding loadLayer
 returns c = rw (toZ-pos w32 (c .args .id) (omega arith))
 
 pub layer-line-spec : {M : Type 1} → statement M

@@ -6,14 +6,14 @@ use native.Mathlib.Omega.{arith}
 use borrow.Author.Needs.{needs}
 use Rattle.lines.proofs.LinesPrinting.{LinesPrinting, start, line-room, next}
 use Rattle.job_text_statements.specs.Job.{layerValues}
-use Rattle.load_statements.specs.Load.{layerOf}
+use Rattle.load_statements.specs.Load.{loadLayer}
 use Rattle.load_statements.proofs.Fields.{layer-long}
 use Rattle.load_text.proofs.Printing.{eight, layers-printed}
 use Rattle.load_text.proofs.blocks.print_layers.Statement.{statement}
 use Rattle.load_text.proofs.blocks.print_layers.Tie as tie
 
 abbrev Inv-loop : tie.InvT-loop
-Inv-loop out₀ at end₀ id₀ out end id = LinesPrinting (λ i. layerValues (layerOf i)) 8 18 out₀ end₀ end id out
+Inv-loop out₀ at end₀ id₀ out end id = LinesPrinting (λ i. layerValues (loadLayer i)) 8 18 out₀ end₀ end id out
 
 abbrev μ-loop : tie.MeasureT-loop
 μ-loop out₀ at end₀ id₀ out end id = 8 - id
