@@ -1,5 +1,6 @@
-// The worked cases P1 to P12, run, with both sides of what adding refuses and a cover that one row keeps from being full. What each check requires is proved from
-// the contracts of the functions that it calls; specs/Cases states the same cases about the definitions.
+// The worked cases P1 to P12, run, with both sides of what adding refuses and a cover that one row keeps from being
+// full. What each check requires is proved from the contracts of the functions that it calls; specs/Cases states the
+// same cases about the definitions.
 mod clips;
 mod covers;
 mod tiles;

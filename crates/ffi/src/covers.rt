@@ -76,7 +76,8 @@ pub extern "C" fn ffi_paint_part(
     mark: &mut u32,
 ) -> u32
     ensures { λ r. ⌜ r
-        ≡ refusalNumber (partAnswer cpu (ruleOf rule) (now (covers .entry)) (now (part .entry)) (now (plane .entry))) ⌝ }
+        ≡ refusalNumber
+        (partAnswer cpu (ruleOf rule) (now (covers .entry)) (now (part .entry)) (now (plane .entry))) ⌝ }
     ensures { λ _. ⌜ now (mark .exit)
         ≡ valueOr (partAnswer cpu (ruleOf rule) (now (covers .entry)) (now (part .entry)) (now (plane .entry)))
         (now (mark .entry)) ⌝ }

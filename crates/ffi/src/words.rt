@@ -139,7 +139,8 @@ pub extern "C" fn ffi_search_last_by_tile_y(
     place: &mut usize,
 ) -> bool
     ensures { λ r. ⌜ r ≡ isFound (searchOf (orderAt (Key.TileY «tile_y»)) (now (segments .entry))) ⌝ }
-    ensures { λ _. ⌜ now (place .exit) ≡ placeNumber (searchOf (orderAt (Key.TileY «tile_y»)) (now (segments .entry))) ⌝ }
+    ensures { λ _. ⌜ now (place .exit)
+        ≡ placeNumber (searchOf (orderAt (Key.TileY «tile_y»)) (now (segments .entry))) ⌝ }
 {
     words::put_found(search::search_last_by_tile_y(segments, tile_y), place)
 }
@@ -151,7 +152,8 @@ pub extern "C" fn ffi_search_last_by_tile_x(
     place: &mut usize,
 ) -> bool
     ensures { λ r. ⌜ r ≡ isFound (searchOf (orderAt (Key.TileX «tile_x»)) (now (segments .entry))) ⌝ }
-    ensures { λ _. ⌜ now (place .exit) ≡ placeNumber (searchOf (orderAt (Key.TileX «tile_x»)) (now (segments .entry))) ⌝ }
+    ensures { λ _. ⌜ now (place .exit)
+        ≡ placeNumber (searchOf (orderAt (Key.TileX «tile_x»)) (now (segments .entry))) ⌝ }
 {
     words::put_found(search::search_last_by_tile_x(segments, tile_x), place)
 }

@@ -15,8 +15,8 @@ pub struct SegmentLine {
     pub cover: i32,
 }
 
-// Whether packing takes the line's numbers, and no repeat goes below the tile. The row number is no part of the line: tile
-// y 0 stands for it.
+// Whether packing takes the line's numbers, and no repeat goes below the tile. The row number is no part of the line:
+// tile y 0 stands for it.
 pub fn is_segment(s: SegmentLine) -> bool
     ensures { λ r. ⌜ r ≡ segmentRule s ⌝ }
 {

@@ -90,7 +90,8 @@ pub fn decide_tile(
 ) -> DecidedTile
     requires { ⌜ EntryColumns n (now ids) (now covers) (now segments) × Table (now layers) (now colors) count
         × (n ≤ length (now unmasked)) ⌝ }
-    ensures { λ r. ⌜ Decides (outcomeByEntries (tableOf (now (layers .entry)) (now (colors .entry)) count) kept clear previous
+    ensures { λ r. ⌜ Decides
+        (outcomeByEntries (tableOf (now (layers .entry)) (now (colors .entry)) count) kept clear previous
         (entriesOf n (now (ids .entry)) (now (covers .entry)) (now (segments .entry)))) kept n (now (unmasked .entry)) r
         (now (unmasked .exit)) ⌝ }
 {

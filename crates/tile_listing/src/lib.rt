@@ -20,7 +20,8 @@ ghost use Rattle.layer_carrying.specs.Carrying.{handedOn, Hands};
 ghost use Rattle.row_statements.specs.Lent.{columns, lentTable};
 ghost use Rattle.row_statements.specs.State.{stateIn};
 ghost use Rattle.listing_statements.specs.Listing.{tileList, listCall, listLent, listingOf, ListsTile};
-ghost use Rattle.listing_statements.specs.InnerListing.{refusedListing, doneListing, ListingRooms, ListingJudged, listedWith};
+ghost use Rattle.listing_statements.specs.InnerListing.{refusedListing, doneListing, listedWith};
+ghost use Rattle.listing_statements.specs.InnerListing.{ListingRooms, ListingJudged};
 
 fn refuse(state: RowState, refusal: Refusal) -> TileListed
     ensures { λ r. ⌜ r ≡ refusedListing state refusal ⌝ }

@@ -1,5 +1,5 @@
-// The EvenOdd weights of all remainders by 1,024. There are no globals: a constant array is put on the stack where it is
-// named, so a loop takes one copy above it and lends that.
+// The EvenOdd weights of all remainders by 1,024. There are no globals: a constant array is put on the stack where it
+// is named, so a loop takes one copy above it and lends that.
 ghost use mathlib.Core.Path.{_≡_};
 ghost use Rattle.weight_table.specs.Rest.{curve};
 
