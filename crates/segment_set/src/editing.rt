@@ -12,7 +12,7 @@ ghost use Rattle.pixel_segment.specs.Field.{cpu};
 ghost use Rattle.cover_statements.specs.Area.{areasOf};
 ghost use Rattle.cover_statements.specs.Cover.{coverAt};
 ghost use Rattle.cover_statements.specs.Load.{Magnitudes};
-ghost use Rattle.segment_set_statements.specs.Set.{state, beginning, beginVerdict, freshSet};
+ghost use Rattle.segment_set_statements.specs.Set.{state, beginning, beginVerdict, freshState};
 ghost use Rattle.segment_set_statements.specs.Set.{takenIn, letOut, heldPlace};
 ghost use Rattle.segment_set_statements.specs.InnerSpread.{Addable, Removable};
 
@@ -118,7 +118,7 @@ pub fn begin_with(
     requires { ⌜ beginVerdict (beginning «layer_id» «tile_x» «tile_y» (cover .covers) (now part))
         (now slots) (now areas) ≡ pass ⌝ }
     ensures { λ r. ⌜ state r (now (slots .exit)) (now (areas .exit))
-        ≡ freshSet (beginning «layer_id» «tile_x» «tile_y» (cover .covers) (now (part .entry)))
+        ≡ freshState (beginning «layer_id» «tile_x» «tile_y» (cover .covers) (now (part .entry)))
         (now (slots .entry)) (now (areas .entry)) ⌝ }
 {
     let covers = cover.covers;

@@ -1,4 +1,4 @@
--- A set begun with nothing and then word by word is the freshSet working of the part. Assumes nothing.
+-- A set begun with nothing and then word by word is the freshState working of the part. Assumes nothing.
 use mathlib.Core.Path.{_≡_, refl, sym, ap, ap₂, _∙_}
 use mathlib.Core.Bool.{Bool, true, false, cond}
 use mathlib.Core.List.{List, [], _∷_, _++_, map}
@@ -24,7 +24,7 @@ use Rattle.cover_statements.specs.Load.{Magnitudes}
 use Rattle.cover_statements.proofs.Carries.{light, carry-none}
 use Rattle.cover_statements.proofs.Planes.{areas-length, areas-at}
 use Rattle.segment_set_statements.specs.Effect.{areasAfter, carryAfter, loadsAfter}
-use Rattle.segment_set_statements.specs.Set.{SetState, state, Beginning, beginning, beginVerdict, freshSet, freshSet, isOf, loadsFrom, takenIn}
+use Rattle.segment_set_statements.specs.Set.{SetState, state, Beginning, beginning, beginVerdict, freshSet, freshState, isOf, loadsFrom, takenIn}
 use Rattle.segment_set_statements.specs.Kept.{SameWords}
 use Rattle.segment_set_statements.specs.InnerSpread.{Addable}
 use Rattle.segment_set_statements.specs.declared.SegmentSet.{SegmentSet}
@@ -142,11 +142,11 @@ light-front incoming part i l =
 pub record Adding (b : Beginning) (slots : List ℕ) (areas : List ℤ) (i : ℕ) (s : SetState) : Type 0 where
   pub reached : i ≤ length (b .part)
   pub begun : Begun b slots areas
-  pub so-far : s ≡ freshSet (upTo b i) slots areas
+  pub so-far : s ≡ freshState (upTo b i) slots areas
 
 module _ {b : Beginning} {slots : List ℕ} {areas : List ℤ} where
   -- with nothing, over d of nothing
-  pub add-start : {s : SetState} → Begun b slots areas → s ≡ freshSet (upTo b 0) slots areas → Adding b slots areas 0 s
+  pub add-start : {s : SetState} → Begun b slots areas → s ≡ freshState (upTo b 0) slots areas → Adding b slots areas 0 s
   add-start h e = record { reached = omega arith; begun = h; so-far = e }
 
   module _ {i : ℕ} {s : SetState} (c : Adding b slots areas i s) (h : i < length (b .part)) where
@@ -204,5 +204,5 @@ module _ {b : Beginning} {slots : List ℕ} {areas : List ℤ} where
               ∙ three taken-set taken-slots taken-areas;
         }
 
-  pub add-end : {i : ℕ} {s : SetState} → Adding b slots areas i s → length (b .part) ≤ i → s ≡ freshSet b slots areas
-  add-end {i} {s} c h = c .so-far ∙ ap (λ (p : List ℕ). freshSet (beginning (b .layer) (b .tileX) (b .tileY) (b .incoming) p) slots areas) (take-all i (b .part) h)
+  pub add-end : {i : ℕ} {s : SetState} → Adding b slots areas i s → length (b .part) ≤ i → s ≡ freshState b slots areas
+  add-end {i} {s} c h = c .so-far ∙ ap (λ (p : List ℕ). freshState (beginning (b .layer) (b .tileX) (b .tileY) (b .incoming) p) slots areas) (take-all i (b .part) h)

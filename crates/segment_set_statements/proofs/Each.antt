@@ -13,7 +13,7 @@ use Rattle.laws.proofs.Every.{all-at}
 use Rattle.refusals.specs.Refusal.{Judgement, pass}
 use Rattle.pixel_segment.specs.Field.{cpu, localYOf}
 use Rattle.cover_statements.specs.Carry.{absCover}
-use Rattle.segment_set_statements.specs.Set.{SetState, Beginning, beginVerdict, freshSet, isOf, isHere, takeVerdict, takenIn, settled}
+use Rattle.segment_set_statements.specs.Set.{SetState, Beginning, beginVerdict, freshState, isOf, isHere, takeVerdict, takenIn, settled}
 use Rattle.segment_set_statements.specs.Edits.{takeAll}
 use Rattle.segment_set_statements.specs.InnerSpread.{Addable}
 use Rattle.segment_set_statements.proofs.Begins.{Begun, Adding, upTo, begin-passed, add-start, add-ready, add-next, add-end}
@@ -36,7 +36,7 @@ module _ (b : Beginning) (slots : List ℕ) (areas : List ℤ) where
       take-passes s (getD (b .part) i 0) (add-ready c h)
       (ap (λ (t : SetState). isHere (t .set) (getD (b .part) i 0)) (c .so-far) ∙ all-at (isOf (b .layer) (b .tileX) (b .tileY)) (b .part) (c .begun .here) i 0 h)
 
-  each : (n i : ℕ) (s : SetState) → Adding b slots areas i s → i + n ≡ length (b .part) → takeAll s (drop i (b .part)) ≡ freshSet b slots areas
+  each : (n i : ℕ) (s : SetState) → Adding b slots areas i s → i + n ≡ length (b .part) → takeAll s (drop i (b .part)) ≡ freshState b slots areas
   each zero i s c e = ap (takeAll s) (drop-of-length-le (b .part) {i = i} (omega arith)) ∙ add-end c (omega arith)
   each (suc n) i s c e =
       let h : i < length (b .part) = omega arith in
@@ -45,5 +45,5 @@ module _ (b : Beginning) (slots : List ℕ) (areas : List ℤ) where
       ∙ ap (λ (j : Judgement). takeAll (settled j (takenIn s w) s) (drop (suc i) (b .part))) (passes c h)
       ∙ each n (suc i) (takenIn s w) (rw add-one at (add-next c h refl)) (omega arith)
 
-  pub begun-each : beginVerdict b slots areas ≡ pass → takeAll (freshSet (upTo b 0) slots areas) (b .part) ≡ freshSet b slots areas
-  begun-each e = each (length (b .part)) 0 (freshSet (upTo b 0) slots areas) (add-start (begin-passed e) refl) (omega arith)
+  pub begun-each : beginVerdict b slots areas ≡ pass → takeAll (freshState (upTo b 0) slots areas) (b .part) ≡ freshState b slots areas
+  begun-each e = each (length (b .part)) 0 (freshState (upTo b 0) slots areas) (add-start (begin-passed e) refl) (omega arith)

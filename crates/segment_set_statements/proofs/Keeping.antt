@@ -26,7 +26,7 @@ use Rattle.cover_statements.specs.Cover.{coverAt}
 use Rattle.cover_statements.specs.Paint.{AreasInRange}
 use Rattle.cover_statements.proofs.Planes.{areas-length, areas-in-range}
 use Rattle.segment_set_statements.specs.Effect.{areasAfter, carryAfter, loadsAfter}
-use Rattle.segment_set_statements.specs.Set.{SetState, state, Beginning, beginVerdict, nothing, freshSet, heldOf, isHere, isWordHeld, heldPlace, loadsFrom, takeVerdict, takenIn, letVerdict, letOut, Gives, beginOf, takeOf, letOf, settled}
+use Rattle.segment_set_statements.specs.Set.{SetState, state, Beginning, beginVerdict, nothing, freshState, heldOf, isHere, isWordHeld, heldPlace, loadsFrom, takeVerdict, takenIn, letVerdict, letOut, Gives, beginOf, takeOf, letOf, settled}
 use Rattle.segment_set_statements.specs.Kept.{Kept, SameWords, timesOf}
 use Rattle.segment_set_statements.specs.Edits.{Edits, accepted}
 use Rattle.segment_set_statements.specs.Edits.Edits.{begun, taken, let-out}
@@ -52,7 +52,7 @@ four a b c d i j k l e =
 
 -- ---- begun
 
-pub kept-begun : (b : Beginning) (slots : List ℕ) (areas : List ℤ) → Begun b slots areas → Kept (b .incoming) (freshSet b slots areas)
+pub kept-begun : (b : Beginning) (slots : List ℕ) (areas : List ℤ) → Begun b slots areas → Kept (b .incoming) (freshState b slots areas)
 unfolding heldOf
 kept-begun b slots areas p =
     let d = areasOf cpu 16 (coverAt (b .incoming)) (b .part) in
@@ -228,12 +228,12 @@ step-out {s = s} w pass e h =
     record { kept = kept-let s w t (h .kept); words = λ v. omega (arith, h .words v, same-let s w t .at v) }
 step-out w (refuse n) e h = h
 
--- W-207: after any edits, refused ones included, all of the set equals a freshSet working of its held words
+-- W-207: after any edits, refused ones included, all of the set equals a freshState working of its held words
 pub kept : {b : Beginning} {ins outs : List ℕ} {s : SetState} → Edits b ins outs s → Holds (b .incoming) ins outs s
 unfolding heldOf
 kept {b} (begun lentSlots lentAreas e g) =
     let p = begin-passed e in
-    let is = g .leaves ∙ ap (λ (j : Judgement). settled j (freshSet b lentSlots lentAreas) (state nothing lentSlots lentAreas)) e in
+    let is = g .leaves ∙ ap (λ (j : Judgement). settled j (freshState b lentSlots lentAreas) (state nothing lentSlots lentAreas)) e in
     rw is
     (record {
       kept = kept-begun b lentSlots lentAreas p;

@@ -15,7 +15,7 @@ use Rattle.cover_statements.specs.Cover.{coverAt}
 use Rattle.cover_statements.specs.Load.{Magnitudes}
 use Rattle.cover_statements.proofs.Carries.{carry-none}
 use Rattle.cover_statements.proofs.Planes.{areas-length}
-use Rattle.segment_set_statements.specs.Set.{SetState, state, Beginning, freshSet, freshSet, loadsFrom}
+use Rattle.segment_set_statements.specs.Set.{SetState, state, Beginning, freshState, freshSet, loadsFrom}
 use Rattle.segment_set_statements.specs.declared.SegmentSet.{SegmentSet}
 use Rattle.segment_set_statements.proofs.Begins.{Begun, Adding, setOf, three, upTo, over-over, loads-none, add-start, add-end}
 
@@ -44,7 +44,7 @@ module _ (b : Beginning) (slots : List ℕ) (areas start : List ℤ) (e : start 
       refl
       (e ∙ sym (again [])))
 
-  pub begin-end : {i : ℕ} {s : SetState} → Adding b slots start i s → length (b .part) ≤ i → s ≡ freshSet b slots areas
+  pub begin-end : {i : ℕ} {s : SetState} → Adding b slots start i s → length (b .part) ≤ i → s ≡ freshState b slots areas
   begin-end c h = add-end c h ∙ three refl refl (again (b .part))
 
   -- the lent lists keep their lengths

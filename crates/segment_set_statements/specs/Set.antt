@@ -65,7 +65,7 @@ beginVerdict b slots areas =
     (unless (ltb (length slots) (length (b .part))) 13
     pass)))
 
--- a freshSet working of the part: its words in the slots, its d, its carry and its loads
+-- a freshState working of the part: its words in the slots, its d, its carry and its loads
 abbrev pub freshSet : Beginning → SegmentSet
 freshSet b =
     record {
@@ -77,8 +77,8 @@ freshSet b =
       count = length (b .part);
     }
 
-abbrev pub freshSet : Beginning → List ℕ → List ℤ → SetState
-freshSet b slots areas =
+abbrev pub freshState : Beginning → List ℕ → List ℤ → SetState
+freshState b slots areas =
     state (freshSet b) (over (b .part) slots) (over (areasOf cpu 16 (coverAt (b .incoming)) (b .part)) areas)
 
 -- a set of nothing: what a refused beginning gives
@@ -151,7 +151,7 @@ settled pass after before = after
 settled (refuse number) after before = before
 
 abbrev pub beginOf : Beginning → List ℕ → List ℤ → SetState
-beginOf b slots areas = settled (beginVerdict b slots areas) (freshSet b slots areas) (state nothing slots areas)
+beginOf b slots areas = settled (beginVerdict b slots areas) (freshState b slots areas) (state nothing slots areas)
 
 abbrev pub takeOf : SetState → ℕ → SetState
 takeOf s w = settled (takeVerdict s w) (takenIn s w) s

@@ -3,7 +3,7 @@ use borrow.Author.Needs.{needs}
 use mathlib.Core.Path.{_≡_, sym, ap, _∙_}
 use mir.Facts.{toZ-ofZ}
 use Rattle.refusals.specs.Refusal.{Judgement, judgementIn}
-use Rattle.segment_set_statements.specs.Set.{Beginning, state, nothing, beginning, beginVerdict, freshSet, settled}
+use Rattle.segment_set_statements.specs.Set.{Beginning, state, nothing, beginning, beginVerdict, freshState, settled}
 use Rattle.segment_set_statements.specs.declared.SegmentSet.{SegmentSet}
 use Rattle.segment_set.proofs.begin.Statement.{statement}
 use Rattle.segment_set.proofs.begin.Tie as tie
@@ -49,7 +49,7 @@ returns c =
     let e = sym (told (c .before .before .before .before)) ∙ ap judgementIn (c .before .before .refusal .given .1) in
     record {
       answer = sym e;
-      leaves = ap (λ (r : SegmentSet). state r (s .args .slots .now) (s .args .areas .now)) (c .empty-set .ensures) ∙ sym (ap (λ (j : Judgement). settled j (freshSet (called s) (s .args .slots .now) (s .args .areas .now)) (state nothing (s .args .slots .now) (s .args .areas .now))) e);
+      leaves = ap (λ (r : SegmentSet). state r (s .args .slots .now) (s .args .areas .now)) (c .empty-set .ensures) ∙ sym (ap (λ (j : Judgement). settled j (freshState (called s) (s .args .slots .now) (s .args .areas .now)) (state nothing (s .args .slots .now) (s .args .areas .now))) e);
     }
 
 same-length-3 : tie.Need-same-length-3
@@ -65,7 +65,7 @@ returns-2 c =
     let e = sym (told (c .before .before .before .before .before .before .before .before)) ∙ ap judgementIn (c .before .before .before .before .before .before .enum-told .given .1) in
     record {
       answer = sym e;
-      leaves = rw (toZ-ofZ (s .fits .tile-x), toZ-ofZ (s .fits .tile-y)) at (c .before .before .before .begin-with .ensures) ∙ sym (ap (λ (j : Judgement). settled j (freshSet (called s) (s .args .slots .now) (s .args .areas .now)) (state nothing (s .args .slots .now) (s .args .areas .now))) e);
+      leaves = rw (toZ-ofZ (s .fits .tile-x), toZ-ofZ (s .fits .tile-y)) at (c .before .before .before .begin-with .ensures) ∙ sym (ap (λ (j : Judgement). settled j (freshState (called s) (s .args .slots .now) (s .args .areas .now)) (state nothing (s .args .slots .now) (s .args .areas .now))) e);
     }
 
 pub begin-spec : {M : Type 1} → statement M
