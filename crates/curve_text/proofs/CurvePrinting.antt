@@ -1,4 +1,4 @@
--- The curve printed: how long its lines are, and its curveNames before them.
+-- The curve printed: how long its lines are, and its names before them.
 -- Assumes nothing.
 use mathlib.Core.Path.{_≡_, ap}
 use mathlib.Core.List.{List}

@@ -1,4 +1,4 @@
--- Lines of the curve as they are printed: the curveNames and the first three, and the one of greatest weight.
+-- Lines of the curve as they are printed: the names and the first three, and the one of greatest weight.
 -- Assumes nothing.
 use mathlib.Core.Path.{_≡_, refl}
 use Rattle.laws.specs.Lists.{tabulate}

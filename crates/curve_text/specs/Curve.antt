@@ -1,4 +1,4 @@
--- The even-odd curve as text. Stands for 'a line of curveNames, `rest weight`, then 1,024 lines: the remainder of d by 1,024 and its EvenOdd
+-- The even-odd curve as text. Stands for 'a line of names, `rest weight`, then 1,024 lines: the remainder of d by 1,024 and its EvenOdd
 -- weight, ascending'. Its form is that of a block of a job text.
 use mathlib.Core.List.{List, [], _∷_}
 use Prim.Native.Nat.{ℕ}

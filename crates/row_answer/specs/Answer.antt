@@ -1,5 +1,5 @@
 -- The whole text that the row program prints for a job text. Stands for 'A refusal prints `refused` and its number as the last line, after the
--- tileNames and the tiles already worked; number 10 prints only that.'
+-- names and the tiles already worked; number 10 prints only that.'
 use mathlib.Core.Bool.{cond}
 use mathlib.Core.List.{List, [], _∷_, _++_}
 use mathlib.Core.Option.{Option, some, none}
@@ -59,6 +59,6 @@ answerBy (some j) = drivingText (plus (j .head .from)) (jobDriving j)
 unfoldable pub answerText : List ℕ → List ℕ
 answerText text = answerBy (parse text)
 
--- room for every answer: 36 bytes of tileNames, 4,095 lines of at most 61 bytes, and 19 of a refusal
+-- room for every answer: 36 bytes of names, 4,095 lines of at most 61 bytes, and 19 of a refusal
 abbrev pub answerRoom : ℕ
 answerRoom = 249850

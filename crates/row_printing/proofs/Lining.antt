@@ -68,7 +68,7 @@ module _ {told : List ℕ} {first n : ℕ} {out₀ : List ℕ} {at : ℕ} where
         let all : i ≡ n = omega (arith, v .within) in
         (subst (λ (k : ℕ). Printing (toldLines told first k) out₀ at end out) all (v .so-far), omega (arith, v .low))
 
--- ---- tileNames, lines and the refusal
+-- ---- names, lines and the refusal
 
 pub asks : {told : List ℕ} {first : ℕ} {out out₁ : List ℕ} {t u : LinesWritten} {a : ℕ} → Tells told first t out → t ≡ u → Printing tileNames out 0 a out₁
     → length out₁ ≡ length out → Lines told first (u .written) out₁ a

@@ -1,4 +1,4 @@
--- A set begun with nothing and then word by word is the freshState working of the part. Assumes nothing.
+-- A set begun with nothing and then word by word is the fresh working of the part. Assumes nothing.
 use mathlib.Core.Path.{_≡_, refl, sym, ap, ap₂, _∙_}
 use mathlib.Core.Bool.{Bool, true, false, cond}
 use mathlib.Core.List.{List, [], _∷_, _++_, map}

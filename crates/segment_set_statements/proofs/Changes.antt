@@ -1,4 +1,4 @@
--- A set whose carry and loads are written anew is the setChanged set. Assumes nothing.
+-- A set whose carry and loads are written anew is the changed set. Assumes nothing.
 use mathlib.Core.Path.{_≡_, ap₂}
 use mathlib.Core.List.{List}
 use Prim.Native.Nat.{ℕ}

@@ -228,7 +228,7 @@ step-out {s = s} w pass e h =
     record { kept = kept-let s w t (h .kept); words = λ v. omega (arith, h .words v, same-let s w t .at v) }
 step-out w (refuse n) e h = h
 
--- W-207: after any edits, refused ones included, all of the set equals a freshState working of its held words
+-- W-207: after any edits, refused ones included, all of the set equals a fresh working of its held words
 pub kept : {b : Beginning} {ins outs : List ℕ} {s : SetState} → Edits b ins outs s → Holds (b .incoming) ins outs s
 unfolding heldOf
 kept {b} (begun lentSlots lentAreas e g) =

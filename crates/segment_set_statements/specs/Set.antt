@@ -65,7 +65,7 @@ beginVerdict b slots areas =
     (unless (ltb (length slots) (length (b .part))) 13
     pass)))
 
--- a freshState working of the part: its words in the slots, its d, its carry and its loads
+-- a fresh working of the part: its words in the slots, its d, its carry and its loads
 abbrev pub freshSet : Beginning → SegmentSet
 freshSet b =
     record {
@@ -103,7 +103,7 @@ takeVerdict s w =
     (unless (leb (length (s .slots)) (s .set .count)) 13
     pass)))
 
--- a set whose carry and loads are setChanged by a segment, with another count
+-- a set whose carry and loads are changed by a segment, with another count
 abbrev pub setChanged : (ℤ → ℤ → ℤ) → (ℕ → ℕ → ℕ) → ℕ → ℕ → SegmentSet → SegmentSet
 setChanged op opℕ w count s =
     record {
