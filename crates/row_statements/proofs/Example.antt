@@ -1,8 +1,7 @@
 -- The run of specs/Example. Assumes nothing.
-use mathlib.Core.Path.{_≡_, refl, sym, _∙_}
+use mathlib.Core.Path.{_≡_, refl, _∙_}
 use mathlib.Core.Bool.{true}
 use mathlib.Core.List.{List, [], _∷_}
-use mathlib.Core.Option.{none}
 use Prim.Native.Nat.{ℕ, zero, suc, _^_, _<_}
 use native.Mathlib.Omega.{arith}
 use borrow.Author.Tests.{ltb-true}
@@ -10,10 +9,10 @@ use lib.Dec.{ltb}
 use lib.Ieee.{eq, odd, ofBits}
 use lib.ListN.{getD}
 use Rattle.laws.specs.Answer.{given}
-use Rattle.laws.specs.Lists.{all, over}
+use Rattle.laws.specs.Lists.{all}
 use Rattle.laws.proofs.Bools.{left, right}
 use Rattle.refusals.specs.Refusal.{pass, refuse}
-use Rattle.pixel_segment.specs.Field.{cpu, coverOf, tileOf}
+use Rattle.pixel_segment.specs.Field.{coverOf, tileOf}
 use Rattle.segment_rows.specs.Rows.{Words, ascendsFrom}
 use Rattle.segment_rows.specs.Search.{halved, searchOf, leftPart, tilePart, layerPart}
 use Rattle.styling.specs.Ascending.{strictlyAscendsFrom}
@@ -21,9 +20,8 @@ use Rattle.layer_table.specs.Lookup.{lookup}
 use Rattle.layer_table.specs.Table.{isTableShort, isValid, isTable, layerAt, tableOf}
 use Rattle.cover_statements.specs.Carry.{isLight, carryOf}
 use Rattle.cover_statements.specs.Cover.{isEmpty, isFull}
-use Rattle.queue_statements.specs.Queue.{Carry, idsIn, heldIn}
-use Rattle.queue_statements.specs.Opening.{addTo, addAll, openQueue, openAnswer, isLightOpening}
-use Rattle.cached_tile.specs.Kept.{noTile}
+use Rattle.queue_statements.specs.Queue.{idsIn, heldIn}
+use Rattle.queue_statements.specs.Opening.{addTo, addAll, openQueue, isLightOpening}
 use Rattle.tile_layers.specs.Groups.{groupsOf}
 use Rattle.tile_layers.specs.Listing.{listOf}
 use Rattle.layer_carrying.specs.Carrying.{handedOn}

@@ -1,5 +1,5 @@
 -- What a passed opening's verdict tells, and the operation put together from its parts. Assumes nothing.
-use mathlib.Core.Path.{_≡_, refl, ap, sym, _∙_}
+use mathlib.Core.Path.{_≡_, refl, ap, _∙_}
 use mathlib.Core.Bool.{true, false, _||_}
 use mathlib.Core.List.{List}
 use Prim.Native.Nat.{ℕ, suc, _≤_}
@@ -10,7 +10,7 @@ use lib.Signed.{ltZ}
 use Rattle.laws.specs.Answer.{Answer, refused, given}
 use Rattle.laws.specs.Integer.{plus, minus}
 use Rattle.laws.proofs.Parts.{whole, lt-false}
-use Rattle.refusals.specs.Refusal.{Judgement, pass, refuse, numberOf}
+use Rattle.refusals.specs.Refusal.{pass, refuse, numberOf}
 use Rattle.refusals.specs.declared.Refusal.{Refusal}
 use Rattle.refusals.proofs.Judging.{passed, or-left, or-right}
 use Rattle.pixel_segment.specs.Field.{cpu}
@@ -18,8 +18,7 @@ use Rattle.segment_rows.specs.Rows.{isRow}
 use Rattle.queue_statements.specs.Queue.{idsIn, coversIn}
 use Rattle.queue_statements.specs.Opening.{openQueue, openAnswer, writtenIf, Opens}
 use Rattle.row_statements.specs.Lent.{Columns, isQueueShort, isLentShort, isLentTable}
-use Rattle.row_statements.specs.State.{State}
-use Rattle.row_statements.specs.Opening.{OpenCall, leftOf, hasBadEnds, openVerdict, openCount, stateBy, openOut, openOf, openedAnswer, OpensRow}
+use Rattle.row_statements.specs.Opening.{OpenCall, leftOf, hasBadEnds, openVerdict, stateBy, openOut, openOf, openedAnswer, OpensRow}
 use Rattle.row_statements.specs.declared.Opened.{Opened}
 use Rattle.row_statements.specs.declared.Opened.the-variants as opened
 

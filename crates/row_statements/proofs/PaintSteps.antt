@@ -3,7 +3,7 @@ use mathlib.Core.Path.{_≡_, refl, ap, ap₂, sym, subst, _∙_}
 use mathlib.Core.Bool.{Bool, true, false, not, _||_, false≢true}
 use mathlib.Core.List.{List}
 use mathlib.Core.Option.{Option}
-use Prim.Native.Nat.{ℕ, zero, suc, _+_, _-_, _≤_}
+use Prim.Native.Nat.{ℕ, zero, suc, _+_, _-_}
 use native.Mathlib.Omega.{arith}
 use borrow.Author.Tests.{le-leb, lt-leb, ne-eqb, eqb-true, not-false}
 use lib.Dec.{ltb, leb, eqb}
@@ -33,8 +33,8 @@ use Rattle.painter.specs.Clip.{aliveAt, clipAfter}
 use Rattle.painter.specs.Painting.{markFor, planeIn, markIn}
 use Rattle.painter.proofs.Items.{items-known}
 use Rattle.row_statements.specs.Lent.{Columns, carriesIn}
-use Rattle.row_statements.specs.State.{State, stateIn, withClip, isStray, isNotWorked}
-use Rattle.row_statements.specs.Painting.{PaintGiven, PaintSays, callVerdict, ownVerdict, layerVerdict, layerFrom, layerIn, takenFor, partFor, paintVerdict, paintSays, paintOut, paintOf, paintAnswer, PaintsLayer}
+use Rattle.row_statements.specs.State.{State, stateIn, isStray, isNotWorked}
+use Rattle.row_statements.specs.Painting.{PaintGiven, PaintSays, callVerdict, ownVerdict, layerVerdict, layerFrom, layerIn, takenFor, partFor, paintVerdict, paintSays, paintOut, paintOf, PaintsLayer}
 use Rattle.row_statements.specs.Due.{OpenRow, Past, PaintChoice, tableOn, queueOn, layersOn, takenOn, stateOn, isNotLast, paintDueVerdict, funcOn, planeOn, markOn, paintOn, paintDue, pastPaint}
 use Rattle.row_statements.specs.Run.{Held, SameCarries, paintOnto}
 use Rattle.row_statements.specs.InnerHolding.{HoldsQueue, IsOpen, Took, Holds}

@@ -1,6 +1,6 @@
 -- What a painting's verdict tells, and the whole operation from it. Assumes nothing.
-use mathlib.Core.Path.{_≡_, refl, ap, sym, subst, _∙_}
-use mathlib.Core.Bool.{Bool, true, false, not, _||_, false≢true}
+use mathlib.Core.Path.{_≡_, refl, ap, subst, _∙_}
+use mathlib.Core.Bool.{true, false, not, _||_, false≢true}
 use mathlib.Core.List.{List}
 use Prim.Native.Nat.{ℕ, suc, _+_, _≤_}
 use native.Mathlib.Omega.{arith}
@@ -27,9 +27,9 @@ use Rattle.queue_statements.proofs.Judging.{queued, ordered}
 use Rattle.row_carries.proofs.Parts.{tile-ordered}
 use Rattle.painter.specs.Painting.{isLightIn, Ready, Paints}
 use Rattle.painter.specs.declared.painting.Painting as painting
-use Rattle.row_statements.specs.Lent.{isQueueShort, isLentShort, isLentTable, layersOf}
+use Rattle.row_statements.specs.Lent.{isQueueShort, isLentShort, isLentTable}
 use Rattle.row_statements.specs.State.{State, stateIn, withClip, isStray, isNotWorked}
-use Rattle.row_statements.specs.Painting.{PaintCall, callVerdict, layerVerdict, layerFrom, layerIn, takenFor, partFor, PaintSays, paintSays, paintOut, PaintsLayer}
+use Rattle.row_statements.specs.Painting.{PaintCall, callVerdict, layerVerdict, layerFrom, layerIn, partFor, PaintSays, paintSays, paintOut, PaintsLayer}
 use Rattle.row_statements.specs.InnerPaint.{paintedLayer}
 use Rattle.row_statements.specs.declared.PaintAnswer.the-variants.{Refused}
 use Rattle.row_statements.specs.declared.RowState.{RowState}

@@ -2,7 +2,7 @@
 -- Assumes nothing.
 use mathlib.Core.Path.{_≡_, refl, ap, ap₂, sym, subst, _∙_}
 use mathlib.Core.Bool.{Bool, true, false, cond}
-use mathlib.Core.List.{List, [], _∷_}
+use mathlib.Core.List.{List}
 use mathlib.Core.Option.{none}
 use Prim.Native.Nat.{ℕ, _+_, _≤_}
 use native.Mathlib.Omega.{arith}
@@ -29,8 +29,8 @@ use Rattle.row_carries.proofs.Covered.{covered-under}
 use Rattle.row_statements.specs.Lent.{Columns, isLentShort, queueOver}
 use Rattle.row_statements.specs.State.{State, stateIn}
 use Rattle.row_statements.specs.Opening.{OpenCall, leftOf, openVerdict, openCount, openState, openOut, openOf, OpensRow}
-use Rattle.row_statements.specs.TileWork.{WorkCall, WorkLent, workVerdict, saysFor, workOut, workOf, GivesWork}
-use Rattle.row_statements.specs.Painting.{PaintCall, paintVerdict, takenFor, partFor, paintSays, paintOut, paintOf, PaintsLayer}
+use Rattle.row_statements.specs.TileWork.{WorkCall, WorkLent, saysFor, workOut, workOf, GivesWork}
+use Rattle.row_statements.specs.Painting.{PaintCall, takenFor, partFor, paintSays, paintOut, paintOf, PaintsLayer}
 use Rattle.row_statements.specs.Due.{OpenRow, Past, atFirst, tableOn, queueOn, stateOn}
 use Rattle.row_statements.specs.Run.{openRow, Held, heldFirst, Event, Step, Run}
 use Rattle.row_statements.specs.Claim.{TileFacts, RightOtherWork, RightOtherPaint, Right, pastAfter, AllRight, Claim}

@@ -1,15 +1,14 @@
 -- The claim is not empty: after every accepted opening, every list of choices is the list of some run's calls. Assumes nothing.
-use mathlib.Core.Path.{_≡_, refl, ap, sym, subst, _∙_}
+use mathlib.Core.Path.{_≡_, refl, ap, sym, subst}
 use mathlib.Core.Bool.{not, _||_}
 use mathlib.Core.List.{List, [], _∷_}
 use mathlib.Core.Option.{Option, some, none}
 use Prim.Native.Nat.{ℕ, _+_, _-_}
 use lib.Dec.{ltb}
-use lib.Ieee.{Float}
 use lib.IntN.{pos}
 use lib.ListN.{length}
 use Rattle.laws.specs.Answer.{Answer, refused, given, isGiven}
-use Rattle.refusals.specs.Refusal.{Judgement, pass, refuse, unless, numberOf}
+use Rattle.refusals.specs.Refusal.{Judgement, pass, refuse, unless}
 use Rattle.refusals.proofs.Naming.{refusalOf, Named, named}
 use Rattle.segment_rows.specs.Search.{tilePart}
 use Rattle.layer_table.specs.Lookup.{lookup}
@@ -26,8 +25,8 @@ use Rattle.painter.specs.Clip.{clipIn}
 use Rattle.painter.specs.Painting.{isLightIn}
 use Rattle.row_statements.specs.Lent.{isQueueShort, isListShort}
 use Rattle.row_statements.specs.State.{State, stateIn}
-use Rattle.row_statements.specs.TileWork.{WorkGiven, TileAnswer, TileSays, listVerdict, workOut, workOf, workAnswer, GivesWork}
-use Rattle.row_statements.specs.Painting.{PaintGiven, PaintSays, layerVerdict, paintOut, paintOf, paintAnswer, PaintsLayer}
+use Rattle.row_statements.specs.TileWork.{WorkGiven, TileAnswer, listVerdict, workOut, workOf, GivesWork}
+use Rattle.row_statements.specs.Painting.{PaintGiven, paintOut, paintOf, PaintsLayer}
 use Rattle.row_statements.specs.Due.{OpenRow, Past, tableOn, queueOn, layersOn, WorkChoice, isNotDue, workDueVerdict, saysOn, stateOn, workDue, PaintChoice, isNotLast, paintDueVerdict, paintOn, paintDue}
 use Rattle.row_statements.specs.Run.{Held, SameCarries, workOn, paintOnto, Event, Step, Run}
 use Rattle.row_statements.specs.Example.{Choice, duesOf, choicesDue}

@@ -11,13 +11,13 @@ use lib.IntN.{ℤ, pos}
 use lib.ListN.{length, take, drop, length-map}
 use lib.Seq.{take-at}
 use lib.Signed.{ltZ}
-use Rattle.laws.specs.Answer.{refused, given}
+use Rattle.laws.specs.Answer.{refused}
 use Rattle.laws.specs.Integer.{plus}
 use Rattle.laws.specs.Lists.{over}
-use Rattle.refusals.specs.Refusal.{Judgement, pass, refuse, unless, andThen, numberOf}
-use Rattle.refusals.proofs.Judging.{passed, or-left, or-right}
+use Rattle.refusals.specs.Refusal.{Judgement, pass, refuse, unless, andThen}
+use Rattle.refusals.proofs.Judging.{passed, or-left}
 use Rattle.segment_rows.specs.Search.{tilePart}
-use Rattle.queue_statements.specs.Queue.{Carry, isQueue}
+use Rattle.queue_statements.specs.Queue.{Carry}
 use Rattle.queue_statements.proofs.Columns.{areWide}
 use Rattle.cached_tile.specs.Kept.{tagOutOfRange, previousCount}
 use Rattle.tile_layers.specs.Groups.{groupsOf}
@@ -30,7 +30,7 @@ use Rattle.pass_statements.proofs.Words.{outcome-long}
 use Rattle.layer_workbench.specs.Work.{entryOf, outcomeByEntries, outcomeIn, clearUnchanged, countFrom}
 use Rattle.layer_workbench.proofs.Entries.{entries-are}
 use Rattle.row_carries.proofs.Carried.{queue-next, queue-ascends, queue-wide}
-use Rattle.row_statements.specs.Lent.{Columns, carriesIn, isQueueShort, queueOver, isListShort, isLentShort, entriesIn}
+use Rattle.row_statements.specs.Lent.{carriesIn, isQueueShort, queueOver, isListShort, entriesIn}
 use Rattle.row_statements.specs.State.{State, nextState, stateIn, isStray, isNotNext}
 use Rattle.row_statements.specs.TileWork.{WorkLent, WorkGiven, TileSays, listedFor, isShortFor, argsVerdict, layersVerdict, listVerdict, workVerdict, saysFor, workOut, workOf, workAnswer, GivesWork}
 use Rattle.row_statements.specs.Due as due

@@ -28,10 +28,10 @@ use Rattle.layer_carrying.specs.Carrying.{handedOn}
 use Rattle.row_carries.proofs.Parts.{tile-ordered}
 use Rattle.layer_workbench.specs.Work.{outcomeIn, Works, ListWritten, QueueWritten, Rooms}
 use Rattle.layer_workbench.specs.declared.Worked.{Worked}
-use Rattle.row_statements.specs.Lent.{Columns, ListColumns, LentTable, carriesIn, isQueueShort, isListShort, layersOf, isLentShort, isLentTable}
+use Rattle.row_statements.specs.Lent.{LentTable, carriesIn, isQueueShort, isListShort, layersOf, isLentShort, isLentTable}
 use Rattle.row_statements.specs.State.{State, nextState, isStray, isNotNext, isWrongNext}
 use Rattle.row_statements.specs.Conditions.{firstFive}
-use Rattle.row_statements.specs.TileWork.{WorkCall, WorkLent, TileSays, listVerdict, argsVerdict, isShortFor, saysFor, workOut, GivesWork}
+use Rattle.row_statements.specs.TileWork.{WorkCall, WorkLent, listVerdict, argsVerdict, isShortFor, saysFor, workOut, GivesWork}
 use Rattle.row_statements.specs.InnerWork.{judgedBy, judgedWith, refusedWork, doneWork, Judged}
 use Rattle.row_statements.specs.declared.RowState.{RowState}
 use Rattle.row_statements.specs.declared.TileWorked.{TileWorked}

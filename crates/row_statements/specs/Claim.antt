@@ -8,7 +8,7 @@ use Prim.Native.Nat.{ℕ, suc, _+_, _<_}
 use lib.Ieee.{Float}
 use lib.ListN.{length, take, replicate}
 use Rattle.laws.specs.Answer.{refused}
-use Rattle.refusals.specs.Refusal.{Judgement, pass, refuse}
+use Rattle.refusals.specs.Refusal.{pass, refuse}
 use Rattle.pixel_segment.specs.Field.{cpu}
 use Rattle.segment_rows.specs.Rows.{Words}
 use Rattle.layer_table.specs.Lookup.{lookup}
@@ -24,9 +24,8 @@ use Rattle.layer_workbench.specs.declared.PreviousClear.{PreviousClear}
 use Rattle.row_carries.specs.Carries.{isUnlisted}
 use Rattle.row_carries.specs.Covering.{CoveredUnder}
 use Rattle.row_statements.specs.Lent.{Columns, carriesIn, entriesIn}
-use Rattle.row_statements.specs.State.{State}
 use Rattle.row_statements.specs.Opening.{OpenCall, openOf, OpensRow}
-use Rattle.row_statements.specs.TileWork.{WorkCall, WorkLent, workVerdict, workOf, GivesWork}
+use Rattle.row_statements.specs.TileWork.{WorkCall, WorkLent, workVerdict, GivesWork}
 use Rattle.row_statements.specs.Painting.{PaintCall, paintVerdict, PaintsLayer}
 use Rattle.row_statements.specs.Due.{OpenRow, Past, atFirst, tableOn, queueOn, layersOn, stateOn, WorkChoice, workDueVerdict, outcomeOn, workDue, pastWork, PaintChoice, paintDueVerdict, planeOn, paintDue, pastPaint}
 use Rattle.row_statements.specs.Run.{openRow, Held, heldFirst, Event, Run}

@@ -1,12 +1,12 @@
 -- The claim is not empty: an accepted opening and a run after it that meet the claim's premises, in which an EvenOdd carry is dropped, a clip is
 -- painted, a layer is passed over as covered, and calls are refused by 1, 2, 6 and 8 between accepted ones. proofs/Example has it.
 use mathlib.Core.Path.{_≡_}
-use mathlib.Core.Bool.{Bool, true, false}
-use mathlib.Core.List.{List, [], _∷_, _++_, map}
-use Prim.Native.Nat.{ℕ, suc}
-use lib.Ieee.{Float, binary32, ofBits}
+use mathlib.Core.Bool.{true, false}
+use mathlib.Core.List.{List, [], _∷_, _++_}
+use Prim.Native.Nat.{ℕ}
+use lib.Ieee.{binary32, ofBits}
 use lib.IntN.{ℤ, pos, negsuc}
-use lib.ListN.{length, replicate}
+use lib.ListN.{replicate}
 use Rattle.laws.specs.Lists.{tabulate}
 use Rattle.refusals.specs.Refusal.{Judgement, pass, refuse}
 use Rattle.pixel_segment.specs.Field.{cpu}
@@ -19,8 +19,7 @@ use Rattle.cached_tile.specs.declared.kept.Kept as kept
 use Rattle.layer_workbench.specs.declared.PreviousClear.the-variants.{Absent}
 use Rattle.row_statements.specs.Lent.{Columns, ListColumns, LentTable}
 use Rattle.row_statements.specs.Opening.{OpenCall, openOf, OpensRow}
-use Rattle.row_statements.specs.TileWork.{WorkLent}
-use Rattle.row_statements.specs.Due.{OpenRow, Past, atFirst, WorkChoice, workDueVerdict, PaintChoice, paintDueVerdict, pastWork, pastPaint, queueOn, layersOn, outcomeOn}
+use Rattle.row_statements.specs.Due.{OpenRow, Past, atFirst, WorkChoice, workDueVerdict, PaintChoice, paintDueVerdict, pastWork, pastPaint, queueOn, outcomeOn}
 use Rattle.row_statements.specs.Run.{openRow, Held, heldFirst, Event, Run}
 use Rattle.row_statements.specs.Claim.{pastAfter}
 use Rattle.row_statements.specs.declared.RowState.{RowState}

@@ -1,0 +1,3 @@
+-- Laws of listing and deciding.
+pub mod Lists
+pub mod Succession
