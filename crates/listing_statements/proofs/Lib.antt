@@ -1,3 +1,6 @@
 -- Laws of listing and deciding.
 pub mod Lists
 pub mod Succession
+pub mod AsWork
+pub mod Listings
+pub mod Decidings

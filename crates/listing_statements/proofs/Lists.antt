@@ -24,7 +24,7 @@ use Rattle.layer_workbench.specs.Work.{outcomeByEntries, outcomeIn}
 use Rattle.layer_workbench.proofs.Entries.{entries-are}
 use Rattle.row_statements.specs.Lent.{layersOf, isLentShort, isLentTable}
 use Rattle.listing_statements.specs.Listing.{TileList, isTileListShort, listedOver}
-use Rattle.listing_statements.specs.Deciding.{DecideCall, areInTable, decidingVerdict, decidingOut, decidedOutcome, decidingOf}
+use Rattle.listing_statements.specs.Deciding.{DecideCall, areInTable, linesFor, decidingVerdict, decidingOut, decidedOutcome, decidingOf}
 use Rattle.listing_statements.specs.InnerLists.{Decidable, ListSays}
 
 -- ---- the ids of a list
@@ -66,7 +66,7 @@ written ls l short few wide =
 module _ (c : DecideCall) (unmasked : List Bool) {ls : List Listed} (short : isLentShort (c .table) ≡ false) (table : isLentTable (c .table) ≡ true) (d : Decidable (layersOf (c .table)) ls) (says : ListSays ls (c .count) (c .list)) where
   -- only the mask column and the tag are left to judge
   pub verdict-is : decidingVerdict c unmasked ≡ unless (ltb (length unmasked) 256) 1 (unless (tagOutOfRange (c .kept)) 6 pass)
-  unfolding decidingVerdict
+  unfolding linesFor
   verdict-is =
       rw (says .room, short, table, says .ids, d .ascends, le-ltb 256 (c .count) (omega (arith, says .count, d .few)), in-table (layersOf (c .table)) ls, d .known, or-false (ltb (length unmasked) 256))
     where

@@ -45,24 +45,24 @@ decideCall list count table k clear previous = record { list = list; count = cou
 abbrev pub isDecidingShort : DecideCall → List Bool → Bool
 isDecidingShort c unmasked = isTileListShort (c .list) || ltb (length unmasked) 256 || isLentShort (c .table)
 
--- the ids that count, as many as the column has
-abbrev pub idsOn : DecideCall → List ℕ
-idsOn c = take (c .count) (c .list .ids)
-
--- 8 does not apply: every one of them is in the table
+-- 8 does not apply: every one of the ids is in the table
 abbrev pub areInTable : List Layer → List ℕ → Bool
 areInTable table ids = all (λ id. isGiven (lookup table id)) ids
 
--- the lowest of 1 and 4 to 8 that applies; 5 asks that the ids strictly ascend, 7 that there are at most 256
-unfoldable pub decidingVerdict : DecideCall → List Bool → Judgement
-decidingVerdict c unmasked =
-    unless (isDecidingShort c unmasked) 1
-    (unless (not (isLentTable (c .table))) 4
-    (unless (not (strictlyAscends (idsOn c))) 5
-    (unless (tagOutOfRange (c .kept)) 6
-    (unless (ltb 256 (c .count)) 7
-    (unless (not (areInTable (layersOf (c .table)) (idsOn c))) 8
+-- the lowest of 1 and 4 to 8 that applies, `short` being the condition of 1: 5 asks that the n ids, as many as the column has, strictly ascend, and
+-- 7 that there are at most 256
+unfoldable pub linesFor : Bool → List ℕ → ℕ → LentTable → kept.Kept → Judgement
+linesFor short ids n table k =
+    unless short 1
+    (unless (not (isLentTable table)) 4
+    (unless (not (strictlyAscends (take n ids))) 5
+    (unless (tagOutOfRange k) 6
+    (unless (ltb 256 n) 7
+    (unless (not (areInTable (layersOf table) (take n ids))) 8
     pass)))))
+
+abbrev pub decidingVerdict : DecideCall → List Bool → Judgement
+decidingVerdict c unmasked = linesFor (isDecidingShort c unmasked) (c .list .ids) (c .count) (c .table) (c .kept)
 
 -- ---- what a deciding gives: its answer, the cached tile, and the mask column at exit
 

@@ -4,3 +4,5 @@ pub mod Listing
 pub mod Deciding
 pub mod Succession
 pub mod InnerLists
+pub mod InnerListing
+pub mod InnerDeciding

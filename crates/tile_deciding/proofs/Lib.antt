@@ -1,0 +1,1 @@
+-- The proofs of deciding. The laws are of listing_statements.

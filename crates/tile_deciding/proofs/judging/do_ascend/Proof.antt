@@ -1,0 +1,61 @@
+-- `judging::do_ascend` meets its contract. What holds while the ids are passed is `Judging` of a queue. Assumes nothing.
+use Prim.Native.Nat.{_-_}
+use native.Mathlib.Omega.{arith}
+use borrow.Author.Needs.{needs}
+use Rattle.queue_statements.proofs.Judging.{Judging, begin, next}
+use Rattle.listing_statements.proofs.Decidings.{ascended}
+use Rattle.tile_deciding.proofs.judging.do_ascend.Statement.{statement}
+use Rattle.tile_deciding.proofs.judging.do_ascend.Tie as tie
+
+abbrev Inv-loop : tie.InvT-loop
+Inv-loop ids n there ok₀ low₀ i₀ ok low i = Judging n ids i ok low
+
+abbrev μ-loop : tie.MeasureT-loop
+μ-loop ids n there ok₀ low₀ i₀ ok low i = there - i
+
+lesser-requires : tie.Need-lesser-requires Inv-loop μ-loop
+lesser-requires c κs = search needs
+
+loop-holds : tie.Need-loop-holds Inv-loop μ-loop
+loop-holds c = begin _ _
+
+mul-id : tie.Need-mul-id Inv-loop μ-loop
+mul-id c = omega arith
+
+shared-slice-read-id : tie.Need-shared-slice-read-id Inv-loop μ-loop
+shared-slice-read-id c = omega arith
+
+cast-id : tie.Need-cast-id Inv-loop μ-loop
+cast-id c = omega (arith, c .shared-slice-known2 .given (c .before .before .loop .i))
+
+add-low : tie.Need-add-low Inv-loop μ-loop
+add-low c = omega (arith, c .shared-slice-known2 .given (c .before .before .loop .i))
+
+add-i : tie.Need-add-i Inv-loop μ-loop
+add-i c = omega arith
+
+loop-less : tie.Need-loop-less Inv-loop μ-loop
+loop-less c = omega arith
+
+loop-again : tie.Need-loop-again Inv-loop μ-loop
+loop-again c = next (c .before .before .loop .inv) (omega arith)
+
+returns : tie.Need-returns Inv-loop μ-loop
+returns c = ascended (c .before .loop .inv) (omega arith)
+
+pub do-ascend-spec : {M : Type 1} → statement M
+do-ascend-spec =
+    tie.close
+    (tie.spec
+    Inv-loop
+    μ-loop
+    lesser-requires
+    loop-holds
+    mul-id
+    shared-slice-read-id
+    cast-id
+    add-low
+    add-i
+    loop-less
+    loop-again
+    returns)
