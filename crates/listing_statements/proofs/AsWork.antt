@@ -10,11 +10,12 @@ use Rattle.styling.specs.declared.Color.{Color}
 use Rattle.cached_tile.specs.Kept.{noTile}
 use Rattle.layer_workbench.specs.declared.PreviousClear.the-variants.{Absent}
 use Rattle.row_statements.specs.Lent.{listColumns}
-use Rattle.row_statements.specs.TileWork.{WorkCall, WorkLent, WorkGiven, TileAnswer, workCall, workLent, argsVerdict, layersVerdict, saysFor, workOut, workOf}
+use Rattle.row_statements.specs.State.{State}
+use Rattle.row_statements.specs.TileWork.{WorkCall, WorkLent, WorkGiven, TileAnswer, TileSays, workCall, workLent, argsVerdict, layersVerdict, saysFor, workOut, workOf}
 use Rattle.listing_statements.specs.Listing.{ListCall, ListLent, ListGiven, isTileListShort, listCallVerdict, listingVerdict, listingOut, listingOf}
 use Rattle.listing_statements.specs.Succession.{lentPart}
 
-abbrev noColor : Color
+abbrev pub noColor : Color
 noColor = record { r = ofBits binary32 0; g = ofBits binary32 0; b = ofBits binary32 0; a = ofBits binary32 0 }
 
 abbrev pub asWork : ListCall → WorkCall
@@ -31,9 +32,15 @@ listedTold (given t) = given (t .listed)
 abbrev pub withoutDecision : WorkGiven → ListGiven
 withoutDecision g = record { answer = listedTold (g .answer); state = g .state; lent = lentPart (g .lent) }
 
-or-false : (b : Bool) → (b || false) ≡ b
+pub or-false : (b : Bool) → (b || false) ≡ b
 or-false true = refl
 or-false false = refl
+
+-- by the verdict, without the decision
+pub out-same : (lent : ListLent) (t : TileSays) (s : State) (v : Judgement) → withoutDecision (workOut v t s noTile (asLent lent)) ≡ listingOut v (t .layers) (t .handed) s lent
+unfolding workOut listingOut
+out-same lent t s (refuse n) = refl
+out-same lent t s pass = refl
 
 module _ (c : ListCall) (lent : ListLent) where
   -- 1 to 5 are judged alike, and 6 never applies
@@ -41,12 +48,7 @@ module _ (c : ListCall) (lent : ListLent) where
   unfolding argsVerdict listCallVerdict
   args-same = rw (or-false (isTileListShort (lent .list)))
 
-  out-same : (v : Judgement) → withoutDecision (workOut v (saysFor (asWork c)) (c .state) noTile (asLent lent)) ≡ listingOut v (saysFor (asWork c) .layers) (saysFor (asWork c) .handed) (c .state) lent
-  unfolding workOut listingOut
-  out-same (refuse n) = refl
-  out-same pass = refl
-
   pub listing-is : listingOf c lent ≡ withoutDecision (workOf (asWork c) (asLent lent))
   listing-is =
-      sym (out-same (listingVerdict c lent))
+      sym (out-same lent (saysFor (asWork c)) (c .state) (listingVerdict c lent))
       ∙ ap (λ (v : Judgement). withoutDecision (workOut (andThen v (layersVerdict (asWork c))) (saysFor (asWork c)) (c .state) noTile (asLent lent))) (sym args-same)

@@ -72,12 +72,12 @@ module _ {o : OpenRow} {p : Past} {h : Held} (holds : Holds o p h) where
       let d : PaintsLayer (paintOut (refuse n) says (a .state) plane) r back = subst (λ (v : Judgement). PaintsLayer (paintOut v says (a .state) plane) r back) e g in
       record { answer = d .answer; state = d .state ∙ es ∙ holds .state; plane = d .plane }
 
-  still-holds : {s : State} → s ≡ stateOn o p → Holds o p (record { state = s; queue = h .queue; taken = h .taken })
+  pub still-holds : {s : State} → s ≡ stateOn o p → Holds o p (record { state = s; queue = h .queue; taken = h .taken })
   still-holds es = record { state = es; inside = holds .inside; queue = holds .queue; taken-long = holds .taken-long; took = holds .took }
 
 -- ---- one call, and any list of them
 
-step-right : {o : OpenRow} {p : Past} {h h′ : Held} {e : Event} → IsOpen o → Holds o p h → Step o h e h′ → Right o p e × Holds o (pastAfter o e p) h′
+pub step-right : {o : OpenRow} {p : Past} {h h′ : Held} {e : Event} → IsOpen o → Holds o p h → Step o h e h′ → Right o p e × Holds o (pastAfter o e p) h′
 step-right is-open holds (Step.work same g) = right-work is-open holds _ same g
 step-right is-open holds (Step.paint same g) = right-paint is-open holds _ same g
 step-right is-open holds (Step.otherWork {a = a} {lent = lent} {n = n} es e g) =

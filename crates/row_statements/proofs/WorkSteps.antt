@@ -30,7 +30,7 @@ use Rattle.pass_statements.proofs.Words.{outcome-long}
 use Rattle.layer_workbench.specs.Work.{entryOf, outcomeByEntries, outcomeIn, clearUnchanged, countFrom}
 use Rattle.layer_workbench.proofs.Entries.{entries-are}
 use Rattle.row_carries.proofs.Carried.{queue-next, queue-ascends, queue-wide}
-use Rattle.row_statements.specs.Lent.{carriesIn, isQueueShort, queueOver, isListShort, entriesIn}
+use Rattle.row_statements.specs.Lent.{Columns, carriesIn, isQueueShort, queueOver, isListShort, entriesIn}
 use Rattle.row_statements.specs.State.{State, nextState, stateIn, isStray, isNotNext}
 use Rattle.row_statements.specs.TileWork.{WorkLent, WorkGiven, TileSays, listedFor, isShortFor, argsVerdict, layersVerdict, listVerdict, workVerdict, saysFor, workOut, workOf, workAnswer, GivesWork}
 use Rattle.row_statements.specs.Due as due
@@ -175,7 +175,22 @@ module _ {o : OpenRow} {p : Past} {h : Held} (is-open : IsOpen o) (holds : Holds
       let next : o .from + p .tiles + 1 ≡ o .from + suc (p .tiles) = omega arith in
       ap (λ (t : ℕ). record { tileY = o .tileY; from = o .from; to = o .to; next = t; left = length (queueOn o (suc (p .tiles))); taken = length (queueOn o (p .tiles)); clip = none }) next
 
-  -- what the caller holds after it
+  -- what the caller holds past the tile
+  pub past-tile : {s : State} {k : Columns} → workDueVerdict o (p .tiles) c ≡ pass → s ≡ nextState (stateOn o p) (length (queueOn o (suc (p .tiles)))) → k ≡ queueOver (queueOn o (suc (p .tiles))) (c .lent .queue) → Holds o (pastWork pass p) (record { state = s; queue = k; taken = c .queue })
+  past-tile {s} {k} e es ek =
+      let t = accepted e in
+      let end = leb (o .to) (o .from + p .tiles) in
+      let low = ltZ (c .tile) (pos 0) in
+      let out = leb-false (o .to) (o .from + p .tiles) (or-left end low (or-left (end || low) (not (eqb (plus (c .tile)) (o .from + p .tiles))) (t .due))) in
+      record {
+        state = es ∙ next-due;
+        inside = omega (arith, out);
+        queue = subst (HoldsQueue (queueOn o (suc (p .tiles)))) (sym ek) (handed e);
+        taken-long = lent-holds .long;
+        took = (lent-holds, list-passed (tableOn o) (layersOn o (p .tiles)) (t .layers) .known);
+      }
+
+  -- and after the call
   after-work : {s : State} {back : WorkLent} (ans : WorkAnswer) (v : Judgement) → workDueVerdict o (p .tiles) c ≡ v
       → workAnswer ans ≡ workOut v (saysOn o (p .tiles) c) (stateOn o p) (c .kept) (c .lent) .answer
       → s ≡ workOut v (saysOn o (p .tiles) c) (stateOn o p) (c .kept) (c .lent) .state
@@ -185,18 +200,7 @@ module _ {o : OpenRow} {p : Past} {h : Held} (is-open : IsOpen o) (holds : Holds
   after-work (Refused k) (refuse n) e ea es el = record { state = es; inside = holds .inside; queue = holds .queue; taken-long = holds .taken-long; took = holds .took }
   after-work (Refused k) pass e ea es el = absurd (let z : _≡_ {A = ℕ} 0 1 = cc in omega arith)
   after-work (Done d) (refuse n) e ea es el = absurd (let z : _≡_ {A = ℕ} 0 1 = cc in omega arith)
-  after-work (Done d) pass e ea es el =
-      let t = accepted e in
-      let end = leb (o .to) (o .from + p .tiles) in
-      let low = ltZ (c .tile) (pos 0) in
-      let out = leb-false (o .to) (o .from + p .tiles) (or-left end low (or-left (end || low) (not (eqb (plus (c .tile)) (o .from + p .tiles))) (t .due))) in
-      record {
-        state = es ∙ next-due;
-        inside = omega (arith, out);
-        queue = subst (λ (b : WorkLent). HoldsQueue (queueOn o (suc (p .tiles))) (b .queue)) (sym el) (handed e);
-        taken-long = lent-holds .long;
-        took = (lent-holds, list-passed (tableOn o) (layersOn o (p .tiles)) (t .layers) .known);
-      }
+  after-work (Done d) pass e ea es el = past-tile e es (ap (λ (b : WorkLent). b .queue) el)
 
   -- what is right of it
   pub right-work : {r : TileWorked} {back : WorkLent} → GivesWork (workOf (workOn o h c) (c .lent)) r back

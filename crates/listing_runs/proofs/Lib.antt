@@ -1,0 +1,4 @@
+-- The theorem over any list of listings, decidings, works and paintings, and its steps.
+pub mod Lists
+pub mod Steps
+pub mod Run
