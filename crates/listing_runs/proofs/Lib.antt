@@ -2,3 +2,5 @@
 pub mod Lists
 pub mod Steps
 pub mod Run
+pub mod Runs
+pub mod Example

@@ -27,7 +27,7 @@ other-list holds a lent {r} {back} es g n e =
 
 -- ---- one call, and any list of them
 
-call-right : {o : OpenRow} {p : Past} {h h′ : HeldAll} {e : Call} → IsOpen o → HoldsAll o p h → CallStep o h e h′ → RightCall o p e × HoldsAll o (pastCall o e p) h′
+pub call-right : {o : OpenRow} {p : Past} {h h′ : HeldAll} {e : Call} → IsOpen o → HoldsAll o p h → CallStep o h e h′ → RightCall o p e × HoldsAll o (pastCall o e p) h′
 call-right {o} {p} is-open holds (CallStep.row {h = h} {e = e} step) =
     let u = step-right is-open (holds .row) step in
     (u .0, record { row = u .1; lists = after-event is-open p e (h .lists) (u .0) (holds .lists) })

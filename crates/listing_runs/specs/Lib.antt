@@ -3,4 +3,5 @@
 pub mod Due
 pub mod Run
 pub mod Claim
+pub mod Example
 pub mod InnerHolding

@@ -23,7 +23,7 @@ use Rattle.painter.specs.declared.Clip as painter
 use Rattle.painter.specs.declared.Clip.the-variants.{Absent, Until}
 use Rattle.painter.specs.Clip.{clipIn}
 use Rattle.painter.specs.Painting.{isLightIn}
-use Rattle.row_statements.specs.Lent.{isQueueShort, isListShort}
+use Rattle.row_statements.specs.Lent.{Columns, isQueueShort, isListShort}
 use Rattle.row_statements.specs.State.{State, stateIn}
 use Rattle.row_statements.specs.TileWork.{WorkGiven, TileAnswer, listVerdict, workOut, workOf, GivesWork}
 use Rattle.row_statements.specs.Painting.{PaintGiven, paintOut, paintOf, PaintsLayer}
@@ -52,18 +52,18 @@ clip-back : (clip : Option ℕ) → clipIn (clipOut clip) ≡ clip
 clip-back none = refl
 clip-back (some last) = refl
 
-abbrev stateOut : State → RowState
+abbrev pub stateOut : State → RowState
 stateOut s = record { «tile_y» = s .tileY; from = s .from; to = s .to; next = s .next; left = s .left; taken = s .taken; clip = clipOut (s .clip) }
 
-state-back : (s : State) → stateIn (stateOut s) ≡ s
+pub state-back : (s : State) → stateIn (stateOut s) ≡ s
 state-back s = ap (λ (clip : Option ℕ). record { tileY = s .tileY; from = s .from; to = s .to; next = s .next; left = s .left; taken = s .taken; clip = clip }) (clip-back (s .clip))
 
-abbrev decisionOut : TileDecision → Decision
+abbrev pub decisionOut : TileDecision → Decision
 decisionOut decision.none = None
 decisionOut (solid bottom before) = Solid bottom before
 decisionOut paint = Paint
 
-decision-back : (d : TileDecision) → decisionIn (decisionOut d) ≡ d
+pub decision-back : (d : TileDecision) → decisionIn (decisionOut d) ≡ d
 decision-back decision.none = refl
 decision-back (solid bottom before) = refl
 decision-back paint = refl
@@ -81,7 +81,7 @@ paintedOut (given mark) = painted.Mark mark
 
 -- ---- every number that is due is one of the table
 
-listed-named : (table : List Layer) (ls : List Listed) → Named (listVerdict table ls)
+pub listed-named : (table : List Layer) (ls : List Listed) → Named (listVerdict table ls)
 unfolding listVerdict
 listed-named table ls =
     named (isTooMany ls) 7 (unless (not (areKnown table ls)) 8 (unless (not (areLight ls)) 9 pass)) refl
@@ -109,7 +109,7 @@ paint-named o n c =
 
 -- ---- so there is an answer of the code that gives it
 
-abbrev workResult : WorkGiven → TileWorked
+abbrev pub workResult : WorkGiven → TileWorked
 workResult g = record { state = stateOut (g .state); kept = g .kept; answer = workedOut (g .answer) }
 
 work-gives : (v : Judgement) → Named v → (o : OpenRow) (p : Past) (c : WorkChoice) → let g = workOut v (saysOn o (p .tiles) c) (stateOn o p) (c .kept) (c .lent) in GivesWork g (workResult g) (g .lent)
@@ -123,13 +123,35 @@ work-gives pass named o p c =
       lent-is = refl;
     }
 
-abbrev paintResult : PaintGiven → Painted
+abbrev pub paintResult : PaintGiven → Painted
 paintResult g = record { state = stateOut (g .state); answer = paintedOut (g .answer) }
 
 paint-gives : (v : Judgement) → Named v → (o : OpenRow) (p : Past) (c : PaintChoice) → let g = paintOut v (paintOn o (p .tiles - 1) (c .layer) (p .clip)) (stateOn o p) (c .plane) in PaintsLayer g (paintResult g) (g .plane)
 unfolding paintOut
 paint-gives (refuse n) named o p c = record { answer = ap refused named; state = state-back (stateOn o p); plane = refl }
 paint-gives pass named o p c = record { answer = refl; state = state-back (paintOut pass (paintOn o (p .tiles - 1) (c .layer) (p .clip)) (stateOn o p) (c .plane) .state); plane = refl }
+
+-- ---- a choice, made with the carries that the caller holds
+
+pub as-held : {n : ℕ} {k : Columns} → SameCarries n k k
+as-held = record { reads = refl; room = refl; order = refl }
+
+abbrev pub heldWork : Held → WorkChoice → WorkChoice
+heldWork h c = record { tile = c .tile; kept = c .kept; clear = c .clear; previous = c .previous; queue = h .queue; lent = c .lent }
+
+abbrev pub heldPaint : Held → PaintChoice → PaintChoice
+heldPaint h c = record { tile = c .tile; layer = c .layer; queue = h .taken; plane = c .plane }
+
+module _ {o : OpenRow} {p : Past} {h : Held} (is-open : IsOpen o) (holds : Holds o p h) where
+  pub work-goes : (c : WorkChoice) → GivesWork (workOf (workOn o h (heldWork h c)) (c .lent)) (workResult (workDue o p (heldWork h c))) (workDue o p (heldWork h c) .lent)
+  work-goes c =
+      let held = heldWork h c in
+      subst (λ (out : WorkGiven). GivesWork out (workResult (workDue o p held)) (workDue o p held .lent)) (sym (work-due is-open holds held as-held)) (work-gives (workDueVerdict o (p .tiles) held) (work-named o (p .tiles) held) o p held)
+
+  pub paint-goes : (c : PaintChoice) → PaintsLayer (paintOf (paintOnto o h (heldPaint h c)) (c .plane)) (paintResult (paintDue o p (heldPaint h c))) (paintDue o p (heldPaint h c) .plane)
+  paint-goes c =
+      let held = heldPaint h c in
+      subst (λ (out : PaintGiven). PaintsLayer out (paintResult (paintDue o p held)) (paintDue o p held .plane)) (sym (paint-due is-open holds held as-held)) (paint-gives (paintDueVerdict o (p .tiles) held) (paint-named o (p .tiles) held) o p held)
 
 -- ---- for every list of choices there is a run, with the verdicts that are due
 
@@ -144,16 +166,8 @@ module _ {o : OpenRow} (is-open : IsOpen o) where
   unfolding duesOf choicesDue
   exists {p} {h} holds [] = record { events = []; after = h; runs = Run.none; dues = refl }
   exists {p} {h} holds (Choice.work c ∷ cs) =
-      let held : WorkChoice = record { tile = c .tile; kept = c .kept; clear = c .clear; previous = c .previous; queue = h .queue; lent = c .lent } in
-      let same : SameCarries (h .state .left) (h .queue) (h .queue) = record { reads = refl; room = refl; order = refl } in
-      let g : GivesWork (workOf (workOn o h held) (c .lent)) (workResult (workDue o p held)) (workDue o p held .lent) =
-      subst (λ (out : WorkGiven). GivesWork out (workResult (workDue o p held)) (workDue o p held .lent)) (sym (work-due is-open holds held same)) (work-gives (workDueVerdict o (p .tiles) held) (work-named o (p .tiles) held) o p held) in
-      let rest = exists (right-work is-open holds held same g .1) cs in
-      record { events = _ ∷ rest .events; after = rest .after; runs = Run.next (Step.work {c = held} same g) (rest .runs); dues = ap (λ (vs : List Judgement). workDueVerdict o (p .tiles) c ∷ vs) (rest .dues) }
+      let rest = exists (right-work is-open holds (heldWork h c) as-held (work-goes is-open holds c) .1) cs in
+      record { events = _ ∷ rest .events; after = rest .after; runs = Run.next (Step.work {c = heldWork h c} as-held (work-goes is-open holds c)) (rest .runs); dues = ap (λ (vs : List Judgement). workDueVerdict o (p .tiles) c ∷ vs) (rest .dues) }
   exists {p} {h} holds (Choice.paint c ∷ cs) =
-      let held : PaintChoice = record { tile = c .tile; layer = c .layer; queue = h .taken; plane = c .plane } in
-      let same : SameCarries (h .state .taken) (h .taken) (h .taken) = record { reads = refl; room = refl; order = refl } in
-      let g : PaintsLayer (paintOf (paintOnto o h held) (c .plane)) (paintResult (paintDue o p held)) (paintDue o p held .plane) =
-      subst (λ (out : PaintGiven). PaintsLayer out (paintResult (paintDue o p held)) (paintDue o p held .plane)) (sym (paint-due is-open holds held same)) (paint-gives (paintDueVerdict o (p .tiles) held) (paint-named o (p .tiles) held) o p held) in
-      let rest = exists (right-paint is-open holds held same g .1) cs in
-      record { events = _ ∷ rest .events; after = rest .after; runs = Run.next (Step.paint {c = held} same g) (rest .runs); dues = ap (λ (vs : List Judgement). paintDueVerdict o (p .tiles) c ∷ vs) (rest .dues) }
+      let rest = exists (right-paint is-open holds (heldPaint h c) as-held (paint-goes is-open holds c) .1) cs in
+      record { events = _ ∷ rest .events; after = rest .after; runs = Run.next (Step.paint {c = heldPaint h c} as-held (paint-goes is-open holds c)) (rest .runs); dues = ap (λ (vs : List Judgement). paintDueVerdict o (p .tiles) c ∷ vs) (rest .dues) }

@@ -67,16 +67,16 @@ call = record { tileY = pos 0; from = pos 0; to = pos 2; row = row; table = tabl
 
 -- ---- the calls
 
-abbrev black : Color
+abbrev pub black : Color
 black = record { r = ofBits binary32 0; g = ofBits binary32 0; b = ofBits binary32 0; a = ofBits binary32 0 }
 
 abbrev pub room : ℕ → Columns
 room n = record { ids = replicate n 0; covers = replicate 4096 (pos 0) }
 
-abbrev list : ListColumns
+abbrev pub list : ListColumns
 list = record { ids = replicate 256 0; covers = replicate 4096 (pos 0); segments = replicate 256 false; unmasked = replicate 256 false }
 
-abbrev tagged : ℕ → kept.Kept
+abbrev pub tagged : ℕ → kept.Kept
 tagged tag = record { given = true; tile = record { tags = tag; «layer_count» = 0 ∷ 0 ∷ 0 ∷ []; «solid_color» = 0 ∷ 0 ∷ 0 ∷ 0 ∷ [] } }
 
 abbrev working : ℤ → kept.Kept → ℕ → Choice

@@ -1,0 +1,71 @@
+-- The run of specs/Example. Assumes nothing.
+use mathlib.Core.Path.{_≡_, refl, _∙_}
+use mathlib.Core.List.{[], _∷_}
+use Rattle.laws.specs.Answer.{given}
+use Rattle.refusals.specs.Refusal.{pass, refuse}
+use Rattle.pixel_segment.specs.Field.{coverOf, tileOf}
+use Rattle.segment_rows.specs.Rows.{ascendsFrom}
+use Rattle.segment_rows.specs.Search.{halved, searchOf, leftPart, tilePart, layerPart}
+use Rattle.styling.specs.Ascending.{strictlyAscendsFrom}
+use Rattle.layer_table.specs.Lookup.{lookup}
+use Rattle.layer_table.specs.Table.{isTableShort, isValid, isTable, layerAt, tableOf}
+use Rattle.cover_statements.specs.Carry.{isLight, carryOf}
+use Rattle.cover_statements.specs.Cover.{isEmpty}
+use Rattle.queue_statements.specs.Queue.{heldIn}
+use Rattle.queue_statements.specs.Opening.{addTo, addAll, openQueue, isLightOpening}
+use Rattle.tile_layers.specs.Groups.{groupsOf}
+use Rattle.tile_layers.specs.Listing.{listOf}
+use Rattle.layer_carrying.specs.Carrying.{handedOn}
+use Rattle.row_carries.specs.Carries.{queueAfter}
+use Rattle.painter.specs.declared.Clip.the-variants.{Absent}
+use Rattle.row_statements.specs.Lent.{Columns, queueOver}
+use Rattle.row_statements.specs.Opening.{leftOf, openVerdict, openCount, openOf, OpensRow}
+use Rattle.row_statements.specs.TileWork.{listVerdict}
+use Rattle.row_statements.specs.Due.{atFirst}
+use Rattle.row_statements.specs.Run.{openRow}
+use Rattle.row_statements.specs.Example.{room}
+use Rattle.row_statements.specs.declared.RowState.{RowState}
+use Rattle.row_statements.specs.declared.Opened.the-variants as opened
+use Rattle.row_statements.proofs.Run.{accepted, is-open, held-first}
+use Rattle.row_statements.proofs.Example as row
+use Rattle.listing_runs.specs.Example.{call, choices, choicesDue, Ran}
+use Rattle.listing_runs.proofs.Runs.{exists}
+
+-- ---- the opening
+
+first : RowState
+first = record { «tile_y» = 0; from = 0; to = 3; next = 0; left = 4; taken = 0; clip = Absent }
+
+held : Columns
+held = queueOver (openQueue (leftOf call)) (room 256)
+
+counted : openCount (openVerdict call (room 256)) (leftOf call) ≡ given 4
+unfolding openVerdict isTableShort isValid isTable strictlyAscendsFrom ascendsFrom layerAt isLightOpening isLight addTo addAll coverOf leftPart searchOf halved tileOf
+counted = refl
+
+opens : OpensRow (openOf call (room 256)) (opened.Row first) held
+unfolding first held openOf
+opens = rw counted (record { answer = refl; lent-is = refl })
+
+-- ---- the calls
+
+due : choicesDue (openRow call) atFirst choices
+    ≡ refuse 2 ∷ refuse 1 ∷ pass ∷ pass ∷ pass ∷ refuse 6 ∷ pass ∷ pass ∷ pass ∷ pass ∷ pass ∷ pass ∷ []
+unfolding choicesDue listVerdict listOf groupsOf handedOn queueAfter addTo addAll leftPart tilePart layerPart searchOf halved lookup tableOf layerAt isLight carryOf isEmpty heldIn coverOf tileOf
+due = refl
+
+pub ran : Ran
+ran =
+    let words = row.ran .words in
+    let a = accepted call (room 256) held first opens in
+    let r = exists (is-open call (room 256) held first words a) (record { row = held-first call (room 256) held first words a; lists = tt }) choices in
+    record {
+      back = held;
+      state = first;
+      events = r .events;
+      after = r .after;
+      words = words;
+      opens = opens;
+      runs = r .runs;
+      dues = r .dues ∙ due;
+    }
