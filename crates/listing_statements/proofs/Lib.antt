@@ -4,3 +4,4 @@ pub mod Succession
 pub mod AsWork
 pub mod Listings
 pub mod Decidings
+pub mod Cases
