@@ -17,10 +17,13 @@ use Rattle.row_statements.specs.TileWork.{WorkCall, WorkLent, workOf, workAnswe
 use Rattle.row_statements.specs.Painting.{PaintCall, paintOf, paintAnswer, PaintsLayer}
 use Rattle.row_statements.specs.declared.TileWorked.{TileWorked}
 use Rattle.row_statements.specs.declared.Painted.{Painted}
+use Rattle.listing_statements.specs.Listing.{ListCall, ListLent, listingOf, listAnswer, ListsTile}
+use Rattle.listing_statements.specs.declared.TileListed.{TileListed}
 use Rattle.ffi_numbers.specs.Numbers.{refusalNumber, valueOr, isFound, placeNumber}
 use Rattle.ffi_numbers.specs.Cached.{isSome, givenOr, colorOr, writtenOr, settledBytes}
 use Rattle.ffi_numbers.specs.Rows.{StateNumbers, openNumbers, OpenTold}
 use Rattle.ffi.specs.Work.{WorkNumbers, workedNumbers, WorkTold}
+use Rattle.ffi.specs.Listing.{ListNumbers, listedNumbers, ListTold}
 use Rattle.ffi.specs.Painting.{PaintNumbers, paintedNumbers, PaintTold}
 
 -- a search: whether the key was found, and the place
@@ -66,4 +69,14 @@ painted call plane {p = p} {old = old} {back = back} e given told =
       number = told .0 ∙ ap refusalNumber (paints .answer);
       numbers = told .1 ∙ λ i. paintedNumbers (paints .answer i) (paints .state i) old;
       plane-is = paints .plane;
+    }
+
+-- listing, the same
+pub listed : (call : State → ListCall) (lent : ListLent) {s t : State} {w : TileListed} {old new : ListNumbers} {r : ℕ} {back : ListLent} → s ≡ t → ListsTile (listingOf (call s) lent) w back → (r ≡ refusalNumber (listAnswer (w .answer))) × (new ≡ listedNumbers (listAnswer (w .answer)) (stateIn (w .state)) old) → ListTold (listingOf (call t) lent) old r new back
+listed call lent {w = w} {old = old} {back = back} e given told =
+    let lists = subst (λ (x : State). ListsTile (listingOf (call x) lent) w back) e given in
+    record {
+      number = told .0 ∙ ap refusalNumber (lists .answer);
+      numbers = told .1 ∙ λ i. listedNumbers (lists .answer i) (lists .state i) old;
+      lent-is = lists .lent-is;
     }

@@ -3,6 +3,7 @@ pub mod Covers
 pub mod Layers
 pub mod Plates
 pub mod Work
+pub mod Listing
 pub mod Painting
 pub mod Calls
 pub mod Revisions

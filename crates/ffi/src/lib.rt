@@ -5,6 +5,7 @@
 pub mod cached;
 pub mod covers;
 pub mod layers;
+pub mod listing;
 pub mod painting;
 pub mod plates;
 pub mod rows;
