@@ -4,5 +4,6 @@ pub mod Layers
 pub mod Plates
 pub mod Work
 pub mod Listing
+pub mod Deciding
 pub mod Painting
 pub mod Calls
