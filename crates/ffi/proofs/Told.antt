@@ -18,12 +18,15 @@ use Rattle.row_statements.specs.Painting.{PaintCall, paintOf, paintAnswer, Pain
 use Rattle.row_statements.specs.declared.TileWorked.{TileWorked}
 use Rattle.row_statements.specs.declared.Painted.{Painted}
 use Rattle.listing_statements.specs.Listing.{ListCall, ListLent, listingOf, listAnswer, ListsTile}
+use Rattle.listing_statements.specs.Deciding.{DecideGiven, decideAnswer, DecidesTile}
 use Rattle.listing_statements.specs.declared.TileListed.{TileListed}
+use Rattle.listing_statements.specs.declared.TileDecided.{TileDecided}
 use Rattle.ffi_numbers.specs.Numbers.{refusalNumber, valueOr, isFound, placeNumber}
 use Rattle.ffi_numbers.specs.Cached.{isSome, givenOr, colorOr, writtenOr, settledBytes}
 use Rattle.ffi_numbers.specs.Rows.{StateNumbers, openNumbers, OpenTold}
 use Rattle.ffi.specs.Work.{WorkNumbers, workedNumbers, WorkTold}
 use Rattle.ffi.specs.Listing.{ListNumbers, listedNumbers, ListTold}
+use Rattle.ffi.specs.Deciding.{DecideNumbers, decidedNumbers, DecideTold}
 use Rattle.ffi.specs.Painting.{PaintNumbers, paintedNumbers, PaintTold}
 
 -- a search: whether the key was found, and the place
@@ -79,4 +82,13 @@ listed call lent {w = w} {old = old} {back = back} e given told =
       number = told .0 ∙ ap refusalNumber (lists .answer);
       numbers = told .1 ∙ λ i. listedNumbers (lists .answer i) (lists .state i) old;
       lent-is = lists .lent-is;
+    }
+
+-- deciding, the same
+pub decided : {g : DecideGiven} {w : TileDecided} {old new : DecideNumbers} {r : ℕ} {back : List Bool} → DecidesTile g w back → (r ≡ refusalNumber (decideAnswer (w .answer))) × (new ≡ decidedNumbers (decideAnswer (w .answer)) (w .kept) old) → DecideTold g old r new back
+decided {old = old} decides told =
+    record {
+      number = told .0 ∙ ap refusalNumber (decides .answer);
+      numbers = told .1 ∙ λ i. decidedNumbers (decides .answer i) (decides .kept i) old;
+      unmasked-is = decides .unmasked-is;
     }

@@ -4,6 +4,7 @@ pub mod Layers
 pub mod Plates
 pub mod Work
 pub mod Listing
+pub mod Deciding
 pub mod Painting
 pub mod Calls
 pub mod Revisions

@@ -4,6 +4,7 @@
 // refuses, and nothing else.
 pub mod cached;
 pub mod covers;
+pub mod deciding;
 pub mod layers;
 pub mod listing;
 pub mod painting;

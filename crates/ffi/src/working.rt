@@ -21,13 +21,13 @@ ghost use Rattle.ffi.specs.Layers.{colorFrom, previousOf};
 ghost use Rattle.ffi_numbers.specs.Rows.{stateFrom};
 ghost use Rattle.ffi.specs.Work.{beforeOf, bottomBy, toldOf, workNumbers, workedNumbers, WorkTold};
 
-fn code_of(decision: Decision) -> usize
+pub fn code_of(decision: Decision) -> usize
     ensures { λ r. ⌜ r ≡ codeOf (decisionIn decision) ⌝ }
 {
     decide::code_of(decision) as usize
 }
 
-fn before_of(decision: Decision) -> usize
+pub fn before_of(decision: Decision) -> usize
     ensures { λ r. ⌜ r ≡ beforeOf (decisionIn decision) ⌝ }
 {
     match decision {
@@ -37,7 +37,7 @@ fn before_of(decision: Decision) -> usize
     }
 }
 
-fn put_bottom(decision: Decision, bottom: &mut [f32; 4])
+pub fn put_bottom(decision: Decision, bottom: &mut [f32; 4])
     ensures { λ _. ⌜ now (bottom .exit) ≡ bottomBy (decisionIn decision) (now (bottom .entry)) ⌝ }
 {
     match decision {

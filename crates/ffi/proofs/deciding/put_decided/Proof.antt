@@ -1,0 +1,50 @@
+-- `deciding::put_decided` meets its contract. Assumes nothing.
+use mathlib.Core.Path.{refl}
+use mathlib.Core.List.{[], _∷_}
+use borrow.Author.Needs.{needs}
+use Rattle.ffi.proofs.deciding.put_decided.Statement.{statement}
+use Rattle.ffi.proofs.deciding.put_decided.Tie as tie
+
+enum-known-answer : tie.Need-enum-known-answer
+enum-known-answer c = search needs
+
+number-of-requires : tie.Need-number-of-requires
+number-of-requires c κs = search needs
+
+enum-known-answer-2 : tie.Need-enum-known-answer-2
+enum-known-answer-2 c = search needs
+
+put-kept-requires : tie.Need-put-kept-requires
+put-kept-requires c κs = search needs
+
+code-of-requires : tie.Need-code-of-requires
+code-of-requires c κs = search needs
+
+before-of-requires : tie.Need-before-of-requires
+before-of-requires c κs = search needs
+
+put-bottom-requires : tie.Need-put-bottom-requires
+put-bottom-requires c κs = search needs
+
+returns : tie.Need-returns
+returns c = rw (c .before .before .answer .given .1) (c .number-of .ensures, refl)
+
+returns-2 : tie.Need-returns-2
+returns-2 c =
+    let skipped = c .before .before .before .before .before .before .before .before .answer2 .given .0 .1 .0 in
+    rw (c .before .before .before .before .before .before .before .before .answer2 .given .1)
+    (refl, λ i. record { kept = c .before .before .before .before .before .put-kept .ensures i; told = c .before .before .before .before .code-of .ensures i ∷ c .before .before .before .before-of .ensures i ∷ skipped .0 ∷ []; bottom = c .put-bottom .ensures i })
+
+pub put-decided-spec : {M : Type 1} → statement M
+put-decided-spec =
+    tie.close
+    (tie.spec
+    enum-known-answer
+    number-of-requires
+    enum-known-answer-2
+    put-kept-requires
+    code-of-requires
+    before-of-requires
+    put-bottom-requires
+    returns
+    returns-2)
