@@ -57,13 +57,14 @@ fn refusals_have_their_numbers() {
     assert_eq!(Refusal::Tag.to_string(), "refused 6: the cached tile's tag is above 3");
 }
 
-/// P6, where it holds whatever a double winding is, and P11.
+/// P6, with W-205's double windings, and P11.
 #[test]
 fn covers() {
     let all = |number| Cover([number; 16]);
     assert!(all(32).is_empty(FillRule::EvenOdd) && !all(32).is_empty(FillRule::NonZero));
     assert!(all(-16).is_full(FillRule::EvenOdd) && all(-16).is_full(FillRule::NonZero));
-    assert!(all(48).is_full(FillRule::EvenOdd));
+    assert!(all(48).is_full(FillRule::EvenOdd) && all(48).is_full(FillRule::NonZero));
+    assert!(all(32).is_full(FillRule::NonZero) && !all(32).is_full(FillRule::EvenOdd));
     let one = PixelSegment::new(Fields { local_y: 0, cover: -16, ..P1 }).unwrap();
     let mut cover = all(16);
     cover.carry(&[one]).unwrap();
