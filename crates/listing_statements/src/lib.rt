@@ -1,6 +1,6 @@
-// Listing and deciding, the two halves of the work on a tile, as operations that a caller makes by themselves: what they
-// answer. specs/ has what they promise, proofs/ the law that a work is their succession and the theorem over any list of
-// listings, decidings, works and paintings. The functions are of tile_listing and tile_deciding.
+// Listing and deciding, the two halves of the work on a tile, as operations that a caller makes by themselves: what
+// they answer. specs/ has what they promise, proofs/ the law that a work is their succession. The functions are of
+// tile_listing and tile_deciding, and the theorem over any list of calls is of listing_runs.
 use cached_tile::kept::Kept;
 use pass_statements::Index;
 use pass_statements::decide::Decision;
