@@ -1,5 +1,5 @@
-// Listing the next tile, without a decision: the layer inspector's call. Its answer is lent as a number, how many layers
-// are listed.
+// Listing the next tile, without a decision: the layer inspector's call. Its answer is lent as a number, how many
+// layers are listed.
 use ffi_numbers::rows;
 use listing_statements::ListAnswer;
 use row_statements::RowState;

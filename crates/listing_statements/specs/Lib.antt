@@ -1,5 +1,5 @@
--- Listing and deciding: what they promise, that a work is their succession, and the claim about any list of listings, decidings, works and
--- paintings. Read in this order. The file whose name begins with Inner says what proofs hold between the calls; nobody has to believe it.
+-- Listing and deciding: what they promise, and that a work is their succession. Read in this order. The files whose names begin with Inner say what
+-- functions below the operations ask and give, and what proofs hold of a lent list; nobody has to believe them.
 pub mod Listing
 pub mod Deciding
 pub mod Succession
