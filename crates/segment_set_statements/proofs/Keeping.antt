@@ -23,7 +23,7 @@ use Rattle.pixel_segment.specs.Field.{cpu, localYOf}
 use Rattle.cover_statements.specs.Area.{areasOf}
 use Rattle.cover_statements.specs.Carry.{absCover, isLight, carryOf}
 use Rattle.cover_statements.specs.Cover.{coverAt}
-use Rattle.cover_statements.specs.Paint.{AreasInRange}
+use Rattle.cover_statements.specs.Weighed.{InRange}
 use Rattle.cover_statements.proofs.Planes.{areas-length, areas-in-range}
 use Rattle.segment_set_statements.specs.Effect.{areasAfter, carryAfter, loadsAfter}
 use Rattle.segment_set_statements.specs.Set.{SetState, state, Beginning, beginVerdict, nothing, freshState, heldOf, isHere, isWordHeld, heldPlace, loadsFrom, takeVerdict, takenIn, letVerdict, letOut, Gives, beginOf, takeOf, letOf, settled}
@@ -243,5 +243,5 @@ kept (taken {s = s} w h g) = rw (g .leaves) (step-in w (takeVerdict s w) refl (k
 kept (let-out {s = s} w h g) = rw (g .leaves) (step-out w (letVerdict s w) refl (kept h))
 
 -- on a kept set |d| is at most 8,001, so nothing is wrapped
-pub small : {incoming : List ℤ} {s : SetState} → Kept incoming s → AreasInRange (take 256 (s .areas))
-small {incoming} {s} k = rw (k .areas-are) (areas-in-range incoming (heldOf s) (k .light))
+pub small : {incoming : List ℤ} {s : SetState} → Kept incoming s → InRange (take 256 (s .areas))
+small {incoming} {s} k = areas-in-range incoming (heldOf s) (k .light) (k .areas-are)
