@@ -61,6 +61,25 @@ uint32_t ffi_mark_plane(const float *plane, size_t plane_len, uint32_t *mark);
 /* How many octets a mark has. */
 uint32_t ffi_octets(uint32_t mark);
 
+/* 0, the mask column, the cached tile and the answer, or the number of the refusal. The bytes of the cached tile are
+   stored where the call is accepted and a tile is given. */
+uint32_t ffi_decide_tile(
+    const uint32_t *list_ids, size_t list_ids_len,
+    const int8_t *list_covers, size_t list_covers_len,
+    const bool *list_segments, size_t list_segments_len,
+    size_t n,
+    const uint32_t *layers, size_t layers_len,
+    const float *colors, size_t colors_len,
+    size_t count,
+    bool is_kept,
+    uint8_t kept[8],
+    const float clear[4],
+    bool is_previous,
+    const float previous[4],
+    bool *unmasked, size_t unmasked_len,
+    size_t told[3],
+    float bottom[4]);
+
 /* `ffi_color_eq` of the library. */
 bool ffi_color_eq(const float color[4], const float other[4]);
 
@@ -75,6 +94,25 @@ bool ffi_is_short(const uint32_t *layers, size_t layers_len, const float *colors
 
 /* Whether no refusal applies to the table. */
 bool ffi_is_table(const uint32_t *layers, size_t layers_len, const float *colors, size_t colors_len, size_t count);
+
+/* 0, the list, the carries handed on, how many layers are listed and the state past the tile, or the number of the
+   refusal. */
+uint32_t ffi_list_tile(
+    uint32_t words[6],
+    size_t counts[2],
+    int32_t tile,
+    const uint64_t *row, size_t row_len,
+    const uint32_t *layers, size_t layers_len,
+    const float *colors, size_t colors_len,
+    size_t count,
+    const uint32_t *ids, size_t ids_len,
+    const int8_t *covers, size_t covers_len,
+    uint32_t *next_ids, size_t next_ids_len,
+    int8_t *next_covers, size_t next_covers_len,
+    uint32_t *list_ids, size_t list_ids_len,
+    int8_t *list_covers, size_t list_covers_len,
+    bool *list_segments, size_t list_segments_len,
+    size_t *listed);
 
 /* 0, the coverages in `plane`, their mark in `mark` and the state with the painter's clip, or the number of the
    refusal. */
@@ -115,6 +153,15 @@ uint32_t ffi_open_tile_row(
     int8_t *covers, size_t covers_len,
     uint32_t words[6],
     size_t counts[2]);
+
+/* 0, the standing layers in the lent table and in `standing` how many they are, or the number of the refusal. */
+uint32_t ffi_stand(
+    const uint32_t *records, size_t records_len,
+    const float *record_colors, size_t record_colors_len,
+    size_t count,
+    uint32_t *layers, size_t layers_len,
+    float *colors, size_t colors_len,
+    size_t *standing);
 
 /* `ffi_pack` of the library. */
 uint32_t ffi_pack(

@@ -33,6 +33,29 @@ mod raw {
         ) -> u32;
         pub fn ffi_mark_plane(plane: *const f32, plane_len: usize, mark: *mut u32) -> u32;
         pub fn ffi_octets(mark: u32) -> u32;
+        pub fn ffi_decide_tile(
+            list_ids: *const u32,
+            list_ids_len: usize,
+            list_covers: *const i8,
+            list_covers_len: usize,
+            list_segments: *const bool,
+            list_segments_len: usize,
+            n: usize,
+            layers: *const u32,
+            layers_len: usize,
+            colors: *const f32,
+            colors_len: usize,
+            count: usize,
+            is_kept: bool,
+            kept: *mut [u8; 8],
+            clear: *const [f32; 4],
+            is_previous: bool,
+            previous: *const [f32; 4],
+            unmasked: *mut bool,
+            unmasked_len: usize,
+            told: *mut [usize; 3],
+            bottom: *mut [f32; 4],
+        ) -> u32;
         pub fn ffi_color_eq(color: *const [f32; 4], other: *const [f32; 4]) -> bool;
         pub fn ffi_is_opaque(fill: u32, blend_mode: u32, color: *const [f32; 4]) -> bool;
         pub fn ffi_blend_mode(code: u32) -> u32;
@@ -50,6 +73,33 @@ mod raw {
             colors_len: usize,
             count: usize,
         ) -> bool;
+        pub fn ffi_list_tile(
+            words: *mut [u32; 6],
+            counts: *mut [usize; 2],
+            tile: i32,
+            row: *const u64,
+            row_len: usize,
+            layers: *const u32,
+            layers_len: usize,
+            colors: *const f32,
+            colors_len: usize,
+            count: usize,
+            ids: *const u32,
+            ids_len: usize,
+            covers: *const i8,
+            covers_len: usize,
+            next_ids: *mut u32,
+            next_ids_len: usize,
+            next_covers: *mut i8,
+            next_covers_len: usize,
+            list_ids: *mut u32,
+            list_ids_len: usize,
+            list_covers: *mut i8,
+            list_covers_len: usize,
+            list_segments: *mut bool,
+            list_segments_len: usize,
+            listed: *mut usize,
+        ) -> u32;
         pub fn ffi_paint_layer(
             words: *mut [u32; 6],
             counts: *mut [usize; 2],
@@ -90,6 +140,18 @@ mod raw {
             covers_len: usize,
             words: *mut [u32; 6],
             counts: *mut [usize; 2],
+        ) -> u32;
+        pub fn ffi_stand(
+            records: *const u32,
+            records_len: usize,
+            record_colors: *const f32,
+            record_colors_len: usize,
+            count: usize,
+            layers: *mut u32,
+            layers_len: usize,
+            colors: *mut f32,
+            colors_len: usize,
+            standing: *mut usize,
         ) -> u32;
         pub fn ffi_pack(
             layer_id: u32,
@@ -280,6 +342,56 @@ pub fn octets(mark: u32) -> u32 {
     unsafe { raw::ffi_octets(mark) }
 }
 
+/// 0, the mask column, the cached tile and the answer, or the number of the refusal. The bytes of the cached tile are
+/// stored where the call is accepted and a tile is given.
+#[allow(clippy::too_many_arguments)]
+#[inline]
+pub fn decide_tile(
+    list_ids: &[u32],
+    list_covers: &[i8],
+    list_segments: &[bool],
+    n: usize,
+    layers: &[u32],
+    colors: &[f32],
+    count: usize,
+    is_kept: bool,
+    kept: &mut [u8; 8],
+    clear: &[f32; 4],
+    is_previous: bool,
+    previous: &[f32; 4],
+    unmasked: &mut [bool],
+    told: &mut [usize; 3],
+    bottom: &mut [f32; 4],
+) -> u32 {
+    // SAFETY: the references are those that the export takes, a slice with its own length; it is proved to keep
+    // to them for every value, and nothing of them is held after the call.
+    unsafe {
+        raw::ffi_decide_tile(
+            list_ids.as_ptr(),
+            list_ids.len(),
+            list_covers.as_ptr(),
+            list_covers.len(),
+            list_segments.as_ptr(),
+            list_segments.len(),
+            n,
+            layers.as_ptr(),
+            layers.len(),
+            colors.as_ptr(),
+            colors.len(),
+            count,
+            is_kept,
+            kept,
+            clear,
+            is_previous,
+            previous,
+            unmasked.as_mut_ptr(),
+            unmasked.len(),
+            told,
+            bottom,
+        )
+    }
+}
+
 /// `ffi_color_eq` of the library.
 #[inline]
 pub fn color_eq(color: &[f32; 4], other: &[f32; 4]) -> bool {
@@ -318,6 +430,60 @@ pub fn is_table(layers: &[u32], colors: &[f32], count: usize) -> bool {
     // SAFETY: the references are those that the export takes, a slice with its own length; it is proved to keep
     // to them for every value, and nothing of them is held after the call.
     unsafe { raw::ffi_is_table(layers.as_ptr(), layers.len(), colors.as_ptr(), colors.len(), count) }
+}
+
+/// 0, the list, the carries handed on, how many layers are listed and the state past the tile, or the number of the
+/// refusal.
+#[allow(clippy::too_many_arguments)]
+#[inline]
+pub fn list_tile(
+    words: &mut [u32; 6],
+    counts: &mut [usize; 2],
+    tile: i32,
+    row: &[u64],
+    layers: &[u32],
+    colors: &[f32],
+    count: usize,
+    ids: &[u32],
+    covers: &[i8],
+    next_ids: &mut [u32],
+    next_covers: &mut [i8],
+    list_ids: &mut [u32],
+    list_covers: &mut [i8],
+    list_segments: &mut [bool],
+    listed: &mut usize,
+) -> u32 {
+    // SAFETY: the references are those that the export takes, a slice with its own length; it is proved to keep
+    // to them for every value, and nothing of them is held after the call.
+    unsafe {
+        raw::ffi_list_tile(
+            words,
+            counts,
+            tile,
+            row.as_ptr(),
+            row.len(),
+            layers.as_ptr(),
+            layers.len(),
+            colors.as_ptr(),
+            colors.len(),
+            count,
+            ids.as_ptr(),
+            ids.len(),
+            covers.as_ptr(),
+            covers.len(),
+            next_ids.as_mut_ptr(),
+            next_ids.len(),
+            next_covers.as_mut_ptr(),
+            next_covers.len(),
+            list_ids.as_mut_ptr(),
+            list_ids.len(),
+            list_covers.as_mut_ptr(),
+            list_covers.len(),
+            list_segments.as_mut_ptr(),
+            list_segments.len(),
+            listed,
+        )
+    }
 }
 
 /// 0, the coverages in `plane`, their mark in `mark` and the state with the painter's clip, or the number of the
@@ -425,6 +591,34 @@ pub fn open_tile_row(
             covers.len(),
             words,
             counts,
+        )
+    }
+}
+
+/// 0, the standing layers in the lent table and in `standing` how many they are, or the number of the refusal.
+#[inline]
+pub fn stand(
+    records: &[u32],
+    record_colors: &[f32],
+    count: usize,
+    layers: &mut [u32],
+    colors: &mut [f32],
+    standing: &mut usize,
+) -> u32 {
+    // SAFETY: the references are those that the export takes, a slice with its own length; it is proved to keep
+    // to them for every value, and nothing of them is held after the call.
+    unsafe {
+        raw::ffi_stand(
+            records.as_ptr(),
+            records.len(),
+            record_colors.as_ptr(),
+            record_colors.len(),
+            count,
+            layers.as_mut_ptr(),
+            layers.len(),
+            colors.as_mut_ptr(),
+            colors.len(),
+            standing,
         )
     }
 }
