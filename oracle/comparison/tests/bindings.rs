@@ -1,14 +1,12 @@
-//! The crate bindings/rust against the Rust: random rows over several frames, tile after tile.
+//! The crate bindings/rust against the Rust, and the second model where it judges (W-205): random rows over several
+//! frames, tile after tile.
 
 use comparison::{
+    models::{Models, Tables},
     random::Random,
     scene::{any_scene, Picture, Scene},
 };
-use reference::{
-    painter::row,
-    plain::{self, Cached, Record, Worked},
-    Table,
-};
+use reference::plain::{self, Cached, Record, Worked};
 use tile_rows::{
     segment, settle, BlendMode, CachedTile, Color, Cover, Decision, Fill, FillRule, Frame, Func, Layer, LayerTable,
     PixelSegment, Plane, Row, Settled, Style,
@@ -87,15 +85,15 @@ fn check_frame(scene: &Scene, picture: &Picture, cached: &mut [CachedTile]) -> [
     let table = LayerTable::new(&picture.records.iter().map(layer).collect::<Vec<_>>());
     let clear = Color::from(picture.frame.clear);
     let frame = Frame { clear, previous_clear: picture.frame.previous_clear.map(Color::from) };
-    let rust_table = Table::new(&picture.records);
-    let mut rust = row::Row::open(scene.tile_y, scene.from, scene.to, &picture.words, &rust_table);
+    let tables = Tables::new(&picture.records);
+    let mut rust = Models::open(scene.tile_y, scene.from, scene.to, &picture.words, &tables);
     let tiles = scene.from as i32..scene.to as i32;
     let mut row = Row::open(segments, &table, scene.tile_y as i32, tiles).expect("a scene meets no condition");
     let mut decisions = [0; 3];
     for tile in row.tiles() {
         let place = &mut cached[tile as usize];
         let mut kept = scene.caches.then_some(*place);
-        let theirs = rust.work(tile as usize, &picture.frame, kept.map(|kept| Cached(kept.0)));
+        let theirs = rust.work(tile as usize, &picture.frame, kept.map(|kept| Cached(kept.0))).worked;
         let ours = row.work(tile, &frame, kept.as_mut()).expect("a scene meets no condition");
         check_tile(&mut row, &ours.decision, &theirs, scene);
         *place = check_cached(kept, &theirs, scene).unwrap_or(*place);
