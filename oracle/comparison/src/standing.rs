@@ -155,7 +155,7 @@ fn any_table(random: &mut Random, words: usize, colors: usize) -> LentTable {
 fn any_record(random: &mut Random, ids: &[u32], revisions: &[u32]) -> Sent {
     let mut one = Sent {
         id: random.pick(ids),
-        revision: if random.once_in(3) { random.word() as u32 } else { random.pick(revisions) },
+        revision: random.pick(revisions),
         kind: u32::from(random.once_in(3)),
         properties: LIMITS.map(|limit| random.below(limit as usize + 1) as u32),
         color: any_color(random),
@@ -187,16 +187,20 @@ fn any_sent(kind: &mut Kind) {
     let few = [0, 1, 2, 3, LAYER_LIMIT];
     let many: Vec<u32> = (0..40).map(|_| random.below(1 << 21) as u32).collect();
     let ids = if random.once_in(2) { &few[..] } else { &many[..] };
-    let revisions: &[u32] = if random.once_in(2) { &[0, 1, 7, 8, u32::MAX - 1, u32::MAX] } else { &[] };
+    let any: Vec<u32> = (0..40).map(|_| random.word() as u32).collect();
+    let revisions = if random.once_in(2) { &[0, 1, 7, 8, u32::MAX - 1, u32::MAX] } else { &any[..] };
+    let most = random.pick(&[3, 8, 30]);
     let mut sent = Vec::new();
-    let most = random.pick(&[2, 6, 30]);
     for _ in 0..random.below(most) {
-        let one = any_record(random, ids, if revisions.is_empty() { &many } else { revisions });
-        // Twins in some calls only.
+        let one = any_record(random, ids, revisions);
         let is_twin = |other: &Sent| (other.id, other.revision) == (one.id, one.revision);
-        if !sent.iter().any(is_twin) || random.once_in(12) {
+        if !sent.iter().any(is_twin) {
             sent.push(one);
         }
+    }
+    if !sent.is_empty() && random.once_in(6) {
+        let Sent { id, revision, .. } = random.pick(&sent);
+        sent.push(any_record(random, &[id], &[revision]));
     }
     if !sent.is_empty() && random.once_in(4) {
         let at = random.below(sent.len());
@@ -206,7 +210,7 @@ fn any_sent(kind: &mut Kind) {
     let mut call = Call::new(&sent);
     shorten(random, &mut call);
     let stand = standing(&call, usize::MAX).map_or(3, |standing| standing.len());
-    let mut room = || if random.once_in(6) { stand.saturating_sub(1) } else { stand + random.below(3) };
+    let mut room = || if random.once_in(10) { stand.saturating_sub(1) } else { stand + random.below(3) };
     let (words, colors) = (room(), room());
     let table = any_table(random, words, colors);
     check(kind, &call, &table);
@@ -214,7 +218,7 @@ fn any_sent(kind: &mut Kind) {
 
 /// At times fewer records than are counted, more of them, or a part of one.
 fn shorten(random: &mut Random, call: &mut Call) {
-    match random.below(14) {
+    match random.below(24) {
         0 => call.count += 1,
         1 => call.count = usize::MAX,
         2 => call.records.truncate(call.records.len().saturating_sub(1)),
@@ -273,7 +277,7 @@ fn sent_of(random: &mut Random, records: &[Record]) -> Vec<Sent> {
         let properties = [rule, func, span, clipped, fill, mode, unchanged];
         sent.push(Sent { id, revision, kind: PROPERTIES, properties, color });
         for lower in 0..random.below(4) as u32 {
-            sent.push(Sent { revision: lower, ..any_record(random, &[id], &[lower]) });
+            sent.push(any_record(random, &[id], &[lower]));
         }
         if records.iter().all(|other| other.id != id + 1) && random.once_in(2) {
             sent.push(plain(id + 1, 0, PROPERTIES, 1));
