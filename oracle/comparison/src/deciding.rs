@@ -7,7 +7,7 @@ use crate::{
     calls::{any_call, any_carry, deciding_refusal, listing_refusal, worked_row},
     given::{Fields, LentTable, Memory, Queue, State, Work, LAYER_LIMIT},
     layers::{damaged, lent, records},
-    memory::{any_queue, carries, decided, told, written, REFUSED, REFUSED_WITHOUT},
+    memory::{any_queue, carries, decided, input, told, written, REFUSED, REFUSED_WITHOUT},
     models::{Judged, Tables},
     random::Random,
     scene::word,
@@ -46,12 +46,14 @@ fn any_bytes(random: &mut Random, call: &mut Work, memory: &mut Memory) {
 
 /// The list that a listing leaves, decided: what the Rust makes of the same tile.
 fn as_listed(kind: &mut Kind, call: &Work, before: &Memory) {
-    let mut memory = before.clone();
-    let expected = listing_refusal(call, before);
-    let listing = two_calls::list_tile(call, &mut memory);
-    if expected != 0 || listing != 0 {
+    if listing_refusal(call, before) != 0 {
         kind.note("not listed");
-        kind.case(listing == expected, || format!("listing {listing}, expected {expected}"));
+        return;
+    }
+    let mut memory = before.clone();
+    let listing = two_calls::list_tile(call, &mut memory);
+    if listing != 0 {
+        kind.case(false, || format!("{}: listing {listing}", input(call, before)));
         return;
     }
     let n = memory.told[2];

@@ -3,7 +3,7 @@
 use reference::plain::Cached;
 
 use crate::{
-    calls::{any_call, damage, refusal},
+    calls::{any_call, damage, deciding_refusal, refusal},
     given::{Memory, Work},
     layers::lent,
     library,
@@ -112,10 +112,22 @@ fn all_listed(kind: &mut Kind, tiles: &[Tile]) -> Vec<Memory> {
             (call.queue, memory.state) = (last.next.clone(), last.state);
         }
         let number = two_calls::list_tile(&call, &mut memory);
-        kind.case(number == 0, || format!("{}: listing {number}", input(&call, &tile.before)));
+        let wanted = undecided(tile);
+        kind.note("listed");
+        kind.case(number == 0 && memory == wanted, || {
+            format!("{}: listing {number}, {}", input(&call, &tile.before), told(&memory, &wanted))
+        });
         lists.push(memory);
     }
     lists
+}
+
+/// What a work leaves, without what it decides.
+fn undecided(tile: &Tile) -> Memory {
+    let Memory { kept, shown, told: [decision, first, _, skipped], bottom, .. } = tile.before.clone();
+    let mut after = Memory { kept, shown, bottom, ..tile.after.clone() };
+    after.told = [decision, first, after.told[2], skipped];
+    after
 }
 
 /// The kept lists decided in any order, at times after a refused try: then all is as after the works.
@@ -127,9 +139,17 @@ fn decide_all(kind: &mut Kind, tiles: &[Tile], lists: &mut [Memory]) {
     for i in order {
         let (tile, memory) = (&tiles[i], &mut lists[i]);
         let n = memory.told[2];
-        let refused = if kind.random.once_in(4) { two_calls::decide_tile(&tile.call, usize::MAX, memory) } else { 0 };
+        if kind.random.once_in(4) {
+            let before = memory.clone();
+            let expected = deciding_refusal(&tile.call, usize::MAX, memory);
+            let number = two_calls::decide_tile(&tile.call, usize::MAX, memory);
+            kind.note("a try with too many entries");
+            kind.case(number == expected && *memory == before, || {
+                format!("{}: deciding {number}, {}", input(&tile.call, &tile.before), told(memory, &before))
+            });
+        }
         let number = two_calls::decide_tile(&tile.call, n, memory);
-        kind.note(if refused == 0 { "decided" } else { "decided after a refused try" });
+        kind.note("decided");
         kind.case(number == 0 && *memory == tile.after, || {
             format!("{}: deciding {number}, {}", input(&tile.call, &tile.before), told(memory, &tile.after))
         });
