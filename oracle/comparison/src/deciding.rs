@@ -98,7 +98,8 @@ fn given(call: &Work, n: usize, memory: &Memory) -> String {
     let segments = &segments[..n.min(segments.len())];
     let kept = is_kept.then_some(kept);
     format!(
-        "{n} of columns {columns:?}, {held:?}, {segments:?}, {table:?}, kept {kept:?}, clear {clear:?}, before {previous:?}"
+        "{n} of columns {columns:?}, {held:?}, {segments:?}, {table:?}, kept {kept:?}, clear {clear:?}, \
+         before {previous:?}"
     )
 }
 
@@ -178,7 +179,7 @@ fn shorten(random: &mut Random, memory: &mut Memory) {
     }
 }
 
-/// 254 to 258 entries in order, at columns of 255 to 260, with a place out of order, or with a layer that the table lacks.
+/// 254 to 258 entries in columns of 255 to 260, at times with a place out of order or a layer that the table lacks.
 fn around_256(kind: &mut Kind) {
     let random = &mut kind.random;
     let (mut call, mut memory) = any_call(random);

@@ -1,5 +1,5 @@
-//! Listing alone (W-206): the list, the carries and the state against the Rust's on the same tile. A painting may follow
-//! at once.
+//! Listing alone (W-206): the list, the carries and the state against the Rust's on the same tile. A painting may
+//! follow at once.
 
 use crate::{
     calls::{any_call, damage, listing_refusal, worked_row},
