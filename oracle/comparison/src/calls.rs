@@ -17,16 +17,31 @@ use crate::{
     scene::any_scene,
 };
 
-/// The number that the scope's table gives for a call.
+/// The number that the scope's table gives for a work.
 pub fn refusal(call: &Work, memory: &Memory) -> u32 {
-    let lent_short =
-        [&call.queue, &memory.next, &memory.list].iter().any(|queue| is_short(queue.ids.len(), queue.covers.len()))
-            || memory.segments.len() < 256
-            || memory.shown.len() < 256;
+    refusal_of(call, memory, memory.shown.len() < 256, call.is_kept.then_some(memory.kept[0]))
+}
+
+/// For a listing, which is lent no mask column and no cached tile.
+pub fn listing_refusal(call: &Work, memory: &Memory) -> u32 {
+    refusal_of(call, memory, false, None)
+}
+
+fn refusal_of(call: &Work, memory: &Memory, is_mask_short: bool, tag: Option<u8>) -> u32 {
+    let lent_short = is_mask_short
+        || [&call.queue, &memory.next, &memory.list].iter().any(|queue| is_short(queue.ids.len(), queue.covers.len()))
+        || memory.segments.len() < 256;
     let queue = if lent_short { Vec::new() } else { carries(&call.queue, memory.state.counts[0].min(256)) };
-    let tag = call.is_kept.then_some(memory.kept[0]);
     let tile = Tile { state: memory.state, tile: call.tile, lent_short, queue: &queue, tag };
     judge::work(&tile, &call.row, &call.table)
+}
+
+/// For a deciding about the first n entries of the list that the memory holds.
+pub fn deciding_refusal(call: &Work, n: usize, memory: &Memory) -> u32 {
+    let Memory { list, segments, shown, kept, .. } = memory;
+    let lent_short = is_short(list.ids.len(), list.covers.len()) || segments.len() < 256 || shown.len() < 256;
+    let ids = &list.ids[..n.min(list.ids.len())];
+    judge::deciding(lent_short, ids, n, call.is_kept.then_some(kept[0]), &call.table)
 }
 
 /// The row after a call that no condition refuses, in workbenches that hold the call's queue, and what was made of it.

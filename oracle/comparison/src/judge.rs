@@ -149,6 +149,31 @@ pub fn work(tile: &Tile<'_>, row: &[u64], table: &LentTable) -> u32 {
     }
 }
 
+/// Deciding about n entries of a list. `ids` are theirs, as many as the column has.
+pub fn deciding(lent_short: bool, ids: &[u32], n: usize, tag: Option<u8>, table: &LentTable) -> u32 {
+    if lent_short || table.is_short() {
+        return 1;
+    }
+    if !table.is_valid() {
+        return 4;
+    }
+    if !ascend(ids) {
+        return 5;
+    }
+    if tag.is_some_and(|tag| tag > 3) {
+        return 6;
+    }
+    if n > 256 {
+        return 7;
+    }
+    let known = table.ids();
+    if ids.iter().all(|id| known.binary_search(id).is_ok()) {
+        0
+    } else {
+        8
+    }
+}
+
 /// Painting a layer of the tile just worked, whose queue had as many carries as the state says were taken in.
 pub fn painting(tile: &Tile<'_>, layer: u32, row: &[u64], table: &LentTable) -> u32 {
     let [tile_y, from, to, next, ..] = tile.state.words.map(i64::from);

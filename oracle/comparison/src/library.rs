@@ -156,6 +156,24 @@ pub fn judge_table(layers: &[u32], colors: &[f32], count: usize) -> (bool, bool)
     }
 }
 
+/// The number of the refusal; the table holds what the call left, and its count how many layers stand.
+pub fn stand(records: &[u32], record_colors: &[f32], count: usize, table: &mut LentTable) -> u32 {
+    unsafe {
+        exports::ffi_stand(
+            records.as_ptr(),
+            records.len(),
+            record_colors.as_ptr(),
+            record_colors.len(),
+            count,
+            table.layers.as_mut_ptr(),
+            table.layers.len(),
+            table.colors.as_mut_ptr(),
+            table.colors.len(),
+            &mut table.count,
+        )
+    }
+}
+
 /// A count that the tile keeps. Where it keeps none, the lent number stays.
 pub fn layer_count(tile: Cached) -> Option<u32> {
     let mut count = UNTOUCHED as u32;

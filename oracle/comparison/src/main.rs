@@ -7,8 +7,8 @@
 use std::{env, process::ExitCode};
 
 use comparison::{
-    bench, cached, covers, curve, jobs, layers, loads, openings, paintings, plates, rows, stored, stored_jobs,
-    tally::Tally, tiles, words,
+    bench, cached, covers, curve, deciding, jobs, layers, listing, loads, openings, paintings, plates, rows, standing,
+    stored, stored_jobs, succession, tally::Tally, tiles, words,
 };
 
 fn main() -> ExitCode {
@@ -38,6 +38,10 @@ fn main() -> ExitCode {
     rows::compare(&mut tally);
     tiles::compare(&mut tally);
     paintings::compare(&mut tally);
+    listing::compare(&mut tally);
+    deciding::compare(&mut tally);
+    succession::compare(&mut tally);
+    standing::compare(&mut tally);
     jobs::compare(&mut tally);
     stored_jobs::compare(&mut tally);
     curve::compare(&mut tally);

@@ -101,17 +101,31 @@ pub fn any_memory(random: &mut Random, state: State, cached: Cached) -> Memory {
 
 /// What the memory is after a tile that the Rust works so.
 pub fn expected(before: &Memory, worked: &Worked) -> Memory {
+    decided(&listed(before, worked), worked)
+}
+
+/// After its listing: the list without masks, the carries, and the state past the tile.
+pub fn listed(before: &Memory, worked: &Worked) -> Memory {
     let mut after = before.clone();
     let [tile_y, from, to, next, ..] = before.state.words;
     after.state =
         State { words: [tile_y, from, to, next + 1, 0, 0], counts: [worked.queue.len(), before.state.counts[0]] };
-    if let Some((kept, _)) = worked.cached {
-        after.kept = kept.0;
-    }
     written(&mut after.next, worked.queue.iter().map(|carry| (carry.id, carry.cover)));
     written(&mut after.list, worked.list.iter().map(|entry| (entry.id, entry.cover)));
     for (i, entry) in worked.list.iter().enumerate() {
         after.segments[i] = entry.has_segments;
+    }
+    after.told[2] = worked.list.len();
+    after
+}
+
+/// After deciding about its list: the cached tile, the masks, the decision and the skips.
+pub fn decided(before: &Memory, worked: &Worked) -> Memory {
+    let mut after = before.clone();
+    if let Some((kept, _)) = worked.cached {
+        after.kept = kept.0;
+    }
+    for (i, entry) in worked.list.iter().enumerate() {
         after.shown[i] = entry.shown;
     }
     let (decision, first) = match worked.decision {
@@ -122,7 +136,7 @@ pub fn expected(before: &Memory, worked: &Worked) -> Memory {
         }
         Decision::Paint => (2, 0),
     };
-    after.told = [decision, first, worked.list.len(), worked.skipped];
+    after.told = [decision, first, before.told[2], worked.skipped];
     after
 }
 

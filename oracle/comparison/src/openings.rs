@@ -23,12 +23,12 @@ pub fn compare(tally: &mut Tally) {
 
 /// What an opening is given.
 #[derive(Debug)]
-struct Opening {
-    tile_y: i32,
-    from: i32,
-    to: i32,
-    row: Vec<u64>,
-    table: LentTable,
+pub struct Opening {
+    pub tile_y: i32,
+    pub from: i32,
+    pub to: i32,
+    pub row: Vec<u64>,
+    pub table: LentTable,
 }
 
 /// The carries of the Rust. The table plays no part in an opening.
@@ -39,7 +39,7 @@ fn carries(opening: &Opening) -> Option<Vec<Carry>> {
 }
 
 /// One opening on both sides; after a refusal every number must be what it was.
-fn check(kind: &mut Kind, opening: &Opening, may_be_short: bool) {
+pub fn check(kind: &mut Kind, opening: &Opening, may_be_short: bool) {
     let Opening { tile_y, from, to, row, table } = opening;
     let mut wanted = (any_queue(&mut kind.random, may_be_short), any_state(&mut kind.random));
     let (mut queue, mut state) = wanted.clone();

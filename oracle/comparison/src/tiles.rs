@@ -12,6 +12,7 @@ use crate::{
     memory::{any_queue, brief, expected, input, told, written, REFUSED, REFUSED_WITHOUT},
     models::Tables,
     paintings::{paint_all, paint_left_out},
+    random::Random,
     scene::word,
     tally::{caught, Kind, Tally},
 };
@@ -19,14 +20,17 @@ use crate::{
 pub fn compare(tally: &mut Tally) {
     tally.random("drive_tile_painting, single calls", single);
     tally.random("drive_tile_painting, any cached bytes, given or not", any_bytes);
-    tally.random("drive_tile_painting, crowds of layers", crowd);
+    tally.random("drive_tile_painting, crowds of layers", |kind| {
+        let (call, memory) = any_crowd(&mut kind.random);
+        check(kind, &call, &memory);
+    });
     tally.kind("drive_tile_painting, every arrangement of up to three layers", |kind| {
-        (0..=3).for_each(|layers| arrangements(kind, layers))
+        (0..=3).for_each(|layers| arrangements(kind, layers, check))
     });
 }
 
 /// One call on both sides; after a refusal every number must be what it was, and the cached bytes where none are given.
-fn check(kind: &mut Kind, call: &Work, before: &Memory) {
+pub fn check(kind: &mut Kind, call: &Work, before: &Memory) {
     let number = refusal(call, before);
     kind.note(if call.is_kept { REFUSED } else { REFUSED_WITHOUT }[number as usize]);
     let mut after = before.clone();
@@ -77,15 +81,14 @@ fn any_bytes(kind: &mut Kind) {
 }
 
 /// Both rules, clips, clipped draws and draws; some are unchanged.
-fn one_of_many(id: u32) -> Record {
+pub fn one_of_many(id: u32) -> Record {
     let [func, clipped] = [id.is_multiple_of(7), id.is_multiple_of(5)].map(u32::from);
     let color = [0.5, 0.0, 0.0, 1.0];
     Record { id, rule: id % 2, func, span: 3, clipped, fill: 0, mode: 0, unchanged: id % 3 % 2, color }
 }
 
 /// About 256 layers: some carried, some with a segment, some with both. At times the last is missing in the table.
-fn crowd(kind: &mut Kind) {
-    let random = &mut kind.random;
+pub fn any_crowd(random: &mut Random) -> (Work, Memory) {
     let layers = 253 + random.below(7) as u32;
     let (_, template) = any_call(random);
     let records: Vec<Record> = (0..layers).map(one_of_many).collect();
@@ -108,12 +111,12 @@ fn crowd(kind: &mut Kind) {
     let known = if random.once_in(4) { &records[..records.len() - 1] } else { &records[..] };
     let is_kept = random.once_in(2);
     let call = Work { tile: 0, row, table: lent(known), is_kept, clear: [0.0; 4], previous: None, queue };
-    check(kind, &call, &Memory { state, ..template });
+    (call, Memory { state, ..template })
 }
 
 /// All arrangements of so many layers, each with no cached tile, one that kept the same count, or a higher one, and
 /// with another clear colour.
-fn arrangements(kind: &mut Kind, layers: u32) {
+pub fn arrangements(kind: &mut Kind, layers: u32, check: fn(&mut Kind, &Work, &Memory)) {
     let (_, base) = any_call(&mut kind.random);
     let clear = [0.0, 0.25, 0.5, 1.0];
     let mut queue = any_queue(&mut kind.random, false);
