@@ -4,7 +4,7 @@ use std::hint::black_box;
 
 use crate::{
     tally::caught,
-    timed_parts, timed_rows, timed_words,
+    timed_parts, timed_rows, timed_sets, timed_tiles, timed_words,
     timing::{Bench, ROUNDS},
 };
 
@@ -29,4 +29,8 @@ pub fn print(only: String) {
     timed_rows::print_openings(bench);
     bench.title("Whole rows");
     timed_rows::print(bench);
+    bench.titled("A tile's work as one call and as two", ["one call", "list, decide"]);
+    timed_tiles::print(bench);
+    bench.titled("A kept set of segments", ["begun anew", "edited"]);
+    timed_sets::print(bench);
 }
