@@ -7,8 +7,8 @@
 use std::{env, process::ExitCode};
 
 use comparison::{
-    bench, cached, covers, curve, deciding, edited_sets, jobs, layers, listing, loads, openings, paintings, plates, rows, standing,
-    stored, stored_jobs, succession, tally::Tally, tiles, words,
+    bench, cached, covers, curve, deciding, edited_sets, jobs, layers, listing, loads, openings, paintings, plates,
+    rows, standing, stored, stored_jobs, succession, tally::Tally, tiles, words,
 };
 
 fn main() -> ExitCode {
