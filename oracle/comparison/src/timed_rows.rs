@@ -20,7 +20,7 @@ use crate::{
     words::{segment, Segment},
 };
 
-const CLEAR: [f32; 4] = [1.0; 4];
+pub const CLEAR: [f32; 4] = [1.0; 4];
 const FRAME: Frame = Frame { clear: CLEAR, previous_clear: None, channels: RGBA };
 
 /// The library's side of a row, with all that its calls are lent.
@@ -71,7 +71,7 @@ impl Ours {
 
     /// One call to open the row, one for each tile, and one for each layer that is painted, up to a refusal.
     #[inline(never)]
-    fn run(&mut self, mut seen: impl FnMut(&Canvas)) -> Result<(), u32> {
+    pub fn run(&mut self, mut seen: impl FnMut(&Canvas)) -> Result<(), u32> {
         self.open()?;
         let Self { tiles, work, memory, canvas } = self;
         for tile in 0..*tiles as i32 {
