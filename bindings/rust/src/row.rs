@@ -316,8 +316,9 @@ impl<'a> Row<'a> {
         Ok(())
     }
 
-    /// Decides about a listed tile, from the list alone and the row's table: the second half of [`work`](Row::work). The
-    /// list then tells what is masked off and passed over. It may be of any tile that was listed, and decided again.
+    /// Decides about a listed tile, from the list alone and the row's table: the second half of [`work`](Row::work).
+    /// The list then tells what is masked off and passed over. It may be of any tile that was listed, and be decided
+    /// again.
     ///
     /// Refused by 6 (the tag); a list that was listed with another table by 8 (a layer that this one lacks). The list
     /// is then as it was.
@@ -373,8 +374,8 @@ impl<'a> Row<'a> {
         self.handed.carries(self.state.counts[0])
     }
 
-    /// Paints a layer of the tile just worked or listed: its coverages into the plane, and their mark. A clip becomes the
-    /// painter's clip and has mark 0; a draw that lacks a clip that it needs has mark 0 too, while its plane is
+    /// Paints a layer of the tile just worked or listed: its coverages into the plane, and their mark. A clip becomes
+    /// the painter's clip and has mark 0; a draw that lacks a clip that it needs has mark 0 too, while its plane is
     /// written.
     ///
     /// The painter paints the shown layers, ascending ([`paint_shown`](Row::paint_shown)); any layer of the table is

@@ -53,7 +53,7 @@ fn is_here(set: &KeptSet, word: u64) -> bool {
     (word >> 20 & u64::from(LAYER_LIMIT)) as u32 == set.layer_id && tile == (set.tile_x, set.tile_y)
 }
 
-/// A set that holds these segments, in memory that was lent as `before`: all its numbers by the formulas of document 01.
+/// A set that holds these segments, in memory that was lent as `before`: all numbers by the formulas of document 01.
 fn fresh(before: &KeptSet, cover: [i8; 16], held: &[u64]) -> KeptSet {
     let mut set = before.clone();
     set.slots[..held.len()].copy_from_slice(held);
@@ -286,8 +286,8 @@ fn edited(kind: &mut Kind) {
     }
 }
 
-/// Every order of up to five edits by four words: two of one pixel, one with which the row's covers are too large, and one
-/// of another layer; in two slots.
+/// Every order of up to five edits by four words: two of one pixel, one with which the row's covers are too large, and
+/// one of another layer; in two slots.
 fn orders(kind: &mut Kind) {
     let mut before = any_set(&mut kind.random, 2, AREAS + 3);
     (before.layer_id, before.tile_x, before.tile_y) = (5, 2, 0);
