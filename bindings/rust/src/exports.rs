@@ -141,6 +141,47 @@ mod raw {
             words: *mut [u32; 6],
             counts: *mut [usize; 2],
         ) -> u32;
+        pub fn ffi_begin_set(
+            layer_id: u32,
+            tile_x: i16,
+            tile_y: i16,
+            covers: *const [i8; 16],
+            part: *const u64,
+            part_len: usize,
+            carry: *mut [i8; 16],
+            loads: *mut [u16; 16],
+            count: *mut usize,
+            slots: *mut u64,
+            slots_len: usize,
+            areas: *mut i16,
+            areas_len: usize,
+        ) -> u32;
+        pub fn ffi_take_in(
+            layer_id: u32,
+            tile_x: i16,
+            tile_y: i16,
+            word: u64,
+            carry: *mut [i8; 16],
+            loads: *mut [u16; 16],
+            count: *mut usize,
+            slots: *mut u64,
+            slots_len: usize,
+            areas: *mut i16,
+            areas_len: usize,
+        ) -> u32;
+        pub fn ffi_let_out(
+            layer_id: u32,
+            tile_x: i16,
+            tile_y: i16,
+            word: u64,
+            carry: *mut [i8; 16],
+            loads: *mut [u16; 16],
+            count: *mut usize,
+            slots: *mut u64,
+            slots_len: usize,
+            areas: *mut i16,
+            areas_len: usize,
+        ) -> u32;
         pub fn ffi_stand(
             records: *const u32,
             records_len: usize,
@@ -591,6 +632,109 @@ pub fn open_tile_row(
             covers.len(),
             words,
             counts,
+        )
+    }
+}
+
+/// 0, the words of the part in `slots`, their d in `areas` and the set's numbers, or the number of the refusal. `covers`
+/// is the incoming cover.
+#[allow(clippy::too_many_arguments)]
+#[inline]
+pub fn begin_set(
+    layer_id: u32,
+    tile_x: i16,
+    tile_y: i16,
+    covers: &[i8; 16],
+    part: &[u64],
+    carry: &mut [i8; 16],
+    loads: &mut [u16; 16],
+    count: &mut usize,
+    slots: &mut [u64],
+    areas: &mut [i16],
+) -> u32 {
+    // SAFETY: the references are those that the export takes, a slice with its own length; it is proved to keep
+    // to them for every value, and nothing of them is held after the call.
+    unsafe {
+        raw::ffi_begin_set(
+            layer_id,
+            tile_x,
+            tile_y,
+            covers,
+            part.as_ptr(),
+            part.len(),
+            carry,
+            loads,
+            count,
+            slots.as_mut_ptr(),
+            slots.len(),
+            areas.as_mut_ptr(),
+            areas.len(),
+        )
+    }
+}
+
+/// 0 and the segment taken in, or the number of the refusal.
+#[allow(clippy::too_many_arguments)]
+#[inline]
+pub fn take_in(
+    layer_id: u32,
+    tile_x: i16,
+    tile_y: i16,
+    word: u64,
+    carry: &mut [i8; 16],
+    loads: &mut [u16; 16],
+    count: &mut usize,
+    slots: &mut [u64],
+    areas: &mut [i16],
+) -> u32 {
+    // SAFETY: the references are those that the export takes, a slice with its own length; it is proved to keep
+    // to them for every value, and nothing of them is held after the call.
+    unsafe {
+        raw::ffi_take_in(
+            layer_id,
+            tile_x,
+            tile_y,
+            word,
+            carry,
+            loads,
+            count,
+            slots.as_mut_ptr(),
+            slots.len(),
+            areas.as_mut_ptr(),
+            areas.len(),
+        )
+    }
+}
+
+/// 0 and one equal segment let out, or the number of the refusal.
+#[allow(clippy::too_many_arguments)]
+#[inline]
+pub fn let_out(
+    layer_id: u32,
+    tile_x: i16,
+    tile_y: i16,
+    word: u64,
+    carry: &mut [i8; 16],
+    loads: &mut [u16; 16],
+    count: &mut usize,
+    slots: &mut [u64],
+    areas: &mut [i16],
+) -> u32 {
+    // SAFETY: the references are those that the export takes, a slice with its own length; it is proved to keep
+    // to them for every value, and nothing of them is held after the call.
+    unsafe {
+        raw::ffi_let_out(
+            layer_id,
+            tile_x,
+            tile_y,
+            word,
+            carry,
+            loads,
+            count,
+            slots.as_mut_ptr(),
+            slots.len(),
+            areas.as_mut_ptr(),
+            areas.len(),
         )
     }
 }

@@ -54,11 +54,19 @@
 //! # }
 //! ```
 //!
+//! A tile can be listed without a decision, as an inspector wants it: [`Row::list`] fills a [`TileList`], and
+//! [`Row::decide`] decides from it, now or later. [`Row::work`] is both.
+//!
 //! # From frame to frame
 //!
 //! Keep a [`CachedTile`] for each tile, lend it to [`Row::work`] and [`Row::settle`], and say in the table which layers
 //! are unchanged and in [`Frame`] what the last clear colour was. A tile of which nothing changed is then decided as
 //! [`Decision::None`], and a solid one whose bytes are there already is [`Settled::Keep`].
+//!
+//! # While an outline is dragged
+//!
+//! A [`SegmentSet`] keeps the segments of one layer in one tile with their doubled areas and their carry, and takes
+//! segments in and lets them out one at a time.
 //!
 //! # Threads
 //!
@@ -96,6 +104,7 @@ pub mod plate;
 mod refusal;
 mod row;
 pub mod segment;
+mod segment_set;
 mod style;
 mod table;
 
@@ -108,8 +117,9 @@ pub use crate::{
     plane::Plane,
     plate::Plate,
     refusal::Refusal,
-    row::{Carry, Frame, Listed, Row, Worked},
+    row::{Carry, Frame, Listed, Row, TileList, Worked},
     segment::{Fields, PixelSegment},
+    segment_set::SegmentSet,
     style::{BlendMode, Fill, FillRule, Style},
     table::{Func, Layer, LayerTable},
 };

@@ -94,27 +94,40 @@ impl Queue {
     }
 }
 
-/// A tile's list, by columns.
+/// A tile's list, by columns. It is lent to [`Row::list`] and [`Row::decide`], and may be kept and decided later.
 #[derive(Clone, Debug)]
-struct List {
-    ids: [u32; ENTRIES],
-    covers: [i8; 16 * ENTRIES],
-    segments: [bool; ENTRIES],
-    unmasked: [bool; ENTRIES],
+pub struct TileList {
+    tile: i32,
+    ids: Box<[u32; ENTRIES]>,
+    covers: Box<[i8; 16 * ENTRIES]>,
+    segments: Box<[bool; ENTRIES]>,
+    unmasked: Box<[bool; ENTRIES]>,
     count: usize,
     passed_over: usize,
 }
 
-impl List {
-    const fn new() -> List {
-        List {
-            ids: [0; ENTRIES],
-            covers: [0; 16 * ENTRIES],
-            segments: [false; ENTRIES],
-            unmasked: [false; ENTRIES],
+impl TileList {
+    /// An empty list.
+    pub fn new() -> TileList {
+        TileList {
+            tile: -1,
+            ids: Box::new([0; ENTRIES]),
+            covers: Box::new([0; 16 * ENTRIES]),
+            segments: Box::new([false; ENTRIES]),
+            unmasked: Box::new([false; ENTRIES]),
             count: 0,
             passed_over: 0,
         }
+    }
+
+    /// The tile that was listed; -1 before any was.
+    pub fn tile(&self) -> i32 {
+        self.tile
+    }
+
+    /// Its layers, ascending: the bottom layer first. Until the list is decided, none is masked off or passed over.
+    pub fn listed(&self) -> impl DoubleEndedIterator<Item = Listed> + ExactSizeIterator + '_ {
+        (0..self.count).map(|place| self.at(place))
     }
 
     fn at(&self, place: usize) -> Listed {
@@ -128,8 +141,22 @@ impl List {
     }
 }
 
+impl Default for TileList {
+    fn default() -> TileList {
+        TileList::new()
+    }
+}
+
 fn cover_at(covers: &[i8; 16 * ENTRIES], place: usize) -> Cover {
     Cover(covers[16 * place..16 * place + 16].try_into().expect("16 covers an entry"))
+}
+
+fn decision_of(code: usize, before: usize, bottom: [f32; 4]) -> Decision {
+    match code {
+        0 => Decision::None,
+        1 => Decision::Solid { bottom: Color::from(bottom), before },
+        _ => Decision::Paint,
+    }
 }
 
 /// An open row: it borrows the row's segments and the layer table for its life, and owns the queues of carries and the
@@ -149,7 +176,7 @@ pub struct Row<'a> {
     taken: Box<Queue>,
     /// The queue that it handed on: the next tile takes it in.
     handed: Box<Queue>,
-    list: Box<List>,
+    list: TileList,
 }
 
 impl<'a> Row<'a> {
@@ -169,7 +196,7 @@ impl<'a> Row<'a> {
             state: State::default(),
             taken: Box::new(Queue::new()),
             handed: Box::new(Queue::new()),
-            list: Box::new(List::new()),
+            list: TileList::new(),
         };
         let (layers, colors, count) = table.lent();
         Refusal::judge(exports::open_tile_row(
@@ -241,28 +268,100 @@ impl<'a> Row<'a> {
             &self.handed.covers,
             &mut self.taken.ids,
             &mut self.taken.covers,
-            &mut self.list.ids,
-            &mut self.list.covers,
-            &mut self.list.segments,
-            &mut self.list.unmasked,
+            self.list.ids.as_mut_slice(),
+            self.list.covers.as_mut_slice(),
+            self.list.segments.as_mut_slice(),
+            self.list.unmasked.as_mut_slice(),
             &mut told,
             &mut bottom,
         ))?;
         // What was handed on is now taken in, and what was written is handed on.
         mem::swap(&mut self.taken, &mut self.handed);
         let [decision, before, listed, passed_over] = told;
-        (self.list.count, self.list.passed_over) = (listed, passed_over);
-        let decision = match decision {
-            0 => Decision::None,
-            1 => Decision::Solid { bottom: Color::from(bottom), before },
-            _ => Decision::Paint,
-        };
-        Ok(Worked { tile, decision, listed, passed_over })
+        (self.list.tile, self.list.count, self.list.passed_over) = (tile, listed, passed_over);
+        Ok(Worked { tile, decision: decision_of(decision, before, bottom), listed, passed_over })
     }
 
-    /// The list of the tile just worked, ascending: the bottom layer first. Empty before the first tile.
+    /// Lists a tile without deciding about it, and hands the carries on: the first half of [`work`](Row::work). The
+    /// tile may be painted at once; [`decide`](Row::decide) decides from the list, now or later. The row keeps no list
+    /// of its own of it: [`listed`](Row::listed) is empty then.
+    ///
+    /// Refused by 2 (not the next tile, or past the last), 7, 8 (a listed layer that the table lacks), 9; the list is
+    /// then as it was.
+    pub fn list(&mut self, tile: i32, list: &mut TileList) -> Result<(), Refusal> {
+        let (layers, colors, count) = self.table.lent();
+        let mut listed = 0;
+        // The public operation, as in `work`.
+        Refusal::judge(exports::list_tile(
+            &mut self.state.words,
+            &mut self.state.counts,
+            tile,
+            segment::words_of(self.segments),
+            layers,
+            colors,
+            count,
+            &self.handed.ids,
+            &self.handed.covers,
+            &mut self.taken.ids,
+            &mut self.taken.covers,
+            list.ids.as_mut_slice(),
+            list.covers.as_mut_slice(),
+            list.segments.as_mut_slice(),
+            &mut listed,
+        ))?;
+        mem::swap(&mut self.taken, &mut self.handed);
+        list.unmasked.fill(true);
+        (list.tile, list.count, list.passed_over) = (tile, listed, 0);
+        (self.list.count, self.list.passed_over) = (0, 0);
+        Ok(())
+    }
+
+    /// Decides about a listed tile, from the list alone and the row's table: the second half of [`work`](Row::work).
+    /// The list then tells what is masked off and passed over. It may be of any tile that was listed, and be decided
+    /// again.
+    ///
+    /// Refused by 6 (the tag); a list that was listed with another table by 8 (a layer that this one lacks). The list
+    /// is then as it was.
+    pub fn decide(
+        &self,
+        list: &mut TileList,
+        frame: &Frame,
+        cached: Option<&mut CachedTile>,
+    ) -> Result<Worked, Refusal> {
+        let mut none = CachedTile::default();
+        let is_cached = cached.is_some();
+        let cached = cached.unwrap_or(&mut none);
+        let previous = frame.previous_clear.unwrap_or_default();
+        let (layers, colors, count) = self.table.lent();
+        let mut told = [0; 3];
+        let mut bottom = [0.0; 4];
+        Refusal::judge(exports::decide_tile(
+            list.ids.as_slice(),
+            list.covers.as_slice(),
+            list.segments.as_slice(),
+            list.count,
+            layers,
+            colors,
+            count,
+            is_cached,
+            &mut cached.0,
+            &frame.clear.numbers(),
+            frame.previous_clear.is_some(),
+            &previous.numbers(),
+            list.unmasked.as_mut_slice(),
+            &mut told,
+            &mut bottom,
+        ))?;
+        let [decision, before, passed_over] = told;
+        list.passed_over = passed_over;
+        let decision = decision_of(decision, before, bottom);
+        Ok(Worked { tile: list.tile, decision, listed: list.count, passed_over })
+    }
+
+    /// The list of the tile just worked, ascending: the bottom layer first. Empty before the first tile, and after a
+    /// tile that was only listed.
     pub fn listed(&self) -> impl DoubleEndedIterator<Item = Listed> + ExactSizeIterator + '_ {
-        (0..self.list.count).map(|place| self.list.at(place))
+        self.list.listed()
     }
 
     /// What the tile just worked took in, ascending by layer. Empty before the first tile.
@@ -275,14 +374,14 @@ impl<'a> Row<'a> {
         self.handed.carries(self.state.counts[0])
     }
 
-    /// Paints a layer of the tile just worked: its coverages into the plane, and their mark. A clip becomes the
-    /// painter's clip and has mark 0; a draw that lacks a clip that it needs has mark 0 too, while its plane is
+    /// Paints a layer of the tile just worked or listed: its coverages into the plane, and their mark. A clip becomes
+    /// the painter's clip and has mark 0; a draw that lacks a clip that it needs has mark 0 too, while its plane is
     /// written.
     ///
     /// The painter paints the shown layers, ascending ([`paint_shown`](Row::paint_shown)); any layer of the table is
     /// accepted, by the same rules.
     ///
-    /// Refused by 2 (no tile was worked yet), 8 (the table lacks the layer).
+    /// Refused by 2 (no tile was worked or listed yet), 8 (the table lacks the layer).
     pub fn paint(&mut self, layer: u32, plane: &mut Plane) -> Result<Mark, Refusal> {
         let (layers, colors, count) = self.table.lent();
         let tile = self.next_tile() - 1;

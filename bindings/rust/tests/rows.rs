@@ -6,7 +6,7 @@ mod support;
 use support::plates;
 use tile_rows::{
     CachedTile, Color, Cover, Decision, Fields, Fill, Frame, Func, Layer, LayerTable, Mark, PixelSegment, Plane, Plate,
-    Refusal, Row, Settled, Style,
+    Refusal, Row, Settled, Style, TileList,
 };
 
 const BLACK: Color = Color { r: 0.0, g: 0.0, b: 0.0, a: 1.0 };
@@ -199,4 +199,58 @@ fn an_open_row_tells_of_its_layers() {
     assert_eq!(told, [(4, 16, false, true), (6, 0, true, true)]);
     assert_eq!(row.incoming().map(|carry| carry.id).collect::<Vec<_>>(), [4]);
     assert_eq!(row.carries().map(|carry| carry.id).collect::<Vec<_>>(), [4, 6]);
+}
+
+/// The rows of a made plate by works, and by listings with all lists decided afterwards, the last one first.
+#[test]
+fn listing_and_deciding_is_working() {
+    let segments = plates::made(11, 12, 10);
+    let layers: Vec<Layer> = (0..8).map(|id| Layer { is_unchanged: id % 3 == 0, ..solid(id) }).collect();
+    let (plate, table) = (Plate::new(&segments), LayerTable::new(&layers));
+    let mut decided = 0;
+    for j in 0..12 {
+        let open = || Row::open(plate.row(j), &table, j as i32, 0..10).unwrap();
+        let (mut worked, mut listed) = (open(), open());
+        let (mut kept, mut works) = ([CachedTile::default(); 10], Vec::new());
+        let mut lists = vec![TileList::new(); 10];
+        let mut planes = [Plane::new(), Plane::new()];
+        for tile in worked.tiles() {
+            let work = worked.work(tile, &SECOND, Some(&mut kept[tile as usize])).unwrap();
+            works.push((work, worked.listed().collect::<Vec<_>>()));
+            let list = &mut lists[tile as usize];
+            listed.list(tile, list).unwrap();
+            assert_eq!((list.tile(), list.listed().len(), listed.listed().len()), (tile, work.listed, 0));
+            assert_eq!(listed.carries().collect::<Vec<_>>(), worked.carries().collect::<Vec<_>>());
+            // A tile may be painted before it is decided.
+            for one in list.listed() {
+                let marks = [worked.paint(one.id, &mut planes[0]), listed.paint(one.id, &mut planes[1])];
+                assert_eq!((marks[0], &planes[0]), (marks[1], &planes[1]));
+            }
+        }
+        for (tile, (work, layers)) in works.iter().enumerate().rev() {
+            let mut cached = CachedTile::default();
+            assert_eq!(listed.decide(&mut lists[tile], &SECOND, Some(&mut cached)).unwrap(), *work);
+            assert_eq!((lists[tile].listed().collect::<Vec<_>>(), cached), (layers.clone(), kept[tile]));
+            decided += 1;
+        }
+    }
+    assert_eq!(decided, 120);
+}
+
+#[test]
+fn a_refused_deciding_leaves_the_list() {
+    let (segments, table) = (example(), LayerTable::new(&[solid(1)]));
+    let mut row = Row::open(&segments, &table, 0, 0..4).unwrap();
+    let mut list = TileList::default();
+    assert_eq!(row.list(1, &mut list), Err(Refusal::Tile), "tile 0 is the next");
+    assert_eq!((list.tile(), list.listed().len()), (-1, 0));
+    row.list(0, &mut list).unwrap();
+    let mut damaged = CachedTile([4, 1, 2, 3, 4, 5, 6, 7]);
+    assert_eq!(row.decide(&mut list, &FIRST, Some(&mut damaged)), Err(Refusal::Tag));
+    assert_eq!(damaged.0, [4, 1, 2, 3, 4, 5, 6, 7], "a refused call leaves the bytes");
+    let other = LayerTable::new(&[solid(2)]);
+    let elsewhere = Row::open(&[], &other, 0, 0..4).unwrap();
+    assert_eq!(elsewhere.decide(&mut list, &FIRST, None), Err(Refusal::Missing), "this table lacks layer 1");
+    assert_eq!(row.decide(&mut list, &FIRST, None).unwrap().decision, Decision::Paint);
+    assert!(list.listed().all(|one| one.is_shown() && one.has_segments));
 }

@@ -5,11 +5,15 @@ use mathlib.Core.List.{List}
 use mathlib.Core.Option.{Option}
 use Prim.Native.Nat.{ℕ}
 use lib.Ieee.{Float}
+use lib.IntN.{ℤ}
 use Rattle.laws.specs.Answer.{Answer}
+use Rattle.refusals.specs.Refusal.{Judgement, judgementIn}
 use Rattle.cached_tile.specs.declared.SolidColor.{SolidColor}
 use Rattle.cached_tile.specs.declared.kept.Kept.{Kept}
 use Rattle.cached_tile.specs.Kept.{Writing}
 use Rattle.segment_rows.specs.Search.{Place}
+use Rattle.segment_set_statements.specs.Set.{SetState, Gives}
+use Rattle.segment_set_statements.specs.declared.Edited.{Edited}
 use Rattle.row_statements.specs.Lent.{Columns}
 use Rattle.row_statements.specs.State.{State, stateIn}
 use Rattle.row_statements.specs.Opening.{OpenGiven}
@@ -24,6 +28,7 @@ use Rattle.listing_statements.specs.declared.TileDecided.{TileDecided}
 use Rattle.ffi_numbers.specs.Numbers.{refusalNumber, valueOr, isFound, placeNumber}
 use Rattle.ffi_numbers.specs.Cached.{isSome, givenOr, colorOr, writtenOr, settledBytes}
 use Rattle.ffi_numbers.specs.Rows.{StateNumbers, openNumbers, OpenTold}
+use Rattle.ffi.specs.Sets.{SetNumbers, judgedNumber, editedNumbers, EditTold}
 use Rattle.ffi.specs.Work.{WorkNumbers, workedNumbers, WorkTold}
 use Rattle.ffi.specs.Listing.{ListNumbers, listedNumbers, ListTold}
 use Rattle.ffi.specs.Deciding.{DecideNumbers, decidedNumbers, DecideTold}
@@ -91,4 +96,14 @@ decided {old = old} decides told =
       number = told .0 ∙ ap refusalNumber (decides .answer);
       numbers = told .1 ∙ λ i. decidedNumbers (decides .answer i) (decides .kept i) old;
       unmasked-is = decides .unmasked-is;
+    }
+
+-- an edit of a kept set
+pub edited : {v : Judgement} {after : SetState} {e : Edited} {old new : SetNumbers} {r : ℕ} {slots : List ℕ} {areas : List ℤ} → Gives v after e slots areas → (r ≡ judgedNumber (judgementIn (e .verdict))) × (new ≡ editedNumbers (judgementIn (e .verdict)) (e .set) old) → EditTold v after old r new slots areas
+edited {old = old} gives told =
+    record {
+      number = told .0 ∙ ap judgedNumber (gives .answer);
+      numbers = told .1 ∙ λ i. editedNumbers (gives .answer i) (gives .leaves i .set) old;
+      slots-are = ap (λ (s : SetState). s .slots) (gives .leaves);
+      areas-are = ap (λ (s : SetState). s .areas) (gives .leaves);
     }

@@ -10,6 +10,7 @@ pub mod listing;
 pub mod painting;
 pub mod plates;
 pub mod rows;
+pub mod sets;
 pub mod standing;
 pub mod words;
 pub mod working;

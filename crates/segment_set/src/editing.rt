@@ -1,5 +1,6 @@
 // A set begun, and a word added to it or removed from it, where nothing refuses it.
 use cover::Cover;
+use cover::carry;
 use segment_set_statements::SegmentSet;
 ghost use mathlib.Core.Path.{_≡_};
 ghost use mathlib.Core.List.{[]};
@@ -11,7 +12,6 @@ ghost use Rattle.refusals.specs.Refusal.{pass};
 ghost use Rattle.pixel_segment.specs.Field.{cpu};
 ghost use Rattle.cover_statements.specs.Area.{areasOf};
 ghost use Rattle.cover_statements.specs.Cover.{coverAt};
-ghost use Rattle.cover_statements.specs.Load.{Magnitudes};
 ghost use Rattle.segment_set_statements.specs.Set.{state, beginning, beginVerdict, freshState};
 ghost use Rattle.segment_set_statements.specs.Set.{takenIn, letOut, heldPlace};
 ghost use Rattle.segment_set_statements.specs.InnerSpread.{Addable, Removable};
@@ -92,19 +92,6 @@ fn start_areas(covers: [i8; 16], areas: &mut [i16])
     }
 }
 
-// The loads of a tile without segments.
-fn start_loads(covers: [i8; 16]) -> [u16; 16]
-    ensures { λ r. ⌜ Magnitudes covers r ⌝ }
-{
-    let mut loads = [0u16; 16];
-    let mut y = 0;
-    while y < 16 {
-        loads[y] = weight::cover_magnitude(covers[y]);
-        y += 1;
-    }
-    loads
-}
-
 // A set begun: with nothing, and then with each word of the part.
 pub fn begin_with(
     layer_id: u32,
@@ -123,7 +110,7 @@ pub fn begin_with(
 {
     let covers = cover.covers;
     start_areas(covers, areas);
-    let loads = start_loads(covers);
+    let loads = carry::magnitudes(covers);
     let mut set = SegmentSet {
         layer_id: layer_id,
         tile_x: tile_x,

@@ -1,7 +1,6 @@
 // A kept set of segments of one layer in one tile: begun from a part and an incoming cover, a segment taken in, one
 // equal segment let out. d, the carry and the loads change with it. A refusal changes nothing.
 pub mod editing;
-pub mod judging;
 
 use cover::Cover;
 use refusals::Verdict;
@@ -44,7 +43,7 @@ pub fn begin(
         (now (slots .entry)) (now (areas .entry)))
         r (now (slots .exit)) (now (areas .exit)) ⌝ }
 {
-    match judging::judge_beginning(layer_id, tile_x, tile_y, cover, part, slots, areas) {
+    match segment_judging::judge_beginning(layer_id, tile_x, tile_y, cover, part, slots, areas) {
         Verdict::Refuse(refusal) => Edited {
             verdict: Verdict::Refuse(refusal),
             set: empty_set(),
@@ -62,7 +61,7 @@ pub fn take_in(set: SegmentSet, word: u64, slots: &mut [u64], areas: &mut [i16])
         (takeOf (state set (now (slots .entry)) (now (areas .entry))) word)
         r (now (slots .exit)) (now (areas .exit)) ⌝ }
 {
-    match judging::judge_taking(set, word, slots, areas) {
+    match segment_judging::judge_taking(set, word, slots, areas) {
         Verdict::Refuse(refusal) => Edited {
             verdict: Verdict::Refuse(refusal),
             set: set,
@@ -82,7 +81,7 @@ pub fn let_out(set: SegmentSet, word: u64, slots: &mut [u64], areas: &mut [i16])
 {
     let held = editing::held_count(set.count, slots);
     let place = editing::find(slots, held, word);
-    match judging::judge_letting(set, word, place < held, areas) {
+    match segment_judging::judge_letting(set, word, place < held, areas) {
         Verdict::Refuse(refusal) => Edited {
             verdict: Verdict::Refuse(refusal),
             set: set,

@@ -13,3 +13,4 @@ pub mod Letting
 pub mod Starting
 pub mod Undoing
 pub mod Each
+pub mod Cases

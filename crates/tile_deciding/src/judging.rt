@@ -1,16 +1,14 @@
 // The judge of a deciding: refusals 1 and 4 to 8, by the lent list, the table and the cached tile.
 use cached_tile::kept::Kept;
-use layer_table::Found;
 use refusals::Refusal;
 use refusals::Verdict;
 ghost use mathlib.Core.Path.{_≡_};
-ghost use mathlib.Core.Bool.{false};
-ghost use Prim.Native.Nat.{_≤_, min};
-ghost use lib.ListN.{length, take};
-ghost use Rattle.laws.specs.Answer.{isGiven};
+ghost use mathlib.Core.Bool.{true, false, cond, _&&_};
+ghost use Prim.Native.Nat.{_+_, _≤_, min};
+ghost use lib.Dec.{eqb, ltb};
+ghost use lib.ListN.{length, getD, take};
 ghost use Rattle.refusals.specs.Refusal.{judgementIn};
 ghost use Rattle.styling.specs.Ascending.{strictlyAscends};
-ghost use Rattle.layer_table.specs.Lookup.{lookup};
 ghost use Rattle.layer_table.specs.Table.{Table, tableOf};
 ghost use Rattle.row_statements.specs.Lent.{lentTable};
 ghost use Rattle.listing_statements.specs.Deciding.{areInTable, linesFor};
@@ -39,29 +37,33 @@ fn do_ascend(ids: &[u32], n: usize) -> bool
     ok
 }
 
-fn is_known(layers: &[u32], colors: &[f32], count: usize, id: u32) -> bool
-    requires { ⌜ Table (now layers) (now colors) count ⌝ }
-    ensures { λ r. ⌜ r ≡ isGiven (lookup (tableOf (now (layers .entry)) (now (colors .entry)) count) id) ⌝ }
+// One more than `i` where the next id, number `i` of `n`, is the record's; else `i`.
+fn past_met(ids: &[u32], n: usize, i: usize, id: u32) -> usize
+    requires { ⌜ (i ≤ n) × (n ≤ length (now ids)) ⌝ }
+    ensures { λ r. ⌜ r ≡ cond (ltb i n && eqb (getD (now (ids .entry)) i 0) id) (i + 1) i ⌝ }
 {
-    match layer_table::find(layers, count, id) {
-        Found::At(_) => true,
-        Found::Absent => false,
+    if i < n {
+        if ids[i] == id {
+            return i + 1;
+        }
     }
+    i
 }
 
-// Whether the table has the layers of the first `n` ids.
+// Whether the table has the layers of the first `n` ids, which ascend as its records do: one pass over the records.
 fn are_known(ids: &[u32], n: usize, layers: &[u32], colors: &[f32], count: usize) -> bool
-    requires { ⌜ Table (now layers) (now colors) count × (n ≤ length (now ids)) ⌝ }
+    requires { ⌜ Table (now layers) (now colors) count × (strictlyAscends (take n (now ids)) ≡ true)
+        × (n ≤ length (now ids)) ⌝ }
     ensures { λ r. ⌜ r ≡ areInTable (tableOf (now (layers .entry)) (now (colors .entry)) count)
         (take n (now (ids .entry))) ⌝ }
 {
-    let mut known = true;
     let mut i: usize = 0;
-    while i < n {
-        known = known & is_known(layers, colors, count, ids[i]);
-        i += 1;
+    let mut p: usize = 0;
+    while p < count {
+        i = past_met(ids, n, i, layer_table::id_at(layers, p));
+        p += 1;
     }
-    known
+    i == n
 }
 
 // Refusals 1 and 4 to 8, the lowest that applies. `short` says whether 1 does.

@@ -4,7 +4,7 @@ use std::hint::black_box;
 
 use crate::{
     tally::caught,
-    timed_parts, timed_rows, timed_words,
+    timed_crate, timed_parts, timed_rows, timed_sets, timed_tiles, timed_words,
     timing::{Bench, ROUNDS},
 };
 
@@ -14,7 +14,7 @@ pub fn print(only: String) {
         println!("Overflow checks are on: these times say nothing. The profile `timing` has none.");
     }
     println!("Nanoseconds: best / median of {ROUNDS} rounds, with both sides in turn.");
-    println!("Ratio, here by the Rust: of the best / median of the rounds' own. README.md says what is comparable.");
+    println!("Ratio, the second by the first: of the best / median of the rounds' own. README.md has what is comparable.");
     let bench = &mut Bench::new(only);
     bench.title("One layer in one tile, alone");
     timed_parts::print_alone(bench);
@@ -29,4 +29,10 @@ pub fn print(only: String) {
     timed_rows::print_openings(bench);
     bench.title("Whole rows");
     timed_rows::print(bench);
+    bench.titled("A tile's work as one call and as two", ["one call", "list, decide"]);
+    timed_tiles::print(bench);
+    bench.titled("Whole rows by the crate of bindings/rust", ["exports", "the crate"]);
+    timed_crate::print(bench);
+    bench.titled("A kept set of segments", ["begun anew", "edited"]);
+    timed_sets::print(bench);
 }

@@ -55,6 +55,47 @@ extern "C" {
         plane_len: usize,
         mark: *mut u32,
     ) -> u32;
+    pub fn ffi_begin_set(
+        layer_id: u32,
+        tile_x: i16,
+        tile_y: i16,
+        covers: *const [i8; 16],
+        part: *const u64,
+        part_len: usize,
+        carry: *mut [i8; 16],
+        loads: *mut [u16; 16],
+        count: *mut usize,
+        slots: *mut u64,
+        slots_len: usize,
+        areas: *mut i16,
+        areas_len: usize,
+    ) -> u32;
+    pub fn ffi_take_in(
+        layer_id: u32,
+        tile_x: i16,
+        tile_y: i16,
+        word: u64,
+        carry: *mut [i8; 16],
+        loads: *mut [u16; 16],
+        count: *mut usize,
+        slots: *mut u64,
+        slots_len: usize,
+        areas: *mut i16,
+        areas_len: usize,
+    ) -> u32;
+    pub fn ffi_let_out(
+        layer_id: u32,
+        tile_x: i16,
+        tile_y: i16,
+        word: u64,
+        carry: *mut [i8; 16],
+        loads: *mut [u16; 16],
+        count: *mut usize,
+        slots: *mut u64,
+        slots_len: usize,
+        areas: *mut i16,
+        areas_len: usize,
+    ) -> u32;
     pub fn ffi_mark_plane(plane: *const f32, len: usize, mark: *mut u32) -> u32;
     pub fn ffi_octets(mark: u32) -> u32;
     pub fn ffi_color_eq(color: *const [f32; 4], other: *const [f32; 4]) -> bool;

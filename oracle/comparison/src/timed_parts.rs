@@ -20,14 +20,14 @@ use crate::{
 /// How many parts are painted in turn: few enough to stay near the processor.
 const PARTS: usize = 8;
 
-const LAYER: u32 = 5;
-const TILE: i16 = 3;
+pub const LAYER: u32 = 5;
+pub const TILE: i16 = 3;
 
 /// What the ratio should be at most.
 const AIM: f64 = 0.65;
 
 /// The incoming cover.
-const COVER: [i8; 16] = [16; 16];
+pub const COVER: [i8; 16] = [16; 16];
 
 /// The segments of a layer in a tile, on both sides.
 struct Part {
@@ -47,7 +47,7 @@ fn placed(local_x: u8, local_y: u8, double_area_multiplier: u8, cover: i8) -> u6
 }
 
 /// Segments anywhere in the tile, as many in each pixel row, light enough with the carry: 16 of up to 4, and 16.
-fn scattered(random: &mut Random, len: usize) -> Vec<u64> {
+pub fn scattered(random: &mut Random, len: usize) -> Vec<u64> {
     let covers = [-4, -3, -2, -1, 1, 2, 3, 4];
     let one = |i| placed(random.below(16) as u8, i as u8 % 16, random.below(33) as u8, random.pick(&covers));
     let mut words: Vec<u64> = (0..len).map(one).collect();

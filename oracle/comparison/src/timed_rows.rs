@@ -20,19 +20,27 @@ use crate::{
     words::{segment, Segment},
 };
 
-const CLEAR: [f32; 4] = [1.0; 4];
+pub const CLEAR: [f32; 4] = [1.0; 4];
 const FRAME: Frame = Frame { clear: CLEAR, previous_clear: None, channels: RGBA };
 
 /// The library's side of a row, with all that its calls are lent.
-struct Ours {
+pub struct Ours {
     tiles: usize,
     work: Work,
-    memory: Memory,
+    pub memory: Memory,
     canvas: Canvas,
 }
 
+fn accepted(number: u32) -> Result<(), u32> {
+    if number == 0 {
+        Ok(())
+    } else {
+        Err(number)
+    }
+}
+
 impl Ours {
-    fn new(row: &Row) -> Self {
+    pub fn new(row: &Row) -> Self {
         let queue = || Queue { ids: vec![0; 256], covers: vec![0; 4096] };
         let state = State { words: [0; 6], counts: [0; 2] };
         let (segments, shown) = (vec![false; 256], vec![false; 256]);
@@ -43,14 +51,30 @@ impl Ours {
         Self { tiles: row.tiles, work, memory, canvas: Canvas { state, plane: vec![0.0; 256], mark: 0 } }
     }
 
+    fn open(&mut self) -> Result<(), u32> {
+        let Work { row, table, queue, .. } = &mut self.work;
+        accepted(library::open_tile_row(0, 0, self.tiles as i32, row, table, queue, &mut self.memory.state))
+    }
+
+    /// One call to open the row and the work on each tile, without painting, up to a refusal.
+    #[inline(never)]
+    pub fn work(&mut self, tile_work: impl Fn(&Work, &mut Memory) -> u32) -> Result<(), u32> {
+        self.open()?;
+        let Self { tiles, work, memory, .. } = self;
+        for tile in 0..*tiles as i32 {
+            work.tile = tile;
+            accepted(tile_work(work, memory))?;
+            std::mem::swap(&mut work.queue, &mut memory.next);
+        }
+        Ok(())
+    }
+
     /// One call to open the row, one for each tile, and one for each layer that is painted, up to a refusal.
     #[inline(never)]
-    fn run(&mut self, mut seen: impl FnMut(&Canvas)) -> Result<(), u32> {
-        let accepted = |number| if number == 0 { Ok(()) } else { Err(number) };
+    pub fn run(&mut self, mut seen: impl FnMut(&Canvas)) -> Result<(), u32> {
+        self.open()?;
         let Self { tiles, work, memory, canvas } = self;
-        let (row, table, to) = (&work.row, &work.table, *tiles as i32);
-        accepted(library::open_tile_row(0, 0, to, row, table, &mut work.queue, &mut memory.state))?;
-        for tile in 0..to {
+        for tile in 0..*tiles as i32 {
             work.tile = tile;
             accepted(library::work_tile(work, memory))?;
             canvas.state = memory.state;

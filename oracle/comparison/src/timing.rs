@@ -12,8 +12,8 @@ const SIDE: Duration = Duration::from_micros(200);
 pub struct Bench {
     /// Only lines with this in their name are timed.
     only: String,
-    /// The table's name, until it is printed with the first line.
-    title: Option<&'static str>,
+    /// The table's name and its two sides, until they are printed with the first line.
+    title: Option<(&'static str, [&'static str; 2])>,
 }
 
 impl Bench {
@@ -22,7 +22,12 @@ impl Bench {
     }
 
     pub fn title(&mut self, name: &'static str) {
-        self.title = Some(name);
+        self.titled(name, ["the Rust", "here"]);
+    }
+
+    /// A table whose sides are others: the ratio is of the second by the first.
+    pub fn titled(&mut self, name: &'static str, sides: [&'static str; 2]) {
+        self.title = Some((name, sides));
     }
 
     /// A line: a pair of closures that each make `calls` calls, and what the ratio should be at most, where that is
@@ -31,8 +36,8 @@ impl Bench {
         if !name.contains(&self.only) {
             return;
         }
-        if let Some(title) = self.title.take() {
-            println!("\n{title:<54}{:>23}{:>23}{:>15}", "the Rust", "here", "ratio");
+        if let Some((title, [first, second])) = self.title.take() {
+            println!("\n{title:<54}{first:>23}{second:>23}{:>15}", "ratio");
         }
         let [rust, ours] = race([&mut rust, &mut ours], calls as f64);
         let ratios: Vec<f64> = ours.iter().zip(&rust).map(|(ours, rust)| ours / rust).collect();

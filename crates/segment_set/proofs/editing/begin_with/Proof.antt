@@ -23,14 +23,14 @@ abbrev μ-loop : tie.MeasureT-loop
 start-areas-requires : tie.Need-start-areas-requires Inv-loop μ-loop
 start-areas-requires c κs = begin-passed (c .before .before .before .before .pre) .room
 
-start-loads-requires : tie.Need-start-loads-requires Inv-loop μ-loop
-start-loads-requires c κs = tt
+magnitudes-requires : tie.Need-magnitudes-requires Inv-loop μ-loop
+magnitudes-requires c κs = tt
 
 loop-holds : tie.Need-loop-holds Inv-loop μ-loop
 loop-holds c =
     let s = c .before .before .before .before .before .before .before in
     rw (toZ-ofZ (s .fits .tile-x), toZ-ofZ (s .fits .tile-y))
-    (begin-start (beginning (s .args .layer-id) (s .args .tile-x) (s .args .tile-y) (s .args .cover .covers) (s .args .part .now)) (s .args .slots .now) (s .args .areas .now) _ (c .before .before .start-areas .ensures) (begin-passed (s .pre)) (search needs) (c .start-loads .ensures))
+    (begin-start (beginning (s .args .layer-id) (s .args .tile-x) (s .args .tile-y) (s .args .cover .covers) (s .args .part .now)) (s .args .slots .now) (s .args .areas .now) _ (c .before .before .start-areas .ensures) (begin-passed (s .pre)) (search needs) (c .magnitudes .ensures))
 
 mul-add : tie.Need-mul-add Inv-loop μ-loop
 mul-add c = omega arith
@@ -71,7 +71,7 @@ begin-with-spec =
     Inv-loop
     μ-loop
     start-areas-requires
-    start-loads-requires
+    magnitudes-requires
     loop-holds
     mul-add
     shared-slice-read-add

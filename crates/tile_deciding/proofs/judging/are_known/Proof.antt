@@ -2,42 +2,42 @@
 use Prim.Native.Nat.{_-_}
 use native.Mathlib.Omega.{arith}
 use borrow.Author.Needs.{needs}
-use Rattle.laws.specs.Answer.{isGiven}
-use Rattle.layer_table.specs.Lookup.{lookup}
-use Rattle.layer_table.specs.Table.{tableOf}
-use Rattle.listing_statements.proofs.Decidings.{Testing, test-start, test-next, test-end}
+use Rattle.tile_deciding.proofs.Meeting.{Meeting, meet-start, meet-next, meet-end}
 use Rattle.tile_deciding.proofs.judging.are_known.Statement.{statement}
 use Rattle.tile_deciding.proofs.judging.are_known.Tie as tie
 
 abbrev Inv-loop : tie.InvT-loop
-Inv-loop ids n layers colors count known₀ i₀ known i = Testing (λ id. isGiven (lookup (tableOf layers colors count) id)) n ids i known
+Inv-loop ids n layers colors count i₀ p₀ i p = Meeting layers colors count ids n i p
 
 abbrev μ-loop : tie.MeasureT-loop
-μ-loop ids n layers colors count known₀ i₀ known i = n - i
+μ-loop ids n layers colors count i₀ p₀ i p = count - p
 
 loop-holds : tie.Need-loop-holds Inv-loop μ-loop
-loop-holds c = test-start _ _ _
+loop-holds c = meet-start _ _ _ _ _
 
-mul-is-known : tie.Need-mul-is-known Inv-loop μ-loop
-mul-is-known c = omega (arith, c .before .loop .inv .within)
+id-at-requires : tie.Need-id-at-requires Inv-loop μ-loop
+id-at-requires c κs = omega (arith, c .before .before .before .before .before .pre .0 .words-long)
 
-shared-slice-read-is-known : tie.Need-shared-slice-read-is-known Inv-loop μ-loop
-shared-slice-read-is-known c = omega (arith, c .before .before .before .before .before .before .pre .1)
+past-met-requires : tie.Need-past-met-requires Inv-loop μ-loop
+past-met-requires c κs = (c .before .before .loop .inv .within, c .before .before .before .before .before .before .pre .2)
 
-is-known-requires : tie.Need-is-known-requires Inv-loop μ-loop
-is-known-requires c κs = search needs
-
-add-i : tie.Need-add-i Inv-loop μ-loop
-add-i c = omega arith
+add-p : tie.Need-add-p Inv-loop μ-loop
+add-p c = omega arith
 
 loop-less : tie.Need-loop-less Inv-loop μ-loop
 loop-less c = omega arith
 
 loop-again : tie.Need-loop-again Inv-loop μ-loop
-loop-again c = test-next _ _ _ (c .before .before .before .loop .inv) (omega arith) (c .before .before .before .before .before .before .before .pre .1) (c .is-known .ensures)
+loop-again c =
+    let l = c .before .before .before in
+    let s = l .before .before .before .before in
+    meet-next (s .pre .0 .ascending) (s .pre .1) (s .pre .2) (l .loop .inv) (omega arith) (rw (c .before .id-at .ensures) at (c .past-met .ensures))
 
 returns : tie.Need-returns Inv-loop μ-loop
-returns c = test-end _ _ _ (c .before .loop .inv) (omega arith)
+returns c =
+    let l = c .before in
+    let s = l .before .before .before .before in
+    meet-end (s .pre .0 .ascending) (s .pre .1) (s .pre .2) (l .loop .inv) (omega arith)
 
 pub are-known-spec : {M : Type 1} → statement M
 are-known-spec =
@@ -46,10 +46,9 @@ are-known-spec =
     Inv-loop
     μ-loop
     loop-holds
-    mul-is-known
-    shared-slice-read-is-known
-    is-known-requires
-    add-i
+    id-at-requires
+    past-met-requires
+    add-p
     loop-less
     loop-again
     returns)

@@ -38,7 +38,7 @@ unfolding linesFor
 returns-5 c = rw (c .before .before .before .before .before .before .before .if1 .left, ← c .before .before .before .before .before .before .is-table .ensures, c .before .before .before .before .before .if2 .left, ← c .before .before .before .before .do-ascend .ensures, c .before .before .before .if3 .left, ← c .before .before .is-tag-out-of-range .ensures, c .before .if4 .left, lt-ltb _ _ (c .if5 .taken))
 
 are-known-requires : tie.Need-are-known-requires
-are-known-requires c κs = (table (sym (c .before .before .before .before .before .before .is-table .ensures) ∙ not-false _ (c .before .before .before .before .before .if2 .left)), omega (arith, c .before .before .before .before .before .before .before .before .before .before .before .pre (c .before .before .before .before .before .before .before .if1 .left), c .if5 .left))
+are-known-requires c κs = (table (sym (c .before .before .before .before .before .before .is-table .ensures) ∙ not-false _ (c .before .before .before .before .before .if2 .left)), sym (c .before .before .before .before .do-ascend .ensures) ∙ not-false _ (c .before .before .before .if3 .left), omega (arith, c .before .before .before .before .before .before .before .before .before .before .before .pre (c .before .before .before .before .before .before .before .if1 .left), c .if5 .left))
 
 returns-6 : tie.Need-returns-6
 unfolding linesFor

@@ -1,0 +1,60 @@
+-- `are_of` meets its contract. Assumes nothing.
+use mathlib.Core.Path.{refl}
+use Prim.Native.Nat.{_-_}
+use native.Mathlib.Omega.{arith}
+use borrow.Author.Needs.{needs}
+use lib.ListN.{length}
+use mir.Facts.{toZ-ofZ}
+use mir.Syntax.{w16}
+use mir.Val.{toZ}
+use Rattle.cover_statements.proofs.Testing.{Testing, test-start, test-next, test-end}
+use Rattle.segment_set_statements.specs.Set.{isOf}
+use Rattle.segment_judging.proofs.are_of.Statement.{statement}
+use Rattle.segment_judging.proofs.are_of.Tie as tie
+
+abbrev Inv-loop : tie.InvT-loop
+Inv-loop layer-id tile-x tile-y part ok₀ i₀ ok i = Testing (isOf layer-id (toZ w16 tile-x) (toZ w16 tile-y)) part (length part) ok i
+
+abbrev μ-loop : tie.MeasureT-loop
+μ-loop layer-id tile-x tile-y part ok₀ i₀ ok i = length part - i
+
+loop-holds : tie.Need-loop-holds Inv-loop μ-loop
+loop-holds c = test-start refl
+
+mul-is-of : tie.Need-mul-is-of Inv-loop μ-loop
+mul-is-of c = omega arith
+
+shared-slice-read-is-of : tie.Need-shared-slice-read-is-of Inv-loop μ-loop
+shared-slice-read-is-of c = omega arith
+
+is-of-requires : tie.Need-is-of-requires Inv-loop μ-loop
+is-of-requires c κs = tt
+
+add-i : tie.Need-add-i Inv-loop μ-loop
+add-i c = omega arith
+
+loop-less : tie.Need-loop-less Inv-loop μ-loop
+loop-less c = omega arith
+
+loop-again : tie.Need-loop-again Inv-loop μ-loop
+loop-again c = test-next 0 (c .before .before .before .loop .inv) (omega arith) (c .is-of .ensures)
+
+returns : tie.Need-returns Inv-loop μ-loop
+returns c =
+    let s = c .before .before .before in
+    rw (toZ-ofZ (s .fits .tile-x), toZ-ofZ (s .fits .tile-y)) at (test-end (c .before .loop .inv) (omega arith))
+
+pub are-of-spec : {M : Type 1} → statement M
+are-of-spec =
+    tie.close
+    (tie.spec
+    Inv-loop
+    μ-loop
+    loop-holds
+    mul-is-of
+    shared-slice-read-is-of
+    is-of-requires
+    add-i
+    loop-less
+    loop-again
+    returns)

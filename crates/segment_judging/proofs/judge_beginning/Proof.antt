@@ -1,0 +1,43 @@
+-- `judge_beginning` meets its contract. Assumes nothing.
+use borrow.Author.Needs.{needs}
+use mathlib.Core.Path.{_≡_}
+use borrow.Author.Tests.{lt-ltb, le-ltb}
+use mir.Facts.{toZ-ofZ}
+use Rattle.laws.specs.Lists.{all}
+use Rattle.segment_set_statements.specs.Set.{isOf, beginVerdict}
+use Rattle.segment_judging.proofs.judge_beginning.Statement.{statement}
+use Rattle.segment_judging.proofs.judge_beginning.Tie as tie
+
+are-told : (c : tie.After-are-of) → let s = c .before .before .before .before in c .are-of .result ≡ all (isOf (s .args .layer-id) (s .args .tile-x) (s .args .tile-y)) (s .args .part .now)
+are-told c =
+    let s = c .before .before .before .before in
+    rw (toZ-ofZ (s .fits .tile-x), toZ-ofZ (s .fits .tile-y)) at (c .are-of .ensures)
+
+returns : tie.Need-returns
+unfolding beginVerdict
+returns c = rw (lt-ltb _ _ (c .if1 .taken))
+
+are-of-requires : tie.Need-are-of-requires
+are-of-requires c κs = search needs
+
+returns-2 : tie.Need-returns-2
+unfolding beginVerdict
+returns-2 c = rw (le-ltb _ _ (c .before .before .if1 .left), ← are-told (c .before), c .if2 .taken)
+
+is-light-requires : tie.Need-is-light-requires
+is-light-requires c κs = search needs
+
+judge-load-requires : tie.Need-judge-load-requires
+judge-load-requires c κs = search needs
+
+returns-3 : tie.Need-returns-3
+unfolding beginVerdict
+returns-3 c =
+    let l = c .before in
+    let h = l .before in
+    rw (le-ltb _ _ (h .before .before .if1 .left), ← are-told (h .before), h .if2 .left, ← l .is-light .ensures) (c .judge-load .ensures)
+
+pub judge-beginning-spec : {M : Type 1} → statement M
+judge-beginning-spec =
+    tie.close
+    (tie.spec returns are-of-requires returns-2 is-light-requires judge-load-requires returns-3)
