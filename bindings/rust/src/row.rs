@@ -10,6 +10,9 @@ use crate::{
 /// How many entries the library asks of every queue and list.
 const ENTRIES: usize = 256;
 
+/// How many flags a list has: for each entry whether its layer has segments in the tile.
+const FLAGS: usize = ENTRIES;
+
 /// The colours behind all layers, in this frame and, where there was one, in the last.
 #[derive(Clone, Copy, Debug, PartialEq)]
 pub struct Frame {
@@ -100,7 +103,7 @@ pub struct TileList {
     tile: i32,
     ids: Box<[u32; ENTRIES]>,
     covers: Box<[i8; 16 * ENTRIES]>,
-    segments: Box<[bool; ENTRIES]>,
+    flags: Box<[bool; FLAGS]>,
     unmasked: Box<[bool; ENTRIES]>,
     count: usize,
     passed_over: usize,
@@ -113,7 +116,7 @@ impl TileList {
             tile: -1,
             ids: Box::new([0; ENTRIES]),
             covers: Box::new([0; 16 * ENTRIES]),
-            segments: Box::new([false; ENTRIES]),
+            flags: Box::new([false; FLAGS]),
             unmasked: Box::new([false; ENTRIES]),
             count: 0,
             passed_over: 0,
@@ -134,7 +137,7 @@ impl TileList {
         Listed {
             id: self.ids[place],
             cover: cover_at(&self.covers, place),
-            has_segments: self.segments[place],
+            has_segments: self.flags[place],
             is_masked_off: !self.unmasked[place],
             is_passed_over: place < self.passed_over,
         }
@@ -270,7 +273,7 @@ impl<'a> Row<'a> {
             &mut self.taken.covers,
             self.list.ids.as_mut_slice(),
             self.list.covers.as_mut_slice(),
-            self.list.segments.as_mut_slice(),
+            self.list.flags.as_mut_slice(),
             self.list.unmasked.as_mut_slice(),
             &mut told,
             &mut bottom,
@@ -306,7 +309,7 @@ impl<'a> Row<'a> {
             &mut self.taken.covers,
             list.ids.as_mut_slice(),
             list.covers.as_mut_slice(),
-            list.segments.as_mut_slice(),
+            list.flags.as_mut_slice(),
             &mut listed,
         ))?;
         mem::swap(&mut self.taken, &mut self.handed);
@@ -338,7 +341,7 @@ impl<'a> Row<'a> {
         Refusal::judge(exports::decide_tile(
             list.ids.as_slice(),
             list.covers.as_slice(),
-            list.segments.as_slice(),
+            list.flags.as_slice(),
             list.count,
             layers,
             colors,
