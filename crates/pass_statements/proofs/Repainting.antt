@@ -57,15 +57,12 @@ clip-at (x ∷ xs) (suc i) h c m = not-right (isClipUnchanged x) (areClipsUnchan
 -- the first pass keeps no such tile
 not-all : (items : List Item) → areClipsUnchanged items ≡ false → allUnchanged items ≡ false
 not-all [] e = e
-not-all (x ∷ xs) e = by (not-all xs) (x .unchanged) refl
+not-all (x ∷ xs) e = by (not-all xs) (x .unchanged) refl (isClip (x .func)) refl
   where
-    free : (c : Bool) → (not c || true) ≡ true
-    free true = refl
-    free false = refl
-
-    by : (areClipsUnchanged xs ≡ false → allUnchanged xs ≡ false) → (u : Bool) → x .unchanged ≡ u → (u && allUnchanged xs) ≡ false
-    by go false q = refl
-    by go true q = go (rw (q, free (isClip (x .func))) at e)
+    by : (areClipsUnchanged xs ≡ false → allUnchanged xs ≡ false) → (u : Bool) → x .unchanged ≡ u → (c : Bool) → isClip (x .func) ≡ c → (u && allUnchanged xs) ≡ false
+    by go false q c p = refl
+    by go true q true p = go (rw (q, p) at e)
+    by go true q false p = go (rw (q, p) at e)
 
 pub not-kept : (unchanged : Bool) (previous : PreviousCount) (items : List Item) → areClipsUnchanged items ≡ false → isKept unchanged previous items ≡ false
 not-kept unchanged counts.Absent items e = refl
