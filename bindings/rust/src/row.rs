@@ -10,8 +10,8 @@ use crate::{
 /// How many entries the library asks of every queue and list.
 const ENTRIES: usize = 256;
 
-/// How many flags a list has: for each entry whether its layer has segments in the tile.
-const FLAGS: usize = ENTRIES;
+/// How many flags a list has: for each entry whether its layer has segments in the tile, and behind these whether it is changed.
+const FLAGS: usize = 2 * ENTRIES;
 
 /// The colours behind all layers, in this frame and, where there was one, in the last.
 #[derive(Clone, Copy, Debug, PartialEq)]
@@ -46,6 +46,8 @@ pub struct Listed {
     pub cover: Cover,
     /// Whether it has segments in the tile.
     pub has_segments: bool,
+    /// Whether it is changed, as the table says.
+    pub is_changed: bool,
     /// Whether a pass over clips masked it off.
     pub is_masked_off: bool,
     /// Whether a layer above hides it.
@@ -103,6 +105,7 @@ pub struct TileList {
     tile: i32,
     ids: Box<[u32; ENTRIES]>,
     covers: Box<[i8; 16 * ENTRIES]>,
+    /// Whether each has segments, and from `ENTRIES` on whether each is changed.
     flags: Box<[bool; FLAGS]>,
     unmasked: Box<[bool; ENTRIES]>,
     count: usize,
@@ -138,6 +141,7 @@ impl TileList {
             id: self.ids[place],
             cover: cover_at(&self.covers, place),
             has_segments: self.flags[place],
+            is_changed: self.flags[ENTRIES + place],
             is_masked_off: !self.unmasked[place],
             is_passed_over: place < self.passed_over,
         }

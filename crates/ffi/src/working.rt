@@ -93,7 +93,8 @@ fn put_worked(
 }
 
 // 0, the list, the carries handed on, the cached tile, the answer and the state past the tile, or the number of the
-// refusal. The bytes of the cached tile are stored where the call is accepted and a tile is given.
+// refusal. The bytes of the cached tile are stored where the call is accepted and a tile is given. Of the flags, that
+// at place i says whether entry i has segments in the tile, that at place 256 + i whether its layer is changed.
 #[no_mangle]
 pub extern "C" fn ffi_work_tile(
     words: &mut [u32; 6],
@@ -114,7 +115,7 @@ pub extern "C" fn ffi_work_tile(
     next_covers: &mut [i8],
     list_ids: &mut [u32],
     list_covers: &mut [i8],
-    list_segments: &mut [bool],
+    list_flags: &mut [bool],
     list_unmasked: &mut [bool],
     told: &mut [usize; 4],
     bottom: &mut [f32; 4],
@@ -127,7 +128,7 @@ pub extern "C" fn ffi_work_tile(
         (previousOf «is_previous» (now (previous .entry))) (columns (now (ids .entry)) (now (covers .entry))))
         (workLent (columns (now («next_ids» .entry)) (now («next_covers» .entry)))
         (listColumns (now («list_ids» .entry)) (now («list_covers» .entry))
-        (now («list_segments» .entry)) (now («list_unmasked» .entry)))))
+        (now («list_flags» .entry)) (now («list_unmasked» .entry)))))
         (workNumbers (now (words .entry)) (now (counts .entry)) (now (kept .entry))
         (now (told .entry)) (now (bottom .entry)))
         r
@@ -135,7 +136,7 @@ pub extern "C" fn ffi_work_tile(
         (now (told .exit)) (now (bottom .exit)))
         (workLent (columns (now («next_ids» .exit)) (now («next_covers» .exit)))
         (listColumns (now («list_ids» .exit)) (now («list_covers» .exit))
-        (now («list_segments» .exit)) (now («list_unmasked» .exit)))) ⌝ }
+        (now («list_flags» .exit)) (now («list_unmasked» .exit)))) ⌝ }
 {
     let state_words = *words;
     let state_counts = *counts;
@@ -162,7 +163,7 @@ pub extern "C" fn ffi_work_tile(
         next_covers,
         list_ids,
         list_covers,
-        list_segments,
+        list_flags,
         list_unmasked,
     );
     let after = worked.kept;
