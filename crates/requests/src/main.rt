@@ -1,6 +1,8 @@
 // Worked examples of the requests, run: a line for each, with what it gave.
+mod planes;
 mod standing;
 
 fn main() {
+    planes::print_cases();
     standing::print_cases();
 }
