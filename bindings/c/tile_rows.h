@@ -47,7 +47,7 @@ uint32_t ffi_carry(const uint64_t *part, size_t part_len, int8_t covers[16]);
 /* The coverage of a pixel that sees d. */
 float ffi_doubled_area_to_coverage(int16_t d, uint32_t rule);
 
-/* 0, the coverages in `plane` and their mark in `mark`, or the number of the refusal. */
+/* 0, the coverages in `plane`, at row × 16 + column, and their mark in `mark`, or the number of the refusal. */
 uint32_t ffi_paint_part(
     const uint64_t *part, size_t part_len,
     const int8_t covers[16],
@@ -114,8 +114,8 @@ uint32_t ffi_list_tile(
     bool *list_flags, size_t list_flags_len,
     size_t *listed);
 
-/* 0, the coverages in `plane`, their mark in `mark` and the state with the painter's clip, or the number of the
-   refusal. */
+/* 0, the coverages in `plane`, at row × 16 + column, their mark in `mark` and the state with the painter's clip, or
+   the number of the refusal. */
 uint32_t ffi_paint_layer(
     uint32_t words[6],
     size_t counts[2],

@@ -359,7 +359,7 @@ pub fn doubled_area_to_coverage(d: i16, rule: u32) -> f32 {
     unsafe { raw::ffi_doubled_area_to_coverage(d, rule) }
 }
 
-/// 0, the coverages in `plane` and their mark in `mark`, or the number of the refusal.
+/// 0, the coverages in `plane`, at row × 16 + column, and their mark in `mark`, or the number of the refusal.
 #[inline]
 pub fn paint_part(part: &[u64], covers: &[i8; 16], rule: u32, plane: &mut [f32], mark: &mut u32) -> u32 {
     // SAFETY: the references are those that the export takes, a slice with its own length; it is proved to keep
@@ -527,8 +527,8 @@ pub fn list_tile(
     }
 }
 
-/// 0, the coverages in `plane`, their mark in `mark` and the state with the painter's clip, or the number of the
-/// refusal.
+/// 0, the coverages in `plane`, at row × 16 + column, their mark in `mark` and the state with the painter's clip, or
+/// the number of the refusal.
 #[allow(clippy::too_many_arguments)]
 #[inline]
 pub fn paint_layer(

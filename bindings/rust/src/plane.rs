@@ -12,7 +12,7 @@ pub struct Plane([f32; 256]);
 
 /// Where a pixel lies in the numbers of a plane. Nothing else in this crate knows the order.
 const fn place(column: usize, row: usize) -> usize {
-    column * 16 + row
+    row * 16 + column
 }
 
 impl Plane {

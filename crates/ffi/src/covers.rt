@@ -66,7 +66,7 @@ pub extern "C" fn ffi_doubled_area_to_coverage(d: i16, rule: u32) -> f32
     weight::doubled_area_to_coverage(d, codes::fill_rule(rule))
 }
 
-// 0, the coverages in `plane` and their mark in `mark`, or the number of the refusal.
+// 0, the coverages in `plane`, at row × 16 + column, and their mark in `mark`, or the number of the refusal.
 #[no_mangle]
 pub extern "C" fn ffi_paint_part(
     part: &[u64],

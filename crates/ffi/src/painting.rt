@@ -32,8 +32,8 @@ fn put_painted(
     }
 }
 
-// 0, the coverages in `plane`, their mark in `mark` and the state with the painter's clip, or the number of the
-// refusal.
+// 0, the coverages in `plane`, at row × 16 + column, their mark in `mark` and the state with the painter's clip, or
+// the number of the refusal.
 #[no_mangle]
 pub extern "C" fn ffi_paint_layer(
     words: &mut [u32; 6],

@@ -217,7 +217,7 @@ fn paint(kind: &mut Kind) {
     });
 }
 
-/// A bit for each octet that has a number above 0.
+/// A bit for each octet that has a number above 0; an octet is eight rows of a column, 16 numbers apart.
 fn marks(kind: &mut Kind) {
     let random = &mut kind.random;
     let numbers = [
@@ -243,8 +243,8 @@ fn marks(kind: &mut Kind) {
     let expected = if plane.len() < 256 {
         (1, UNTOUCHED as u32)
     } else {
-        let octets = plane[..256].chunks(8).enumerate();
-        (0, octets.map(|(octet, eight)| u32::from(eight.iter().any(|&number| number > 0.0)) << octet).sum())
+        let is_used = |octet: usize| (0..8).any(|lane| plane[(8 * (octet % 2) + lane) * 16 + octet / 2] > 0.0);
+        (0, (0..32).map(|octet| u32::from(is_used(octet)) << octet).sum())
     };
     kind.note(if expected.0 == 1 { "refused by 1" } else { "marked" });
     let ours = library::mark_plane(&plane);

@@ -60,9 +60,8 @@ fn check_tile(row: &mut Row<'_>, decision: &Decision, rust: &Worked, scene: &Sce
         let told = row.paint_shown(&mut Plane::new(), |listed, plane, mark| {
             let wanted = painted.next().expect("the Rust paints as many");
             assert_eq!((listed.id, mark.0), (wanted.id, wanted.mark), "{scene:?}");
-            // The Rust's planes are stored column by column.
-            let columns: Vec<u32> = plane.columns().flatten().map(f32::to_bits).collect();
-            assert_eq!(columns, wanted.plane.map(f32::to_bits), "{scene:?}");
+            let rows: Vec<u32> = plane.rows().flatten().map(f32::to_bits).collect();
+            assert_eq!(rows, wanted.plane.map(f32::to_bits), "{scene:?}");
         });
         assert_eq!((told, painted.next().is_none()), (Ok(()), true), "{scene:?}");
     }

@@ -39,7 +39,7 @@ impl LayerPainter for Recorder {
         let cover = self.painter.paint_layer(tile_x, tile_y, layer_id, props, apply_clip);
         let clip = self.painter.clip.map(|(_, last)| last);
         if let (Func::Clip(_), Some((mask, _))) = (&props.func, self.painter.clip) {
-            assert_eq!(bits(&flat(&mask)), bits(&plane), "a clip layer writes its whole mask");
+            assert_eq!(bits(&exchanged(&mask)), bits(&plane), "a clip layer writes its whole mask");
         }
         self.painted.push(Painted { id: layer_id, plane, mark, clip });
         cover
@@ -64,7 +64,7 @@ fn plane(painter: &Painter, tile_x: usize, tile_y: usize, layer_id: u32, props: 
     probe.clip = None;
     let as_clip = Props { fill_rule: props.fill_rule, func: Func::Clip(0) };
     probe.paint_layer(tile_x, tile_y, layer_id, &as_clip, false);
-    flat(&probe.clip.expect("a clip layer leaves a clip").0)
+    exchanged(&probe.clip.expect("a clip layer leaves a clip").0)
 }
 
 /// The octets that the layer blends: painted once more with a red that is not a number, they turn so, and no others do.
@@ -100,10 +100,15 @@ fn copy_of(painter: &Painter) -> Painter {
     }
 }
 
-pub(super) fn flat(octets: &[f32x8; 32]) -> [f32; 256] {
+/// The Rust's plane, which it stores by columns, with its two places exchanged: the number of a pixel stands at row × 16 + column, as in the planes
+/// that it is compared with (W-209). Octet 2 × column + h has the rows 8h to 8h + 7.
+pub(super) fn exchanged(octets: &[f32x8; 32]) -> [f32; 256] {
     let mut plane = [0.0; 256];
-    for (octet, eight) in plane.chunks_exact_mut(8).zip(octets) {
-        octet.copy_from_slice(&lanes(*eight));
+    for (octet, eight) in octets.iter().enumerate() {
+        let (column, half) = (octet / 2, octet % 2);
+        for (lane, number) in lanes(*eight).into_iter().enumerate() {
+            plane[(8 * half + lane) * 16 + column] = number;
+        }
     }
     plane
 }

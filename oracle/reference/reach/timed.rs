@@ -6,7 +6,7 @@ use std::hint::black_box;
 use super::super::*;
 use super::{
     cover_of,
-    recorder::flat,
+    recorder::exchanged,
     row::{context, Frame, Segment},
 };
 use crate::{
@@ -19,7 +19,7 @@ use crate::{
 pub struct ClipPainter {
     painter: Painter,
     rules: [Props; 2],
-    /// The masks, where they are kept.
+    /// The masks, where they are kept, exchanged: only where results are compared, never where they are timed.
     pub planes: Option<Vec<[f32; 256]>>,
 }
 
@@ -46,7 +46,7 @@ impl ClipPainter {
         let cover = self.painter.paint_layer(0, 0, 0, &self.rules[rule], false);
         let (mask, _) = self.painter.clip.as_ref().expect("a clip layer leaves a clip");
         if let Some(planes) = &mut self.planes {
-            planes.push(flat(black_box(mask)));
+            planes.push(exchanged(black_box(mask)));
         } else {
             black_box(mask);
         }
