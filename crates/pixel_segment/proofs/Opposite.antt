@@ -1,23 +1,28 @@
 -- The opposite of a word, for every table of seven widths: its fields but the cover, what order compares and its range are the word's; the cover is
 -- negated where it is not the lowest; twice is the word itself; and the opposite of a packed word is the negated cover packed. Assumes nothing.
 use mathlib.Core.Path.{_≡_, ap, ap₂, _∙_}
+use mathlib.Core.Bool.{Bool, true}
 use mathlib.Core.Logic.{⊎-elim}
 use mathlib.Core.List.{List}
 use Prim.Native.Nat.{ℕ, zero, suc, _+_, _-_, _*_, _/_, _%_, _^_, _≤_, _<_}
 use native.Mathlib.Nat.{add-zero, sub-zero, add-mul-mod-self-right, mul-add-mod-self-right, mul-add-div-right, mod-self, mod-lt, mod-eq-of-lt, div-eq-of-lt, div-add-mod', div-one}
 use native.Mathlib.Omega.{arith}
-use lib.Dec.{lit<}
+use borrow.Author.Tests.{le-leb, leb-true}
+use lib.Dec.{leb, lit<}
 use lib.IntN.{ℤ, pos, negℤ, natAbs, _*ℤ_}
+use lib.ListN.{getD}
 use lib.Pow.{pow-pos}
 use Rattle.laws.specs.Integer.{plus, minus, modℤ}
 use Rattle.laws.proofs.Mod.{unique, opposite}
+use Rattle.laws.specs.Lists.{all}
+use Rattle.laws.proofs.Every.{all-intro}
 use Rattle.laws.proofs.Orders.{le-or-lt}
 use Rattle.laws.proofs.Parts.{whole, difference, plus-neg, minus-neg, times-neg}
-use Rattle.pixel_segment.specs.Field.{sum, widthOf, shiftOf, fieldOf, multiplierOf, signedOf, coverOf, doubleAreaOf}
+use Rattle.pixel_segment.specs.Field.{cpu, gpu, sum, widthOf, shiftOf, fieldOf, multiplierOf, signedOf, coverOf, doubleAreaOf}
 use Rattle.pixel_segment.specs.Pack.{wordOf, withCover}
-use Rattle.pixel_segment.specs.Opposite.{oppositeOf}
+use Rattle.pixel_segment.specs.Opposite.{oppositeOf, Mild}
 use Rattle.pixel_segment.specs.Order.{orderKey}
-use Rattle.pixel_segment.proofs.Ranges.{Layout, halves}
+use Rattle.pixel_segment.proofs.Ranges.{Layout, cpu-layout, gpu-layout, halves}
 use Rattle.pixel_segment.proofs.ReadBack.{cover-back, kept}
 use Rattle.pixel_segment.proofs.Covers.{cover-lowest, with-lt, with-field, with-order, with-cover, with-packed}
 
@@ -108,3 +113,35 @@ module _ (ws : List ℕ) (layout : Layout ws) where
       let w = wordOf ws layer tx ty x y m c in
       let is : coverOf ws w ≡ c = cover-back c (fieldOf ws 6 w) (widthOf ws 6) (layout .signed) (low, high) (kept ws layout layer tx ty x y m c 6 (lit< tt)) in
       ap (λ (d : ℤ). withCover ws w (negℤ d)) is ∙ with-packed ws layout layer tx ty x y m c (negℤ c)
+
+-- ---- rows with mild covers
+
+abbrev pub isMild : List ℕ → ℕ → Bool
+isMild ws w = leb (natAbs (coverOf ws w)) 31
+
+abbrev pub areMild : List ℕ → List ℕ → Bool
+areMild ws row = all (isMild ws) row
+
+pub are-mild : (ws row : List ℕ) → Mild ws row → areMild ws row ≡ true
+are-mild ws row m = all-intro (isMild ws) row 0 (λ i h. le-leb (natAbs (coverOf ws (getD row i 0))) 31 (m .small i h))
+
+-- a table of seven widths whose covers go beyond 31 either way: both have it
+pub record Wide (ws : List ℕ) : Type 0 where
+  pub layout : Layout ws
+  pub beyond : 31 < 2 ^ (widthOf ws 6 - 1)
+
+pub cpu-wide : Wide cpu
+cpu-wide = record { layout = cpu-layout; beyond = omega arith }
+
+pub gpu-wide : Wide gpu
+gpu-wide = record { layout = gpu-layout; beyond = omega arith }
+
+module _ {ws : List ℕ} (wide : Wide ws) (w : ℕ) (mild : isMild ws w ≡ true) where
+  within : natAbs (coverOf ws w) < 2 ^ (widthOf ws 6 - 1)
+  within = omega (arith, leb-true (natAbs (coverOf ws w)) 31 mild, wide .beyond)
+
+  pub mild-cover : coverOf ws (oppositeOf ws w) ≡ negℤ (coverOf ws w)
+  mild-cover = opposite-cover ws (wide .layout) w within
+
+  pub mild-area : doubleAreaOf ws (oppositeOf ws w) ≡ negℤ (doubleAreaOf ws w)
+  mild-area = opposite-area ws (wide .layout) w within

@@ -6,3 +6,4 @@ pub mod Wide
 pub mod Filling
 pub mod Ordering
 pub mod Members
+pub mod Opposite
