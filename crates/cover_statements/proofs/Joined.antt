@@ -2,7 +2,7 @@
 use mathlib.Core.Path.{_≡_, ap, ap₂, sym, _∙_}
 use mathlib.Core.Bool.{Bool, cond}
 use mathlib.Core.List.{List, _++_}
-use Prim.Native.Nat.{ℕ, _+_, _≤_, _<_}
+use Prim.Native.Nat.{ℕ, _+_, _<_}
 use native.Mathlib.Omega.{arith}
 use native.Mathlib.Nat.{zero-add, add-comm, add-assoc}
 use borrow.Author.Tests.{le-leb}
@@ -17,17 +17,17 @@ use Rattle.laws.proofs.Sums.{sum-append, sumℤ-append, sumℤ-same, sumℕ-sam
 use Rattle.cover_statements.specs.Carry.{inRow, coverIn, absCover, loadIn, lightAt, isLight, carryOf}
 use Rattle.pixel_segment.specs.Field.{coverOf}
 use Rattle.cover_statements.specs.Cover.{coverAt, noCover}
-use Rattle.cover_statements.specs.Joined.{listCover, addedCovers, Joins, JoinedCovers}
+use Rattle.cover_statements.specs.Joined.{StaysWithin, listCover, addedCovers, Joins, JoinedCovers}
 use Rattle.cover_statements.proofs.Carries.{no-cover-at, carry-at, carry-length}
 
 module _ (ws : List ℕ) (n : ℕ) where
   -- a list within 127 in each row is accepted
-  accepted : (part : List ℕ) → ((y : ℕ) → y < n → loadIn ws y part ≤ 127) → listCover ws n part ≡ given (carryOf ws n (noCover n) part)
+  accepted : (part : List ℕ) → StaysWithin ws n part → listCover ws n part ≡ given (carryOf ws n (noCover n) part)
   unfolding isLight
   accepted part h =
       ap (λ (t : Bool). cond t (given (carryOf ws n (noCover n) part)) (refused 9))
       (every-intro n (lightAt ws (noCover n) part)
-      (λ y q. le-leb (natAbs (coverAt (noCover n) y) + loadIn ws y part) 127 (omega (arith, h y q, ap natAbs (no-cover-at n y)))))
+      (λ y q. le-leb (natAbs (coverAt (noCover n) y) + loadIn ws y part) 127 (omega (arith, h .at y q, ap natAbs (no-cover-at n y)))))
 
   -- of as many segments, in any order
   same-cover : (l m : List ℕ) → ((v : ℕ) → countBy (eqb v) m ≡ countBy (eqb v) l) → listCover ws n m ≡ listCover ws n l
@@ -37,7 +37,7 @@ module _ (ws : List ℕ) (n : ℕ) where
       (given (tabulate n (λ y. coverAt (noCover n) y +ℤ sumℤ-same (inRow ws y) (coverOf ws) m l e i)))
       (refused 9)
 
-  module _ (a b : List ℕ) (h : (y : ℕ) → y < n → loadIn ws y (a ++ b) ≤ 127) where
+  module _ (a b : List ℕ) (h : StaysWithin ws n (a ++ b)) where
     load-both : (y : ℕ) → loadIn ws y (a ++ b) ≡ loadIn ws y a + loadIn ws y b
     load-both y = sum-append _+_ 0 zero-add add-assoc (inRow ws y) (absCover ws) a b
 
@@ -72,8 +72,8 @@ module _ (ws : List ℕ) (n : ℕ) where
         record {
           first = first;
           second = second;
-          of-first = accepted a (λ y q. omega (arith, h y q, load-both y));
-          of-second = accepted b (λ y q. omega (arith, h y q, load-both y));
+          of-first = accepted a (record { at = λ y q. omega (arith, h .at y q, load-both y) });
+          of-second = accepted b (record { at = λ y q. omega (arith, h .at y q, load-both y) });
           of-both = both-is;
           turned = same-cover (a ++ b) (b ++ a) (λ v. count-both b a v ∙ add-comm (countBy (eqb v) b) (countBy (eqb v) a) ∙ sym (count-both a b v)) ∙ both-is;
           merged = λ m e. same-cover (a ++ b) m e ∙ both-is;

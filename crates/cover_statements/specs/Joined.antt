@@ -30,6 +30,10 @@ pub record Joins (ws : List ℕ) (n : ℕ) (a b : List ℕ) : Type 0 where
   -- and so is that of the two merged in any way: of every list with the same segments, each as often
   pub merged : (m : List ℕ) → ((v : ℕ) → countBy (eqb v) m ≡ countBy (eqb v) (a ++ b)) → listCover ws n m ≡ given (addedCovers n first second)
 
--- the claim: wherever the absolute covers of both lists together stay within 127 in each pixel row. proofs/Joined has it
+-- the absolute covers of a list, summed, stay within 127 in each of n pixel rows
+pub record StaysWithin (ws : List ℕ) (n : ℕ) (part : List ℕ) : Type 0 where
+  pub at : (y : ℕ) → y < n → loadIn ws y part ≤ 127
+
+-- the claim: wherever those of both lists together do. proofs/Joined has it
 abbrev pub JoinedCovers : Type 0
-JoinedCovers = (ws : List ℕ) (n : ℕ) (a b : List ℕ) → ((y : ℕ) → y < n → loadIn ws y (a ++ b) ≤ 127) → Joins ws n a b
+JoinedCovers = (ws : List ℕ) (n : ℕ) (a b : List ℕ) → StaysWithin ws n (a ++ b) → Joins ws n a b

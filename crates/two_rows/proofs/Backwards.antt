@@ -42,7 +42,8 @@ use Rattle.listing_runs.specs.Due.{ListChoice, listDueVerdict, DecideChoice, nt
 use Rattle.listing_runs.specs.Run.{Call}
 use Rattle.listing_runs.specs.Claim.{RightListing, RightDeciding, RightCall, pastCall, AllRight}
 use Rattle.listing_runs.proofs.Run as calls
-use Rattle.two_rows.specs.Backwards.{oppositeCall, AlikeWorks, AlikePaints, AlikeLists, AlikeDecides, AlikeCall, AlikeCalls, listRead, masksRead, carriesRead, entriesRead, decidedRead, planeRead, BackWork, BackPaint, BackList, BackDecide, BackCall, BackCalls, OpensBoth, Backwards}
+use Rattle.two_rows.specs.Backwards.{oppositeCall, listRead, masksRead, carriesRead, entriesRead, decidedRead, planeRead, BackWork, BackPaint, BackList, BackDecide, BackCall, BackCalls, OpensBoth, Backwards}
+use Rattle.two_rows.specs.SameCalls.{AlikeWorks, AlikePaints, AlikeLists, AlikeDecides, AlikeCall, AlikeCalls}
 use Rattle.two_rows.proofs.Apart.{plane-long}
 use Rattle.two_rows.proofs.Turned.{oppositeRow, queue-turned, left-turned, listed-turned, entries-turned, state-turned, work-verdict, work-outcome, answer-turned, list-verdict, decide-outcome, decide-listed, paint-verdict, paint-turned}
 
@@ -207,7 +208,7 @@ module _ (o : OpenRow) (mild : areMild cpu (o .row) ≡ true) (p : Past) where
   past-paint (refuse n) id = refl
   past-paint pass id = refl
 
-  call-back : {e e′ : Call} → AlikeCall e e′ → RightCall o p e → RightCall (oppositeRow o) p e′ → BackCall o e e′ × (pastCall (oppositeRow o) e′ p ≡ pastCall o e p)
+  pub call-back : {e e′ : Call} → AlikeCall e e′ → RightCall o p e → RightCall (oppositeRow o) p e′ → BackCall o e e′ × (pastCall (oppositeRow o) e′ p ≡ pastCall o e p)
   call-back (AlikeCall.work a) x x′ = (BackCall.work (back-work a x x′), ap (λ (v : Judgement). pastWork v p) (work-verdict o mild (p .tiles) a))
   call-back (AlikeCall.paint {c = c} {c′ = c′} a) x x′ = (
     BackCall.paint (back-paint a x x′),
@@ -256,7 +257,7 @@ module _ (c : OpenCall) (mild : areMild cpu (c .row) ≡ true) where
   count-turned (refuse n) = refl
   count-turned pass = ap openAnswer (left-opposite (c .from) (c .row)) ∙ answer-opposite (leftPart (c .from) (c .row)) (left-mild (c .row) mild (c .from))
 
-  open-turned : (lent lent′ : Columns) → isQueueShort lent ≡ isQueueShort lent′ → openOf (oppositeCall c) lent′ .answer ≡ openOf c lent .answer
+  pub open-turned : (lent lent′ : Columns) → isQueueShort lent ≡ isQueueShort lent′ → openOf (oppositeCall c) lent′ .answer ≡ openOf c lent .answer
   unfolding openOf
   open-turned lent lent′ room =
       ap (stateBy (c .tileY) (c .from) (c .to))

@@ -6,4 +6,5 @@ pub mod Apart
 pub mod Example
 pub mod Turned
 pub mod Backwards
+pub mod Both
 pub mod Lowest

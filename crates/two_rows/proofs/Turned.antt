@@ -38,7 +38,7 @@ use Rattle.row_statements.specs.TileWork.{tileAnswer, listVerdict}
 use Rattle.row_statements.specs.Painting.{layerVerdict}
 use Rattle.row_statements.specs.Due.{OpenRow, Past, tableOn, queueOn, layersOn, takenOn, stateOn, isNotDue, WorkChoice, workDueVerdict, outcomeOn, saysOn, isNotLast, PaintChoice, paintDueVerdict, funcOn, planeOn, markOn, paintOn}
 use Rattle.listing_runs.specs.Due.{ListChoice, listDueVerdict, DecideChoice, nthOn, outcomeDue}
-use Rattle.two_rows.specs.Backwards.{AlikeWorks, AlikePaints, AlikeLists, AlikeDecides}
+use Rattle.two_rows.specs.SameCalls.{AlikeWorks, AlikePaints, AlikeLists, AlikeDecides}
 
 abbrev pub oppositeRow : OpenRow → OpenRow
 oppositeRow o = record { tileY = o .tileY; from = o .from; to = o .to; row = map (oppositeOf cpu) (o .row); table = o .table }

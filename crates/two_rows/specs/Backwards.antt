@@ -2,10 +2,9 @@
 -- included: listings, decidings, works and paintings. Then every call answers the same, and every carry is negated, exactly. Mildness is asked of the
 -- whole row, right of its last tile too. What the two runs' memory held before is free; what is lent has room for both or for neither.
 use mathlib.Core.Path.{_≡_}
-use mathlib.Core.Bool.{Bool, _||_}
+use mathlib.Core.Bool.{Bool}
 use mathlib.Core.List.{List, [], _∷_, map}
 use Prim.Native.Nat.{ℕ}
-use lib.Dec.{ltb}
 use lib.Ieee.{Float}
 use lib.ListN.{length, take}
 use Rattle.laws.specs.Answer.{Answer, refused, given}
@@ -17,69 +16,30 @@ use Rattle.queue_statements.specs.Queue.{Carry}
 use Rattle.queue_statements.specs.Opposite.{oppositeCarry}
 use Rattle.pass_statements.specs.Entry.{Entry}
 use Rattle.pass_statements.specs.Opposite.{oppositeEntry}
-use Rattle.row_statements.specs.Lent.{Columns, ListColumns, carriesIn, entriesIn, isQueueShort, isListShort}
+use Rattle.row_statements.specs.Lent.{Columns, ListColumns, carriesIn, entriesIn, isQueueShort}
 use Rattle.row_statements.specs.State.{State, stateIn}
 use Rattle.row_statements.specs.Opening.{OpenCall, openOf, openedAnswer, OpensRow}
 use Rattle.row_statements.specs.TileWork.{WorkCall, WorkLent, TileAnswer, workAnswer, workVerdict}
 use Rattle.row_statements.specs.Painting.{PaintCall, paintAnswer, paintVerdict}
-use Rattle.row_statements.specs.Due.{OpenRow, WorkChoice, PaintChoice, layersOn}
+use Rattle.row_statements.specs.Due.{OpenRow, atFirst, WorkChoice, PaintChoice, layersOn}
 use Rattle.row_statements.specs.Run.{openRow, heldFirst, Event}
 use Rattle.row_statements.specs.declared.Opened.{Opened}
 use Rattle.row_statements.specs.declared.Opened.the-variants as opened
 use Rattle.row_statements.specs.declared.RowState.{RowState}
 use Rattle.row_statements.specs.declared.TileWorked.{TileWorked}
 use Rattle.row_statements.specs.declared.Painted.{Painted}
-use Rattle.listing_statements.specs.Listing.{ListCall, ListLent, TileList, entriesFrom, isTileListShort, listAnswer, listingVerdict}
+use Rattle.listing_statements.specs.Listing.{ListCall, ListLent, TileList, entriesFrom, listAnswer, listingVerdict}
 use Rattle.listing_statements.specs.Deciding.{DecideCall, DecideTold, decideAnswer}
 use Rattle.listing_statements.specs.declared.TileListed.{TileListed}
 use Rattle.listing_statements.specs.declared.TileDecided.{TileDecided}
 use Rattle.listing_runs.specs.Due.{ListChoice, DecideChoice, nthOn}
 use Rattle.listing_runs.specs.Run.{HeldAll, heldWith, Call, Calls}
+use Rattle.listing_runs.specs.Example.{Choice, choicesDue, duesOf}
+use Rattle.two_rows.specs.SameCalls.{AlikeCalls}
 
 -- the same opening, of the opposite row
 abbrev pub oppositeCall : OpenCall → OpenCall
 oppositeCall c = record { tileY = c .tileY; from = c .from; to = c .to; row = map (oppositeOf cpu) (c .row); table = c .table }
-
--- ---- the same calls, each in lent memory of its own
-
-pub record AlikeWorks (c c′ : WorkChoice) : Type 0 where
-  pub tile : c .tile ≡ c′ .tile
-  pub kept : c .kept ≡ c′ .kept
-  pub clear : c .clear ≡ c′ .clear
-  pub previous : c .previous ≡ c′ .previous
-  pub room : (isQueueShort (c .lent .queue) || isListShort (c .lent .list)) ≡ (isQueueShort (c′ .lent .queue) || isListShort (c′ .lent .list))
-
-pub record AlikePaints (c c′ : PaintChoice) : Type 0 where
-  pub tile : c .tile ≡ c′ .tile
-  pub layer : c .layer ≡ c′ .layer
-  pub room : ltb (length (c .plane)) 256 ≡ ltb (length (c′ .plane)) 256
-
-pub record AlikeLists (c c′ : ListChoice) : Type 0 where
-  pub tile : c .tile ≡ c′ .tile
-  pub room : (isQueueShort (c .lent .queue) || isTileListShort (c .lent .list)) ≡ (isQueueShort (c′ .lent .queue) || isTileListShort (c′ .lent .list))
-
--- each decides the list of the tile that it names, as its own run listed it
-pub record AlikeDecides (c c′ : DecideChoice) : Type 0 where
-  pub tile : c .tile ≡ c′ .tile
-  pub kept : c .kept ≡ c′ .kept
-  pub clear : c .clear ≡ c′ .clear
-  pub previous : c .previous ≡ c′ .previous
-  pub room : ltb (length (c .unmasked)) 256 ≡ ltb (length (c′ .unmasked)) 256
-
--- of calls with another row, table, queue or list nothing is asked
-pub data AlikeCall : Call → Call → Type 0 where
-  work : {c c′ : WorkChoice} {r r′ : TileWorked} {back back′ : WorkLent} → AlikeWorks c c′ → AlikeCall (Call.row (Event.work c r back)) (Call.row (Event.work c′ r′ back′))
-  paint : {c c′ : PaintChoice} {r r′ : Painted} {back back′ : List Float} → AlikePaints c c′ → AlikeCall (Call.row (Event.paint c r back)) (Call.row (Event.paint c′ r′ back′))
-  list : {c c′ : ListChoice} {r r′ : TileListed} {back back′ : ListLent} → AlikeLists c c′ → AlikeCall (Call.list c r back) (Call.list c′ r′ back′)
-  decide : {c c′ : DecideChoice} {r r′ : TileDecided} {back back′ : List Bool} → AlikeDecides c c′ → AlikeCall (Call.decide c r back) (Call.decide c′ r′ back′)
-  otherWork : {a a′ : WorkCall} {lent lent′ : WorkLent} {r r′ : TileWorked} {back back′ : WorkLent} → AlikeCall (Call.row (Event.otherWork a lent r back)) (Call.row (Event.otherWork a′ lent′ r′ back′))
-  otherPaint : {a a′ : PaintCall} {plane plane′ : List Float} {r r′ : Painted} {back back′ : List Float} → AlikeCall (Call.row (Event.otherPaint a plane r back)) (Call.row (Event.otherPaint a′ plane′ r′ back′))
-  otherList : {a a′ : ListCall} {lent lent′ : ListLent} {r r′ : TileListed} {back back′ : ListLent} → AlikeCall (Call.otherList a lent r back) (Call.otherList a′ lent′ r′ back′)
-  otherDecide : {a a′ : DecideCall} {masks masks′ : List Bool} {r r′ : TileDecided} {back back′ : List Bool} → AlikeCall (Call.otherDecide a masks r back) (Call.otherDecide a′ masks′ r′ back′)
-
-pub data AlikeCalls : List Call → List Call → Type 0 where
-  none : AlikeCalls [] []
-  next : {e e′ : Call} {es es′ : List Call} → AlikeCall e e′ → AlikeCalls es es′ → AlikeCalls (e ∷ es) (e′ ∷ es′)
 
 -- ---- what a call leaves, read back by its answer; a refused one leaves nothing to read
 
@@ -167,7 +127,7 @@ pub record BackOpening (s s′ : State) (back back′ : Columns) : Type 0 where
   pub state : s′ ≡ s
   pub carries : carriesIn (s′ .left) back′ ≡ map oppositeCarry (carriesIn (s .left) back)
 
--- ---- the claims. proofs/Backwards has them
+-- ---- the claims. proofs/Backwards has them, and proofs/Both the last one
 
 -- where lent room is alike, the two openings answer the same: one is accepted exactly where the other is
 abbrev pub OpensBoth : Type 0
@@ -190,3 +150,27 @@ Backwards =
     Calls (openRow (oppositeCall c)) (heldWith (heldFirst s′ back′) []) es′ h′ →
     AlikeCalls es es′ →
     BackOpening (stateIn s) (stateIn s′) back back′ × BackCalls (openRow c) es es′
+
+-- ---- the claim is not empty: after every accepted opening of such a row, every list of choices is that of two runs whose calls are alike, each call
+-- with the verdict that is due of it
+
+pub record RanBoth (c : OpenCall) (lent′ back : Columns) (s : RowState) (cs : List Choice) : Type 0 where
+  pub back′ : Columns
+  pub opens′ : OpensRow (openOf (oppositeCall c) lent′) (opened.Row s) back′
+  pub events : List Call
+  pub events′ : List Call
+  pub after : HeldAll
+  pub after′ : HeldAll
+  pub runs : Calls (openRow c) (heldWith (heldFirst s back) []) events after
+  pub runs′ : Calls (openRow (oppositeCall c)) (heldWith (heldFirst s back′) []) events′ after′
+  pub alike : AlikeCalls events events′
+  pub dues : duesOf (openRow c) atFirst events ≡ choicesDue (openRow c) atFirst cs
+
+abbrev pub RunsBoth : Type 0
+RunsBoth =
+    (c : OpenCall) (lent lent′ back : Columns) (s : RowState) (cs : List Choice) →
+    Words (c .row) →
+    Mild cpu (c .row) →
+    isQueueShort lent ≡ isQueueShort lent′ →
+    OpensRow (openOf c lent) (opened.Row s) back →
+    RanBoth c lent′ back s cs

@@ -7,8 +7,8 @@
 use std::{env, process::ExitCode};
 
 use comparison::{
-    bench, cached, covers, curve, deciding, jobs, layers, listing, loads, openings, paintings, plates, rows, standing,
-    stored, stored_jobs, succession, tally::Tally, tiles, words,
+    backwards, bench, cached, covers, curve, deciding, jobs, layers, listing, loads, openings, paintings, plates, rows,
+    standing, stored, stored_jobs, succession, tally::Tally, tiles, words,
 };
 
 fn main() -> ExitCode {
@@ -41,6 +41,7 @@ fn main() -> ExitCode {
     listing::compare(&mut tally);
     deciding::compare(&mut tally);
     succession::compare(&mut tally);
+    backwards::compare(&mut tally);
     standing::compare(&mut tally);
     jobs::compare(&mut tally);
     stored_jobs::compare(&mut tally);
