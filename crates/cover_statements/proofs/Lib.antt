@@ -22,4 +22,6 @@ pub mod Repeats
 pub mod Paintings
 pub mod Agreement
 pub mod FromRow
+pub mod Joined
+pub mod Opposite
 pub mod Cases

@@ -12,3 +12,5 @@ pub mod Paint
 pub mod Weighed
 pub mod Entry
 pub mod WholeRow
+pub mod Opposite
+pub mod Joined

@@ -11,4 +11,5 @@ pub mod Rows
 pub mod Drops
 pub mod Every
 pub mod Filtered
+pub mod Maps
 pub mod Table

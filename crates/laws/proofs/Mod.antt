@@ -3,11 +3,11 @@ use mathlib.Core.Path.{_≡_, refl, sym, ap, _∙_}
 use mathlib.Core.Logic.{⊎-elim}
 use Prim.Native.Nat.{ℕ, suc, _+_, _*_, _-_, _≤_, _<_, _/_, _%_}
 use native.Mathlib.Omega.{arith}
-use native.Mathlib.Nat.{div-add-mod', mod-lt, suc-mul, add-mul, mul-le-mul-right, add-mul-mod-self-right, mod-eq-of-lt, sub-add-cancel}
+use native.Mathlib.Nat.{div-add-mod', mod-lt, mod-self, suc-mul, add-mul, mul-le-mul-right, add-mul-mod-self-right, mod-eq-of-lt, sub-add-cancel}
 use lib.Dec.{lit<}
-use lib.IntN.{ℤ, pos, negsuc, _+ℤ_, _*ℤ_}
+use lib.IntN.{ℤ, pos, negsuc, negℤ, _+ℤ_, _*ℤ_}
 use Rattle.laws.specs.Integer.{plus, minus, modℤ}
-use Rattle.laws.proofs.Parts.{added, times}
+use Rattle.laws.proofs.Parts.{added, times, plus-neg, minus-neg}
 use Rattle.laws.proofs.Orders.{le-or-lt}
 
 -- the remainder, by the parts: z and the remainder differ by a multiple of m, `up` times m where z is negative and `down` times m else
@@ -48,6 +48,20 @@ unique m (negsuc n) {r} up down e h =
     let f = of-multiple m n (up - suc down) (m - suc r) (omega (arith, gap m (suc down) up s, suc-mul down m)) (omega arith) in
     omega (arith, f))
     (le-or-lt up down)
+
+-- the remainder of the opposite
+pub opposite : (m : ℕ) (z : ℤ) → 0 < m → modℤ m (negℤ z) ≡ (m - modℤ m z) % m
+opposite m z h =
+    let r = remainder m z h in
+    let e = r .eq in
+    ⊎-elim
+    (λ (q : modℤ m z ≤ 0).
+    let none : m - modℤ m z ≡ m = omega arith in
+    unique m (negℤ z) (r .down) (r .up) (omega (arith, plus-neg z, minus-neg z)) h ∙ sym (ap (λ (x : ℕ). x % m) none ∙ mod-self m))
+    (λ (q : 0 < modℤ m z).
+    let low : m - modℤ m z < m = omega arith in
+    unique m (negℤ z) (suc (r .down)) (r .up) (omega (arith, plus-neg z, minus-neg z, r .low, suc-mul (r .down) m)) low ∙ sym (mod-eq-of-lt low))
+    (le-or-lt (modℤ m z) 0)
 
 -- ---- agreement modulo m
 

@@ -109,6 +109,13 @@ abs-neg (pos zero) = refl
 abs-neg (pos (suc n)) = refl
 abs-neg (negsuc n) = refl
 
+-- the opposite passes through a product
+pub times-neg : (k : ℕ) (b : ℤ) → pos k *ℤ negℤ b ≡ negℤ (pos k *ℤ b)
+times-neg k b =
+    let up : k * plus (negℤ b) ≡ k * minus b = ap (λ (n : ℕ). k * n) (plus-neg b) in
+    let down : k * minus (negℤ b) ≡ k * plus b = ap (λ (n : ℕ). k * n) (minus-neg b) in
+    equal (pos k *ℤ negℤ b) (negℤ (pos k *ℤ b)) (omega (arith, times k (negℤ b), times k b, plus-neg (pos k *ℤ b), minus-neg (pos k *ℤ b)))
+
 -- the absolute value of a product
 pub abs-times : (a b : ℤ) → natAbs (a *ℤ b) ≡ natAbs a * natAbs b
 abs-times (pos a) (pos b) = refl

@@ -75,7 +75,7 @@ pub sumℤ-swap : (p : ℕ → Bool) (f : ℕ → ℤ) (xs ys : List ℕ) → su
 sumℤ-swap p f xs ys =
     sumℤ-append p f xs ys ∙ +ℤ-comm (sumℤ p f xs) (sumℤ p f ys) ∙ sym (sumℤ-append p f ys xs)
 
-cond-neg : (t : Bool) (a : ℤ) → cond t (negℤ a) (pos 0) ≡ negℤ (cond t a (pos 0))
+pub cond-neg : (t : Bool) (a : ℤ) → cond t (negℤ a) (pos 0) ≡ negℤ (cond t a (pos 0))
 cond-neg true a = refl
 cond-neg false a = refl
 

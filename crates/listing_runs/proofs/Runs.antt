@@ -49,7 +49,7 @@ abbrev decidedOut : Answer DecideTold → DecideAnswer
 decidedOut (refused n) = decided.Refused (refusalOf n)
 decidedOut (given t) = decided.Decided (decisionOut (t .decision)) (record { 0 = t .skipped })
 
-abbrev listResult : ListGiven → TileListed
+abbrev pub listResult : ListGiven → TileListed
 listResult g = record { state = stateOut (g .state); answer = listedOut (g .answer) }
 
 abbrev decideResult : DecideGiven → TileDecided
@@ -85,10 +85,10 @@ decide-gives pass named o c =
 
 -- ---- a choice, made with what the caller holds
 
-abbrev heldListing : Held → ListChoice → ListChoice
+abbrev pub heldListing : Held → ListChoice → ListChoice
 heldListing h c = record { tile = c .tile; queue = h .queue; lent = c .lent }
 
-abbrev heldDeciding : HeldList → DecideChoice → DecideChoice
+abbrev pub heldDeciding : HeldList → DecideChoice → DecideChoice
 heldDeciding l c = record { tile = c .tile; list = l .list; kept = c .kept; clear = c .clear; previous = c .previous; unmasked = c .unmasked }
 
 same-list : (l : HeldList) → SameEntries (l .count) (l .list) (l .list)
@@ -122,10 +122,14 @@ module _ {o : OpenRow} (is-open : IsOpen o) where
     pub dues : duesOf o p events ≡ choicesDue o p cs
 
   -- a deciding, where a list of the tile is held
-  decide-first : {p : Past} {h : HeldAll} (c : DecideChoice) (cs : List Choice) (b : Bool) → isPast o (p .tiles) (c .tile) ≡ b → HoldsAll o p h → Goes p h cs → Goes p h (Choice.decide c ∷ cs)
-  unfolding duesOf choicesDue
-  decide-first c cs false e holds rest = record { events = rest .events; after = rest .after; runs = rest .runs; dues = rw e (rest .dues) }
-  decide-first {p} {h} c cs true e holds rest =
+  pub record Decides (h : HeldAll) (c : DecideChoice) : Type 0 where
+    pub list : HeldList
+    pub result : TileDecided
+    pub masks : List Bool
+    pub step : CallStep o h (Call.decide (heldDeciding list c) result masks) h
+
+  pub decide-goes : {p : Past} {h : HeldAll} → HoldsAll o p h → (c : DecideChoice) → isPast o (p .tiles) (c .tile) ≡ true → Decides h c
+  decide-goes {p} {h} holds c e =
       let place = placed o (p .tiles) (c .tile) e in
       let f = past-list (p .tiles) (h .lists) (place .at) (holds .lists) (place .before) in
       let l = f .held in
@@ -134,12 +138,25 @@ module _ {o : OpenRow} (is-open : IsOpen o) where
       let g : DecidesTile (decidingOf (decideOn o l held) (c .unmasked)) (decideResult (decideDue o held)) (decideDue o held .unmasked) =
       subst (λ (out : DecideGiven). DecidesTile out (decideResult (decideDue o held)) (decideDue o held .unmasked)) (sym (decide-due is-open (place .at) l (f .holds) held tile (same-list l)))
       (decide-gives (decideDueVerdict held) (decide-named held) o held) in
+      record { list = l; result = decideResult (decideDue o held); masks = decideDue o held .unmasked; step = CallStep.decide {l = l} {c = held} (f .among) tile (same-list l) g }
+
+  decide-first : {p : Past} {h : HeldAll} (c : DecideChoice) (cs : List Choice) (b : Bool) → isPast o (p .tiles) (c .tile) ≡ b → HoldsAll o p h → Goes p h cs → Goes p h (Choice.decide c ∷ cs)
+  unfolding duesOf choicesDue
+  decide-first c cs false e holds rest = record { events = rest .events; after = rest .after; runs = rest .runs; dues = rw e (rest .dues) }
+  decide-first {p} {h} c cs true e holds rest =
       record {
-        events = Call.decide held (decideResult (decideDue o held)) (decideDue o held .unmasked) ∷ rest .events;
+        events = _ ∷ rest .events;
         after = rest .after;
-        runs = Calls.next (CallStep.decide {l = l} {c = held} (f .among) tile (same-list l) g) (rest .runs);
+        runs = Calls.next (decide-goes holds c e .step) (rest .runs);
         dues = rw e (ap (λ (vs : List Judgement). decideDueVerdict c ∷ vs) (rest .dues));
       }
+
+  -- a listing
+  pub list-goes : {p : Past} {h : HeldAll} → HoldsAll o p h → (c : ListChoice)
+      → ListsTile (listingOf (listOn o (h .row) (heldListing (h .row) c)) (c .lent)) (listResult (listDue o p (heldListing (h .row) c))) (listDue o p (heldListing (h .row) c) .lent)
+  list-goes {p} {h} holds c =
+      let held = heldListing (h .row) c in
+      subst (λ (out : ListGiven). ListsTile out (listResult (listDue o p held)) (listDue o p held .lent)) (sym (list-due is-open (holds .row) held as-held)) (list-gives (listDueVerdict o (p .tiles) held) (list-named o (p .tiles) held) o p held)
 
   pub exists : {p : Past} {h : HeldAll} → HoldsAll o p h → (cs : List Choice) → Goes p h cs
   unfolding duesOf choicesDue
@@ -153,10 +170,7 @@ module _ {o : OpenRow} (is-open : IsOpen o) where
       let rest = exists (call-right is-open holds step .1) cs in
       record { events = _ ∷ rest .events; after = rest .after; runs = Calls.next step (rest .runs); dues = ap (λ (vs : List Judgement). paintDueVerdict o (p .tiles) c ∷ vs) (rest .dues) }
   exists {p} {h} holds (Choice.list c ∷ cs) =
-      let held = heldListing (h .row) c in
-      let g : ListsTile (listingOf (listOn o (h .row) held) (c .lent)) (listResult (listDue o p held)) (listDue o p held .lent) =
-      subst (λ (out : ListGiven). ListsTile out (listResult (listDue o p held)) (listDue o p held .lent)) (sym (list-due is-open (holds .row) held as-held)) (list-gives (listDueVerdict o (p .tiles) held) (list-named o (p .tiles) held) o p held) in
-      let step = CallStep.list {h = h} {c = held} as-held g in
+      let step = CallStep.list {h = h} {c = heldListing (h .row) c} as-held (list-goes holds c) in
       let rest = exists (call-right is-open holds step .1) cs in
       record { events = _ ∷ rest .events; after = rest .after; runs = Calls.next step (rest .runs); dues = ap (λ (vs : List Judgement). listDueVerdict o (p .tiles) c ∷ vs) (rest .dues) }
   exists {p} {h} holds (Choice.decide c ∷ cs) = decide-first c cs (isPast o (p .tiles) (c .tile)) refl holds (exists holds cs)

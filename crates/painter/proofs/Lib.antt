@@ -4,3 +4,4 @@ pub mod Freeing
 pub mod Items
 pub mod Painted
 pub mod Exchanged
+pub mod Opposite

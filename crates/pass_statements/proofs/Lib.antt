@@ -17,3 +17,4 @@ pub mod Outcomes
 pub mod Seen
 pub mod Words
 pub mod Repainting
+pub mod Opposite

@@ -8,3 +8,4 @@ pub mod Decision
 pub mod Decide
 pub mod Shown
 pub mod Rules
+pub mod Opposite

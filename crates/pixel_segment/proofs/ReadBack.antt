@@ -93,7 +93,8 @@ tile-back : (t : ℤ) (n k : ℕ) → (minus t ≤ 1) × (storedOf t < 2 ^ k) �
 unfolding tileOf
 tile-back t n k h e = let f = e ∙ mod-eq-of-lt (h .1) in equal (tileOf n) t (omega (arith, difference n 1, added t (pos 1)))
 
-cover-back : (c : ℤ) (n k : ℕ) → 1 ≤ k → (minus c ≤ 2 ^ (k - 1)) × (plus c < 2 ^ (k - 1)) → n ≡ modℤ (2 ^ k) c % 2 ^ k → signedOf k n ≡ c
+-- a signed number, of the field of k bits that stores it
+pub cover-back : (c : ℤ) (n k : ℕ) → 1 ≤ k → (minus c ≤ 2 ^ (k - 1)) × (plus c < 2 ^ (k - 1)) → n ≡ modℤ (2 ^ k) c % 2 ^ k → signedOf k n ≡ c
 cover-back (pos p) n k g h e =
     let half = 2 ^ (k - 1) in
     let size : 2 ^ k ≡ half + half = halves k g in

@@ -35,6 +35,18 @@ sum-drop-le (suc k) (x ∷ xs) = omega (arith, sum-drop-le k xs)
 pub sum-step : (i : ℕ) (l : List ℕ) → i < length l → sum (drop i l) ≡ getD l i 0 + sum (drop (i + 1) l)
 sum-step i l h = rw (add-one) (ap sum (drop-cons l i 0 h))
 
+pub sum-drop-mono : (i j : ℕ) (l : List ℕ) → i ≤ j → sum (drop j l) ≤ sum (drop i l)
+sum-drop-mono zero j l h = sum-drop-le j l
+sum-drop-mono (suc i) zero l h = absurd (omega arith)
+sum-drop-mono (suc i) (suc j) [] h = omega arith
+sum-drop-mono (suc i) (suc j) (x ∷ xs) h = sum-drop-mono i j xs (omega arith)
+
+pub sum-past : (k : ℕ) (l : List ℕ) → length l ≤ k → sum (drop k l) ≡ 0
+sum-past zero [] h = refl
+sum-past zero (x ∷ xs) h = absurd (omega arith)
+sum-past (suc k) [] h = refl
+sum-past (suc k) (x ∷ xs) h = sum-past k xs (omega arith)
+
 -- every shift is below 64
 pub shift-lt : (k : ℕ) → shiftOf cpu k < 64
 shift-lt k = rw add-one (omega (arith, sum-drop-le k (drop 1 cpu)))

@@ -1,4 +1,5 @@
 -- The packed pixel segment: what its contracts say.
 pub mod Field
 pub mod Pack
+pub mod Opposite
 pub mod Order

@@ -4,7 +4,7 @@
 use mathlib.Core.Path.{_≡_}
 use mathlib.Core.Bool.{Bool, cond, _&&_}
 use mathlib.Core.List.{List, [], _∷_}
-use Prim.Native.Nat.{ℕ, _+_, _-_, _*_, _%_, _^_, _≤_, _<_}
+use Prim.Native.Nat.{ℕ, _+_, _-_, _*_, _/_, _%_, _^_, _≤_, _<_}
 use lib.IntN.{ℤ, pos, negsuc, negℤ, _+ℤ_}
 use lib.Signed.{leZ, ltZ}
 use Rattle.laws.specs.Integer.{plus, minus, modℤ}
@@ -28,6 +28,10 @@ storedOf t = plus (t +ℤ pos 1)
 -- the word of seven fields, in the order of the Rust's arguments
 abbrev pub wordOf : List ℕ → ℕ → ℤ → ℤ → ℕ → ℕ → ℕ → ℤ → ℕ
 wordOf ws layer tx ty x y m c = join ws (storedOf ty ∷ storedOf tx ∷ layer ∷ x ∷ y ∷ m ∷ modℤ (2 ^ widthOf ws 6) c ∷ []) 0
+
+-- the word w with the cover c in place of its own, modulo what the field holds; the other fields are w's
+unfoldable pub withCover : List ℕ → ℕ → ℤ → ℕ
+withCover ws w c = w / 2 ^ widthOf ws 6 * 2 ^ widthOf ws 6 + modℤ (2 ^ widthOf ws 6) c
 
 -- ---- what packing accepts
 

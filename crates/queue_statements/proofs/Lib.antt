@@ -16,3 +16,4 @@ pub mod Copying
 pub mod Gathering
 pub mod Opened
 pub mod Examples
+pub mod Opposite

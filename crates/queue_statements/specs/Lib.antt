@@ -5,3 +5,4 @@ pub mod Opening
 pub mod Gather
 pub mod Insert
 pub mod Sums
+pub mod Opposite

@@ -1,10 +1,12 @@
 // Worked examples of the requests, run: a line for each, with what it gave.
 mod sets;
 mod planes;
+mod backwards;
 mod standing;
 
 fn main() {
     planes::print_cases();
     standing::print_cases();
     sets::print_cases();
+    backwards::print_cases();
 }

@@ -5,3 +5,4 @@ pub mod Parts
 pub mod Carried
 pub mod Planes
 pub mod Covered
+pub mod Opposite

@@ -7,3 +7,4 @@ pub mod Keys
 pub mod Above
 pub mod TileParts
 pub mod TileLayers
+pub mod Opposite

@@ -7,3 +7,4 @@ pub mod Filling
 pub mod Flags
 pub mod Ordering
 pub mod Members
+pub mod Opposite

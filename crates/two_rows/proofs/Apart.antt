@@ -56,7 +56,7 @@ module _ (o : OpenRow) where
           }
 
   -- and an accepted painting leaves the layer's coverages
-  plane-long : (n id : ℕ) → length (planeOn o n id) ≡ 256
+  pub plane-long : (n id : ℕ) → length (planeOn o n id) ≡ 256
   plane-long n id = places-length 16 (pixelOf cpu (ruleIn (tableOn o) id) (leftCover cpu (suc (o .from + n)) id (o .row)) (partOf cpu (suc (o .from + n)) id (o .row)))
 
   paint-read : (p : Past) (c : PaintChoice) {r : Painted} {back : List Float} {mark : ℕ} → RightPaint o p c r back → paintAnswer (r .answer) ≡ given mark → take 256 back ≡ planeOn o (p .tiles - 1) (c .layer)

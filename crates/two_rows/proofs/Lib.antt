@@ -4,3 +4,7 @@ pub mod Layers
 pub mod Same
 pub mod Apart
 pub mod Example
+pub mod Turned
+pub mod Backwards
+pub mod Both
+pub mod Lowest

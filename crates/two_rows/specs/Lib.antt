@@ -1,3 +1,6 @@
 -- Two rows worked beside each other.
 pub mod Apart
 pub mod Example
+pub mod SameCalls
+pub mod Backwards
+pub mod Lowest

@@ -1,6 +1,7 @@
 //! The same cases on the Rust and on the proved library: one module for each group of kinds.
 
 pub mod arrangements;
+pub mod backwards;
 pub mod bench;
 pub mod cached;
 pub mod calls;

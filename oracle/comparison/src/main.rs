@@ -7,8 +7,7 @@
 use std::{env, process::ExitCode};
 
 use comparison::{
-    bench, cached, covers, curve, deciding, edited_sets, jobs, layers, listing, loads, openings, paintings, plates,
-    rows, standing, stored, stored_jobs, succession, tally::Tally, tiles, words,
+    backwards, bench, cached, covers, curve, deciding, edited_sets, jobs, layers, listing, loads, openings, paintings, plates, rows, standing, stored, stored_jobs, succession, tally::Tally, tiles, words,
 };
 
 fn main() -> ExitCode {
@@ -41,6 +40,7 @@ fn main() -> ExitCode {
     listing::compare(&mut tally);
     deciding::compare(&mut tally);
     succession::compare(&mut tally);
+    backwards::compare(&mut tally);
     standing::compare(&mut tally);
     edited_sets::compare(&mut tally);
     jobs::compare(&mut tally);

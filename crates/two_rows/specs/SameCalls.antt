@@ -1,0 +1,61 @@
+-- Calls of two runs that are the same but for the memory that is lent: kind by kind, the same tile, layer, cached tile and clear colours, and room for
+-- both or for neither. Refused calls are included. Stands for W-210's 'by the same calls, with the same layer table, cached tiles and clear colours, and
+-- each list decided as listed'.
+use mathlib.Core.Path.{_≡_}
+use mathlib.Core.Bool.{Bool, _||_}
+use mathlib.Core.List.{List, [], _∷_}
+use lib.Dec.{ltb}
+use lib.Ieee.{Float}
+use lib.ListN.{length}
+use Rattle.row_statements.specs.Lent.{isQueueShort, isListShort}
+use Rattle.row_statements.specs.TileWork.{WorkCall, WorkLent}
+use Rattle.row_statements.specs.Painting.{PaintCall}
+use Rattle.row_statements.specs.Due.{WorkChoice, PaintChoice}
+use Rattle.row_statements.specs.Run.{Event}
+use Rattle.row_statements.specs.declared.TileWorked.{TileWorked}
+use Rattle.row_statements.specs.declared.Painted.{Painted}
+use Rattle.listing_statements.specs.Listing.{ListCall, ListLent, isTileListShort}
+use Rattle.listing_statements.specs.Deciding.{DecideCall}
+use Rattle.listing_statements.specs.declared.TileListed.{TileListed}
+use Rattle.listing_statements.specs.declared.TileDecided.{TileDecided}
+use Rattle.listing_runs.specs.Due.{ListChoice, DecideChoice}
+use Rattle.listing_runs.specs.Run.{Call}
+
+pub record AlikeWorks (c c′ : WorkChoice) : Type 0 where
+  pub tile : c .tile ≡ c′ .tile
+  pub kept : c .kept ≡ c′ .kept
+  pub clear : c .clear ≡ c′ .clear
+  pub previous : c .previous ≡ c′ .previous
+  pub room : (isQueueShort (c .lent .queue) || isListShort (c .lent .list)) ≡ (isQueueShort (c′ .lent .queue) || isListShort (c′ .lent .list))
+
+pub record AlikePaints (c c′ : PaintChoice) : Type 0 where
+  pub tile : c .tile ≡ c′ .tile
+  pub layer : c .layer ≡ c′ .layer
+  pub room : ltb (length (c .plane)) 256 ≡ ltb (length (c′ .plane)) 256
+
+pub record AlikeLists (c c′ : ListChoice) : Type 0 where
+  pub tile : c .tile ≡ c′ .tile
+  pub room : (isQueueShort (c .lent .queue) || isTileListShort (c .lent .list)) ≡ (isQueueShort (c′ .lent .queue) || isTileListShort (c′ .lent .list))
+
+-- each decides the list of the tile that it names, as its own run listed it
+pub record AlikeDecides (c c′ : DecideChoice) : Type 0 where
+  pub tile : c .tile ≡ c′ .tile
+  pub kept : c .kept ≡ c′ .kept
+  pub clear : c .clear ≡ c′ .clear
+  pub previous : c .previous ≡ c′ .previous
+  pub room : ltb (length (c .unmasked)) 256 ≡ ltb (length (c′ .unmasked)) 256
+
+-- of calls with another row, table, queue or list nothing is asked
+pub data AlikeCall : Call → Call → Type 0 where
+  work : {c c′ : WorkChoice} {r r′ : TileWorked} {back back′ : WorkLent} → AlikeWorks c c′ → AlikeCall (Call.row (Event.work c r back)) (Call.row (Event.work c′ r′ back′))
+  paint : {c c′ : PaintChoice} {r r′ : Painted} {back back′ : List Float} → AlikePaints c c′ → AlikeCall (Call.row (Event.paint c r back)) (Call.row (Event.paint c′ r′ back′))
+  list : {c c′ : ListChoice} {r r′ : TileListed} {back back′ : ListLent} → AlikeLists c c′ → AlikeCall (Call.list c r back) (Call.list c′ r′ back′)
+  decide : {c c′ : DecideChoice} {r r′ : TileDecided} {back back′ : List Bool} → AlikeDecides c c′ → AlikeCall (Call.decide c r back) (Call.decide c′ r′ back′)
+  otherWork : {a a′ : WorkCall} {lent lent′ : WorkLent} {r r′ : TileWorked} {back back′ : WorkLent} → AlikeCall (Call.row (Event.otherWork a lent r back)) (Call.row (Event.otherWork a′ lent′ r′ back′))
+  otherPaint : {a a′ : PaintCall} {plane plane′ : List Float} {r r′ : Painted} {back back′ : List Float} → AlikeCall (Call.row (Event.otherPaint a plane r back)) (Call.row (Event.otherPaint a′ plane′ r′ back′))
+  otherList : {a a′ : ListCall} {lent lent′ : ListLent} {r r′ : TileListed} {back back′ : ListLent} → AlikeCall (Call.otherList a lent r back) (Call.otherList a′ lent′ r′ back′)
+  otherDecide : {a a′ : DecideCall} {masks masks′ : List Bool} {r r′ : TileDecided} {back back′ : List Bool} → AlikeCall (Call.otherDecide a masks r back) (Call.otherDecide a′ masks′ r′ back′)
+
+pub data AlikeCalls : List Call → List Call → Type 0 where
+  none : AlikeCalls [] []
+  next : {e e′ : Call} {es es′ : List Call} → AlikeCall e e′ → AlikeCalls es es′ → AlikeCalls (e ∷ es) (e′ ∷ es′)
