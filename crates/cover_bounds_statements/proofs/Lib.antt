@@ -1,0 +1,3 @@
+-- Laws of covers known within bounds.
+pub mod Intervals
+pub mod Ends

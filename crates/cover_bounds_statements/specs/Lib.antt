@@ -1,0 +1,5 @@
+-- Covers known within bounds: what the operation promises.
+pub mod Interval
+pub mod Chosen
+pub mod Within
+pub mod InnerEnds
