@@ -1,3 +1,4 @@
 -- Laws of covers known within bounds.
 pub mod Intervals
 pub mod Ends
+pub mod Choosing
