@@ -2,3 +2,4 @@
 pub mod Intervals
 pub mod Ends
 pub mod Choosing
+pub mod Bounds

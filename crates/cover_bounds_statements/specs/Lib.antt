@@ -2,4 +2,6 @@
 pub mod Interval
 pub mod Chosen
 pub mod Within
+pub mod Sound
 pub mod InnerEnds
+pub mod InnerPlanes
