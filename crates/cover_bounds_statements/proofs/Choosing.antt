@@ -1,6 +1,6 @@
 -- Laws of chosen covers, for every table of seven widths: the words of a part with other covers, d in the order of the covers, and the loads of a
 -- choice within those of the heavier bounds. Assumes nothing.
-use mathlib.Core.Path.{_≡_, refl, sym, ap, _∙_}
+use mathlib.Core.Path.{_≡_, refl, sym, ap, ap₂, _∙_}
 use mathlib.Core.Bool.{Bool, true, false, cond}
 use mathlib.Core.List.{List}
 use mathlib.Core.Logic.{⊎-elim}
@@ -21,6 +21,7 @@ use Rattle.pixel_segment.proofs.Ranges.{Layout}
 use Rattle.pixel_segment.proofs.Covers.{with-field, with-cover}
 use Rattle.cover_statements.specs.Area.{isBefore, isOwn, coverBefore, ownArea, doubledArea}
 use Rattle.cover_statements.specs.Carry.{inRow, absCover, loadIn}
+use Rattle.cover_statements.specs.Cell.{cellOf}
 use Rattle.cover_bounds_statements.specs.Chosen.{chosen, chosenArea, HeldCovers, heavier}
 
 -- ---- the words
@@ -41,6 +42,9 @@ module _ (ws part : List ℕ) (cover : ℕ → ℤ) where
 
     pub chosen-y : localYOf ws (getD (chosen ws part cover) i 0) ≡ localYOf ws (getD part i 0)
     chosen-y = ap (localYOf ws) (chosen-at i h) ∙ with-field ws (getD part i 0) (cover i) layout 4 (omega arith)
+
+    pub chosen-cell : (n : ℕ) → cellOf ws n (getD (chosen ws part cover) i 0) ≡ cellOf ws n (getD part i 0)
+    chosen-cell n = ap₂ (λ (x y : ℕ). x * n + y) chosen-x chosen-y
 
     pub chosen-multiplier : multiplierOf ws (getD (chosen ws part cover) i 0) ≡ multiplierOf ws (getD part i 0)
     chosen-multiplier = ap (multiplierOf ws) (chosen-at i h) ∙ with-field ws (getD part i 0) (cover i) layout 5 (omega arith)

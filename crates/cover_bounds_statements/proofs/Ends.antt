@@ -23,7 +23,7 @@ use Rattle.styling.specs.declared.FillRule.the-variants.{NonZero, EvenOdd}
 use Rattle.cover_statements.specs.Weight.{weightOf}
 use Rattle.cover_statements.proofs.Weights.{low, high, weight-le}
 use Rattle.cover_bounds_statements.specs.Interval.{distance, leastWeight, greatestWeight}
-use Rattle.cover_bounds_statements.specs.InnerEnds.{hasZero, hasMultiple, leastByEnds, greatestByEnds}
+use Rattle.cover_bounds_statements.specs.InnerEnds.{hasZero, hasMultiple, hasNone, leastByEnds, greatestByEnds}
 use Rattle.cover_bounds_statements.proofs.Intervals.{Met, Least, Greatest, walk-least, walk-greatest, same-least, same-greatest, far}
 
 -- ---- the ends as numbers of the interval
@@ -267,3 +267,21 @@ module _ (a b : ℤ) (h : AtMost a b) where
       rw (moved 1024 a 512 (lit< tt))
       (ap (λ (v : ℤ). cond t 512 (max (weightOf EvenOdd a) (weightOf EvenOdd v))) (far a b h)
       ∙ same-greatest (even-odd-greatest a n t refl) (walk-greatest EvenOdd a n))
+
+-- ---- as the code goes: by its tests
+
+module _ (a b : ℤ) (o : leZ a b ≡ true) where
+  pub least-found : (rule : FillRule) → hasNone rule a b ≡ true → 0 ≡ leastWeight rule a b
+  least-found rule e = rw e at (least-by-ends a b (le-true a b o) rule)
+
+  pub least-of-ends : (rule : FillRule) {r : ℕ} → hasNone rule a b ≡ false → r ≡ min (weightOf rule a) (weightOf rule b) → r ≡ leastWeight rule a b
+  least-of-ends rule e q = q ∙ rw e at (least-by-ends a b (le-true a b o) rule)
+
+  pub greatest-found : hasMultiple 512 a b ≡ true → 512 ≡ greatestWeight EvenOdd a b
+  greatest-found e = rw e at (greatest-by-ends a b (le-true a b o) EvenOdd)
+
+  pub greatest-of-ends : {r : ℕ} → hasMultiple 512 a b ≡ false → r ≡ max (weightOf EvenOdd a) (weightOf EvenOdd b) → r ≡ greatestWeight EvenOdd a b
+  greatest-of-ends e q = q ∙ rw e at (greatest-by-ends a b (le-true a b o) EvenOdd)
+
+  pub greatest-of-both : {r : ℕ} → r ≡ max (weightOf NonZero a) (weightOf NonZero b) → r ≡ greatestWeight NonZero a b
+  greatest-of-both q = q ∙ greatest-by-ends a b (le-true a b o) NonZero

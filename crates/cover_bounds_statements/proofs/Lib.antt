@@ -3,3 +3,6 @@ pub mod Intervals
 pub mod Ends
 pub mod Choosing
 pub mod Bounds
+pub mod Loops
+pub mod Calls
+pub mod Promises

@@ -11,19 +11,19 @@ use Rattle.pixel_segment.specs.Field.{cpu}
 use Rattle.styling.specs.declared.FillRule.{FillRule}
 use Rattle.styling.specs.declared.FillRule.the-variants.{NonZero, EvenOdd}
 use Rattle.cover_statements.specs.Area.{areasOf}
-use Rattle.cover_statements.specs.Carry.{loadIn, isLight}
+use Rattle.cover_statements.specs.Carry.{loadIn}
 use Rattle.cover_statements.specs.Cover.{coverAt}
 use Rattle.cover_statements.specs.Plane.{inPlaces}
 use Rattle.cover_bounds_statements.specs.Interval.{leastWeight, greatestWeight}
 use Rattle.cover_bounds_statements.specs.Chosen.{chosen, HeldCovers}
 use Rattle.cover_bounds_statements.specs.Within.{BoundsCall, BoundPlanes, boundAt}
 
--- covers on one side of the bounds that can be summed up: there is one for each segment, a word holds it, and number 9 does not apply
-pub record Addable (cover : List ℤ) (part : List ℕ) (side : ℕ) (bounds : List ℤ) : Type 0 where
+-- covers on one side of the bounds that can be summed up: there is one for each segment, a word holds it, and no row has too much of them
+pub record Addable (part : List ℕ) (side : ℕ) (bounds : List ℤ) : Type 0 where
   pub side-is : side ≤ 1
   pub pairs : 2 * length part ≤ length bounds
   pub held : HeldCovers cpu (length part) (boundAt side bounds)
-  pub light : isLight cpu 16 cover (chosen cpu part (boundAt side bounds)) ≡ true
+  pub few : (y : ℕ) → y < 16 → loadIn cpu y (chosen cpu part (boundAt side bounds)) ≤ 127
 
 -- d of a pixel, of those by columns
 abbrev pub areaIn : List ℤ → ℕ → ℕ → ℤ

@@ -3,5 +3,6 @@ pub mod Interval
 pub mod Chosen
 pub mod Within
 pub mod Sound
+pub mod Part
 pub mod InnerEnds
 pub mod InnerPlanes

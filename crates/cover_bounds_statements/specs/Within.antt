@@ -2,7 +2,6 @@
 -- least and the greatest weight of the numbers between them by both rules. Refused by 1 where a plane is below 256 numbers or the bounds are
 -- below two bytes a segment, by 3 for a segment of another layer or tile, by 14 where a lowest is above its highest or a segment's bound is outside
 -- -32 to 31, and by 9. No table is lent, so 8 cannot apply. A refusal leaves the planes as they were.
-use mathlib.Core.Path.{_≡_}
 use mathlib.Core.Bool.{Bool, not, _&&_, _||_}
 use mathlib.Core.List.{List}
 use Prim.Native.Nat.{ℕ, _+_, _*_, _/_}
@@ -11,14 +10,12 @@ use lib.IntN.{ℤ, pos, negsuc}
 use lib.ListN.{length}
 use lib.Signed.{leZ}
 use Rattle.laws.specs.Integer.{isWithin}
-use Rattle.laws.specs.Lists.{over, every, all}
-use Rattle.refusals.specs.Refusal.{Judgement, pass, refuse, judgementIn, unless}
-use Rattle.refusals.specs.declared.Verdict.{Verdict}
+use Rattle.laws.specs.Lists.{every, all}
+use Rattle.refusals.specs.Refusal.{Judgement, pass, unless}
 use Rattle.pixel_segment.specs.Field.{cpu}
 use Rattle.styling.specs.declared.FillRule.{FillRule}
-use Rattle.styling.specs.declared.FillRule.the-variants.{NonZero, EvenOdd}
 use Rattle.cover_statements.specs.Cover.{coverAt}
-use Rattle.cover_statements.specs.Plane.{sizeOf, inPlaces}
+use Rattle.cover_statements.specs.Plane.{sizeOf}
 use Rattle.segment_set_statements.specs.Set.{isOf}
 use Rattle.cover_bounds_statements.specs.Interval.{leastWeight, greatestWeight}
 use Rattle.cover_bounds_statements.specs.Chosen.{chosenArea, isLightWithin}
@@ -112,18 +109,3 @@ leastAt rule call c y = leastWeight rule (lowestAt call c y) (highestAt call c y
 
 abbrev pub greatestAt : FillRule → BoundsCall → ℕ → ℕ → ℕ
 greatestAt rule call c y = greatestWeight rule (lowestAt call c y) (highestAt call c y)
-
--- a plane over what was lent where the verdict passes; what lies past its 256 numbers stays
-abbrev pub planeBy : {A : Type 0} → Judgement → (ℕ → ℕ → A) → List A → List A
-planeBy pass f old = over (inPlaces 16 f) old
-planeBy (refuse number) f old = old
-
--- the promise: the answer, and each plane
-pub record BoundsPart (call : BoundsCall) (old : BoundPlanes) (r : Verdict) (new : BoundPlanes) : Type 0 where
-  pub answer : judgementIn r ≡ boundsVerdict call old
-  pub lowest-is : new .lowest ≡ planeBy (boundsVerdict call old) (lowestAt call) (old .lowest)
-  pub highest-is : new .highest ≡ planeBy (boundsVerdict call old) (highestAt call) (old .highest)
-  pub least-non-zero : new .leastNonZero ≡ planeBy (boundsVerdict call old) (leastAt NonZero call) (old .leastNonZero)
-  pub greatest-non-zero : new .greatestNonZero ≡ planeBy (boundsVerdict call old) (greatestAt NonZero call) (old .greatestNonZero)
-  pub least-even-odd : new .leastEvenOdd ≡ planeBy (boundsVerdict call old) (leastAt EvenOdd call) (old .leastEvenOdd)
-  pub greatest-even-odd : new .greatestEvenOdd ≡ planeBy (boundsVerdict call old) (greatestAt EvenOdd call) (old .greatestEvenOdd)
