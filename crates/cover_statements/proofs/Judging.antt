@@ -166,6 +166,6 @@ module _ {ws : List ℕ} {n m : ℕ} {f : ℕ → ℤ} {part : List ℕ} where
         ∙ c .same k l)
 
 -- a table of zeros
-pub sum-zeros : {ws : List ℕ} {m : ℕ} {f : ℕ → ℤ} {part loads : List ℕ} {table : List ℤ} → table ≡ noCells → Summed ws 16 m f part 0 loads table
+pub sum-zeros : {ws : List ℕ} {n m : ℕ} {f : ℕ → ℤ} {part loads : List ℕ} {table : List ℤ} → table ≡ noCells n → Summed ws n m f part 0 loads table
 unfolding noCells
-sum-zeros e = sum-start (ap length e ∙ length-replicate 256 (pos 0)) (λ k. ap (λ (l : List ℤ). coverAt l k) e ∙ getD-default {a = pos 0} 256 k)
+sum-zeros {n = n} e = sum-start (ap length e ∙ length-replicate (16 * n) (pos 0)) (λ k. ap (λ (l : List ℤ). coverAt l k) e ∙ getD-default {a = pos 0} (16 * n) k)

@@ -1,11 +1,13 @@
--- A column's double areas become its doubled areas, one pixel row after another. Assumes nothing.
-use mathlib.Core.Path.{_≡_, refl, sym, _∙_}
+-- A column's double areas become its doubled areas, one pixel row after another, over any height. Assumes nothing.
+use mathlib.Core.Path.{_≡_, refl, sym, ap, ap₂, _∙_}
 use mathlib.Core.Bool.{Bool, false, _&&_}
 use mathlib.Core.List.{List}
 use mathlib.Core.Logic.{⊎-elim}
 use Prim.Native.Nat.{ℕ, _+_, _*_, _/_, _%_, _<_}
+use native.Mathlib.Nat.{le-refl, div-add-mod'}
 use native.Mathlib.Omega.{arith}
 use borrow.Author.Tests.{eqb-true, ltb-true, eq-eqb, lt-ltb, le-ltb}
+use lib.Arith.{digits-lt, digits-div, digits-mod}
 use lib.Dec.{eqb, ltb}
 use lib.IntN.{ℤ, pos, _+ℤ_, _*ℤ_}
 use lib.ListN.{length, set, length-set}
@@ -17,43 +19,49 @@ use Rattle.cover_statements.specs.Cover.{coverAt}
 use Rattle.cover_statements.proofs.Areas.{below-next}
 
 -- pixel k has been shaded once the first rows of the column are
-abbrev isShaded : ℕ → ℕ → ℕ → Bool
-isShaded column rows k = eqb (k / 16) column && ltb (k % 16) rows
+abbrev isShaded : ℕ → ℕ → ℕ → ℕ → Bool
+isShaded n column rows k = eqb (k / n) column && ltb (k % n) rows
 
--- with one row more that is pixel column × 16 + row besides
-shaded-other : (column y k : ℕ) → (k ≡ column * 16 + y → ⊥) → isShaded column (y + 1) k ≡ isShaded column y k
-shaded-other column y k n =
-    same (isShaded column (y + 1) k) (isShaded column y k)
+-- with one row more that is pixel column × n + row besides
+shaded-other : (n column y k : ℕ) → (k ≡ column * n + y → ⊥) → isShaded n column (y + 1) k ≡ isShaded n column y k
+shaded-other n column y k d =
+    same (isShaded n column (y + 1) k) (isShaded n column y k)
     (λ e.
-    let q = eqb-true (k / 16) column (left (eqb (k / 16) column) (ltb (k % 16) (y + 1)) e) in
-    let r = ltb-true (k % 16) (y + 1) (right (eqb (k / 16) column) (ltb (k % 16) (y + 1)) e) in
-    both (eqb (k / 16) column) (ltb (k % 16) y) (eq-eqb (k / 16) column q) (lt-ltb (k % 16) y (omega arith)))
+    let q = eqb-true (k / n) column (left (eqb (k / n) column) (ltb (k % n) (y + 1)) e) in
+    let r = ltb-true (k % n) (y + 1) (right (eqb (k / n) column) (ltb (k % n) (y + 1)) e) in
+    both (eqb (k / n) column) (ltb (k % n) y) (eq-eqb (k / n) column q) (lt-ltb (k % n) y (below (k % n) q r refl)))
     (λ e.
-    let q = eqb-true (k / 16) column (left (eqb (k / 16) column) (ltb (k % 16) y) e) in
-    let r = ltb-true (k % 16) y (right (eqb (k / 16) column) (ltb (k % 16) y) e) in
-    both (eqb (k / 16) column) (ltb (k % 16) (y + 1)) (eq-eqb (k / 16) column q) (lt-ltb (k % 16) (y + 1) (omega arith)))
+    let q = eqb-true (k / n) column (left (eqb (k / n) column) (ltb (k % n) y) e) in
+    let r = ltb-true (k % n) y (right (eqb (k / n) column) (ltb (k % n) y) e) in
+    both (eqb (k / n) column) (ltb (k % n) (y + 1)) (eq-eqb (k / n) column q) (lt-ltb (k % n) (y + 1) (omega arith)))
+  where
+    below : (m : ℕ) → k / n ≡ column → m < y + 1 → m ≡ k % n → m < y
+    below m q r e =
+        ⊎-elim
+        (λ (s : m ≡ y). absurd (d (sym (div-add-mod' k n) ∙ ap₂ (λ (a b : ℕ). a * n + b) q (sym e ∙ s))))
+        (λ (s : m ≡ y → ⊥). omega arith)
+        (eq-or-ne m y)
 
-module _ {column : ℕ} {areas₀ covers sums : List ℤ} where
-  pub shade-start : length areas₀ ≡ 256 → length sums ≡ 16 → Shaded column 0 areas₀ covers sums areas₀ sums
+module _ {n column : ℕ} {areas₀ covers sums : List ℤ} where
+  pub shade-start : length areas₀ ≡ 16 * n → length sums ≡ n → Shaded n column 0 areas₀ covers sums areas₀ sums
   shade-start e h =
       record {
         long = e;
-        area = λ k p. rw (le-ltb (k % 16) 0 (omega arith), not-right (eqb (k / 16) column) false refl);
+        area = λ k p. rw (le-ltb (k % n) 0 (omega arith), not-right (eqb (k / n) column) false refl);
         sums-long = h;
         sum = λ y p. rw (le-ltb y 0 (omega arith));
       }
 
-  module _ {y : ℕ} {areas next : List ℤ} (c : Shaded column y areas₀ covers sums areas next) (low : column < 16) (h : y < 16) where
+  module _ {y : ℕ} {areas next : List ℤ} (c : Shaded n column y areas₀ covers sums areas next) (low : column < 16) (h : y < n) where
     -- row y is still as it was
-    pub shade-area : coverAt areas (column * 16 + y) ≡ coverAt areas₀ (column * 16 + y)
+    pub shade-area : coverAt areas (column * n + y) ≡ coverAt areas₀ (column * n + y)
     shade-area =
-        let k = column * 16 + y in
-        let e : k % 16 ≡ y = omega arith in
-        c .area k (omega arith) ∙ rw (le-ltb (k % 16) y (omega arith), not-right (eqb (k / 16) column) false refl)
+        let k = column * n + y in
+        c .area k (digits-lt low h) ∙ rw (le-ltb (k % n) y (rw (digits-mod column h) (le-refl y)), not-right (eqb (k / n) column) false refl)
 
     -- row y, shaded
-    pub shade-next : {k : ℕ} {v u : ℤ} → k ≡ column * 16 + y → v ≡ pos 32 *ℤ coverAt sums y +ℤ coverAt areas k → u ≡ coverAt sums y +ℤ coverAt covers k
-        → Shaded column (y + 1) areas₀ covers sums (set areas k v) (set next y u)
+    pub shade-next : {k : ℕ} {v u : ℤ} → k ≡ column * n + y → v ≡ pos 32 *ℤ coverAt sums y +ℤ coverAt areas k → u ≡ coverAt sums y +ℤ coverAt covers k
+        → Shaded n column (y + 1) areas₀ covers sums (set areas k v) (set next y u)
     shade-next {k} {v} {u} p ev eu =
         record {
           long = length-set areas k v ∙ c .long;
@@ -61,20 +69,20 @@ module _ {column : ℕ} {areas₀ covers sums : List ℤ} where
               λ j q.
               ⊎-elim
               (λ (s : j ≡ k).
-              let d : j / 16 ≡ column = omega arith in
-              let m : j % 16 ≡ y = omega arith in
+              let d : j / n ≡ column = ap (λ (i : ℕ). i / n) (s ∙ p) ∙ digits-div column h in
+              let m : j % n ≡ y = ap (λ (i : ℕ). i % n) (s ∙ p) ∙ digits-mod column h in
               rw (
-                eq-eqb (j / 16) column d,
+                eq-eqb (j / n) column d,
                 m,
                 lt-ltb y (y + 1) (omega arith),
                 s,
-                getD-set-same areas k v (pos 0) (omega (arith, c .long)),
+                getD-set-same areas k v (pos 0) (rw (c .long, p) (digits-lt low h)),
                 ev,
                 p,
                 shade-area,
               ))
               (λ (s : j ≡ k → ⊥).
-              rw (getD-set-other areas k j v (pos 0) s, shaded-other column y j (λ t. s (t ∙ sym p))) (c .area j q))
+              rw (getD-set-other areas k j v (pos 0) s, shaded-other n column y j (λ t. s (t ∙ sym p))) (c .area j q))
               (eq-or-ne j k);
           sums-long = length-set next y u ∙ c .sums-long;
           sum =
