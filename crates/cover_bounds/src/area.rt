@@ -9,7 +9,7 @@ ghost use lib.IntN.{pos, _*ℤ_};
 ghost use lib.ListN.{length};
 ghost use Rattle.pixel_segment.specs.Field.{cpu, multiplierOf};
 ghost use Rattle.cover_statements.specs.Area.{areasOf};
-ghost use Rattle.cover_statements.specs.Cell.{cellOf, noCells, Accumulated};
+ghost use Rattle.cover_statements.specs.Cell.{noCells, Accumulated};
 ghost use Rattle.cover_statements.specs.Carry.{isLight};
 ghost use Rattle.cover_statements.specs.Cover.{coverAt};
 ghost use Rattle.cover_bounds_statements.specs.Chosen.{chosen};
@@ -39,7 +39,7 @@ fn add_bounds(
     areas: &mut [i16; 256],
     covers: &mut [i8; 256],
 )
-    requires { ⌜ Addable (now part) side (now bounds) × (now areas ≡ noCells) × (now covers ≡ noCells) ⌝ }
+    requires { ⌜ Addable (now part) side (now bounds) × (now areas ≡ noCells 16) × (now covers ≡ noCells 16) ⌝ }
     ensures { λ _. ⌜ Accumulated cpu 16 (chosen cpu (now (part .entry)) (boundAt side (now (bounds .entry))))
         (now (areas .exit)) (now (covers .exit)) ⌝ }
 {
@@ -58,9 +58,9 @@ fn add_bounds(
 pub fn sum_bounds(part: &[u64], bounds: &[i8], side: usize, cover: Cover, areas: &mut [i16; 256])
     requires { ⌜ Addable (now part) side (now bounds)
         × (isLight cpu 16 (cover .covers) (chosen cpu (now part) (boundAt side (now bounds))) ≡ true)
-        × (now areas ≡ noCells) ⌝ }
-    ensures { λ _. ⌜ now (areas .exit)
-        ≡ areasOf cpu 16 (coverAt (cover .covers)) (chosen cpu (now (part .entry)) (boundAt side (now (bounds .entry)))) ⌝ }
+        × (now areas ≡ noCells 16) ⌝ }
+    ensures { λ _. ⌜ now (areas .exit) ≡ areasOf cpu 16 (coverAt (cover .covers))
+        (chosen cpu (now (part .entry)) (boundAt side (now (bounds .entry)))) ⌝ }
 {
     let incoming = cover.covers;
     let mut covers = [0i8; 256];

@@ -143,7 +143,8 @@ fn add_heavier(part: &[u64], bounds: &[i8], incoming: [u16; 16]) -> [u16; 16]
 
 // Number 9: whether it applies at no pixel row.
 fn is_light_within(part: &[u64], bounds: &[i8], low: Cover, high: Cover) -> bool
-    requires { ⌜ (length (now part) ≤ length (now bounds) / 2) × (areBounded (length (now part)) (now bounds) ≡ true) ⌝ }
+    requires { ⌜ (length (now part) ≤ length (now bounds) / 2)
+        × (areBounded (length (now part)) (now bounds) ≡ true) ⌝ }
     ensures { λ r. ⌜ r ≡ isLightWithin cpu 16 (low .covers) (high .covers) (now (part .entry))
         (boundAt 0 (now (bounds .entry))) (boundAt 1 (now (bounds .entry))) ⌝ }
 {

@@ -13,9 +13,9 @@ use crate::interval;
 // Where d of the pixel at a place of a plane stands: d is stored by columns.
 fn cell(place: usize) -> usize
     requires { ⌜ place < 256 ⌝ }
-    ensures { λ r. ⌜ r ≡ columnOf 16 place * 16 + rowOf 16 place ⌝ }
+    ensures { λ r. ⌜ r ≡ columnOf place * 16 + rowOf place ⌝ }
 {
-    place / 16 * 16 + place % 16
+    place % 16 * 16 + place / 16
 }
 
 fn write_areas(areas: &[i16; 256], plane: &mut [i16])

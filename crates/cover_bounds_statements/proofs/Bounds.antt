@@ -1,7 +1,7 @@
 -- Laws of covers within bounds, for every table of seven widths: the lowest and the highest d are the least and the greatest of all choices and are
 -- reached; every choice has its weights inside, and is light where the heavier bounds are; equal bounds tell all exactly; narrower bounds give an
 -- interval inside. Assumes nothing.
-use mathlib.Core.Path.{_≡_, refl, sym, ap, ap₂, _∙_}
+use mathlib.Core.Path.{_≡_, refl, sym, ap, _∙_}
 use mathlib.Core.Bool.{true}
 use mathlib.Core.List.{List}
 use Prim.Native.Nat.{ℕ, _+_, _-_, _^_, _≤_, _<_}

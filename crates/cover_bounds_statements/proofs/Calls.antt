@@ -1,5 +1,5 @@
--- What a verdict that passes tells of a call; that its planes say what they should; and the planes from d by columns. Assumes nothing.
-use mathlib.Core.Path.{_≡_, refl, sym, ap, ap₂, _∙_}
+-- What a verdict that passes tells of a call; that its planes say what they should; and d by columns. Assumes nothing.
+use mathlib.Core.Path.{_≡_, ap, ap₂, _∙_}
 use mathlib.Core.Bool.{Bool, true, false, not, _&&_, _||_}
 use mathlib.Core.List.{List}
 use Prim.Native.Nat.{ℕ, _+_, _*_, _/_, _%_, _≤_, _<_}
@@ -8,31 +8,27 @@ use borrow.Author.Tests.{ltb-false, not-false}
 use lib.Dec.{ltb}
 use lib.IntN.{ℤ, pos, negsuc}
 use lib.ListN.{length}
-use lib.Seq.{ext-getD}
 use lib.Signed.{leZ}
-use Rattle.laws.specs.Integer.{plus, minus, isWithin}
-use Rattle.laws.specs.Lists.{tabulate, every, all, over}
+use Rattle.laws.specs.Integer.{plus, minus}
+use Rattle.laws.specs.Lists.{every, all}
 use Rattle.laws.proofs.Bools.{left, right}
 use Rattle.laws.proofs.Every.{every-at}
 use Rattle.laws.proofs.Parts.{le-true, true-le, whole}
 use Rattle.laws.proofs.Ranges.{within}
-use Rattle.refusals.specs.Refusal.{Judgement, pass, unless}
+use Rattle.refusals.specs.Refusal.{pass, unless}
 use Rattle.refusals.proofs.Judging.{passed, or-left, or-right}
 use Rattle.pixel_segment.specs.Field.{cpu}
 use Rattle.pixel_segment.proofs.Ranges.{cpu-layout}
-use Rattle.styling.specs.declared.FillRule.{FillRule}
 use Rattle.cover_statements.specs.Area.{doubledArea, areasOf}
 use Rattle.cover_statements.specs.Carry.{isLight}
 use Rattle.cover_statements.specs.Cover.{coverAt}
-use Rattle.cover_statements.specs.Plane.{columnOf, rowOf, inPlaces}
 use Rattle.cover_statements.proofs.Carries.{light}
-use Rattle.cover_statements.proofs.Planes.{places-length, places-at, areas-at}
+use Rattle.cover_statements.proofs.Planes.{areas-at}
 use Rattle.segment_set_statements.specs.Set.{isOf}
-use Rattle.cover_bounds_statements.specs.Interval.{leastWeight, greatestWeight}
-use Rattle.cover_bounds_statements.specs.Chosen.{chosen, chosenArea, InBounds, HeldCovers, heavier}
+use Rattle.cover_bounds_statements.specs.Chosen.{chosen, HeldCovers, heavier}
 use Rattle.cover_bounds_statements.specs.Within.{BoundsCall, BoundPlanes, boundAt, isBelow, lacksRoom, isCover, isBounded, areBounded, isCarryBounded, isCallLight, boundsVerdict, lowestAt, highestAt}
-use Rattle.cover_bounds_statements.specs.Sound.{Sound, ChosenIn, EqualBounds, ChoiceInside, Exactly}
-use Rattle.cover_bounds_statements.specs.InnerPlanes.{Addable, areaIn, leastIn, greatestIn, Upward, Roomy}
+use Rattle.cover_bounds_statements.specs.Sound.{Sound, ChosenIn}
+use Rattle.cover_bounds_statements.specs.InnerPlanes.{Addable, areaIn, Upward, Roomy}
 use Rattle.cover_bounds_statements.proofs.Choosing.{Ordered, area-most, heavier-is}
 use Rattle.cover_bounds_statements.proofs.Bounds.{low-itself, high-itself, inside, sound, exact-area, exact-least, exact-greatest, light-within}
 
@@ -229,15 +225,7 @@ module _ {call : BoundsCall} {old : BoundPlanes} (p : Passed call old) where
             (area-most cpu cpu-layout (call .part) (boundAt 0 (call .bounds)) (boundAt 1 (call .bounds)) lows highs covers-up x y (coverAt (call .low)) (coverAt (call .high)) (carries-up .at y (omega arith))));
       }
 
--- ---- planes from d by columns
-
--- planes of pixels that agree are equal
-pub pixels-same : {A : Type 0} (f g : ℕ → ℕ → A) → ((c y : ℕ) → c < 16 → y < 16 → f c y ≡ g c y) → inPlaces 16 f ≡ inPlaces 16 g
-pixels-same f g h =
-    ext-getD (f 0 0) (inPlaces 16 f) (inPlaces 16 g) (places-length 16 f ∙ sym (places-length 16 g))
-    (λ k l.
-    let p : k < 256 = rw (places-length 16 f) at l in
-    places-at 16 f (f 0 0) k p ∙ h (columnOf 16 k) (rowOf 16 k) (omega arith) (omega arith) ∙ sym (places-at 16 g (f 0 0) k p))
+-- ---- d by columns
 
 -- d of a pixel, read from d by columns
 pub area-in : (incoming : ℕ → ℤ) (part : List ℕ) {areas : List ℤ} → areas ≡ areasOf cpu 16 incoming part → (c y : ℕ) → c < 16 → y < 16 → areaIn areas c y ≡ doubledArea cpu incoming part c y

@@ -1,6 +1,6 @@
 -- Laws of chosen covers, for every table of seven widths: the words of a part with other covers, d in the order of the covers, and the loads of a
 -- choice within those of the heavier bounds. Assumes nothing.
-use mathlib.Core.Path.{_≡_, refl, sym, ap, ap₂, _∙_}
+use mathlib.Core.Path.{_≡_, sym, ap, ap₂, _∙_}
 use mathlib.Core.Bool.{Bool, true, false, cond}
 use mathlib.Core.List.{List}
 use mathlib.Core.Logic.{⊎-elim}
@@ -10,7 +10,6 @@ use borrow.Author.Tests.{le-leb, lt-leb}
 use lib.Dec.{leb}
 use lib.IntN.{ℤ, pos, natAbs, _+ℤ_, _*ℤ_}
 use lib.ListN.{length, getD}
-use Rattle.laws.specs.Integer.{plus, minus}
 use Rattle.laws.proofs.Orders.{le-or-lt}
 use Rattle.laws.proofs.Parts.{AtMost, whole, sum-most, times-most}
 use Rattle.laws.proofs.Rows.{length-tabulate, getD-tabulate}

@@ -2,7 +2,7 @@
 -- its first number and by its length: a number that leaves a given remainder is within reach or it is not, and where it is not the weights go
 -- straight from end to end, or down and up again. Assumes nothing.
 use mathlib.Core.Path.{_≡_, refl, sym, ap, subst, _∙_}
-use mathlib.Core.Bool.{Bool, true, false, cond, _&&_, _||_}
+use mathlib.Core.Bool.{Bool, true, false, cond, _||_}
 use mathlib.Core.Logic.{_⊎_, inl, inr, ⊎-elim, ⊎-swap}
 use Prim.Native.Nat.{ℕ, _+_, _-_, _%_, _≤_, _<_, min, max}
 use native.Mathlib.Nat.{add-zero, mod-lt, mod-eq-of-lt}

@@ -1,16 +1,15 @@
 -- Laws of the walk over an interval: its least and its greatest weight are each met by a number of the interval, and no number's weight lies
 -- outside them; and whatever is so is the least or the greatest weight. Assumes nothing.
-use mathlib.Core.Path.{_≡_, refl, sym, ap, subst, _∙_}
+use mathlib.Core.Path.{_≡_, refl, ap, subst}
 use mathlib.Core.Bool.{true}
 use mathlib.Core.Logic.{⊎-elim}
-use Prim.Native.Nat.{ℕ, zero, suc, _+_, _≤_, min, max}
+use Prim.Native.Nat.{ℕ, zero, suc, _≤_}
 use native.Mathlib.Omega.{arith}
 use native.Mathlib.Nat.{eq-or-lt-of-le}
-use lib.IntN.{ℤ, pos, _+ℤ_, _-ℤ_, +ℤ-idr}
-use lib.Signed.{leZ}
-use Rattle.laws.specs.Integer.{plus, minus, isWithin}
+use lib.IntN.{ℤ, pos, _+ℤ_, +ℤ-idr}
+use Rattle.laws.specs.Integer.{isWithin}
 use Rattle.laws.proofs.Orders.{le-or-lt}
-use Rattle.laws.proofs.Parts.{AtMost, added, taken, equal, le-true, true-le}
+use Rattle.laws.proofs.Parts.{AtMost, added, taken, equal}
 use Rattle.laws.proofs.Ranges.{within, is-within}
 use Rattle.styling.specs.declared.FillRule.{FillRule}
 use Rattle.cover_statements.specs.Weight.{weightOf}

@@ -3,13 +3,12 @@
 use mathlib.Core.Path.{_≡_, refl, sym, ap, ap₂, _∙_}
 use mathlib.Core.Bool.{Bool, true, _&&_, and-comm}
 use mathlib.Core.List.{List}
-use Prim.Native.Nat.{ℕ, suc, _+_, _*_, _≤_, _<_}
+use Prim.Native.Nat.{ℕ, _+_, _*_, _≤_, _<_}
 use native.Mathlib.Numerals.{add-one}
 use native.Mathlib.Omega.{arith}
 use borrow.Author.Tests.{eq-eqb}
-use lib.Dec.{eqb}
-use lib.IntN.{ℤ, pos, natAbs, _+ℤ_}
-use lib.ListN.{length, getD, drop, set, length-set, replicate, length-replicate}
+use lib.IntN.{ℤ, natAbs, _+ℤ_}
+use lib.ListN.{length, getD, set, length-set, replicate, length-replicate}
 use Rattle.laws.specs.Lists.{tabulate, every, over}
 use Rattle.laws.proofs.Rows.{filled, filled-more, filled-all, length-tabulate, getD-tabulate}
 use Rattle.laws.proofs.Sums.{sum-step}
@@ -88,7 +87,7 @@ left w = omega arith
 low : (w : ℕ) → localYOf cpu w < 16
 low w = omega arith
 
-pub add-start : {part : List ℕ} {areas covers : List ℤ} → areas ≡ noCells → covers ≡ noCells → Adding part 0 areas covers
+pub add-start : {part : List ℕ} {areas covers : List ℤ} → areas ≡ noCells 16 → covers ≡ noCells 16 → Adding part 0 areas covers
 add-start e f =
     record {
       loads = replicate 16 0;

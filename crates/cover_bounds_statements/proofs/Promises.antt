@@ -13,12 +13,13 @@ use Rattle.styling.specs.declared.FillRule.{FillRule}
 use Rattle.styling.specs.declared.FillRule.the-variants.{NonZero, EvenOdd}
 use Rattle.cover_statements.specs.Cover.{coverAt}
 use Rattle.cover_statements.specs.Plane.{inPlaces}
+use Rattle.cover_statements.proofs.Planes.{places-ext}
 use Rattle.cover_bounds_statements.specs.Interval.{leastWeight, greatestWeight}
 use Rattle.cover_bounds_statements.specs.Chosen.{chosen}
 use Rattle.cover_bounds_statements.specs.Within.{BoundsCall, BoundPlanes, boundAt, boundsVerdict, lowestAt, highestAt, leastAt, greatestAt}
 use Rattle.cover_bounds_statements.specs.Part.{planeBy, BoundsPart}
 use Rattle.cover_bounds_statements.specs.InnerPlanes.{areaIn, leastIn, greatestIn, PlanesWritten, AreasBetween}
-use Rattle.cover_bounds_statements.proofs.Calls.{bounds-passed, is-sound, pixels-same, area-in}
+use Rattle.cover_bounds_statements.proofs.Calls.{bounds-passed, is-sound, area-in}
 
 never : (n : ℕ) → refuse n ≡ pass → ⊥
 never n e = let z : _≡_ {A = ℕ} 0 1 = cc in omega arith
@@ -45,18 +46,18 @@ module _ (call : BoundsCall) {lows highs : List ℤ} (a : AreasBetween (call .pa
 
   least-same : (rule : FillRule) → inPlaces 16 (leastIn rule lows highs) ≡ inPlaces 16 (leastAt rule call)
   least-same rule =
-      pixels-same (leastIn rule lows highs) (leastAt rule call) (λ c y h k. ap₂ (leastWeight rule) (low-at c y h k) (high-at c y h k))
+      places-ext 16 (leastIn rule lows highs) (leastAt rule call) (λ c y h k. ap₂ (leastWeight rule) (low-at c y h k) (high-at c y h k))
 
   greatest-same : (rule : FillRule) → inPlaces 16 (greatestIn rule lows highs) ≡ inPlaces 16 (greatestAt rule call)
   greatest-same rule =
-      pixels-same (greatestIn rule lows highs) (greatestAt rule call) (λ c y h k. ap₂ (greatestWeight rule) (low-at c y h k) (high-at c y h k))
+      places-ext 16 (greatestIn rule lows highs) (greatestAt rule call) (λ c y h k. ap₂ (greatestWeight rule) (low-at c y h k) (high-at c y h k))
 
   pub written-part : {old new : BoundPlanes} {r : Verdict} → boundsVerdict call old ≡ pass → judgementIn r ≡ pass → PlanesWritten lows highs old new → BoundsPart call old r new
   written-part {old} {new} e f w =
       record {
         answer = f ∙ sym e;
-        lowest-is = w .lowest-is ∙ ap (λ (l : List ℤ). over l (old .lowest)) (pixels-same (areaIn lows) (lowestAt call) low-at) ∙ by (lowestAt call) (old .lowest);
-        highest-is = w .highest-is ∙ ap (λ (l : List ℤ). over l (old .highest)) (pixels-same (areaIn highs) (highestAt call) high-at) ∙ by (highestAt call) (old .highest);
+        lowest-is = w .lowest-is ∙ ap (λ (l : List ℤ). over l (old .lowest)) (places-ext 16 (areaIn lows) (lowestAt call) low-at) ∙ by (lowestAt call) (old .lowest);
+        highest-is = w .highest-is ∙ ap (λ (l : List ℤ). over l (old .highest)) (places-ext 16 (areaIn highs) (highestAt call) high-at) ∙ by (highestAt call) (old .highest);
         least-non-zero = w .non-zero .least-is ∙ ap (λ (l : List ℕ). over l (old .leastNonZero)) (least-same NonZero) ∙ by (leastAt NonZero call) (old .leastNonZero);
         greatest-non-zero = w .non-zero .greatest-is ∙ ap (λ (l : List ℕ). over l (old .greatestNonZero)) (greatest-same NonZero) ∙ by (greatestAt NonZero call) (old .greatestNonZero);
         least-even-odd = w .even-odd .least-is ∙ ap (λ (l : List ℕ). over l (old .leastEvenOdd)) (least-same EvenOdd) ∙ by (leastAt EvenOdd call) (old .leastEvenOdd);

@@ -2,7 +2,7 @@
 use mathlib.Core.Path.{_≡_}
 use mathlib.Core.Bool.{true}
 use mathlib.Core.List.{List}
-use Prim.Native.Nat.{ℕ, _+_, _*_, _^_, _≤_, _<_}
+use Prim.Native.Nat.{ℕ, _+_, _*_, _≤_, _<_}
 use lib.IntN.{ℤ}
 use lib.ListN.{length}
 use lib.Signed.{leZ}
@@ -16,7 +16,7 @@ use Rattle.cover_statements.specs.Cover.{coverAt}
 use Rattle.cover_statements.specs.Plane.{inPlaces}
 use Rattle.cover_bounds_statements.specs.Interval.{leastWeight, greatestWeight}
 use Rattle.cover_bounds_statements.specs.Chosen.{chosen, HeldCovers}
-use Rattle.cover_bounds_statements.specs.Within.{BoundsCall, BoundPlanes, boundAt}
+use Rattle.cover_bounds_statements.specs.Within.{BoundPlanes, boundAt}
 
 -- covers on one side of the bounds that can be summed up: there is one for each segment, a word holds it, and no row has too much of them
 pub record Addable (part : List ℕ) (side : ℕ) (bounds : List ℤ) : Type 0 where

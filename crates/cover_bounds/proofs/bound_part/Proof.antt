@@ -2,10 +2,10 @@
 use mathlib.Core.Path.{_≡_, refl, sym, ap, _∙_}
 use borrow.Author.Needs.{needs}
 use mir.Facts.{toZ-ofZ}
-use Rattle.refusals.specs.Refusal.{pass, judgementIn}
+use Rattle.refusals.specs.Refusal.{judgementIn}
 use Rattle.cover_statements.specs.Cell.{noCells}
 use Rattle.cover_bounds_statements.specs.Within.{boundsCall, boundPlanes, boundsVerdict}
-use Rattle.cover_bounds_statements.proofs.Calls.{Passed, bounds-passed, low-addable, low-light, high-addable, high-light, areas-upward}
+use Rattle.cover_bounds_statements.proofs.Calls.{bounds-passed, low-addable, low-light, high-addable, high-light, areas-upward}
 use Rattle.cover_bounds_statements.proofs.Promises.{refused-part, written-part}
 use Rattle.cover_bounds.proofs.bound_part.Statement.{statement}
 use Rattle.cover_bounds.proofs.bound_part.Tie as tie

@@ -2,12 +2,10 @@
 use mathlib.Core.Path.{_≡_}
 use Prim.Native.Nat.{_≤_}
 use native.Mathlib.Omega.{arith}
-use lib.Dec.{T}
-use lib.IntN.{ℤ, natAbs, _-ℤ_}
-use lib.Signed.{nonNeg}
+use lib.IntN.{_-ℤ_}
 use mir.Facts.{toZ-ofZ, sfits-widen}
 use mir.Syntax.{w16, w32}
-use mir.Val.{SFits, Fits}
+use mir.Val.{SFits}
 use Rattle.laws.specs.Integer.{plus, minus}
 use Rattle.laws.proofs.Machine.{sfits, within, unsigned}
 use Rattle.laws.proofs.Parts.{whole, taken, le-true}

@@ -1,5 +1,5 @@
 -- `interval::greatest_even_odd` meets its contract. Assumes nothing.
-use mathlib.Core.Path.{_≡_, sym, ap₂, _∙_}
+use mathlib.Core.Path.{sym, ap₂, _∙_}
 use Prim.Native.Nat.{max}
 use borrow.Author.Needs.{needs}
 use mir.Facts.{toZ-ofZ}

@@ -1,5 +1,5 @@
 -- `interval::least_non_zero` meets its contract. Assumes nothing.
-use mathlib.Core.Path.{_≡_, sym, ap₂, _∙_}
+use mathlib.Core.Path.{sym, ap₂, _∙_}
 use Prim.Native.Nat.{min}
 use borrow.Author.Needs.{needs}
 use mir.Facts.{toZ-ofZ}

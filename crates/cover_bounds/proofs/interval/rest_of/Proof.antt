@@ -1,11 +1,11 @@
 -- `interval::rest_of` meets its contract. With 32,768, a multiple of 1,024, no number is negative, and its remainder is the machine's.
 -- Assumes nothing.
 use mathlib.Core.Path.{_≡_, ap}
-use Prim.Native.Nat.{ℕ, _+_, _%_, _<_}
+use Prim.Native.Nat.{ℕ, _%_}
 use native.Mathlib.Omega.{arith}
 use borrow.Author.Needs.{needs}
 use lib.Dec.{T, lit<}
-use lib.IntN.{ℤ, pos, natAbs, _+ℤ_}
+use lib.IntN.{pos, natAbs, _+ℤ_}
 use lib.Signed.{nonNeg}
 use mir.Facts.{toZ-ofZ, toZ-pos, sfits-widen}
 use mir.Syntax.{w16, w32}

@@ -1,8 +1,6 @@
 -- `judging::are_bounded` meets its contract. Assumes nothing.
-use mathlib.Core.Path.{_≡_}
 use Prim.Native.Nat.{_-_}
 use native.Mathlib.Omega.{arith}
-use borrow.Author.Needs.{needs}
 use mir.Syntax.{w8}
 use Rattle.laws.proofs.Machine.{kept}
 use Rattle.cover_bounds_statements.specs.Within.{boundAt, isBounded}

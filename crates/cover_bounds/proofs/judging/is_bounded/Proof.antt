@@ -1,5 +1,4 @@
 -- `judging::is_bounded` meets its contract. Assumes nothing.
-use mathlib.Core.Path.{_≡_}
 use borrow.Author.Needs.{needs}
 use mir.Facts.{toZ-ofZ}
 use Rattle.cover_bounds.proofs.judging.is_bounded.Statement.{statement}

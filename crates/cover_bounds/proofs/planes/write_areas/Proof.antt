@@ -1,8 +1,7 @@
 -- `planes::write_areas` meets its contract. Assumes nothing.
-use mathlib.Core.Path.{_≡_, ap, _∙_}
-use Prim.Native.Nat.{ℕ, _+_, _*_, _-_, _<_}
+use mathlib.Core.Path.{ap, _∙_}
+use Prim.Native.Nat.{_-_}
 use native.Mathlib.Omega.{arith}
-use borrow.Author.Needs.{needs}
 use mir.Syntax.{w16}
 use Rattle.laws.proofs.Machine.{kept}
 use Rattle.cover_statements.specs.Cover.{coverAt}
@@ -13,7 +12,7 @@ use Rattle.cover_bounds.proofs.planes.write_areas.Statement.{statement}
 use Rattle.cover_bounds.proofs.planes.write_areas.Tie as tie
 
 abbrev Inv-loop : tie.InvT-loop
-Inv-loop areas plane₀ place₀ plane place = Placing 256 (λ p. areaIn areas (columnOf 16 p) (rowOf 16 p)) plane₀ place plane
+Inv-loop areas plane₀ place₀ plane place = Placing 256 (λ p. areaIn areas (columnOf p) (rowOf p)) plane₀ place plane
 
 abbrev μ-loop : tie.MeasureT-loop
 μ-loop areas plane₀ place₀ plane place = 256 - place

@@ -1,8 +1,7 @@
 -- `planes::write_even_odd` meets its contract. Assumes nothing.
-use mathlib.Core.Path.{_≡_, ap, _∙_}
-use Prim.Native.Nat.{ℕ, _+_, _*_, _-_, _<_}
+use mathlib.Core.Path.{ap, _∙_}
+use Prim.Native.Nat.{ℕ, _-_}
 use native.Mathlib.Omega.{arith}
-use borrow.Author.Needs.{needs}
 use mir.Syntax.{w16}
 use Rattle.laws.proofs.Machine.{kept}
 use Rattle.styling.specs.declared.FillRule.the-variants.{EvenOdd}
@@ -15,7 +14,7 @@ use Rattle.cover_bounds.proofs.planes.write_even_odd.Statement.{stateme
 use Rattle.cover_bounds.proofs.planes.write_even_odd.Tie as tie
 
 abbrev Inv-loop : tie.InvT-loop
-Inv-loop weights lows highs least₀ greatest₀ place₀ least greatest place = Placing 256 (λ p. leastIn EvenOdd lows highs (columnOf 16 p) (rowOf 16 p)) least₀ place least × Placing 256 (λ p. greatestIn EvenOdd lows highs (columnOf 16 p) (rowOf 16 p)) greatest₀ place greatest
+Inv-loop weights lows highs least₀ greatest₀ place₀ least greatest place = Placing 256 (λ p. leastIn EvenOdd lows highs (columnOf p) (rowOf p)) least₀ place least × Placing 256 (λ p. greatestIn EvenOdd lows highs (columnOf p) (rowOf p)) greatest₀ place greatest
 
 abbrev μ-loop : tie.MeasureT-loop
 μ-loop weights lows highs least₀ greatest₀ place₀ least greatest place = 256 - place

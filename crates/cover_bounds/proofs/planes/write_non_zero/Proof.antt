@@ -1,8 +1,7 @@
 -- `planes::write_non_zero` meets its contract. Assumes nothing.
-use mathlib.Core.Path.{_≡_, ap, _∙_}
-use Prim.Native.Nat.{ℕ, _+_, _*_, _-_, _<_}
+use mathlib.Core.Path.{ap, _∙_}
+use Prim.Native.Nat.{ℕ, _-_}
 use native.Mathlib.Omega.{arith}
-use borrow.Author.Needs.{needs}
 use mir.Syntax.{w16}
 use Rattle.laws.proofs.Machine.{kept}
 use Rattle.styling.specs.declared.FillRule.the-variants.{NonZero}
@@ -15,7 +14,7 @@ use Rattle.cover_bounds.proofs.planes.write_non_zero.Statement.{stateme
 use Rattle.cover_bounds.proofs.planes.write_non_zero.Tie as tie
 
 abbrev Inv-loop : tie.InvT-loop
-Inv-loop lows highs least₀ greatest₀ place₀ least greatest place = Placing 256 (λ p. leastIn NonZero lows highs (columnOf 16 p) (rowOf 16 p)) least₀ place least × Placing 256 (λ p. greatestIn NonZero lows highs (columnOf 16 p) (rowOf 16 p)) greatest₀ place greatest
+Inv-loop lows highs least₀ greatest₀ place₀ least greatest place = Placing 256 (λ p. leastIn NonZero lows highs (columnOf p) (rowOf p)) least₀ place least × Placing 256 (λ p. greatestIn NonZero lows highs (columnOf p) (rowOf p)) greatest₀ place greatest
 
 abbrev μ-loop : tie.MeasureT-loop
 μ-loop lows highs least₀ greatest₀ place₀ least greatest place = 256 - place
