@@ -73,6 +73,15 @@ shifted m z k h =
     (omega (arith, r .eq, added z (pos (k * m)), add-mul (r .down) k m))
     (r .low)
 
+-- the remainder of a number that is i higher
+pub moved : (m : ℕ) (z : ℤ) (i : ℕ) → 0 < m → modℤ m (z +ℤ pos i) ≡ (modℤ m z + i) % m
+moved m z i h =
+    let r = remainder m z h in
+    let n = modℤ m z + i in
+    unique m (z +ℤ pos i) (r .up) (r .down + n / m)
+    (omega (arith, r .eq, added z (pos i), add-mul (r .down) (n / m) m, div-add-mod' n m))
+    (mod-lt n h)
+
 -- sums of numbers that agree agree
 pub agree-add : (m : ℕ) (a b x y : ℤ) → 0 < m → modℤ m a ≡ modℤ m b → modℤ m x ≡ modℤ m y → modℤ m (a +ℤ x) ≡ modℤ m (b +ℤ y)
 agree-add m a b x y h p q =

@@ -6,7 +6,7 @@
 use mathlib.Core.Path.{_≡_, refl, sym, ap, _∙_}
 use mathlib.Core.Bool.{Bool, true, false, not, cond, false≢true}
 use Prim.Native.Nat.{ℕ, zero, suc, _+_, _*_, _-_, _≤_, _<_, min}
-use native.Mathlib.Nat.{mul-zero}
+use native.Mathlib.Nat.{mul-zero, mul-add, mul-le-mul-left}
 use native.Mathlib.Omega.{arith}
 use borrow.Author.Tests.{ltb-true, ltb-false, leb-true, lt-ltb, le-leb}
 use lib.Dec.{T, ltb, ltb→lt, nltb→le}
@@ -154,3 +154,21 @@ true-lt (pos a) (pos b) h = lt-ltb a b (omega arith)
 true-lt (pos a) (negsuc b) h = absurd (omega arith)
 true-lt (negsuc a) (pos b) h = refl
 true-lt (negsuc a) (negsuc b) h = lt-ltb b a (omega arith)
+
+-- ---- a is at most b, by the parts
+
+abbrev pub AtMost : ℤ → ℤ → Type 0
+AtMost a b = plus a + minus b ≤ plus b + minus a
+
+-- sums are in the order of their summands, and so are products with a natural number
+pub sum-most : (a b c d : ℤ) → AtMost a b → AtMost c d → AtMost (a +ℤ c) (b +ℤ d)
+sum-most a b c d h k = omega (arith, added a c, added b d)
+
+pub times-most : (k : ℕ) (a b : ℤ) → AtMost a b → AtMost (pos k *ℤ a) (pos k *ℤ b)
+times-most k a b h =
+    rw (times k a .plus-is, times k a .minus-is, times k b .plus-is, times k b .minus-is, ← mul-add k (plus a) (minus b), ← mul-add k (plus b) (minus a))
+    (mul-le-mul-left k h)
+
+-- an equal number is at most the other
+pub most-of : {a b : ℤ} → a ≡ b → AtMost a b
+most-of {a} {b} e = rw e (omega arith)

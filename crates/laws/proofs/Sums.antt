@@ -2,7 +2,7 @@
 use mathlib.Core.Path.{_≡_, refl, sym, ap, ap₂, _∙_}
 use mathlib.Core.Bool.{Bool, true, false, cond, _&&_, false≢true}
 use mathlib.Core.List.{List, [], _∷_, _++_}
-use Prim.Native.Nat.{ℕ, _+_, _≤_, _<_}
+use Prim.Native.Nat.{ℕ, suc, _+_, _≤_, _<_}
 use native.Mathlib.Omega.{arith}
 use native.Mathlib.Numerals.{add-one}
 use borrow.Author.Tests.{eqb-true, eq-eqb}
@@ -12,7 +12,7 @@ use lib.ListN.{length, getD, drop, drop-of-length-le}
 use lib.Seq.{drop-cons}
 use Rattle.laws.specs.Sum.{sumBy, sumℤ, sumℕ, countBy}
 use Rattle.laws.specs.Lists.{all, filter}
-use Rattle.laws.proofs.Parts.{added, equal}
+use Rattle.laws.proofs.Parts.{AtMost, added, sum-most, equal}
 use Rattle.laws.proofs.Bools.{left, right}
 
 module _ {A : Type 0} (add : A → A → A) (z : A) where
@@ -125,6 +125,30 @@ sumℕ-le p q f (x ∷ xs) h = omega (arith, sumℕ-le p q f xs h, narrower (p x
     narrower true true n i = omega arith
     narrower true false n i = absurd (false≢true (i refl))
     narrower false b n i = omega arith
+
+-- ---- two lists term by term
+
+-- sums of whole numbers are in the order of their terms
+pub sumℤ-le : (p q : ℕ → Bool) (f g : ℕ → ℤ) (xs ys : List ℕ) → length xs ≡ length ys
+    → ((i : ℕ) → i < length xs → AtMost (cond (p (getD xs i 0)) (f (getD xs i 0)) (pos 0)) (cond (q (getD ys i 0)) (g (getD ys i 0)) (pos 0)))
+    → AtMost (sumℤ p f xs) (sumℤ q g ys)
+sumℤ-le p q f g [] [] e h = omega arith
+sumℤ-le p q f g [] (y ∷ ys) e h = absurd (omega (arith, e))
+sumℤ-le p q f g (x ∷ xs) [] e h = absurd (omega (arith, e))
+sumℤ-le p q f g (x ∷ xs) (y ∷ ys) e h =
+    sum-most (cond (p x) (f x) (pos 0)) (cond (q y) (g y) (pos 0)) (sumℤ p f xs) (sumℤ q g ys) (h 0 (omega arith))
+    (sumℤ-le p q f g xs ys (omega (arith, e)) (λ i l. h (suc i) (omega arith)))
+
+-- and so are sums of natural numbers
+pub sumℕ-each : (p q : ℕ → Bool) (f g : ℕ → ℕ) (xs ys : List ℕ) → length xs ≡ length ys
+    → ((i : ℕ) → i < length xs → cond (p (getD xs i 0)) (f (getD xs i 0)) 0 ≤ cond (q (getD ys i 0)) (g (getD ys i 0)) 0)
+    → sumℕ p f xs ≤ sumℕ q g ys
+sumℕ-each p q f g [] [] e h = omega arith
+sumℕ-each p q f g [] (y ∷ ys) e h = absurd (omega (arith, e))
+sumℕ-each p q f g (x ∷ xs) [] e h = absurd (omega (arith, e))
+sumℕ-each p q f g (x ∷ xs) (y ∷ ys) e h =
+    let first : cond (p x) (f x) 0 ≤ cond (q y) (g y) 0 = h 0 (omega arith) in
+    omega (arith, sumℕ-each p q f g xs ys (omega (arith, e)) (λ i l. h (suc i) (omega arith)))
 
 -- ---- lists with the same elements, each as often
 

@@ -9,7 +9,7 @@ ghost use Rattle.cover_statements.specs.Cell.{cellOf, noCells, Judged, JudgedAr
 ghost use Rattle.cover_statements.specs.Load.{allLight};
 
 // The cell of a segment: its pixel, at column × 16 + row.
-fn cell(segment: PixelSegment) -> usize
+pub fn cell(segment: PixelSegment) -> usize
     ensures { λ r. ⌜ r ≡ cellOf cpu 16 (segment .0) ⌝ }
 {
     segment.local_x() as usize * 16 + segment.local_y() as usize

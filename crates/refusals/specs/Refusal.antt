@@ -4,7 +4,7 @@
 use mathlib.Core.Bool.{Bool, cond}
 use Prim.Native.Nat.{ℕ}
 use Rattle.refusals.specs.declared.Refusal.{Refusal}
-use Rattle.refusals.specs.declared.Refusal.the-variants.{Room, Tile, Row, Table, Queue, Tag, Layers, Missing, Covers, Fields, NotHeld, Slots, Revisions}
+use Rattle.refusals.specs.declared.Refusal.the-variants.{Room, Tile, Row, Table, Queue, Tag, Layers, Missing, Covers, Fields, NotHeld, Slots, Bounds, Revisions}
 use Rattle.refusals.specs.declared.Verdict.{Verdict}
 use Rattle.refusals.specs.declared.Verdict.the-variants.{Pass, Refuse}
 
@@ -21,6 +21,7 @@ numberOf Covers = 9
 numberOf Fields = 11
 numberOf NotHeld = 12
 numberOf Slots = 13
+numberOf Bounds = 14
 numberOf Revisions = 15
 
 -- what a judge says

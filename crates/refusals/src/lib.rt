@@ -16,6 +16,7 @@ pub enum Refusal {
     Fields,
     NotHeld,
     Slots,
+    Bounds,
     Revisions,
 }
 
@@ -42,6 +43,7 @@ pub fn number_of(refusal: Refusal) -> u32
         Refusal::Fields => 11,
         Refusal::NotHeld => 12,
         Refusal::Slots => 13,
+        Refusal::Bounds => 14,
         Refusal::Revisions => 15,
     }
 }

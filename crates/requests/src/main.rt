@@ -2,6 +2,7 @@
 mod sets;
 mod planes;
 mod backwards;
+mod bounds;
 mod standing;
 
 fn main() {
@@ -9,4 +10,5 @@ fn main() {
     standing::print_cases();
     sets::print_cases();
     backwards::print_cases();
+    bounds::print_cases();
 }

@@ -35,7 +35,7 @@ fn is_of(layer_id: u32, tile_x: i16, tile_y: i16, word: u64) -> bool
 }
 
 // Whether all segments of a part are.
-fn are_of(layer_id: u32, tile_x: i16, tile_y: i16, part: &[u64]) -> bool
+pub fn are_of(layer_id: u32, tile_x: i16, tile_y: i16, part: &[u64]) -> bool
     ensures { λ r. ⌜ r ≡ all (isOf «layer_id» «tile_x» «tile_y») (now (part .entry)) ⌝ }
 {
     let mut ok = true;

@@ -1,0 +1,49 @@
+-- `area::double_area` meets its contract: a multiplier is at most 63 and a byte at most 128. Assumes nothing.
+use mathlib.Core.Path.{_∙_}
+use Prim.Native.Nat.{_≤_}
+use native.Mathlib.Nat.{mul-le-mul}
+use native.Mathlib.Omega.{arith}
+use borrow.Author.Needs.{needs}
+use lib.IntN.{pos, natAbs, _*ℤ_}
+use mir.Facts.{toZ-ofZ, toZ-pos, sfits-widen}
+use mir.Syntax.{w8, w16}
+use mir.Val.{SFits}
+use Rattle.laws.proofs.Machine.{small, within}
+use Rattle.laws.proofs.Parts.{whole, abs-times}
+use Rattle.pixel_segment.specs.Field.{cpu, multiplierOf}
+use Rattle.cover_bounds.proofs.area.double_area.Statement.{statement}
+use Rattle.cover_bounds.proofs.area.double_area.Tie as tie
+
+wide : (s : tie.Start) → SFits w16 (s .args .cover)
+wide s = sfits-widen {w = w8} tt (s .fits .cover)
+
+product : (s : tie.Start) → SFits w16 (pos (multiplierOf cpu (s .args .segment .0)) *ℤ s .args .cover)
+product s =
+    let m = multiplierOf cpu (s .args .segment .0) in
+    let v = s .args .cover in
+    let h : natAbs v ≤ 128 = omega (arith, whole v, within w8 v (s .fits .cover)) in
+    let k : m ≤ 63 = omega arith in
+    small w16 (pos m *ℤ v) (omega (arith, abs-times (pos m) v, mul-le-mul {n₁ = m} {m₁ = natAbs v} {n₂ = 63} {m₂ = 128} k h))
+
+double-area-multiplier-requires : tie.Need-double-area-multiplier-requires
+double-area-multiplier-requires c κs = search needs
+
+cast-result : tie.Need-cast-result
+cast-result c = search needs
+
+cast-result-2 : tie.Need-cast-result-2
+cast-result-2 c = rw (toZ-ofZ (c .before .fits .cover)) (wide (c .before))
+
+mul-result : tie.Need-mul-result
+mul-result c =
+    let s = c .before in
+    rw (c .double-area-multiplier .ensures, toZ-pos w16 {n = multiplierOf cpu (s .args .segment .0)} (omega arith), toZ-ofZ (s .fits .cover), toZ-ofZ (wide s)) (product s)
+
+returns : tie.Need-returns
+returns c =
+    let s = c .before in
+    toZ-ofZ (mul-result c)
+    ∙ rw (c .double-area-multiplier .ensures, toZ-pos w16 {n = multiplierOf cpu (s .args .segment .0)} (omega arith), toZ-ofZ (s .fits .cover), toZ-ofZ (wide s))
+
+pub double-area-spec : {M : Type 1} → statement M
+double-area-spec = tie.close (tie.spec double-area-multiplier-requires cast-result cast-result-2 mul-result returns)

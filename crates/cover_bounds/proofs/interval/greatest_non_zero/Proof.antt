@@ -1,0 +1,29 @@
+-- `interval::greatest_non_zero` meets its contract. Assumes nothing.
+use mathlib.Core.Path.{ap₂, _∙_}
+use Prim.Native.Nat.{max}
+use borrow.Author.Needs.{needs}
+use mir.Facts.{toZ-ofZ}
+use Rattle.cover_bounds_statements.proofs.Ends.{greatest-of-both}
+use Rattle.cover_bounds.proofs.interval.greatest_non_zero.Statement.{statement}
+use Rattle.cover_bounds.proofs.interval.greatest_non_zero.Tie as tie
+
+non-zero-requires : tie.Need-non-zero-requires
+non-zero-requires c κs = search needs
+
+non-zero-requires-2 : tie.Need-non-zero-requires-2
+non-zero-requires-2 c κs = search needs
+
+greater-requires : tie.Need-greater-requires
+greater-requires c κs = search needs
+
+returns : tie.Need-returns
+returns c =
+    let second = c .before in
+    let first = second .before in
+    let s = first .before in
+    greatest-of-both (s .args .a) (s .args .b) (s .pre)
+    (c .greater .ensures ∙ ap₂ max (rw (toZ-ofZ (s .fits .a)) at (first .non-zero .ensures)) (rw (toZ-ofZ (s .fits .b)) at (second .non-zero2 .ensures)))
+
+pub greatest-non-zero-spec : {M : Type 1} → statement M
+greatest-non-zero-spec =
+    tie.close (tie.spec non-zero-requires non-zero-requires-2 greater-requires returns)

@@ -1,0 +1,68 @@
+-- `interval::rest_of` meets its contract. With 32,768, a multiple of 1,024, no number is negative, and its remainder is the machine's.
+-- Assumes nothing.
+use mathlib.Core.Path.{_≡_, ap}
+use Prim.Native.Nat.{ℕ, _%_}
+use native.Mathlib.Omega.{arith}
+use borrow.Author.Needs.{needs}
+use lib.Dec.{T, lit<}
+use lib.IntN.{pos, natAbs, _+ℤ_}
+use lib.Signed.{nonNeg}
+use mir.Facts.{toZ-ofZ, toZ-pos, sfits-widen}
+use mir.Syntax.{w16, w32}
+use mir.Val.{SFits, Fits, toZ}
+use Rattle.laws.proofs.Machine.{sfits, within, unsigned}
+use Rattle.laws.proofs.Mod.{lifted}
+use Rattle.laws.proofs.Parts.{added}
+use Rattle.cover_bounds.proofs.interval.rest_of.Statement.{statement}
+use Rattle.cover_bounds.proofs.interval.rest_of.Tie as tie
+
+wide : (s : tie.Start) → SFits w32 (s .args .d)
+wide s = sfits-widen tt (s .fits .d)
+
+shift-is : (s : tie.Start) → toZ w32 (s .args .shift) ≡ pos (s .args .shift)
+shift-is s = toZ-pos w32 {n = s .args .shift} (omega (arith, s .fits .shift))
+
+sum-fits : (s : tie.Start) → SFits w32 (s .args .d +ℤ pos (s .args .shift))
+sum-fits s =
+    let d = s .args .d in
+    let n = pos (s .args .shift) in
+    sfits w32 (d +ℤ n) (omega (arith, added d n, within w16 d (s .fits .d), s .fits .shift))
+
+lifted-fits : (s : tie.Start) → SFits w32 (s .args .d +ℤ pos (s .args .shift) +ℤ pos 32768)
+lifted-fits s =
+    let d = s .args .d in
+    let n = pos (s .args .shift) in
+    sfits w32 (d +ℤ n +ℤ pos 32768) (omega (arith, added d n, added (d +ℤ n) (pos 32768), within w16 d (s .fits .d), s .fits .shift))
+
+not-negative : (s : tie.Start) → T (nonNeg (s .args .d +ℤ pos (s .args .shift) +ℤ pos 32768)) × Fits w32 (natAbs (s .args .d +ℤ pos (s .args .shift) +ℤ pos 32768))
+not-negative s =
+    let d = s .args .d in
+    let n = pos (s .args .shift) in
+    let range = within w16 d (s .fits .d) in
+    unsigned w32 (d +ℤ n +ℤ pos 32768) (omega (arith, added d n, added (d +ℤ n) (pos 32768), range)) (omega (arith, added d n, added (d +ℤ n) (pos 32768), range, s .fits .shift))
+
+cast-result : tie.Need-cast-result
+cast-result c = rw (toZ-ofZ (c .fits .d)) (wide c)
+
+cast-result-2 : tie.Need-cast-result-2
+cast-result-2 c = search needs
+
+add-result : tie.Need-add-result
+add-result c = rw (toZ-ofZ (c .fits .d), toZ-ofZ (wide c), shift-is c) (sum-fits c)
+
+add-result-2 : tie.Need-add-result-2
+add-result-2 c = rw (toZ-ofZ (add-result c), toZ-ofZ (c .fits .d), toZ-ofZ (wide c), shift-is c) (lifted-fits c)
+
+cast-result-3 : tie.Need-cast-result-3
+cast-result-3 c = rw (toZ-ofZ (add-result-2 c), toZ-ofZ (add-result c), toZ-ofZ (c .fits .d), toZ-ofZ (wide c), shift-is c) (not-negative c)
+
+returns : tie.Need-returns
+returns c =
+    let d = c .args .d in
+    let n = pos (c .args .shift) in
+    let low = within w16 d (c .fits .d) .below in
+    rw (toZ-ofZ (add-result-2 c), toZ-ofZ (add-result c), toZ-ofZ (c .fits .d), toZ-ofZ (wide c), shift-is c, lifted 1024 (d +ℤ n) 32 (lit< tt) (omega (arith, added d n, low)))
+    (ap (λ (v : ℕ). v % 1024) (omega (arith, added d n, added (d +ℤ n) (pos 32768), low)), omega arith)
+
+pub rest-of-spec : {M : Type 1} → statement M
+rest-of-spec = tie.close (tie.spec cast-result cast-result-2 add-result add-result-2 cast-result-3 returns)

@@ -1,0 +1,58 @@
+-- `judging::are_bounded` meets its contract. Assumes nothing.
+use Prim.Native.Nat.{_-_}
+use native.Mathlib.Omega.{arith}
+use mir.Syntax.{w8}
+use Rattle.laws.proofs.Machine.{kept}
+use Rattle.cover_bounds_statements.specs.Within.{boundAt, isBounded}
+use Rattle.cover_bounds_statements.proofs.Loops.{Passing, pass-start, pass-next, pass-end}
+use Rattle.cover_bounds.proofs.judging.are_bounded.Statement.{statement}
+use Rattle.cover_bounds.proofs.judging.are_bounded.Tie as tie
+
+abbrev Inv-loop : tie.InvT-loop
+Inv-loop bounds count ok₀ i₀ ok i = Passing count (λ j. isBounded (boundAt 0 bounds j) (boundAt 1 bounds j)) i ok
+
+abbrev μ-loop : tie.MeasureT-loop
+μ-loop bounds count ok₀ i₀ ok i = count - i
+
+loop-holds : tie.Need-loop-holds Inv-loop μ-loop
+loop-holds c = pass-start
+
+bound-at-requires : tie.Need-bound-at-requires Inv-loop μ-loop
+bound-at-requires c κs = omega arith
+
+bound-at-requires-2 : tie.Need-bound-at-requires-2 Inv-loop μ-loop
+bound-at-requires-2 c κs = omega arith
+
+is-bounded-requires : tie.Need-is-bounded-requires Inv-loop μ-loop
+is-bounded-requires c κs = tt
+
+add-i : tie.Need-add-i Inv-loop μ-loop
+add-i c = omega arith
+
+loop-less : tie.Need-loop-less Inv-loop μ-loop
+loop-less c = omega arith
+
+loop-again : tie.Need-loop-again Inv-loop μ-loop
+loop-again c =
+    let second = c .before in
+    let first = second .before in
+    pass-next (first .before .before .loop .inv) (omega arith)
+    (rw (kept w8 (first .bound-at .result) (first .bound-at .ok), kept w8 (second .bound-at2 .result) (second .bound-at2 .ok), first .bound-at .ensures, second .bound-at2 .ensures) at (c .is-bounded .ensures))
+
+returns : tie.Need-returns Inv-loop μ-loop
+returns c = pass-end (c .before .loop .inv) (omega arith)
+
+pub are-bounded-spec : {M : Type 1} → statement M
+are-bounded-spec =
+    tie.close
+    (tie.spec
+    Inv-loop
+    μ-loop
+    loop-holds
+    bound-at-requires
+    bound-at-requires-2
+    is-bounded-requires
+    add-i
+    loop-less
+    loop-again
+    returns)

@@ -1,0 +1,27 @@
+-- `judging::is_bounded` meets its contract. Assumes nothing.
+use borrow.Author.Needs.{needs}
+use mir.Facts.{toZ-ofZ}
+use Rattle.cover_bounds.proofs.judging.is_bounded.Statement.{statement}
+use Rattle.cover_bounds.proofs.judging.is_bounded.Tie as tie
+
+is-cover-requires : tie.Need-is-cover-requires
+is-cover-requires c κs = search needs
+
+is-cover-requires-2 : tie.Need-is-cover-requires-2
+is-cover-requires-2 c κs = search needs
+
+is-at-most-requires : tie.Need-is-at-most-requires
+is-at-most-requires c κs = search needs
+
+returns : tie.Need-returns
+returns c =
+    let s = c .before .before .before in
+    rw (
+      rw (toZ-ofZ (s .fits .low)) at (c .before .before .is-cover .ensures),
+      rw (toZ-ofZ (s .fits .high)) at (c .before .is-cover2 .ensures),
+      rw (toZ-ofZ (s .fits .low), toZ-ofZ (s .fits .high)) at (c .is-at-most .ensures),
+    )
+
+pub is-bounded-spec : {M : Type 1} → statement M
+is-bounded-spec =
+    tie.close (tie.spec is-cover-requires is-cover-requires-2 is-at-most-requires returns)

@@ -1,0 +1,60 @@
+-- `judging::is_carry_bounded` meets its contract. Assumes nothing.
+use Prim.Native.Nat.{_-_}
+use native.Mathlib.Omega.{arith}
+use borrow.Author.Needs.{sfits-of}
+use lib.Signed.{leZ}
+use mir.Facts.{toZ-ofZ}
+use mir.Syntax.{w8}
+use Rattle.cover_statements.specs.Cover.{coverAt}
+use Rattle.cover_bounds_statements.proofs.Loops.{Passing, pass-start, pass-next, pass-end}
+use Rattle.cover_bounds.proofs.judging.is_carry_bounded.Statement.{statement}
+use Rattle.cover_bounds.proofs.judging.is_carry_bounded.Tie as tie
+
+abbrev Inv-loop : tie.InvT-loop
+Inv-loop lows highs ok₀ y₀ ok y = Passing 16 (λ r. leZ (coverAt lows r) (coverAt highs r)) y ok
+
+abbrev μ-loop : tie.MeasureT-loop
+μ-loop lows highs ok₀ y₀ ok y = 16 - y
+
+loop-holds : tie.Need-loop-holds Inv-loop μ-loop
+loop-holds c = pass-start
+
+array-copy-out-is-at-most : tie.Need-array-copy-out-is-at-most Inv-loop μ-loop
+array-copy-out-is-at-most c = omega arith
+
+array-copy-out-is-at-most-2 : tie.Need-array-copy-out-is-at-most-2 Inv-loop μ-loop
+array-copy-out-is-at-most-2 c = omega arith
+
+is-at-most-requires : tie.Need-is-at-most-requires Inv-loop μ-loop
+is-at-most-requires c κs = tt
+
+add-y : tie.Need-add-y Inv-loop μ-loop
+add-y c = omega arith
+
+loop-less : tie.Need-loop-less Inv-loop μ-loop
+loop-less c = omega arith
+
+loop-again : tie.Need-loop-again Inv-loop μ-loop
+loop-again c =
+    let m = c .before in
+    let first = m .before in
+    pass-next (first .before .before .loop .inv) (omega arith)
+    (rw (toZ-ofZ (sfits-of {w = w8} (first .is-at-most-arg .given)), toZ-ofZ (sfits-of {w = w8} (m .is-at-most-arg2 .given))) at (c .is-at-most .ensures))
+
+returns : tie.Need-returns Inv-loop μ-loop
+returns c = pass-end (c .before .loop .inv) (omega arith)
+
+pub is-carry-bounded-spec : {M : Type 1} → statement M
+is-carry-bounded-spec =
+    tie.close
+    (tie.spec
+    Inv-loop
+    μ-loop
+    loop-holds
+    array-copy-out-is-at-most
+    array-copy-out-is-at-most-2
+    is-at-most-requires
+    add-y
+    loop-less
+    loop-again
+    returns)

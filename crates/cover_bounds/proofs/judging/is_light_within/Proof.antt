@@ -1,0 +1,52 @@
+-- `judging::is_light_within` meets its contract. Assumes nothing.
+use mathlib.Core.Path.{ap, _∙_}
+use mathlib.Core.List.{List, map}
+use Prim.Native.Nat.{ℕ}
+use borrow.Author.Needs.{needs}
+use lib.IntN.{natAbs}
+use Rattle.laws.specs.Lists.{tabulate}
+use Rattle.pixel_segment.specs.Field.{cpu}
+use Rattle.cover_statements.specs.Cover.{coverAt}
+use Rattle.cover_statements.specs.Load.{loadsOf, allLight}
+use Rattle.cover_statements.proofs.Loads.{loads-judge}
+use Rattle.cover_bounds_statements.specs.Chosen.{chosen, heavier, isLightWithin}
+use Rattle.cover_bounds_statements.specs.Within.{boundAt}
+use Rattle.cover_bounds.proofs.judging.is_light_within.Statement.{statement}
+use Rattle.cover_bounds.proofs.judging.is_light_within.Tie as tie
+
+heavier-carry-requires : tie.Need-heavier-carry-requires
+heavier-carry-requires c κs = search needs
+
+magnitudes-requires : tie.Need-magnitudes-requires
+magnitudes-requires c κs = search needs
+
+add-heavier-requires : tie.Need-add-heavier-requires
+add-heavier-requires c κs = search needs
+
+are-light-requires : tie.Need-are-light-requires
+are-light-requires c κs = search needs
+
+returns : tie.Need-returns
+unfolding isLightWithin
+returns c =
+    let s = c .before .before .before .before .before in
+    let a = c .before in
+    let m = a .before in
+    let h = m .before in
+    let bounds = s .args .bounds .now in
+    let words = chosen cpu (s .args .part .now) (λ i. heavier (boundAt 0 bounds i) (boundAt 1 bounds i)) in
+    let top = tabulate 16 (λ y. heavier (coverAt (s .args .low .covers) y) (coverAt (s .args .high .covers) y)) in
+    c .are-light .ensures
+    ∙ ap allLight (a .add-heavier .ensures)
+    ∙ ap (λ (l : List ℕ). allLight (loadsOf cpu 16 l words)) (m .magnitudes .ensures .same ∙ ap (map natAbs) (h .heavier-carry .ensures))
+    ∙ loads-judge cpu 16 top words
+
+pub is-light-within-spec : {M : Type 1} → statement M
+is-light-within-spec =
+    tie.close
+    (tie.spec
+    heavier-carry-requires
+    magnitudes-requires
+    add-heavier-requires
+    are-light-requires
+    returns)

@@ -1,0 +1,155 @@
+-- `planes::write_non_zero` meets its contract. Assumes nothing.
+use mathlib.Core.Path.{ap, _∙_}
+use Prim.Native.Nat.{ℕ, _-_}
+use native.Mathlib.Omega.{arith}
+use mir.Syntax.{w16}
+use Rattle.laws.proofs.Machine.{kept}
+use Rattle.styling.specs.declared.FillRule.the-variants.{NonZero}
+use Rattle.cover_statements.specs.Cover.{coverAt}
+use Rattle.cover_statements.specs.Plane.{columnOf, rowOf, inPlaces}
+use Rattle.cover_bounds_statements.specs.Interval.{leastWeight, greatestWeight}
+use Rattle.cover_bounds_statements.specs.InnerPlanes.{leastIn, greatestIn}
+use Rattle.cover_bounds_statements.proofs.Loops.{Placing, place-start, place-next, place-end}
+use Rattle.cover_bounds.proofs.planes.write_non_zero.Statement.{statement}
+use Rattle.cover_bounds.proofs.planes.write_non_zero.Tie as tie
+
+abbrev Inv-loop : tie.InvT-loop
+Inv-loop lows highs least₀ greatest₀ place₀ least greatest place = Placing 256 (λ p. leastIn NonZero lows highs (columnOf p) (rowOf p)) least₀ place least × Placing 256 (λ p. greatestIn NonZero lows highs (columnOf p) (rowOf p)) greatest₀ place greatest
+
+abbrev μ-loop : tie.MeasureT-loop
+μ-loop lows highs least₀ greatest₀ place₀ least greatest place = 256 - place
+
+loop-holds : tie.Need-loop-holds Inv-loop μ-loop
+loop-holds c =
+    let s = c .before .before in
+    (place-start (s .pre .1), place-start (s .pre .2))
+
+cell-requires : tie.Need-cell-requires Inv-loop μ-loop
+cell-requires c κs = omega arith
+
+mul-least-non-zero : tie.Need-mul-least-non-zero Inv-loop μ-loop
+mul-least-non-zero c = omega arith
+
+element-copy-out-least-non-zero : tie.Need-element-copy-out-least-non-zero Inv-loop μ-loop
+element-copy-out-least-non-zero c = omega arith
+
+mul-least-non-zero-2 : tie.Need-mul-least-non-zero-2 Inv-loop μ-loop
+mul-least-non-zero-2 c = omega arith
+
+element-copy-out-least-non-zero-2 : tie.Need-element-copy-out-least-non-zero-2 Inv-loop μ-loop
+element-copy-out-least-non-zero-2 c = omega arith
+
+least-non-zero-requires : tie.Need-least-non-zero-requires Inv-loop μ-loop
+least-non-zero-requires c κs =
+    let first = c .before in
+    let k = first .before in
+    let s = k .before .before .before .before .before in
+    let lows = s .args .lows .now in
+    let highs = s .args .highs .now in
+    let z = k .cell .result in
+    rw (kept w16 (coverAt lows z) (first .least-non-zero-arg .given), kept w16 (coverAt highs z) (c .least-non-zero-arg2 .given))
+    (s .pre .0 .at z (omega arith))
+
+mul-least : tie.Need-mul-least Inv-loop μ-loop
+mul-least c = omega arith
+
+slice-write-least : tie.Need-slice-write-least Inv-loop μ-loop
+slice-write-least c = omega arith
+
+mul-greatest-non-zero : tie.Need-mul-greatest-non-zero Inv-loop μ-loop
+mul-greatest-non-zero c = omega arith
+
+element-copy-out-greatest-non-zero : tie.Need-element-copy-out-greatest-non-zero Inv-loop μ-loop
+element-copy-out-greatest-non-zero c = omega arith
+
+mul-greatest-non-zero-2 : tie.Need-mul-greatest-non-zero-2 Inv-loop μ-loop
+mul-greatest-non-zero-2 c = omega arith
+
+element-copy-out-greatest-non-zero-2 :
+    tie.Need-element-copy-out-greatest-non-zero-2 Inv-loop μ-loop
+element-copy-out-greatest-non-zero-2 c = omega arith
+
+greatest-non-zero-requires : tie.Need-greatest-non-zero-requires Inv-loop μ-loop
+greatest-non-zero-requires c κs =
+    let first = c .before in
+    let k = first .before in
+    let s = k .before .before .before .before .before .before .before .before in
+    let lows = s .args .lows .now in
+    let highs = s .args .highs .now in
+    let z = k .before .before .before .cell .result in
+    rw (kept w16 (coverAt lows z) (first .greatest-non-zero-arg .given), kept w16 (coverAt highs z) (c .greatest-non-zero-arg2 .given))
+    (s .pre .0 .at z (omega arith))
+
+mul-greatest : tie.Need-mul-greatest Inv-loop μ-loop
+mul-greatest c = omega arith
+
+slice-write-greatest : tie.Need-slice-write-greatest Inv-loop μ-loop
+slice-write-greatest c = omega arith
+
+add-place : tie.Need-add-place Inv-loop μ-loop
+add-place c = omega arith
+
+loop-less : tie.Need-loop-less Inv-loop μ-loop
+loop-less c = omega arith
+
+loop-again : tie.Need-loop-again Inv-loop μ-loop
+loop-again c =
+    let g2 = c .before in
+    let g1 = g2 .before in
+    let least = g1 .before in
+    let l2 = least .before in
+    let l1 = l2 .before in
+    let k = l1 .before in
+    let l = k .before .before in
+    let s = l .before .before .before in
+    let lows = s .args .lows .now in
+    let highs = s .args .highs .now in
+    let z = k .cell .result in (
+      place-next (l .loop .inv .0) (omega arith)
+          (rw (kept w16 (coverAt lows z) (l1 .least-non-zero-arg .given), kept w16 (coverAt highs z) (l2 .least-non-zero-arg2 .given)) at (least .least-non-zero .ensures)
+          ∙ ap (λ (v : ℕ). leastWeight NonZero (coverAt lows v) (coverAt highs v)) (k .cell .ensures)),
+      place-next (l .loop .inv .1) (omega arith)
+          (rw (kept w16 (coverAt lows z) (g1 .greatest-non-zero-arg .given), kept w16 (coverAt highs z) (g2 .greatest-non-zero-arg2 .given)) at (c .greatest-non-zero .ensures)
+          ∙ ap (λ (v : ℕ). greatestWeight NonZero (coverAt lows v) (coverAt highs v)) (k .cell .ensures)),
+    )
+
+same-length : tie.Need-same-length Inv-loop μ-loop
+same-length c = c .before .loop .inv .0 .long
+
+same-length-2 : tie.Need-same-length-2 Inv-loop μ-loop
+same-length-2 c = c .before .loop .inv .1 .long
+
+returns : tie.Need-returns Inv-loop μ-loop
+unfolding inPlaces
+returns c =
+    let l = c .before in
+    record { least-is = place-end (l .loop .inv .0) (omega arith); greatest-is = place-end (l .loop .inv .1) (omega arith) }
+
+pub write-non-zero-spec : {M : Type 1} → statement M
+write-non-zero-spec =
+    tie.close
+    (tie.spec
+    Inv-loop
+    μ-loop
+    loop-holds
+    cell-requires
+    mul-least-non-zero
+    element-copy-out-least-non-zero
+    mul-least-non-zero-2
+    element-copy-out-least-non-zero-2
+    least-non-zero-requires
+    mul-least
+    slice-write-least
+    mul-greatest-non-zero
+    element-copy-out-greatest-non-zero
+    mul-greatest-non-zero-2
+    element-copy-out-greatest-non-zero-2
+    greatest-non-zero-requires
+    mul-greatest
+    slice-write-greatest
+    add-place
+    loop-less
+    loop-again
+    same-length
+    same-length-2
+    returns)

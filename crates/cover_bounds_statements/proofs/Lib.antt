@@ -1,0 +1,9 @@
+-- Laws of covers known within bounds.
+pub mod Intervals
+pub mod Ends
+pub mod Cases
+pub mod Choosing
+pub mod Bounds
+pub mod Loops
+pub mod Calls
+pub mod Promises

@@ -1,0 +1,27 @@
+-- The least and the greatest weight over all whole numbers of an interval, both ends included. Stands for W-211, 'the least and greatest weight over all
+-- whole numbers between them, under both rules': a walk from the lowest number upward, one number after the other.
+use Prim.Native.Nat.{ℕ, zero, suc, min, max}
+use lib.IntN.{ℤ, pos, _+ℤ_, _-ℤ_}
+use Rattle.laws.specs.Integer.{plus}
+use Rattle.styling.specs.declared.FillRule.{FillRule}
+use Rattle.cover_statements.specs.Weight.{weightOf}
+
+-- over a, a + 1, .., a + n
+abbrev pub leastOver : FillRule → ℤ → ℕ → ℕ
+leastOver rule a zero = weightOf rule a
+leastOver rule a (suc n) = min (leastOver rule a n) (weightOf rule (a +ℤ pos (suc n)))
+
+abbrev pub greatestOver : FillRule → ℤ → ℕ → ℕ
+greatestOver rule a zero = weightOf rule a
+greatestOver rule a (suc n) = max (greatestOver rule a n) (weightOf rule (a +ℤ pos (suc n)))
+
+-- how far b lies above a
+abbrev pub distance : ℤ → ℤ → ℕ
+distance a b = plus (b -ℤ a)
+
+-- over all whole numbers from a to b
+unfoldable pub leastWeight : FillRule → ℤ → ℤ → ℕ
+leastWeight rule a b = leastOver rule a (distance a b)
+
+unfoldable pub greatestWeight : FillRule → ℤ → ℤ → ℕ
+greatestWeight rule a b = greatestOver rule a (distance a b)
