@@ -3,4 +3,5 @@ pub mod Widths
 pub mod Ranges
 pub mod ReadBack
 pub mod Edges
+pub mod Heights
 pub mod Lexical
