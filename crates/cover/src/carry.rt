@@ -32,7 +32,7 @@ pub fn magnitudes(covers: [i8; 16]) -> [u16; 16]
 }
 
 // A load with one cover more; 128 stands for all that is above 127, so no load outgrows its type.
-fn raised(load: u16, cover: i8) -> u16
+pub fn raised(load: u16, cover: i8) -> u16
     requires { ⌜ load ≤ 128 ⌝ }
     ensures { λ r. ⌜ r ≡ min (load + natAbs cover) 128 ⌝ }
 {
