@@ -53,3 +53,13 @@ pub record Shaded (column rows : ℕ) (areas covers sums newAreas newSums : List
   pub area : (k : ℕ) → k < 256 → coverAt newAreas k ≡ cond (eqb (k / 16) column && ltb (k % 16) rows) (pos 32 *ℤ coverAt sums (k % 16) +ℤ coverAt areas k) (coverAt areas k)
   pub sums-long : length newSums ≡ 16
   pub sum : (y : ℕ) → y < 16 → coverAt newSums y ≡ cond (ltb y rows) (coverAt sums y +ℤ coverAt covers (column * 16 + y)) (coverAt sums y)
+
+-- the cells of a part that number 9 does not refuse, from the incoming covers
+pub record Summable (ws : List ℕ) (n : ℕ) (incoming areas covers : List ℤ) : Type 0 where
+  pub part : List ℕ
+  pub cells : Accumulated ws n part areas covers
+  pub light : isLight ws n incoming part ≡ true
+
+-- their doubled areas: those of every part with these cells
+pub record Summed (ws : List ℕ) (n : ℕ) (incoming areas covers newAreas : List ℤ) : Type 0 where
+  pub areas-are : (part : List ℕ) → Accumulated ws n part areas covers → newAreas ≡ areasOf ws n (coverAt incoming) part

@@ -5,10 +5,7 @@ use pixel_segment::PixelSegment;
 ghost use mathlib.Core.Path.{_≡_};
 ghost use mathlib.Core.Bool.{true};
 ghost use Rattle.pixel_segment.specs.Field.{cpu};
-ghost use Rattle.cover_statements.specs.Area.{areasOf};
-ghost use Rattle.cover_statements.specs.Carry.{isLight};
-ghost use Rattle.cover_statements.specs.Cell.{cellOf, noCells, Judged, JudgedAreas, Shadable, Shaded};
-ghost use Rattle.cover_statements.specs.Cover.{coverAt};
+ghost use Rattle.cover_statements.specs.Cell.{cellOf, noCells, Judged, JudgedAreas, Shadable, Shaded, Summable, Summed};
 ghost use Rattle.cover_statements.specs.Load.{allLight};
 
 // The cell of a segment: its pixel, at column × 16 + row.
@@ -70,13 +67,27 @@ fn compute_doubled_areas(
     next
 }
 
+// The cells of a part become its doubled areas, a column after the other, from an incoming cover.
+pub fn sum_columns(areas: &mut [i16; 256], covers: &[i8; 256], incoming: [i8; 16])
+    requires { ⌜ Summable cpu 16 incoming (now areas) (now covers) ⌝ }
+    ensures { λ _. ⌜ Summed cpu 16 incoming (now (areas .entry)) (now (covers .entry)) (now (areas .exit)) ⌝ }
+{
+    let mut sums = incoming;
+    let mut column = 0;
+    while column < 16 {
+        let next = compute_doubled_areas(areas, covers, column, sums);
+        sums = next;
+        column += 1;
+    }
+}
+
 // The doubled areas of a part, from an incoming cover; false where number 9 refuses it.
 pub fn judged_areas(part: &[u64], cover: Cover, areas: &mut [i16; 256]) -> bool
     requires { ⌜ now areas ≡ noCells ⌝ }
     ensures { λ r. ⌜ JudgedAreas cpu 16 (cover .covers) (now (part .entry)) r (now (areas .exit)) ⌝ }
 {
-    let mut sums = cover.covers;
-    let loads = carry::magnitudes(sums);
+    let incoming = cover.covers;
+    let loads = carry::magnitudes(incoming);
     if !carry::are_light(loads) {
         return false;
     }
@@ -84,19 +95,6 @@ pub fn judged_areas(part: &[u64], cover: Cover, areas: &mut [i16; 256]) -> bool
     if !acc_segments(part, loads, areas, &mut covers) {
         return false;
     }
-    let mut column = 0;
-    while column < 16 {
-        let next = compute_doubled_areas(areas, &covers, column, sums);
-        sums = next;
-        column += 1;
-    }
+    sum_columns(areas, &covers, incoming);
     true
-}
-
-// The doubled areas of a part that number 9 does not refuse, from an incoming cover.
-pub fn doubled_areas(part: &[u64], cover: Cover, areas: &mut [i16; 256])
-    requires { ⌜ (isLight cpu 16 (cover .covers) (now part) ≡ true) × (now areas ≡ noCells) ⌝ }
-    ensures { λ _. ⌜ now (areas .exit) ≡ areasOf cpu 16 (coverAt (cover .covers)) (now (part .entry)) ⌝ }
-{
-    judged_areas(part, cover, areas);
 }
