@@ -1,5 +1,6 @@
 // The covers of tiles four pixels high: empty, full, and carried past a part. What they say of a row's cover, and the
 // weights and coverages, are of cover and weight.
+pub mod area;
 pub mod carry;
 
 use styling::FillRule;

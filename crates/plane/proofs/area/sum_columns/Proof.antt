@@ -12,7 +12,7 @@ use Rattle.plane.proofs.area.sum_columns.Tie as tie
 
 -- of every part with these cells
 abbrev Inv-loop : tie.InvT-loop
-Inv-loop areas₀ covers sums₀ column₀ areas sums column = (part : List ℕ) → Accumulated cpu 16 part areas₀ covers → Columns cpu sums₀ part covers column areas sums
+Inv-loop areas₀ covers sums₀ column₀ areas sums column = (part : List ℕ) → Accumulated cpu 16 part areas₀ covers → Columns cpu 16 sums₀ part covers column areas sums
 
 abbrev μ-loop : tie.MeasureT-loop
 μ-loop areas₀ covers sums₀ column₀ areas sums column = 16 - column
