@@ -11,6 +11,7 @@ ghost use mathlib.Core.Bool.{cond};
 ghost use Prim.Native.Nat.{_+_, _-_, _/_, _%_, _^_, _≤_, _<_, min};
 ghost use lib.Dec.{leb};
 ghost use lib.IntN.{pos, _+ℤ_};
+ghost use Rattle.laws.specs.Integer.{plus};
 ghost use Rattle.pixel_segment.specs.Field.{cpu, tileYOf, tileXOf, layerIdOf};
 ghost use Rattle.pixel_segment.specs.Order.{rank, isGt};
 ghost use Rattle.pixel_segment.specs.Pack.{storedOf};
@@ -65,6 +66,13 @@ pub fn answer(order: Ordering, start: usize) -> Found
         Ordering::Equal => Found::At(start),
         Ordering::Greater => Found::Absent(start),
     }
+}
+
+// A number that is not negative, as a natural one; 0 for one that is.
+pub fn natural(z: i32) -> u32
+    ensures { λ r. ⌜ r ≡ plus z ⌝ }
+{
+    if z < 0 { 0 } else { z as u32 }
 }
 
 // A tile number as it is stored: plus 1, and 0 for what is then negative.

@@ -1,0 +1,3 @@
+-- Laws of one layer's row of tiles four pixels high.
+pub mod Within
+pub mod Parts

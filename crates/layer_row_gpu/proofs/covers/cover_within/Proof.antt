@@ -1,0 +1,33 @@
+-- `covers::cover_within` meets its contract. Assumes nothing.
+use mathlib.Core.Path.{_≡_, sym, _∙_}
+use borrow.Author.Needs.{needs}
+use borrow.Author.Tests.{eq-eqb, ne-eqb}
+use lib.Dec.{eqb}
+use mathlib.Core.Bool.{true, false}
+use mir.Syntax.{w8}
+use Rattle.laws.proofs.Machine.{kept}
+use Rattle.pixel_segment.specs.Field.{gpu, layerIdOf}
+use Rattle.layer_row_gpu.proofs.covers.cover_within.Statement.{statement}
+use Rattle.layer_row_gpu.proofs.covers.cover_within.Tie as tie
+
+layer-id-requires : tie.Need-layer-id-requires
+layer-id-requires c κs = search needs
+
+cover-requires : tie.Need-cover-requires
+cover-requires c κs = search needs
+
+returns : tie.Need-returns
+returns c =
+    let l = c .before .before in
+    let s = l .before in
+    let own : eqb (layerIdOf gpu (s .args .segment .0)) (s .args .layer-id) ≡ true = rw (← l .layer-id .ensures) ? in
+    rw (own, kept w8 (c .cover .result) (c .cover .ok)) (c .cover .ensures)
+
+returns-2 : tie.Need-returns-2
+returns-2 c =
+    let s = c .before .before in
+    let other : eqb (layerIdOf gpu (s .args .segment .0)) (s .args .layer-id) ≡ false = rw (← c .before .layer-id .ensures) ? in
+    rw other
+
+pub cover-within-spec : {M : Type 1} → statement M
+cover-within-spec = tie.close (tie.spec layer-id-requires cover-requires returns returns-2)
