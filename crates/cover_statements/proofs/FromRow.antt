@@ -6,6 +6,7 @@ use Prim.Native.Nat.{ℕ, _+_, _<_}
 use native.Mathlib.Omega.{arith}
 use borrow.Author.Tests.{le-ltb}
 use lib.Dec.{eqb, ltb}
+use lib.Ieee.{Float}
 use lib.IntN.{ℤ, pos, _+ℤ_, _*ℤ_, +ℤ-idl, +ℤ-idr}
 use lib.ListN.{length, getD}
 use Rattle.laws.proofs.Every.{all-at, all-intro}
@@ -18,14 +19,14 @@ use Rattle.cover_statements.specs.Area.{doubledArea, coverBefore, ownAre
 use Rattle.cover_statements.specs.Carry.{inRow, coverIn, carryOf}
 use Rattle.cover_statements.specs.Coverage.{coverageOf}
 use Rattle.cover_statements.specs.Cover.{coverAt, noCover, emptyAt, fullAt, isEmpty, isFull}
-use Rattle.cover_statements.specs.Plane.{inPlaces, pixelOf, planeOf}
+use Rattle.cover_statements.specs.Plane.{inPlaces, pixelOf, planeOf, byColumns, exchange, exchangeBack}
 use Rattle.cover_statements.specs.Weight.{weightOf, isInside}
 use Rattle.cover_statements.specs.WholeRow.{inTile, leftOfTile, partOf, segmentsLeft, leftCover, rowPlane, FromRow}
 use Rattle.cover_statements.proofs.Agreement.{agrees-refl, agrees-add, agrees-trans, agrees-empty, agrees-full, empty-agrees}
 use Rattle.cover_statements.proofs.Areas.{and-false, split}
 use Rattle.cover_statements.proofs.Testing.{and-true, all-every}
 use Rattle.cover_statements.proofs.Carries.{carry-at, no-cover-at}
-use Rattle.cover_statements.proofs.Planes.{places-ext}
+use Rattle.cover_statements.proofs.Planes.{places-ext, exchanged, exchanged-back}
 use Rattle.cover_statements.proofs.Weights.{weight-agree, empty-weight, full-weight, winding-weight}
 
 -- ---- the incoming cover from the whole row
@@ -106,8 +107,8 @@ module _ {ws : List ℕ} {n : ℕ} {rule : FillRule} {tile layer : ℕ} {row : L
   unfolding doubledArea
   plane-from-row {covers} p c =
       let part = partOf ws tile layer row in
-      places-ext n (pixelOf ws rule (coverAt covers) part) (pixelOf ws rule (leftCover ws tile layer row) part) p
-      (λ column y h. ap coverageOf (weight-agree rule (coverAt covers y) (leftCover ws tile layer row y) (coverBefore ws column y part) (ownArea ws column y part) (c .at y h)))
+      places-ext n (pixelOf ws rule (coverAt covers) part) (pixelOf ws rule (leftCover ws tile layer row) part)
+      (λ column y _ h. ap coverageOf (weight-agree rule (coverAt covers y) (leftCover ws tile layer row y) (coverBefore ws column y part) (ownArea ws column y part) (c .at y h)))
 
   -- it is empty, and full, as the whole row says
   pub empty-from-row : {covers : List ℤ} → length covers ≡ n → FromRow ws n rule tile layer row covers → isEmpty rule covers ≡ every n (λ y. emptyAt rule (leftCover ws tile layer row y))
@@ -122,6 +123,18 @@ module _ {ws : List ℕ} {n : ℕ} {rule : FillRule} {tile layer : ℕ} {row : L
       all-every (fullAt rule) covers (pos 0) n l (λ y. fullAt rule (leftCover ws tile layer row y))
       (λ y h. agrees-full rule (coverAt covers y) (leftCover ws tile layer row y) (c .at y h))
 
+-- ---- the plane from the whole row is the one by columns, the order before W-209, with the two places exchanged, and back
+
+module _ (ws : List ℕ) (n : ℕ) (rule : FillRule) (tile layer : ℕ) (row : List ℕ) (d : Float) where
+  abbrev pixels : ℕ → ℕ → Float
+  pixels = pixelOf ws rule (leftCover ws tile layer row) (partOf ws tile layer row)
+
+  pub row-exchanged : rowPlane ws n rule tile layer row ≡ exchange d n (byColumns n (pixelOf ws rule (leftCover ws tile layer row) (partOf ws tile layer row)))
+  row-exchanged = exchanged n pixels d
+
+  pub row-exchanged-back : byColumns n (pixelOf ws rule (leftCover ws tile layer row) (partOf ws tile layer row)) ≡ exchangeBack d n (rowPlane ws n rule tile layer row)
+  row-exchanged-back = exchanged-back n pixels d
+
 -- ---- tiles without segments of the layer
 
 -- with no segments, d is 32 times the incoming cover
@@ -131,8 +144,8 @@ area-alone ws incoming c y = +ℤ-idr (pos 32 *ℤ (incoming y +ℤ pos 0)) ∙ 
 
 alone : (ws : List ℕ) (n : ℕ) (rule : FillRule) (incoming : ℕ → ℤ) (weight : ℕ) → 0 < n → ((y : ℕ) → y < n → weightOf rule (pos 32 *ℤ incoming y) ≡ weight) → planeOf ws n rule incoming [] ≡ inPlaces n (λ column y. coverageOf weight)
 alone ws n rule incoming weight p h =
-    places-ext n (pixelOf ws rule incoming []) (λ column y. coverageOf weight) p
-    (λ column y l. ap coverageOf (ap (weightOf rule) (area-alone ws incoming column y) ∙ h y l))
+    places-ext n (pixelOf ws rule incoming []) (λ column y. coverageOf weight)
+    (λ column y _ l. ap coverageOf (ap (weightOf rule) (area-alone ws incoming column y) ∙ h y l))
 
 -- an empty cover leaves coverage 0 everywhere, and a full one coverage 1
 pub empty-plane : (ws : List ℕ) (n : ℕ) (rule : FillRule) (incoming : ℕ → ℤ) → 0 < n → ((y : ℕ) → y < n → emptyAt rule (incoming y) ≡ true) → planeOf ws n rule incoming [] ≡ inPlaces n (λ column y. coverageOf 0)

@@ -21,7 +21,7 @@ use Rattle.laws.proofs.Sums.{abs-add, sum-step, sum-end}
 use Rattle.laws.specs.Sum.{sumℤ}
 use Rattle.pixel_segment.specs.Field.{localXOf, localYOf}
 use Rattle.cover_statements.specs.Carry.{inRow, absCover, loadIn}
-use Rattle.cover_statements.specs.Cell.{cellOf, cellsOf, noCellsIn, noCells}
+use Rattle.cover_statements.specs.Cell.{cellOf, cellsOf, noCells}
 use Rattle.cover_statements.specs.Cover.{coverAt}
 use Rattle.cover_statements.specs.Load.{loadsOf, allLight}
 use Rattle.cover_statements.proofs.Filled.{getD-default}
@@ -166,9 +166,6 @@ module _ {ws : List ℕ} {n m : ℕ} {f : ℕ → ℤ} {part : List ℕ} where
         ∙ c .same k l)
 
 -- a table of zeros
-pub sum-none : {ws : List ℕ} {n m : ℕ} {f : ℕ → ℤ} {part loads : List ℕ} {table : List ℤ} → table ≡ noCellsIn n → Summed ws n m f part 0 loads table
-sum-none {n = n} e = sum-start (ap length e ∙ length-replicate (16 * n) (pos 0)) (λ k. ap (λ (l : List ℤ). coverAt l k) e ∙ getD-default {a = pos 0} (16 * n) k)
-
-pub sum-zeros : {ws : List ℕ} {m : ℕ} {f : ℕ → ℤ} {part loads : List ℕ} {table : List ℤ} → table ≡ noCells → Summed ws 16 m f part 0 loads table
+pub sum-zeros : {ws : List ℕ} {n m : ℕ} {f : ℕ → ℤ} {part loads : List ℕ} {table : List ℤ} → table ≡ noCells n → Summed ws n m f part 0 loads table
 unfolding noCells
-sum-zeros e = sum-none e
+sum-zeros {n = n} e = sum-start (ap length e ∙ length-replicate (16 * n) (pos 0)) (λ k. ap (λ (l : List ℤ). coverAt l k) e ∙ getD-default {a = pos 0} (16 * n) k)

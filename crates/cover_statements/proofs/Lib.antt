@@ -17,6 +17,7 @@ pub mod Marks
 pub mod Weighings
 pub mod Entries
 pub mod Planes
+pub mod PlaneRows
 pub mod Repeats
 pub mod Paintings
 pub mod Agreement

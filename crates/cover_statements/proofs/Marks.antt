@@ -1,9 +1,10 @@
--- Laws of the mark: its size, one more octet below, its bits, and that its ones are the used octets. Assumes nothing.
+-- Laws of the mark: its size, one more octet below, its bits, that its ones are the used octets, and that it is the mark of the plane by columns.
+-- Assumes nothing.
 use mathlib.Core.Path.{_≡_, refl, sym, ap, ap₂, _∙_}
 use mathlib.Core.Bool.{Bool, true, false, _||_}
 use mathlib.Core.List.{List, [], _∷_}
 use Prim.Native.Nat.{ℕ, zero, suc, _+_, _-_, _*_, _/_, _%_, _^_, _<_, _≤_}
-use native.Mathlib.Nat.{lt-of-lt-of-le, pow-suc, zero-div, div-one}
+use native.Mathlib.Nat.{lt-of-lt-of-le, pow-suc, zero-div, div-one, zero-mul}
 use native.Mathlib.Numerals.{one-add}
 use native.Mathlib.Omega.{arith}
 use lib.Count.{ones, ones-cat}
@@ -13,8 +14,9 @@ use lib.Pow.{pow-mono, shr-shr}
 use lib.Seq.{drop-cons, drop-length}
 use Rattle.laws.proofs.Rows.{length-tabulate, getD-tabulate, is-tabulate}
 use Rattle.cover_statements.specs.Coverage.{coverageOf, isAbove}
-use Rattle.cover_statements.specs.Plane.{inPlaces}
-use Rattle.cover_statements.specs.Mark.{aboveAt, some, isOctetUsed, usedOctets, bit, binaryNumber, countTrue, markOf, octetsOf}
+use Rattle.cover_statements.specs.Plane.{inPlaces, exchange}
+use Rattle.cover_statements.specs.Mark.{aboveAt, some, isOctetUsed, usedOctets, bit, binaryNumber, countTrue, markOf, someAbove, markByColumns, octetsOf}
+use Rattle.cover_statements.proofs.Planes.{pixel-at}
 
 pub bit-lt : (b : Bool) → bit b < 2
 bit-lt true = omega arith
@@ -121,20 +123,40 @@ pub some-ext : (n : ℕ) (f g : ℕ → Bool) → ((i : ℕ) → i < n → f i �
 some-ext zero f g h = refl
 some-ext (suc n) f g h = ap₂ _||_ (some-ext n f g (λ i l. h i (omega arith))) (h n (omega arith))
 
--- k + i, as the code writes it
-abbrev pub offset : ℕ → ℕ → ℕ
-offset k zero = k
-offset k (suc i) = k + suc i
+-- k + i × s, as the code writes it
+abbrev pub offset : ℕ → ℕ → ℕ → ℕ
+offset s k zero = k
+offset s k (suc i) = k + suc i * s
 
-pub offset-is : (k i : ℕ) → offset k i ≡ k + i
-offset-is k zero = omega arith
-offset-is k (suc i) = refl
+pub offset-is : (s k i : ℕ) → offset s k i ≡ k + i * s
+offset-is s k zero = rw (zero-mul s) (omega arith)
+offset-is s k (suc i) = refl
 
--- octet 2 × column + h is the eight numbers from 8 times it on
-pub used-eight : (plane : List Float) (octet : ℕ) → some 8 (λ i. isAbove (getD plane (offset (8 * octet) i) nan)) ≡ isOctetUsed plane (octet / 2) (octet % 2)
+-- octet h of a column is the eight numbers from 128 × h + column on, 16 apart
+pub used-eight : (plane : List Float) (octet : ℕ) → some 8 (λ i. isAbove (getD plane (offset 16 (128 * (octet % 2) + octet / 2) i) nan)) ≡ isOctetUsed plane (octet / 2) (octet % 2)
 used-eight plane octet =
-    some-ext 8 (λ i. isAbove (getD plane (offset (8 * octet) i) nan)) (aboveAt plane (octet / 2) (octet % 2))
-    (λ i l. ap (λ (k : ℕ). isAbove (getD plane k nan)) (omega (arith, offset-is (8 * octet) i)))
+    some-ext 8 (λ i. isAbove (getD plane (offset 16 (128 * (octet % 2) + octet / 2) i) nan)) (aboveAt plane (octet / 2) (octet % 2))
+    (λ i l. ap (λ (k : ℕ). isAbove (getD plane k nan)) (omega (arith, offset-is 16 (128 * (octet % 2) + octet / 2) i)))
+
+-- ---- the mark of a plane is the one that its numbers by columns had
+
+-- the eight neighbours are the octet, exchanged
+pub octet-used : (old : List Float) (octet : ℕ) → octet < 32 → someAbove old octet ≡ isOctetUsed (exchange nan 16 old) (octet / 2) (octet % 2)
+unfolding someAbove
+octet-used old octet h =
+    some-ext 8 (λ i. isAbove (getD old (8 * octet + i) nan)) (aboveAt (exchange nan 16 old) (octet / 2) (octet % 2))
+    (λ i l.
+    let e : 8 * octet + i ≡ octet / 2 * 16 + (8 * (octet % 2) + i) = omega arith in
+    ap isAbove
+    (ap (λ (k : ℕ). getD old k nan) e
+    ∙ sym (pixel-at 16 (λ column row. getD old (column * 16 + row) nan) nan (octet / 2) (8 * (octet % 2) + i) (omega arith) (omega arith))))
+
+pub mark-exchanged : (old : List Float) → markOf (exchange nan 16 old) ≡ markByColumns old
+unfolding markOf usedOctets
+mark-exchanged old =
+    ap binaryNumber
+    (is-tabulate 32 (someAbove old) false (usedOctets (exchange nan 16 old)) (used-length (exchange nan 16 old))
+    (λ o l. used-at (exchange nan 16 old) o l ∙ sym (octet-used old o l)))
 
 -- planes that agree in their 256 numbers have one mark
 pub mark-same : (p q : List Float) → ((k : ℕ) → k < 256 → getD p k nan ≡ getD q k nan) → markOf p ≡ markOf q

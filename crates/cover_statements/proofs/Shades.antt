@@ -1,10 +1,10 @@
--- A column's double areas become its doubled areas, one pixel row after another, in tiles n pixels high. Assumes nothing.
+-- A column's double areas become its doubled areas, one pixel row after another, over any height. Assumes nothing.
 use mathlib.Core.Path.{_≡_, refl, sym, ap, ap₂, _∙_}
 use mathlib.Core.Bool.{Bool, false, _&&_}
 use mathlib.Core.List.{List}
 use mathlib.Core.Logic.{⊎-elim}
-use Prim.Native.Nat.{ℕ, _+_, _*_, _/_, _%_, _≤_, _<_}
-use native.Mathlib.Nat.{div-add-mod', le-of-eq}
+use Prim.Native.Nat.{ℕ, _+_, _*_, _/_, _%_, _<_}
+use native.Mathlib.Nat.{le-refl, div-add-mod'}
 use native.Mathlib.Omega.{arith}
 use borrow.Author.Tests.{eqb-true, ltb-true, eq-eqb, lt-ltb, le-ltb}
 use lib.Arith.{digits-lt, digits-div, digits-mod}
@@ -14,26 +14,13 @@ use lib.ListN.{length, set, length-set}
 use lib.Seq.{getD-set-same, getD-set-other}
 use Rattle.laws.proofs.Bools.{both, left, right, same, not-right}
 use Rattle.laws.proofs.Orders.{eq-or-ne}
-use Rattle.cover_statements.specs.Cell.{ShadedIn}
+use Rattle.cover_statements.specs.Cell.{Shaded}
 use Rattle.cover_statements.specs.Cover.{coverAt}
 use Rattle.cover_statements.proofs.Areas.{below-next}
 
 -- pixel k has been shaded once the first rows of the column are
 abbrev isShaded : ℕ → ℕ → ℕ → ℕ → Bool
 isShaded n column rows k = eqb (k / n) column && ltb (k % n) rows
-
-pub least : (m : ℕ) → 0 ≤ m
-least m = omega arith
-
--- a pixel is that of its column and its row
-pixel : (n column y k : ℕ) → k / n ≡ column → k % n ≡ y → k ≡ column * n + y
-pixel n column y k p q = sym (div-add-mod' k n) ∙ ap₂ (λ (a b : ℕ). a * n + b) p q
-
-fewer : (m y : ℕ) → m < y + 1 → (m ≡ y → ⊥) → m < y
-fewer m y h d = ⊎-elim (λ (e : m ≡ y). absurd (d e)) (λ (e : m ≡ y → ⊥). omega arith) (eq-or-ne m y)
-
-more : (m y : ℕ) → m < y → m < y + 1
-more m y h = omega arith
 
 -- with one row more that is pixel column × n + row besides
 shaded-other : (n column y k : ℕ) → (k ≡ column * n + y → ⊥) → isShaded n column (y + 1) k ≡ isShaded n column y k
@@ -42,33 +29,39 @@ shaded-other n column y k d =
     (λ e.
     let q = eqb-true (k / n) column (left (eqb (k / n) column) (ltb (k % n) (y + 1)) e) in
     let r = ltb-true (k % n) (y + 1) (right (eqb (k / n) column) (ltb (k % n) (y + 1)) e) in
-    both (eqb (k / n) column) (ltb (k % n) y) (eq-eqb (k / n) column q) (lt-ltb (k % n) y (fewer (k % n) y r (λ s. d (pixel n column y k q s)))))
+    both (eqb (k / n) column) (ltb (k % n) y) (eq-eqb (k / n) column q) (lt-ltb (k % n) y (below (k % n) q r refl)))
     (λ e.
     let q = eqb-true (k / n) column (left (eqb (k / n) column) (ltb (k % n) y) e) in
     let r = ltb-true (k % n) y (right (eqb (k / n) column) (ltb (k % n) y) e) in
-    both (eqb (k / n) column) (ltb (k % n) (y + 1)) (eq-eqb (k / n) column q) (lt-ltb (k % n) (y + 1) (more (k % n) y r)))
+    both (eqb (k / n) column) (ltb (k % n) (y + 1)) (eq-eqb (k / n) column q) (lt-ltb (k % n) (y + 1) (omega arith)))
+  where
+    below : (m : ℕ) → k / n ≡ column → m < y + 1 → m ≡ k % n → m < y
+    below m q r e =
+        ⊎-elim
+        (λ (s : m ≡ y). absurd (d (sym (div-add-mod' k n) ∙ ap₂ (λ (a b : ℕ). a * n + b) q (sym e ∙ s))))
+        (λ (s : m ≡ y → ⊥). omega arith)
+        (eq-or-ne m y)
 
 module _ {n column : ℕ} {areas₀ covers sums : List ℤ} where
-  pub shade-start : length areas₀ ≡ 16 * n → length sums ≡ n → ShadedIn n column 0 areas₀ covers sums areas₀ sums
+  pub shade-start : length areas₀ ≡ 16 * n → length sums ≡ n → Shaded n column 0 areas₀ covers sums areas₀ sums
   shade-start e h =
       record {
         long = e;
-        area = λ k p. rw (le-ltb (k % n) 0 (least (k % n)), not-right (eqb (k / n) column) false refl);
+        area = λ k p. rw (le-ltb (k % n) 0 (omega arith), not-right (eqb (k / n) column) false refl);
         sums-long = h;
         sum = λ y p. rw (le-ltb y 0 (omega arith));
       }
 
-  module _ {y : ℕ} {areas next : List ℤ} (c : ShadedIn n column y areas₀ covers sums areas next) (low : column < 16) (h : y < n) where
+  module _ {y : ℕ} {areas next : List ℤ} (c : Shaded n column y areas₀ covers sums areas next) (low : column < 16) (h : y < n) where
     -- row y is still as it was
     pub shade-area : coverAt areas (column * n + y) ≡ coverAt areas₀ (column * n + y)
     shade-area =
         let k = column * n + y in
-        let e : k % n ≡ y = digits-mod column h in
-        c .area k (digits-lt low h) ∙ rw (le-ltb (k % n) y (le-of-eq (sym e)), not-right (eqb (k / n) column) false refl)
+        c .area k (digits-lt low h) ∙ rw (le-ltb (k % n) y (rw (digits-mod column h) (le-refl y)), not-right (eqb (k / n) column) false refl)
 
     -- row y, shaded
     pub shade-next : {k : ℕ} {v u : ℤ} → k ≡ column * n + y → v ≡ pos 32 *ℤ coverAt sums y +ℤ coverAt areas k → u ≡ coverAt sums y +ℤ coverAt covers k
-        → ShadedIn n column (y + 1) areas₀ covers sums (set areas k v) (set next y u)
+        → Shaded n column (y + 1) areas₀ covers sums (set areas k v) (set next y u)
     shade-next {k} {v} {u} p ev eu =
         record {
           long = length-set areas k v ∙ c .long;
@@ -83,7 +76,7 @@ module _ {n column : ℕ} {areas₀ covers sums : List ℤ} where
                 m,
                 lt-ltb y (y + 1) (omega arith),
                 s,
-                getD-set-same areas k v (pos 0) (rw (p, c .long) (digits-lt low h)),
+                getD-set-same areas k v (pos 0) (rw (c .long, p) (digits-lt low h)),
                 ev,
                 p,
                 shade-area,
@@ -96,7 +89,7 @@ module _ {n column : ℕ} {areas₀ covers sums : List ℤ} where
               λ r q.
               ⊎-elim
               (λ (s : r ≡ y).
-              rw (s, lt-ltb y (y + 1) (omega arith), getD-set-same next y u (pos 0) (rw (c .sums-long) h), eu, p))
+              rw (s, lt-ltb y (y + 1) (omega arith), getD-set-same next y u (pos 0) (omega (arith, c .sums-long)), eu, p))
               (λ (s : r ≡ y → ⊥).
               rw (getD-set-other next y r u (pos 0) s, below-next r y s) (c .sum r q))
               (eq-or-ne r y);

@@ -2,7 +2,7 @@
 -- them: a coverage is above 0 exactly where its weight is. Assumes nothing.
 use mathlib.Core.Path.{_≡_, refl, sym, ap, _∙_}
 use mathlib.Core.List.{List, [], _∷_, map}
-use Prim.Native.Nat.{ℕ, _+_, _*_, _/_, _%_, _≤_, _<_}
+use Prim.Native.Nat.{ℕ, _+_, _*_, _≤_, _<_}
 use native.Mathlib.Omega.{arith}
 use lib.Ieee.{Float, nan}
 use lib.IntN.{ℤ, pos, negsuc, natAbs}
@@ -14,10 +14,10 @@ use Rattle.laws.specs.Integer.{minus}
 use Rattle.styling.specs.declared.FillRule.{FillRule}
 use Rattle.cover_statements.specs.Cover.{coverAt}
 use Rattle.cover_statements.specs.Coverage.{coverageOf, isAbove}
-use Rattle.cover_statements.specs.Mark.{some, isOctetUsed, aboveAt}
+use Rattle.cover_statements.specs.Mark.{some, someAbove}
 use Rattle.cover_statements.specs.Plane.{coveragesOf}
 use Rattle.cover_statements.specs.Weight.{weightOf}
-use Rattle.cover_statements.specs.Weighed.{weightIn, weightsOf, Weighed, coverageIn, coveragesIn, someAbove}
+use Rattle.cover_statements.specs.Weighed.{weightIn, weightsOf, Weighed, coverageIn, coveragesIn}
 use Rattle.cover_statements.proofs.Coverages.{coverage-above}
 use Rattle.cover_statements.proofs.Marks.{offset, offset-is, some-ext}
 use Rattle.cover_statements.proofs.Weights.{weight-le}
@@ -48,20 +48,13 @@ above-zero (pos n) e h = sym (coverage-above n h)
 above-zero (negsuc n) e h = absurd (omega arith)
 
 -- eight weights tell whether one of their coverages is above 0
-pub weights-above : {weights : List ℤ} (octet : ℕ) → Weighed weights → 8 * octet + 8 ≤ length weights → some 8 (λ i. ltZ (pos 0) (coverAt weights (offset (8 * octet) i))) ≡ someAbove (coveragesIn weights) octet
+pub weights-above : {weights : List ℤ} (octet : ℕ) → Weighed weights → 8 * octet + 8 ≤ length weights → some 8 (λ i. ltZ (pos 0) (coverAt weights (offset 1 (8 * octet) i))) ≡ someAbove (coveragesIn weights) octet
 unfolding someAbove
 weights-above {weights} octet c h =
-    some-ext 8 (λ i. ltZ (pos 0) (coverAt weights (offset (8 * octet) i))) (λ i. isAbove (getD (coveragesIn weights) (8 * octet + i) nan))
+    some-ext 8 (λ i. ltZ (pos 0) (coverAt weights (offset 1 (8 * octet) i))) (λ i. isAbove (getD (coveragesIn weights) (8 * octet + i) nan))
     (λ i l.
     let k = 8 * octet + i in
     let p : k < length weights = omega arith in
-    ap (λ (j : ℕ). ltZ (pos 0) (coverAt weights j)) (offset-is (8 * octet) i)
+    ap (λ (j : ℕ). ltZ (pos 0) (coverAt weights j)) (omega (arith, offset-is 1 (8 * octet) i))
     ∙ above-zero (coverAt weights k) (c .low k p) (c .high k p)
     ∙ ap isAbove (sym (map-lt coverageIn weights k nan (pos 0) p)))
-
--- of a whole plane, that is whether the octet is used
-pub octet-used : (plane : List Float) (octet : ℕ) → someAbove plane octet ≡ isOctetUsed plane (octet / 2) (octet % 2)
-unfolding someAbove
-octet-used plane octet =
-    some-ext 8 (λ i. isAbove (getD plane (8 * octet + i) nan)) (aboveAt plane (octet / 2) (octet % 2))
-    (λ i l. ap (λ (k : ℕ). isAbove (getD plane k nan)) (omega arith))

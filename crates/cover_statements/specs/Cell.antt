@@ -22,11 +22,8 @@ cellOf ws n w = localXOf ws w * n + localYOf ws w
 unfoldable pub cellsOf : List ℕ → ℕ → (ℕ → ℤ) → List ℕ → List ℤ
 cellsOf ws n f part = tabulate (16 * n) (λ k. sumℤ (λ w. eqb (cellOf ws n w) k) f part)
 
-abbrev pub noCellsIn : ℕ → List ℤ
-noCellsIn n = replicate (16 * n) (pos 0)
-
-unfoldable pub noCells : List ℤ
-noCells = noCellsIn 16
+unfoldable pub noCells : ℕ → List ℤ
+noCells n = replicate (16 * n) (pos 0)
 
 -- the double areas and the covers of each cell
 pub record Accumulated (ws : List ℕ) (n : ℕ) (part : List ℕ) (areas covers : List ℤ) : Type 0 where
@@ -44,25 +41,18 @@ pub record JudgedAreas (ws : List ℕ) (n : ℕ) (covers : List ℤ) (part : Lis
   pub areas-are : r ≡ true → areas ≡ areasOf ws n (coverAt covers) part
 
 -- a column whose sums and doubled areas are in range
-pub record ShadableIn (n column : ℕ) (areas covers sums : List ℤ) : Type 0 where
+pub record Shadable (n column : ℕ) (areas covers sums : List ℤ) : Type 0 where
   pub low : column < 16
   pub room : length areas ≡ 16 * n
   pub area-small : (y : ℕ) → y < n → natAbs (pos 32 *ℤ coverAt sums y +ℤ coverAt areas (column * n + y)) ≤ 8001
   pub sum-small : (y : ℕ) → y < n → natAbs (coverAt sums y +ℤ coverAt covers (column * n + y)) ≤ 127
 
 -- a column's areas with 32 times the sums added, and the sums with the column's covers, in the first `rows` rows; all else as it was
-pub record ShadedIn (n column rows : ℕ) (areas covers sums newAreas newSums : List ℤ) : Type 0 where
+pub record Shaded (n column rows : ℕ) (areas covers sums newAreas newSums : List ℤ) : Type 0 where
   pub long : length newAreas ≡ 16 * n
   pub area : (k : ℕ) → k < 16 * n → coverAt newAreas k ≡ cond (eqb (k / n) column && ltb (k % n) rows) (pos 32 *ℤ coverAt sums (k % n) +ℤ coverAt areas k) (coverAt areas k)
   pub sums-long : length newSums ≡ n
   pub sum : (y : ℕ) → y < n → coverAt newSums y ≡ cond (ltb y rows) (coverAt sums y +ℤ coverAt covers (column * n + y)) (coverAt sums y)
-
--- in tiles 16 pixels high
-abbrev pub Shadable : ℕ → List ℤ → List ℤ → List ℤ → Type 0
-Shadable column areas covers sums = ShadableIn 16 column areas covers sums
-
-abbrev pub Shaded : ℕ → ℕ → List ℤ → List ℤ → List ℤ → List ℤ → List ℤ → Type 0
-Shaded column rows areas covers sums newAreas newSums = ShadedIn 16 column rows areas covers sums newAreas newSums
 
 -- the cells of a part that number 9 does not refuse, from the incoming covers
 pub record Summable (ws : List ℕ) (n : ℕ) (incoming areas covers : List ℤ) : Type 0 where

@@ -18,7 +18,7 @@ use Rattle.cover_statements.specs.declared.mark.Marked.the-variants.{Mar
 
 -- the coverage of row i of octet h of a column is above 0
 abbrev pub aboveAt : List Float → ℕ → ℕ → ℕ → Bool
-aboveAt plane column h i = isAbove (getD plane (placeOf 16 column (8 * h + i)) nan)
+aboveAt plane column h i = isAbove (getD plane (placeOf column (8 * h + i)) nan)
 
 -- the test f passes at some number below n
 abbrev pub some : ℕ → (ℕ → Bool) → Bool
@@ -49,6 +49,13 @@ countTrue (b ∷ bs) = bit b + countTrue bs
 
 unfoldable pub markOf : List Float → ℕ
 markOf plane = binaryNumber (usedOctets plane)
+
+-- the mark as it was worked out of a plane by columns, before W-209: the eight numbers from 8 × octet on are an octet
+unfoldable pub someAbove : List Float → ℕ → Bool
+someAbove plane octet = some 8 (λ i. isAbove (getD plane (8 * octet + i) nan))
+
+abbrev pub markByColumns : List Float → ℕ
+markByColumns plane = binaryNumber (tabulate 32 (someAbove plane))
 
 unfoldable pub octetsOf : List Float → ℕ
 octetsOf plane = countTrue (usedOctets plane)

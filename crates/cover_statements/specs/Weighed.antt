@@ -1,7 +1,6 @@
--- How the code works coverages out: in the place of each doubled area its weight, then the coverages of the weights; and where no segment lies in
--- the tile, one column for all. Weights are signed numbers here, for they take the places of doubled areas.
+-- How the code works coverages out: in the place of each doubled area its weight, then the coverages of the weights, a row of the plane after the
+-- other; and where no segment lies in the tile, one column for all. Weights are signed numbers here, for they take the places of doubled areas.
 use mathlib.Core.Path.{_≡_}
-use mathlib.Core.Bool.{Bool}
 use mathlib.Core.List.{List, map}
 use Prim.Native.Nat.{ℕ, _+_, _*_, _≤_, _<_}
 use lib.Ieee.{Float, nan}
@@ -9,11 +8,11 @@ use lib.IntN.{ℤ, pos, natAbs, _*ℤ_}
 use lib.ListN.{length, getD}
 use lib.Seq.{paste}
 use Rattle.laws.specs.Integer.{minus}
+use Rattle.laws.specs.Lists.{tabulate}
 use Rattle.styling.specs.declared.FillRule.{FillRule}
 use Rattle.cover_statements.specs.Cover.{coverAt}
-use Rattle.cover_statements.specs.Coverage.{coverageOf, isAbove}
-use Rattle.cover_statements.specs.Mark.{some}
-use Rattle.cover_statements.specs.Plane.{inPlaces}
+use Rattle.cover_statements.specs.Coverage.{coverageOf}
+use Rattle.cover_statements.specs.Plane.{inPlaces, exchange}
 use Rattle.cover_statements.specs.Weight.{weightOf}
 
 -- doubled areas in the range that number 9 leaves
@@ -39,9 +38,12 @@ coverageIn w = coverageOf (natAbs w)
 abbrev pub coveragesIn : List ℤ → List Float
 coveragesIn weights = map coverageIn weights
 
--- some of the eight coverages from 8 × octet on is above 0
-unfoldable pub someAbove : List Float → ℕ → Bool
-someAbove plane octet = some 8 (λ i. isAbove (getD plane (8 * octet + i) nan))
+-- the plane of weights that stand by columns, and its row y
+abbrev pub weightsPlane : ℕ → List ℤ → List Float
+weightsPlane n weights = exchange nan n (coveragesIn weights)
+
+abbrev pub weightsRow : ℕ → List ℤ → ℕ → List Float
+weightsRow n weights y = tabulate 16 (λ x. getD (coveragesIn weights) (x * n + y) nan)
 
 -- where no segment lies in the tile: what the pixels of each column see, 32 times the cover that comes in
 abbrev pub columnAreas : List ℤ → List ℤ
@@ -51,6 +53,6 @@ columnAreas covers = map (λ cover. pos 32 *ℤ cover) covers
 abbrev pub repeated : ℕ → List Float → List Float
 repeated n column = inPlaces n (λ x y. getD column y nan)
 
--- the plane with the column x written, all else as it was
-abbrev pub putColumn : ℕ → ℕ → List Float → List Float → List Float
-putColumn n x column old = paste old (x * n) column n
+-- the plane with a row of 16 numbers written as row y, all else as it was
+abbrev pub putRow : ℕ → List Float → List Float → List Float
+putRow y row old = paste old (y * 16) row 16

@@ -7,20 +7,21 @@ ghost use Prim.Native.Nat.{_<_, _≤_, _/_, _%_};
 ghost use lib.ListN.{length};
 ghost use Rattle.cover_statements.specs.Mark.{isOctetUsed, markOf, marked, markedAnswer, Counted};
 
-// Octet h of a column is rows 8h to 8h + 7, so octet 2 × column + h is the eight numbers from 8 times it on.
+// Octet h of a column is its rows 8h to 8h + 7, so octet 2 × column + h is the eight numbers from 128 × h + column on,
+// 16 apart.
 fn is_used(plane: &[f32], octet: usize) -> bool
     requires { ⌜ (octet < 32) × (256 ≤ length (now plane)) ⌝ }
     ensures { λ r. ⌜ r ≡ isOctetUsed (now (plane .entry)) (octet / 2) (octet % 2) ⌝ }
 {
-    let a = 8 * octet;
+    let a = 128 * (octet % 2) + octet / 2;
     (plane[a] > 0.0)
-        | (plane[a + 1] > 0.0)
-        | (plane[a + 2] > 0.0)
-        | (plane[a + 3] > 0.0)
-        | (plane[a + 4] > 0.0)
-        | (plane[a + 5] > 0.0)
-        | (plane[a + 6] > 0.0)
-        | (plane[a + 7] > 0.0)
+        | (plane[a + 16] > 0.0)
+        | (plane[a + 32] > 0.0)
+        | (plane[a + 48] > 0.0)
+        | (plane[a + 64] > 0.0)
+        | (plane[a + 80] > 0.0)
+        | (plane[a + 96] > 0.0)
+        | (plane[a + 112] > 0.0)
 }
 
 // The mark of a plane, from the highest octet down.

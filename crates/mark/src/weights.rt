@@ -1,9 +1,10 @@
-// The mark of a plane, read from the weights of its coverages: a coverage is above 0 exactly where its weight is.
+// The mark of a plane, read from the weights of its coverages, which stand by columns, so that an octet is eight
+// neighbours: a coverage is above 0 exactly where its weight is.
 ghost use mathlib.Core.Path.{_≡_};
 ghost use Prim.Native.Nat.{_+_, _*_, _≤_};
 ghost use lib.ListN.{length};
-ghost use Rattle.cover_statements.specs.Mark.{markOf};
-ghost use Rattle.cover_statements.specs.Weighed.{Weighed, coveragesIn, someAbove, repeated};
+ghost use Rattle.cover_statements.specs.Mark.{markOf, someAbove};
+ghost use Rattle.cover_statements.specs.Weighed.{Weighed, coveragesIn, weightsPlane, repeated};
 
 // Whether one of the eight weights from 8 times the octet on is above 0.
 fn is_used(weights: &[i16], octet: usize) -> bool
@@ -24,7 +25,7 @@ fn is_used(weights: &[i16], octet: usize) -> bool
 // The mark of a plane by its 256 weights, from the highest octet down.
 pub fn mark_of(weights: &[i16]) -> u32
     requires { ⌜ Weighed (now weights) × (256 ≤ length (now weights)) ⌝ }
-    ensures { λ r. ⌜ r ≡ markOf (coveragesIn (now (weights .entry))) ⌝ }
+    ensures { λ r. ⌜ r ≡ markOf (weightsPlane 16 (now (weights .entry))) ⌝ }
 {
     let mut mark: u32 = 0;
     let mut octet: usize = 32;

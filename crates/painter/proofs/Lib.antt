@@ -3,3 +3,4 @@ pub mod Lasting
 pub mod Freeing
 pub mod Items
 pub mod Painted
+pub mod Exchanged

@@ -23,7 +23,7 @@ fn acc_segments(
     areas: &mut [i16; 256],
     covers: &mut [i8; 256],
 ) -> bool
-    requires { ⌜ (allLight incoming ≡ true) × (now areas ≡ noCells) × (now covers ≡ noCells) ⌝ }
+    requires { ⌜ (allLight incoming ≡ true) × (now areas ≡ noCells 16) × (now covers ≡ noCells 16) ⌝ }
     ensures { λ r. ⌜ Judged cpu 16 incoming (now (part .entry)) r (now (areas .exit)) (now (covers .exit)) ⌝ }
 {
     let mut loads = incoming;
@@ -53,8 +53,8 @@ fn compute_doubled_areas(
     column: usize,
     sums: [i8; 16],
 ) -> [i8; 16]
-    requires { ⌜ Shadable column (now areas) (now covers) sums ⌝ }
-    ensures { λ r. ⌜ Shaded column 16 (now (areas .entry)) (now (covers .entry)) sums (now (areas .exit)) r ⌝ }
+    requires { ⌜ Shadable 16 column (now areas) (now covers) sums ⌝ }
+    ensures { λ r. ⌜ Shaded 16 column 16 (now (areas .entry)) (now (covers .entry)) sums (now (areas .exit)) r ⌝ }
 {
     let mut next = sums;
     let mut y = 0;
@@ -83,7 +83,7 @@ pub fn sum_columns(areas: &mut [i16; 256], covers: &[i8; 256], incoming: [i8; 16
 
 // The doubled areas of a part, from an incoming cover; false where number 9 refuses it.
 pub fn judged_areas(part: &[u64], cover: Cover, areas: &mut [i16; 256]) -> bool
-    requires { ⌜ now areas ≡ noCells ⌝ }
+    requires { ⌜ now areas ≡ noCells 16 ⌝ }
     ensures { λ r. ⌜ JudgedAreas cpu 16 (cover .covers) (now (part .entry)) r (now (areas .exit)) ⌝ }
 {
     let incoming = cover.covers;

@@ -1,4 +1,5 @@
-// A part without segments: all columns of its plane are the same, so one is worked out and copied.
+// A part without segments: all columns of its plane are the same, so one is worked out, and each of its numbers fills a
+// row.
 use cover::Cover;
 use mark::weights;
 use styling::FillRule;
@@ -7,13 +8,13 @@ ghost use mathlib.Core.Path.{_≡_};
 ghost use mathlib.Core.Bool.{true};
 ghost use mathlib.Core.List.{[]};
 ghost use Prim.Native.Nat.{_+_, _*_, _≤_};
-ghost use lib.ListN.{length};
+ghost use lib.ListN.{length, replicate};
 ghost use Rattle.laws.specs.Lists.{over};
 ghost use Rattle.pixel_segment.specs.Field.{cpu};
 ghost use Rattle.cover_statements.specs.Carry.{isLight};
 ghost use Rattle.cover_statements.specs.Mark.{markOf};
 ghost use Rattle.cover_statements.specs.Paint.{partPlane};
-ghost use Rattle.cover_statements.specs.Weighed.{columnAreas, repeated, putColumn};
+ghost use Rattle.cover_statements.specs.Weighed.{columnAreas, repeated, putRow};
 
 // What the pixels of a column see: 32 times the cover that comes in.
 fn column_areas(cover: Cover) -> [i16; 16]
@@ -29,27 +30,27 @@ fn column_areas(cover: Cover) -> [i16; 16]
     areas
 }
 
-// Column x of a plane.
-fn write_column(column: &[f32; 16], x: usize, plane: &mut [f32])
-    requires { ⌜ (length (now column) ≡ 16) × (x * 16 + 16 ≤ length (now plane)) ⌝ }
-    ensures { λ _. ⌜ now (plane .exit) ≡ putColumn 16 x (now (column .entry)) (now (plane .entry)) ⌝ }
-{
-    let mut y = 0;
-    while y < 16 {
-        plane[x * 16 + y] = column[y];
-        y += 1;
-    }
-}
-
-// All columns of a plane. What lies past them stays.
-fn repeat_column(column: &[f32; 16], plane: &mut [f32])
-    requires { ⌜ (length (now column) ≡ 16) × (256 ≤ length (now plane)) ⌝ }
-    ensures { λ _. ⌜ now (plane .exit) ≡ over (repeated 16 (now (column .entry))) (now (plane .entry)) ⌝ }
+// Row y of a plane, one number everywhere.
+fn fill_row(value: f32, y: usize, plane: &mut [f32])
+    requires { ⌜ y * 16 + 16 ≤ length (now plane) ⌝ }
+    ensures { λ _. ⌜ now (plane .exit) ≡ putRow y (replicate 16 value) (now (plane .entry)) ⌝ }
 {
     let mut x = 0;
     while x < 16 {
-        write_column(column, x, plane);
+        plane[y * 16 + x] = value;
         x += 1;
+    }
+}
+
+// One column in all columns of a plane. What lies past them stays.
+fn repeat_column(column: &[f32; 16], plane: &mut [f32])
+    requires { ⌜ 256 ≤ length (now plane) ⌝ }
+    ensures { λ _. ⌜ now (plane .exit) ≡ over (repeated 16 (now (column .entry))) (now (plane .entry)) ⌝ }
+{
+    let mut y = 0;
+    while y < 16 {
+        fill_row(column[y], y, plane);
+        y += 1;
     }
 }
 

@@ -1,4 +1,4 @@
-// The coverages of a part in a lent plane, at column × 16 + row.
+// The coverages of a part in a lent plane, at row × 16 + column.
 pub mod area;
 pub mod column;
 
@@ -36,7 +36,7 @@ fn paint_judged(part: &[u64], cover: Cover, rule: FillRule, plane: &mut [f32]) -
         return Painted::CoverTooLarge;
     }
     tile::weigh(&mut areas, rule);
-    tile::write_coverages(&areas, plane);
+    tile::write_plane(&areas, plane);
     Painted::Mark(weights::mark_of(&areas))
 }
 

@@ -244,4 +244,4 @@ kept (let-out {s = s} w h g) = rw (g .leaves) (step-out w (letVerdict s w) refl 
 
 -- on a kept set |d| is at most 8,001, so nothing is wrapped
 pub small : {incoming : List ℤ} {s : SetState} → Kept incoming s → InRange (take 256 (s .areas))
-small {incoming} {s} k = areas-in-range incoming (heldOf s) (k .light) (k .areas-are)
+small {incoming} {s} k = areas-in-range cpu 16 incoming (heldOf s) refl (k .light) (k .areas-are)

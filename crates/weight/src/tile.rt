@@ -3,12 +3,20 @@
 use crate::small;
 use styling::FillRule;
 ghost use mathlib.Core.Path.{_≡_};
-ghost use Prim.Native.Nat.{_≤_};
+ghost use Prim.Native.Nat.{_+_, _*_, _≤_, _<_};
 ghost use lib.ListN.{length};
 ghost use Rattle.laws.specs.Lists.{over};
 ghost use Rattle.weight_table.specs.Rest.{curve};
 ghost use Rattle.styling.specs.declared.FillRule.the-variants.{NonZero, EvenOdd};
-ghost use Rattle.cover_statements.specs.Weighed.{InRange, Weighed, weightsOf, coveragesIn};
+ghost use Rattle.cover_statements.specs.Weighed.{
+  InRange,
+  Weighed,
+  weightsOf,
+  coveragesIn,
+  weightsPlane,
+  weightsRow,
+  putRow,
+};
 
 fn weigh_non_zero(areas: &mut [i16])
     requires { ⌜ InRange (now areas) ⌝ }
@@ -55,5 +63,29 @@ pub fn write_coverages(weights: &[i16], plane: &mut [f32])
     while k < weights.len() {
         plane[k] = crate::coverage(weights[k] as u16);
         k += 1;
+    }
+}
+
+// Row y of a plane, from weights that stand by columns.
+fn write_row(weights: &[i16], y: usize, plane: &mut [f32])
+    requires { ⌜ Weighed (now weights) × (256 ≤ length (now weights)) × (y < 16) × (y * 16 + 16 ≤ length (now plane)) ⌝ }
+    ensures { λ _. ⌜ now (plane .exit) ≡ putRow y (weightsRow 16 (now (weights .entry)) y) (now (plane .entry)) ⌝ }
+{
+    let mut x = 0;
+    while x < 16 {
+        plane[y * 16 + x] = crate::coverage(weights[x * 16 + y] as u16);
+        x += 1;
+    }
+}
+
+// The plane of 256 weights that stand by columns: the exchange of the two places is here. What lies past it stays.
+pub fn write_plane(weights: &[i16], plane: &mut [f32])
+    requires { ⌜ Weighed (now weights) × (256 ≤ length (now weights)) × (256 ≤ length (now plane)) ⌝ }
+    ensures { λ _. ⌜ now (plane .exit) ≡ over (weightsPlane 16 (now (weights .entry))) (now (plane .entry)) ⌝ }
+{
+    let mut y = 0;
+    while y < 16 {
+        write_row(weights, y, plane);
+        y += 1;
     }
 }

@@ -7,6 +7,9 @@ use Rattle.mark.proofs.is_used.Tie as tie
 mul-a : tie.Need-mul-a
 mul-a c = search needs
 
+add-a : tie.Need-add-a
+add-a c = search needs
+
 mul-result : tie.Need-mul-result
 mul-result c = search needs
 
@@ -86,6 +89,7 @@ is-used-spec =
     tie.close
     (tie.spec
     mul-a
+    add-a
     mul-result
     shared-slice-read-result
     add-result

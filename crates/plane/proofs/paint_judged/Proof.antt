@@ -6,7 +6,7 @@ use Prim.Native.Nat.{ℕ}
 use native.Mathlib.Omega.{arith}
 use borrow.Author.Tests.{not-true, not-false}
 use borrow.Author.Needs.{needs}
-use lib.Ieee.{Float}
+use lib.Ieee.{Float, nan}
 use lib.ListN.{length, length-map}
 use Rattle.laws.specs.Lists.{over}
 use Rattle.pixel_segment.specs.Field.{cpu}
@@ -16,8 +16,8 @@ use Rattle.cover_statements.specs.Cell.{noCells}
 use Rattle.cover_statements.specs.Cover.{coverAt}
 use Rattle.cover_statements.specs.Mark.{markOf}
 use Rattle.cover_statements.specs.Paint.{partPlane}
-use Rattle.cover_statements.specs.Plane.{coveragesOf}
-use Rattle.cover_statements.specs.Weighed.{weightIn, Weighed, coveragesIn}
+use Rattle.cover_statements.specs.Plane.{coveragesOf, exchange}
+use Rattle.cover_statements.specs.Weighed.{weightIn, Weighed, coveragesIn, weightsPlane}
 use Rattle.cover_statements.proofs.Paintings.{paint-heavy, paint-done}
 use Rattle.cover_statements.proofs.Planes.{areas-length, areas-in-range, plane-of-areas}
 use Rattle.cover_statements.proofs.Weighings.{weights-are, coverages-are}
@@ -74,10 +74,10 @@ slice-aggregate-weigh c = sym (areas-long (c .before))
 weigh-requires : tie.Need-weigh-requires
 weigh-requires c κs =
     let s = c .before .before .before .before .before .before .before in
-    areas-in-range (s .args .cover .covers) (s .args .part .now) (accepted (c .before)) (areas-are (c .before))
+    areas-in-range cpu 16 (s .args .cover .covers) (s .args .part .now) refl (accepted (c .before)) (areas-are (c .before))
 
-slice-aggregate-write-coverages : tie.Need-slice-aggregate-write-coverages
-slice-aggregate-write-coverages c = search needs
+slice-aggregate-write-plane : tie.Need-slice-aggregate-write-plane
+slice-aggregate-write-plane c = search needs
 
 weights-long : (w : tie.After-weigh) → length (w .weigh .last .0) ≡ 256
 weights-long w =
@@ -88,19 +88,20 @@ weighed : (w : tie.After-weigh) → Weighed (w .weigh .last .0)
 weighed w = weights-are (w .before .before .before .before .before .before .before .before .args .rule) (w .before .before .before .judged-areas .last .1 .1 .0) (w .weigh .ensures)
 
 -- the coverages of the weights are the plane
-plane-is : (w : tie.After-weigh) → coveragesIn (w .weigh .last .0) ≡ partPlane cpu (w .before .before .before .before .before .before .before .before .args .rule) (w .before .before .before .before .before .before .before .before .args .cover .covers) (w .before .before .before .before .before .before .before .before .args .part .now)
+plane-is : (w : tie.After-weigh) → weightsPlane 16 (w .weigh .last .0) ≡ partPlane cpu (w .before .before .before .before .before .before .before .before .args .rule) (w .before .before .before .before .before .before .before .before .args .cover .covers) (w .before .before .before .before .before .before .before .before .args .part .now)
 plane-is w =
     let t = w .before .before in
     let s = w .before .before .before .before .before .before .before .before in
-    ap coveragesIn (w .weigh .ensures)
+    ap (exchange nan 16)
+    (ap coveragesIn (w .weigh .ensures)
     ∙ coverages-are (s .args .rule) (t .before .judged-areas .last .1 .1 .0)
-    ∙ ap (coveragesOf (s .args .rule)) (areas-are t)
-    ∙ plane-of-areas cpu 16 (s .args .rule) (coverAt (s .args .cover .covers)) (s .args .part .now)
+    ∙ ap (coveragesOf (s .args .rule)) (areas-are t))
+    ∙ plane-of-areas cpu 16 (s .args .rule) (coverAt (s .args .cover .covers)) (s .args .part .now) nan
 
-write-coverages-requires : tie.Need-write-coverages-requires
-write-coverages-requires c κs =
+write-plane-requires : tie.Need-write-plane-requires
+write-plane-requires c κs =
     let w = c .before .before .before in
-    (weighed w, omega (arith, weights-long w, c .before .before .before .before .before .before .before .before .before .before .before .pre))
+    (weighed w, omega (arith, weights-long w), w .before .before .before .before .before .before .before .before .pre)
 
 slice-aggregate-mark-of : tie.Need-slice-aggregate-mark-of
 slice-aggregate-mark-of c = search needs
@@ -118,7 +119,7 @@ returns-4 c =
     let w = c .before .before .before .before .before .before .before .before in
     let s = w .before .before .before .before .before .before .before .before in
     paint-done (s .pre) (accepted (w .before .before))
-    (c .before .before .before .before .write-coverages .ensures ∙ ap (λ (l : List Float). over l (s .args .plane .now)) (plane-is w))
+    (c .before .before .before .before .write-plane .ensures ∙ ap (λ (l : List Float). over l (s .args .plane .now)) (plane-is w))
     (c .mark-of .ensures ∙ ap markOf (plane-is w))
 
 pub paint-judged-spec : {M : Type 1} → statement M
@@ -134,8 +135,8 @@ paint-judged-spec =
     returns-3
     slice-aggregate-weigh
     weigh-requires
-    slice-aggregate-write-coverages
-    write-coverages-requires
+    slice-aggregate-write-plane
+    write-plane-requires
     slice-aggregate-mark-of
     mark-of-requires
     same-length-2

@@ -3,14 +3,13 @@ use mathlib.Core.Path.{_∙_}
 use Prim.Native.Nat.{_-_}
 use native.Mathlib.Omega.{arith}
 use borrow.Author.Needs.{needs}
-use Rattle.cover_statements.specs.Weighed.{coveragesIn}
-use Rattle.cover_statements.proofs.Weighings.{octet-used}
-use Rattle.cover_statements.proofs.Marks.{Marking, mark-start, mark-small, mark-next, mark-end, bit-lt}
+use Rattle.cover_statements.specs.Weighed.{coveragesIn, weightsPlane}
+use Rattle.cover_statements.proofs.Marks.{Marking, mark-start, mark-small, mark-next, mark-end, bit-lt, octet-used}
 use Rattle.mark.proofs.weights.mark_of.Statement.{statement}
 use Rattle.mark.proofs.weights.mark_of.Tie as tie
 
 abbrev Inv-loop : tie.InvT-loop
-Inv-loop weights mark₀ octet₀ mark octet = Marking (coveragesIn weights) mark octet
+Inv-loop weights mark₀ octet₀ mark octet = Marking (weightsPlane 16 weights) mark octet
 
 abbrev μ-loop : tie.MeasureT-loop
 μ-loop weights mark₀ octet₀ mark octet = octet
@@ -42,7 +41,7 @@ loop-again : tie.Need-loop-again Inv-loop μ-loop
 loop-again c =
     let l = c .before .before in
     mark-next (l .loop .inv) (c .before .loop-test .taken)
-    (c .is-used .ensures ∙ octet-used (coveragesIn (l .before .args .weights .now)) (l .loop .octet - 1))
+    (c .is-used .ensures ∙ octet-used (coveragesIn (l .before .args .weights .now)) (l .loop .octet - 1) (omega (arith, l .loop .inv .reached)))
 
 returns : tie.Need-returns Inv-loop μ-loop
 returns c = mark-end (c .before .loop .inv) (c .loop-test .left)

@@ -17,7 +17,7 @@ use Rattle.plane.proofs.area.compute_doubled_areas.Statement.{statement
 use Rattle.plane.proofs.area.compute_doubled_areas.Tie as tie
 
 abbrev Inv-loop : tie.InvT-loop
-Inv-loop areas₀ covers column sums next₀ y₀ areas next y = (y ≤ 16) × Shaded column y areas₀ covers sums areas next
+Inv-loop areas₀ covers column sums next₀ y₀ areas next y = (y ≤ 16) × Shaded 16 column y areas₀ covers sums areas next
 
 abbrev μ-loop : tie.MeasureT-loop
 μ-loop areas₀ covers column sums next₀ y₀ areas next y = 16 - y

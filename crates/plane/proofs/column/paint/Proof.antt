@@ -3,7 +3,6 @@ use mathlib.Core.Path.{_≡_, sym, ap, _∙_}
 use mathlib.Core.List.{List, []}
 use native.Mathlib.Omega.{arith}
 use borrow.Author.Needs.{needs}
-use lib.Dec.{lit<}
 use lib.Ieee.{Float}
 use lib.IntN.{pos, _*ℤ_}
 use lib.ListN.{length, length-map}
@@ -50,12 +49,12 @@ plane-is w =
     (ap coveragesIn (w .weigh .ensures)
     ∙ coverages-are (s .args .rule) (a .column-areas .result)
     ∙ ap (coveragesOf (s .args .rule)) (a .column-areas .ensures))
-    ∙ sym (plane-none cpu 16 (s .args .rule) (s .args .cover .covers) (lit< tt) (long s))
+    ∙ sym (plane-none cpu 16 (s .args .rule) (s .args .cover .covers) (long s))
 
 weigh-requires : tie.Need-weigh-requires
 weigh-requires c κs =
     let s = c .before .before .before in
-    column-in-range 16 (s .args .cover .covers) (long s) (s .pre .0) (c .before .column-areas .ensures)
+    column-in-range cpu 16 (s .args .cover .covers) (long s) (s .pre .0) (c .before .column-areas .ensures)
 
 slice-aggregate-write-coverages : tie.Need-slice-aggregate-write-coverages
 slice-aggregate-write-coverages c = search needs
