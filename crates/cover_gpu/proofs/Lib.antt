@@ -1,1 +1,2 @@
--- Laws of planes four pixels high.
+-- Laws of painting in tiles four pixels high.
+pub mod Paintings

@@ -1,4 +1,4 @@
-// The doubled areas of the 64 pixels of a tile four pixels high, at column × 4 + row: one pass over the segments and one
+// The doubled areas of the 64 pixels of a tile four pixels high, at column × 4 + row: one pass over the segments, one
 // over the pixels.
 use crate::GpuCover;
 use crate::carry;
@@ -6,7 +6,7 @@ use pixel_segment_gpu::GpuSegment;
 ghost use mathlib.Core.Path.{_≡_};
 ghost use mathlib.Core.Bool.{true};
 ghost use Rattle.pixel_segment.specs.Field.{gpu};
-ghost use Rattle.cover_statements.specs.Cell.{cellOf, noCellsIn, Judged, JudgedAreas, ShadableIn, ShadedIn, Summable, Summed};
+ghost use Rattle.cover_statements.specs.Cell.{cellOf, noCells, Judged, JudgedAreas, Shadable, Shaded, Summable, Summed};
 ghost use Rattle.cover_statements.specs.Load.{allLight};
 
 // The cell of a segment: its pixel, at column × 4 + row.
@@ -24,7 +24,7 @@ fn acc_segments(
     areas: &mut [i16; 64],
     covers: &mut [i8; 64],
 ) -> bool
-    requires { ⌜ (allLight incoming ≡ true) × (now areas ≡ noCellsIn 4) × (now covers ≡ noCellsIn 4) ⌝ }
+    requires { ⌜ (allLight incoming ≡ true) × (now areas ≡ noCells 4) × (now covers ≡ noCells 4) ⌝ }
     ensures { λ r. ⌜ Judged gpu 4 incoming (now (part .entry)) r (now (areas .exit)) (now (covers .exit)) ⌝ }
 {
     let mut loads = incoming;
@@ -54,8 +54,8 @@ fn compute_doubled_areas(
     column: usize,
     sums: [i8; 4],
 ) -> [i8; 4]
-    requires { ⌜ ShadableIn 4 column (now areas) (now covers) sums ⌝ }
-    ensures { λ r. ⌜ ShadedIn 4 column 4 (now (areas .entry)) (now (covers .entry)) sums (now (areas .exit)) r ⌝ }
+    requires { ⌜ Shadable 4 column (now areas) (now covers) sums ⌝ }
+    ensures { λ r. ⌜ Shaded 4 column 4 (now (areas .entry)) (now (covers .entry)) sums (now (areas .exit)) r ⌝ }
 {
     let mut next = sums;
     let mut y = 0;
@@ -84,7 +84,7 @@ pub fn sum_columns(areas: &mut [i16; 64], covers: &[i8; 64], incoming: [i8; 4])
 
 // The doubled areas of a part, from an incoming cover; false where number 9 refuses it.
 pub fn judged_areas(part: &[u64], cover: GpuCover, areas: &mut [i16; 64]) -> bool
-    requires { ⌜ now areas ≡ noCellsIn 4 ⌝ }
+    requires { ⌜ now areas ≡ noCells 4 ⌝ }
     ensures { λ r. ⌜ JudgedAreas gpu 4 (cover .covers) (now (part .entry)) r (now (areas .exit)) ⌝ }
 {
     let incoming = cover.covers;

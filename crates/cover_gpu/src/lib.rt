@@ -1,11 +1,15 @@
-// The covers of tiles four pixels high: empty, full, and carried past a part. What they say of a row's cover, and the
-// weights and coverages, are of cover and weight.
+// The covers of tiles four pixels high: empty, full, carried past a part; and the coverages of a part in a lent plane.
+// What is said of a row's cover, and the weights and coverages, are of cover and weight.
 pub mod area;
 pub mod carry;
+pub mod plane;
 
 use styling::FillRule;
 ghost use mathlib.Core.Path.{_≡_};
 ghost use Rattle.cover_statements.specs.Cover.{noCover, isEmpty, isFull};
+
+// The pixel rows of a tile.
+const ROWS: usize = 4;
 
 // One signed byte for each pixel row of a tile: 16 is a whole pixel, once around.
 pub struct GpuCover {
@@ -27,7 +31,7 @@ impl GpuCover {
         let covers = self.covers;
         let mut ok = true;
         let mut y = 0;
-        while y < 4 {
+        while y < ROWS {
             ok = ok & cover::is_row_empty(covers[y], rule);
             y += 1;
         }
@@ -40,7 +44,7 @@ impl GpuCover {
         let covers = self.covers;
         let mut ok = true;
         let mut y = 0;
-        while y < 4 {
+        while y < ROWS {
             ok = ok & cover::is_row_full(covers[y], rule);
             y += 1;
         }

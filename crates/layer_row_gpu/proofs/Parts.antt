@@ -4,11 +4,14 @@ use mathlib.Core.Path.{_≡_, sym, ap, _∙_}
 use mathlib.Core.Bool.{true}
 use mathlib.Core.List.{List}
 use Prim.Native.Nat.{ℕ, suc}
+use native.Mathlib.Omega.{arith}
 use lib.Dec.{eqb, ltb}
 use lib.IntN.{ℤ, pos}
+use Rattle.laws.specs.Integer.{plus, minus}
 use Rattle.laws.specs.Lists.{filter}
 use Rattle.laws.proofs.Filtered.{filter-twice}
-use Rattle.pixel_segment.specs.Field.{gpu, tileOf, tileXOf, layerIdOf}
+use Rattle.laws.proofs.Parts.{whole, equal}
+use Rattle.pixel_segment.specs.Field.{gpu, tileXOf, layerIdOf}
 use Rattle.pixel_segment.proofs.Heights.{gpu-keyed}
 use Rattle.segment_rows.specs.Rows.{isRow, Ordered, Words}
 use Rattle.segment_rows.specs.Search.{leftPartIn, tilePartIn, layerPartIn}
@@ -39,3 +42,9 @@ module _ (ty : ℕ) {row : List ℕ} (words : Words row) (h : isRow gpu ty row �
   pub left-layer-is : (id : ℕ) → layerWithin id (leftPartIn gpu (pos t) row) ≡ segmentsLeft gpu (suc t) id row
   left-layer-is id =
       ap (layerWithin id) left-is ∙ filter-twice (λ w. ltb (tileXOf gpu w) (suc t)) (λ w. eqb (layerIdOf gpu w) id) row
+
+-- a part left of a tile that is given as a whole number from 0 on
+pub left-from : (ty : ℕ) {row : List ℕ} → Words row → isRow gpu ty row ≡ true → (from : ℤ) → minus from ≡ 0 → (id : ℕ) → layerWithin id (leftPartIn gpu from row) ≡ segmentsLeft gpu (suc (plus from)) id row
+left-from ty {row} words h from low id =
+    ap (λ (z : ℤ). layerWithin id (leftPartIn gpu z row)) (equal from (pos (plus from)) (omega (arith, whole from, low)))
+    ∙ left-layer-is ty words h (plus from) id

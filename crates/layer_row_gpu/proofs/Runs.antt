@@ -1,9 +1,8 @@
 -- The theorem over any works after an accepted opening: each call is as the whole row has it. Assumes nothing.
-use mathlib.Core.Path.{_≡_, refl, sym, ap, subst, _∙_}
+use mathlib.Core.Path.{_≡_, refl, sym, ap, _∙_}
 use mathlib.Core.Bool.{Bool, true, false, cond}
-use mathlib.Core.List.{List, [], _∷_}
-use mathlib.Core.Logic.{⊎-elim}
-use Prim.Native.Nat.{ℕ, suc, _+_, _<_}
+use mathlib.Core.List.{List}
+use Prim.Native.Nat.{ℕ, suc, _+_}
 use native.Mathlib.Nat.{add-zero, add-suc}
 use native.Mathlib.Numerals.{add-one}
 use native.Mathlib.Omega.{arith}
@@ -12,23 +11,19 @@ use lib.Ieee.{Float}
 use lib.IntN.{ℤ, pos}
 use lib.ListN.{length, length-replicate}
 use Rattle.laws.specs.Lists.{over}
-use Rattle.laws.proofs.Bools.{either}
-use Rattle.refusals.specs.Refusal.{Judgement, pass, refuse, judgementIn}
+use Rattle.refusals.specs.Refusal.{Judgement, pass, refuse}
 use Rattle.pixel_segment.specs.Field.{gpu}
-use Rattle.segment_rows.specs.Rows.{Words}
 use Rattle.styling.specs.declared.FillRule.{FillRule}
 use Rattle.cover_statements.specs.Carry.{carryOf}
-use Rattle.cover_statements.specs.Cover.{coverAt, noCover, isEmpty}
-use Rattle.cover_statements.specs.Plane.{planeOf}
-use Rattle.cover_statements.specs.WholeRow.{partOf, rowPlane, FromRow}
+use Rattle.cover_statements.specs.Cover.{noCover, isEmpty}
+use Rattle.cover_statements.specs.WholeRow.{partOf, FromRow}
 use Rattle.cover_statements.proofs.Carries.{carry-length, no-cover-at}
 use Rattle.cover_statements.proofs.FromRow.{opening-from-row, carry-from-row, dropped-from-row, plane-from-row}
-use Rattle.layer_row_gpu.specs.LayerState.{LayerState, layerStateIn, dropped, layerTile, pastTile}
-use Rattle.layer_row_gpu.specs.OpenLayer.{LayerCall, firstState, openedState, callVerdictOf, OpensLayer}
-use Rattle.layer_row_gpu.specs.WorkLayer.{workLayerVerdict, workedState, workedPlane, WorksLayer}
-use Rattle.layer_row_gpu.specs.LayerRun.{WorkEvent, LayerStep, LayerRun, AfterTiles, tilesAfter, planeDue, CallDue, CallsDue, LayerClaim}
-use Rattle.layer_row_gpu.specs.declared.OpenedLayer.{OpenedLayer}
-use Rattle.layer_row_gpu.proofs.Verdicts.{WorkPassed, work-passed}
+use Rattle.layer_row_gpu.specs.LayerState.{LayerState, layerStateIn, dropped}
+use Rattle.layer_row_gpu.specs.OpenLayer.{LayerCall, firstState, openedState, callVerdictOf}
+use Rattle.layer_row_gpu.specs.WorkLayer.{workLayerVerdict, workedPlane, WorksLayer}
+use Rattle.layer_row_gpu.specs.LayerRun.{WorkEvent, LayerStep, LayerRun, AfterTiles, CallDue, CallsDue, LayerClaim}
+use Rattle.layer_row_gpu.proofs.Verdicts.{work-passed}
 
 -- ---- the carry past a tile, from the whole row
 
@@ -132,7 +127,7 @@ module _ (c : LayerCall) (first : LayerState) where
 
 -- 'carry and coverage are held to the same working from the whole row as at 16'
 pub layer-row : LayerClaim
-layer-row c r es s words o ok g =
+layer-row c r es s o ok g =
     let verdict : callVerdictOf c ≡ pass = sym (o .answer) ∙ ok in
     let is : layerStateIn (r .state) ≡ firstState c = o .state-is ∙ ap (λ (j : Judgement). openedState j c) verdict in
     let a = opened-first c (layerStateIn (r .state)) is in

@@ -1,6 +1,6 @@
 -- What verdicts that pass tell of an opening and of a work, and what the operations give by their verdicts. Assumes nothing.
-use mathlib.Core.Path.{_≡_, refl, sym, ap, _∙_}
-use mathlib.Core.Bool.{Bool, true, false, not, _||_}
+use mathlib.Core.Path.{_≡_}
+use mathlib.Core.Bool.{true, false, not, _||_}
 use mathlib.Core.Logic.{⊎-elim}
 use mathlib.Core.List.{List}
 use Prim.Native.Nat.{ℕ, suc, _≤_, _<_}
@@ -15,7 +15,7 @@ use Rattle.laws.specs.Integer.{plus, minus}
 use Rattle.laws.proofs.Parts.{whole, lt-false, equal}
 use Rattle.laws.proofs.Bools.{clash}
 use Rattle.laws.proofs.Orders.{le-or-lt}
-use Rattle.refusals.specs.Refusal.{Judgement, pass, refuse, unless}
+use Rattle.refusals.specs.Refusal.{pass}
 use Rattle.refusals.proofs.Judging.{passed, or-left, or-right}
 use Rattle.pixel_segment.specs.Field.{gpu}
 use Rattle.segment_rows.specs.Rows.{isRow}

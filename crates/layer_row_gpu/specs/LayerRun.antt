@@ -10,7 +10,6 @@ use lib.ListN.{length}
 use Rattle.laws.specs.Lists.{over}
 use Rattle.refusals.specs.Refusal.{Judgement, pass, refuse, judgementIn}
 use Rattle.pixel_segment.specs.Field.{gpu}
-use Rattle.segment_rows.specs.Rows.{Words}
 use Rattle.cover_statements.specs.WholeRow.{rowPlane, FromRow}
 use Rattle.layer_row_gpu.specs.LayerState.{LayerState, layerStateIn}
 use Rattle.layer_row_gpu.specs.OpenLayer.{LayerCall, OpensLayer}
@@ -77,5 +76,5 @@ pub data CallsDue (c : LayerCall) (first : LayerState) : ℕ → List WorkEvent 
 -- after any accepted opening and any works, every call is as the whole row has it
 abbrev pub LayerClaim : Type 0
 LayerClaim =
-    (c : LayerCall) (r : OpenedLayer) (es : List WorkEvent) (s : LayerState) → Words (c .row) → OpensLayer c r → judgementIn (r .answer) ≡ pass
+    (c : LayerCall) (r : OpenedLayer) (es : List WorkEvent) (s : LayerState) → OpensLayer c r → judgementIn (r .answer) ≡ pass
     → LayerRun c (layerStateIn (r .state)) es s → AfterTiles c (layerStateIn (r .state)) 0 (layerStateIn (r .state)) × CallsDue c (layerStateIn (r .state)) 0 es

@@ -1,7 +1,7 @@
 -- The opening of one layer's row: judged by 2, 3 and 9, lowest first; the state before the first tile, whose cover is the exact sum of the layer's
 -- covers left of `from`, tile -1 included. Stands for W-213 and for the clause on opening a row.
 use mathlib.Core.Path.{_≡_}
-use mathlib.Core.Bool.{Bool, not}
+use mathlib.Core.Bool.{not}
 use mathlib.Core.List.{List}
 use Prim.Native.Nat.{ℕ, suc}
 use lib.IntN.{ℤ}

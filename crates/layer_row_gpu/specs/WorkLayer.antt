@@ -1,7 +1,7 @@
 -- The work on the next tile of one layer's row: judged by 1, 2, 3 and 9, lowest first; the tile's 64 coverages written, and the carry handed on.
 -- A refusal leaves the plane as it was and returns the equal state. Stands for W-213: 'planes have 64 numbers, carries 4 bytes'.
 use mathlib.Core.Path.{_≡_}
-use mathlib.Core.Bool.{Bool, not, _||_}
+use mathlib.Core.Bool.{not, _||_}
 use mathlib.Core.List.{List}
 use Prim.Native.Nat.{ℕ, suc}
 use lib.Dec.{ltb}

@@ -64,7 +64,8 @@ pub fn layer_part(row: &[u64], tile: u32, layer_id: u32) -> &[u64]
 
 // Refusals 1, 2, 3 and 9 of a work.
 pub fn judge_work(state: LayerRow, tile: i32, row: &[u64], plane: &[f32]) -> Verdict
-    ensures { λ r. ⌜ judgementIn r ≡ workLayerVerdict (layerStateIn state) tile (now (row .entry)) (now (plane .entry)) ⌝ }
+    ensures { λ r. ⌜ judgementIn r
+        ≡ workLayerVerdict (layerStateIn state) tile (now (row .entry)) (now (plane .entry)) ⌝ }
 {
     if plane.len() < 64 {
         return Verdict::Refuse(Refusal::Room);

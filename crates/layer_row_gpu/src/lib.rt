@@ -4,6 +4,8 @@ pub mod covers;
 pub mod judging;
 
 use cover_gpu::GpuCover;
+use cover_gpu::carry;
+use cover_gpu::plane;
 use pixel_segment_gpu::parts;
 use refusals::Verdict;
 use segment_rows::search;
@@ -44,14 +46,7 @@ pub struct WorkedLayer {
 }
 
 // The state of an opening that nothing refuses.
-fn open(
-    tile_y: i32,
-    from: i32,
-    to: i32,
-    layer_id: u32,
-    rule: FillRule,
-    row: &[u64],
-) -> LayerRow
+fn open(tile_y: i32, from: i32, to: i32, layer_id: u32, rule: FillRule, row: &[u64]) -> LayerRow
     requires { ⌜ Openable (layerCall «tile_y» from to «layer_id» rule (now row)) ⌝ }
     ensures { λ r. ⌜ layerStateIn r ≡ firstState (layerCall «tile_y» from to «layer_id» rule (now (row .entry))) ⌝ }
 {
@@ -139,5 +134,39 @@ fn hand_on(state: LayerRow, carried: GpuCover) -> LayerRow
         layer_id: state.layer_id,
         rule: rule,
         cover: cover,
+    }
+}
+
+// The work on the next tile, where nothing refuses it.
+fn work(state: LayerRow, row: &[u64], plane: &mut [f32]) -> LayerRow
+    requires { ⌜ Workable (layerStateIn state) (now row) (now plane) ⌝ }
+    ensures { λ r. ⌜ (layerStateIn r ≡ pastTile (layerStateIn state) (dueTile (layerStateIn state) (now (row .entry))))
+        × (now (plane .exit) ≡ over (planeOf gpu 4 (state .rule) (coverAt (state .cover .covers))
+        (dueTile (layerStateIn state) (now (row .entry)))) (now (plane .entry))) ⌝ }
+{
+    let part = judging::layer_part(row, state.next, state.layer_id);
+    let cover = state.cover;
+    let rule = state.rule;
+    plane::paint(part, cover, rule, plane);
+    hand_on(state, carry::add_segments(part, cover))
+}
+
+// Works the next tile: its coverages in the lent plane, and the carry in the state.
+pub fn work_tile(state: LayerRow, tile: i32, row: &[u64], plane: &mut [f32]) -> WorkedLayer
+    ensures { λ r. ⌜ WorksLayer (layerStateIn state) tile (now (row .entry)) (now (plane .entry)) r
+        (now (plane .exit)) ⌝ }
+{
+    match judging::judge_work(state, tile, row, plane) {
+        Verdict::Refuse(refusal) => WorkedLayer {
+            answer: Verdict::Refuse(refusal),
+            state: state,
+        },
+        Verdict::Pass => {
+            let next = work(state, row, plane);
+            WorkedLayer {
+                answer: Verdict::Pass,
+                state: next,
+            }
+        }
     }
 }

@@ -12,7 +12,7 @@ use Rattle.laws.proofs.Machine.{small, kept}
 use Rattle.pixel_segment.specs.Field.{gpu, coverOf, doubleAreaOf}
 use Rattle.cover_statements.specs.Carry.{absCover}
 use Rattle.cover_statements.proofs.Areas.{area-weight}
-use Rattle.cover_statements.proofs.Judging.{Loaded, Summed, load-start, load-next, load-refused, load-accepted, sum-none, sum-fits, sum-next, sum-whole}
+use Rattle.cover_statements.proofs.Judging.{Loaded, Summed, load-start, load-next, load-refused, load-accepted, sum-zeros, sum-fits, sum-next, sum-whole}
 use Rattle.cover_statements.proofs.Loads.{light-at}
 use Rattle.cover_gpu.proofs.area.acc_segments.Statement.{statement}
 use Rattle.cover_gpu.proofs.area.acc_segments.Tie as tie
@@ -30,8 +30,8 @@ loop-holds : tie.Need-loop-holds Inv-loop μ-loop
 loop-holds c =
     let s = c .before in (
       load-start (search needs) (λ y h. light-at (s .args .incoming) (s .pre .0) y (omega arith)),
-      sum-none (s .pre .1),
-      sum-none (s .pre .2),
+      sum-zeros (s .pre .1),
+      sum-zeros (s .pre .2),
     )
 
 mul-t13 : tie.Need-mul-t13 Inv-loop μ-loop

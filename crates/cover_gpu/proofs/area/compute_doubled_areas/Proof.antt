@@ -10,14 +10,14 @@ use mir.Syntax.{w8, w16}
 use mir.Val.{SFits}
 use Rattle.laws.proofs.Machine.{sfits, within, small, kept}
 use Rattle.laws.proofs.Parts.{times}
-use Rattle.cover_statements.specs.Cell.{ShadedIn}
+use Rattle.cover_statements.specs.Cell.{Shaded}
 use Rattle.cover_statements.specs.Cover.{coverAt}
 use Rattle.cover_statements.proofs.Shades.{shade-start, shade-area, shade-next}
 use Rattle.cover_gpu.proofs.area.compute_doubled_areas.Statement.{statement}
 use Rattle.cover_gpu.proofs.area.compute_doubled_areas.Tie as tie
 
 abbrev Inv-loop : tie.InvT-loop
-Inv-loop areas₀ covers column sums next₀ y₀ areas next y = (y ≤ 4) × ShadedIn 4 column y areas₀ covers sums areas next
+Inv-loop areas₀ covers column sums next₀ y₀ areas next y = (y ≤ 4) × Shaded 4 column y areas₀ covers sums areas next
 
 abbrev μ-loop : tie.MeasureT-loop
 μ-loop areas₀ covers column sums next₀ y₀ areas next y = 4 - y

@@ -8,6 +8,7 @@ use borrow.Author.Tests.{not-true, not-false}
 use lib.ListN.{length}
 use Rattle.pixel_segment.specs.Field.{gpu}
 use Rattle.cover_statements.specs.Carry.{isLight}
+use Rattle.cover_statements.specs.Cell.{noCells}
 use Rattle.cover_statements.specs.Load.{loadsOf, allLight}
 use Rattle.cover_statements.proofs.Loads.{loads-judge, incoming-heavy}
 use Rattle.cover_gpu.proofs.area.judged_areas.Statement.{statement}
@@ -43,6 +44,7 @@ accepted : (c : tie.Else2) → isLight gpu 4 (c .before .before .before .before 
 accepted c = sym (judged (c .before)) ∙ not-false _ (c .if2 .left)
 
 acc-segments-requires : tie.Need-acc-segments-requires
+unfolding noCells
 acc-segments-requires c κs =
     let t = c .before .before in
     (sym (t .before .are-light .ensures) ∙ not-false _ (t .if1 .left), c .before .before .before .before .before .before .before .pre, refl)

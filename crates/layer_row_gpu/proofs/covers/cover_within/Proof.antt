@@ -1,9 +1,9 @@
 -- `covers::cover_within` meets its contract. Assumes nothing.
 use mathlib.Core.Path.{_≡_, sym, _∙_}
+use mathlib.Core.Bool.{true, false}
 use borrow.Author.Needs.{needs}
 use borrow.Author.Tests.{eq-eqb, ne-eqb}
 use lib.Dec.{eqb}
-use mathlib.Core.Bool.{true, false}
 use mir.Syntax.{w8}
 use Rattle.laws.proofs.Machine.{kept}
 use Rattle.pixel_segment.specs.Field.{gpu, layerIdOf}
@@ -20,13 +20,14 @@ returns : tie.Need-returns
 returns c =
     let l = c .before .before in
     let s = l .before in
-    let own : eqb (layerIdOf gpu (s .args .segment .0)) (s .args .layer-id) ≡ true = rw (← l .layer-id .ensures) ? in
+    let own : eqb (layerIdOf gpu (s .args .segment .0)) (s .args .layer-id) ≡ true = eq-eqb _ _ (sym (l .layer-id .ensures) ∙ c .before .if1 .taken) in
     rw (own, kept w8 (c .cover .result) (c .cover .ok)) (c .cover .ensures)
 
 returns-2 : tie.Need-returns-2
 returns-2 c =
-    let s = c .before .before in
-    let other : eqb (layerIdOf gpu (s .args .segment .0)) (s .args .layer-id) ≡ false = rw (← c .before .layer-id .ensures) ? in
+    let l = c .before in
+    let s = l .before in
+    let other : eqb (layerIdOf gpu (s .args .segment .0)) (s .args .layer-id) ≡ false = ne-eqb _ _ (λ e. c .if1 .left (l .layer-id .ensures ∙ e)) in
     rw other
 
 pub cover-within-spec : {M : Type 1} → statement M

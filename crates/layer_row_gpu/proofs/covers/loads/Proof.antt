@@ -22,7 +22,7 @@ abbrev μ-loop : tie.MeasureT-loop
 μ-loop part layer-id loads₀ i₀ loads i = length part - i
 
 loop-holds : tie.Need-loop-holds Inv-loop μ-loop
-loop-holds c = load-start (length-replicate 4 0) (record { at = λ y. rw (getD-default {A = ℕ} {a = 0} 4 y) (omega arith) })
+loop-holds c = load-start (length-replicate {A = ℕ} 4 0) (record { at = λ y. rw (getD-default {A = ℕ} {a = 0} 4 y) (omega arith) })
 
 mul-t8 : tie.Need-mul-t8 Inv-loop μ-loop
 mul-t8 c = search needs
