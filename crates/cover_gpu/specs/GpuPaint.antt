@@ -18,6 +18,10 @@ gpuPaintedAnswer Done = given tt
 gpuPaintedAnswer PlaneTooShort = refused 1
 gpuPaintedAnswer CoverTooLarge = refused 9
 
+-- the lowest refusal that applies, or that nothing does
+abbrev pub gpuPartAnswer : List ℤ → List ℕ → List Float → Answer (Unit {0})
+gpuPartAnswer covers part old = judgedPart gpu 4 covers part old tt
+
 pub record GpuPainting (rule : FillRule) (covers : List ℤ) (part : List ℕ) (old : List Float) (r : GpuPainted) (new : List Float) : Type 0 where
-  pub answer : gpuPaintedAnswer r ≡ judgedPart gpu 4 covers part old tt
+  pub answer : gpuPaintedAnswer r ≡ gpuPartAnswer covers part old
   pub plane-is : new ≡ paintedPlane gpu 4 rule covers part old
