@@ -12,7 +12,7 @@ pub struct Cover {
 }
 
 // Whether a row's cover leaves all to its right outside.
-fn is_row_empty(cover: i8, rule: FillRule) -> bool
+pub fn is_row_empty(cover: i8, rule: FillRule) -> bool
     ensures { λ r. ⌜ r ≡ emptyAt rule cover ⌝ }
 {
     match rule {
@@ -22,7 +22,7 @@ fn is_row_empty(cover: i8, rule: FillRule) -> bool
 }
 
 // Whether it is full by the rule: 16 or more either way for NonZero, an odd multiple of 16 for EvenOdd.
-fn is_row_full(cover: i8, rule: FillRule) -> bool
+pub fn is_row_full(cover: i8, rule: FillRule) -> bool
     ensures { λ r. ⌜ r ≡ fullAt rule cover ⌝ }
 {
     match rule {

@@ -7,7 +7,7 @@ use mathlib.Core.Logic.{⊎-elim}
 use Prim.Native.Nat.{ℕ, zero, suc, _+_, _≤_, _<_, min}
 use native.Mathlib.Omega.{arith}
 use borrow.Author.Tests.{le-leb, lt-leb, leb-true, eq-eqb, ne-eqb}
-use lib.Dec.{leb}
+use lib.Dec.{leb, eqb}
 use lib.IntN.{ℤ, pos, natAbs}
 use lib.ListN.{length, getD, drop, set, length-set, length-map, replicate, length-replicate, List·getD-map}
 use lib.Seq.{getD-set-same, getD-set-other}
@@ -16,7 +16,8 @@ use Rattle.laws.proofs.Every.{all-at, all-intro}
 use Rattle.laws.proofs.Orders.{le-or-lt, eq-or-ne}
 use Rattle.laws.proofs.Rows.{filled, filled-more, is-tabulate, length-tabulate, getD-tabulate}
 use Rattle.laws.proofs.Sums.{sum-step, sum-end}
-use Rattle.laws.specs.Lists.{every}
+use Rattle.laws.specs.Lists.{every, tabulate}
+use Rattle.laws.specs.Sum.{sumℕ}
 use Rattle.pixel_segment.specs.Field.{localYOf}
 use Rattle.cover_statements.proofs.Carries.{light}
 use Rattle.cover_statements.proofs.Filled.{filled-whole, getD-default}
@@ -76,24 +77,24 @@ module _ {covers : List ℤ} {n : ℕ} where
         capped = c .capped;
       }
 
--- ---- the loop over a part
+-- ---- the loop over a part: numbers summed at the keys of the words, capped at 128
 
-pub record Loading (ws : List ℕ) (n : ℕ) (part incoming : List ℕ) (i : ℕ) (loads : List ℕ) : Type 0 where
+pub record LoadingBy (key g : ℕ → ℕ) (n : ℕ) (part incoming : List ℕ) (i : ℕ) (loads : List ℕ) : Type 0 where
   pub reached : i ≤ length part
   pub long : length loads ≡ n
   pub capped : Capped loads
-  pub same : (y : ℕ) → y < n → min (getD loads y 0 + loadIn ws y (drop i part)) 128 ≡ min (getD incoming y 0 + loadIn ws y part) 128
+  pub same : (y : ℕ) → y < n → min (getD loads y 0 + sumℕ (λ w. eqb (key w) y) g (drop i part)) 128 ≡ min (getD incoming y 0 + sumℕ (λ w. eqb (key w) y) g part) 128
 
-module _ {ws : List ℕ} {n : ℕ} {part incoming : List ℕ} where
-  pub load-start : length incoming ≡ n → Capped incoming → Loading ws n part incoming 0 incoming
+module _ {key g : ℕ → ℕ} {n : ℕ} {part incoming : List ℕ} where
+  pub load-start : length incoming ≡ n → Capped incoming → LoadingBy key g n part incoming 0 incoming
   load-start e c = record { reached = omega arith; long = e; capped = c; same = λ y h. refl }
 
-  module _ {i : ℕ} {loads : List ℕ} (c : Loading ws n part incoming i loads) (h : i < length part) where
-    step : (y : ℕ) → loadIn ws y (drop i part) ≡ cond (inRow ws y (getD part i 0)) (absCover ws (getD part i 0)) 0 + loadIn ws y (drop (i + 1) part)
-    step y = sum-step _+_ 0 (inRow ws y) (absCover ws) part i h
+  module _ {i : ℕ} {loads : List ℕ} (c : LoadingBy key g n part incoming i loads) (h : i < length part) where
+    step : (y : ℕ) → sumℕ (λ w. eqb (key w) y) g (drop i part) ≡ cond (eqb (key (getD part i 0)) y) (g (getD part i 0)) 0 + sumℕ (λ w. eqb (key w) y) g (drop (i + 1) part)
+    step y = sum-step _+_ 0 (λ w. eqb (key w) y) g part i h
 
-    -- the word's load added at its row k
-    pub load-next : {k v : ℕ} → k ≡ localYOf ws (getD part i 0) → k < n → v ≡ min (getD loads k 0 + absCover ws (getD part i 0)) 128 → Loading ws n part incoming (i + 1) (set loads k v)
+    -- the word's number added at its key k
+    pub load-next : {k v : ℕ} → k ≡ key (getD part i 0) → k < n → v ≡ min (getD loads k 0 + g (getD part i 0)) 128 → LoadingBy key g n part incoming (i + 1) (set loads k v)
     load-next {k} {v} p q e =
         record {
           reached = omega arith;
@@ -104,18 +105,25 @@ module _ {ws : List ℕ} {n : ℕ} {part incoming : List ℕ} where
               ⊎-elim
               (λ (s : y ≡ k).
               rw (s, getD-set-same loads k v 0 (omega (arith, c .long)))
-              (omega (arith, e, rw s at (c .same y l), rw (eq-eqb (localYOf ws (getD part i 0)) k (sym p)) at (step k))))
+              (omega (arith, e, rw s at (c .same y l), rw (eq-eqb (key (getD part i 0)) k (sym p)) at (step k))))
               (λ (s : y ≡ k → ⊥).
               rw (getD-set-other loads k y v 0 s)
-              (omega (arith, c .same y l, rw (ne-eqb (localYOf ws (getD part i 0)) y (λ t. s (sym t ∙ sym p))) at (step y))))
+              (omega (arith, c .same y l, rw (ne-eqb (key (getD part i 0)) y (λ t. s (sym t ∙ sym p))) at (step y))))
               (eq-or-ne y k);
         }
 
-  pub load-end : {i : ℕ} {loads : List ℕ} → Loading ws n part incoming i loads → length part ≤ i → loads ≡ loadsOf ws n incoming part
-  unfolding loadsOf
-  load-end {i} {loads} c h =
-      is-tabulate n (λ y. min (getD incoming y 0 + loadIn ws y part) 128) 0 loads (c .long)
-      (λ y l. omega (arith, c .same y l, c .capped .at y, sum-end _+_ 0 (inRow ws y) (absCover ws) part i h))
+  pub load-end-by : {i : ℕ} {loads : List ℕ} → LoadingBy key g n part incoming i loads → length part ≤ i → loads ≡ tabulate n (λ y. min (getD incoming y 0 + sumℕ (λ w. eqb (key w) y) g part) 128)
+  load-end-by {i} {loads} c h =
+      is-tabulate n (λ y. min (getD incoming y 0 + sumℕ (λ w. eqb (key w) y) g part) 128) 0 loads (c .long)
+      (λ y l. omega (arith, c .same y l, c .capped .at y, sum-end _+_ 0 (λ w. eqb (key w) y) g part i h))
+
+-- the absolute covers of the pixel rows
+abbrev pub Loading : List ℕ → ℕ → List ℕ → List ℕ → ℕ → List ℕ → Type 0
+Loading ws n part incoming i loads = LoadingBy (localYOf ws) (absCover ws) n part incoming i loads
+
+pub load-end : (ws : List ℕ) {n : ℕ} {part incoming : List ℕ} {i : ℕ} {loads : List ℕ} → Loading ws n part incoming i loads → length part ≤ i → loads ≡ loadsOf ws n incoming part
+unfolding loadsOf
+load-end ws c h = load-end-by c h
 
 -- ---- what the loads say of number 9
 

@@ -5,6 +5,7 @@
 pub mod cached;
 pub mod covers;
 pub mod deciding;
+pub mod four_high;
 pub mod layers;
 pub mod listing;
 pub mod painting;

@@ -100,7 +100,7 @@ pub extern "C" fn ffi_cover(word: u64) -> i8
 }
 
 // 0, 1 or 2: less, equal or greater.
-fn rank_of(order: Ordering) -> u8
+pub fn rank_of(order: Ordering) -> u8
     ensures { λ r. ⌜ r ≡ rank order ⌝ }
 {
     match order {

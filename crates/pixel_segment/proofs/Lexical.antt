@@ -1,23 +1,25 @@
--- The order of packed words is that of tile y, then tile x, then layer id, as fields and as the numbers that were packed. Assumes nothing.
+-- The order of packed words is that of tile y, then tile x, then layer id, as fields and as the numbers that were packed, at every tile height. Assumes nothing.
 use mathlib.Core.Path.{_≡_, refl, ap, ap₂, sym, _∙_}
 use mathlib.Core.Bool.{Bool, cond}
-use mathlib.Core.List.{[], _∷_}
+use mathlib.Core.List.{List, [], _∷_}
 use mathlib.Core.Logic.{⊎-elim}
-use Prim.Native.Nat.{ℕ, zero, suc, _+_, _*_, _^_, _≤_, _<_}
-use native.Mathlib.Nat.{mul-le-mul-right, suc-mul}
+use Prim.Native.Nat.{ℕ, zero, suc, _+_, _*_, _/_, _%_, _^_, _≤_, _<_}
+use native.Mathlib.Nat.{mul-le-mul-right, suc-mul, mod-lt}
 use native.Mathlib.Omega.{arith}
 use borrow.Author.Tests.{ltb-true, lt-ltb, le-ltb}
-use lib.Dec.{ltb}
+use lib.Arith.{digits-lt}
+use lib.Dec.{ltb, lit<}
 use lib.IntN.{ℤ, pos, negsuc}
 use Rattle.laws.specs.Answer.{given}
 use Rattle.laws.specs.Integer.{plus, modℤ}
 use Rattle.laws.proofs.Bools.{same}
 use Rattle.laws.proofs.Orders.{le-or-lt}
 use Rattle.laws.proofs.Parts.{difference, equal}
-use Rattle.pixel_segment.specs.Field.{cpu, tileOf, tileXOf, tileYOf, layerIdOf}
+use Rattle.pixel_segment.specs.Field.{cpu, gpu, widthOf, tileOf, tileXOf, tileYOf, layerIdOf}
 use Rattle.pixel_segment.specs.Pack.{storedOf, packOf}
 use Rattle.pixel_segment.specs.Order.{orderKey, compareOf, compareℤ, thenBy}
-use Rattle.pixel_segment.proofs.Ranges.{cpu-layout}
+use Rattle.pixel_segment.proofs.Heights.{Keyed, cpu-keyed, gpu-keyed}
+use Rattle.pixel_segment.proofs.Ranges.{Layout, cpu-layout, gpu-layout}
 use Rattle.pixel_segment.proofs.ReadBack.{join-lt, given-word, given-back}
 
 pub compare-less : (a b : ℕ) → a < b → compareOf a b ≡ 0
@@ -62,16 +64,29 @@ digits m a b c d hb hd =
         (λ (p : d < b). compare-greater (a * m + b) (c * m + d) (omega arith) ∙ sym (compare-greater b d p))
         (le-or-lt b d)
 
--- what order compares, by its fields
-pub keyed : (u : ℕ) → u < 2 ^ 64 → orderKey cpu u ≡ tileYOf cpu u * 2 ^ 33 + (tileXOf cpu u * 2 ^ 21 + layerIdOf cpu u)
-keyed u h = omega arith
+-- a key by its digits
+key-digits : (a : ℕ) → a ≡ a / 2 ^ 33 * 2 ^ 33 + (a / 2 ^ 21 % 2 ^ 12 * 2 ^ 21 + a % 2 ^ 21)
+key-digits a = omega arith
 
--- order is that of tile y, tile x, layer id
-pub lexical : (v w : ℕ) → v < 2 ^ 64 → w < 2 ^ 64 → compareOf (orderKey cpu v) (orderKey cpu w) ≡ thenBy (compareOf (tileYOf cpu v) (tileYOf cpu w)) (thenBy (compareOf (tileXOf cpu v) (tileXOf cpu w)) (compareOf (layerIdOf cpu v) (layerIdOf cpu w)))
-lexical v w hv hw =
-    ap₂ compareOf (keyed v hv) (keyed w hw)
-    ∙ (digits (2 ^ 33) (tileYOf cpu v) (tileXOf cpu v * 2 ^ 21 + layerIdOf cpu v) (tileYOf cpu w) (tileXOf cpu w * 2 ^ 21 + layerIdOf cpu w) (omega arith) (omega arith)
-    ∙ ap (thenBy (compareOf (tileYOf cpu v) (tileYOf cpu w))) (digits (2 ^ 21) (tileXOf cpu v) (layerIdOf cpu v) (tileXOf cpu w) (layerIdOf cpu w) (omega arith) (omega arith)))
+-- ---- at every height
+
+module _ (ws : List ℕ) (t : Keyed ws) where
+  -- what order compares, by its fields
+  pub keyed : (u : ℕ) → u < 2 ^ 64 → orderKey ws u ≡ tileYOf ws u * 2 ^ 33 + (tileXOf ws u * 2 ^ 21 + layerIdOf ws u)
+  keyed u h = rw (t .tile-y u h, t .tile-x u, t .layer-id u) (key-digits (orderKey ws u))
+
+  -- order is that of tile y, tile x, layer id
+  pub lexical : (v w : ℕ) → v < 2 ^ 64 → w < 2 ^ 64 → compareOf (orderKey ws v) (orderKey ws w) ≡ thenBy (compareOf (tileYOf ws v) (tileYOf ws w)) (thenBy (compareOf (tileXOf ws v) (tileXOf ws w)) (compareOf (layerIdOf ws v) (layerIdOf ws w)))
+  lexical v w hv hw =
+      ap₂ compareOf (keyed v hv) (keyed w hw)
+      ∙ (digits (2 ^ 33) (tileYOf ws v) (tileXOf ws v * 2 ^ 21 + layerIdOf ws v) (tileYOf ws w) (tileXOf ws w * 2 ^ 21 + layerIdOf ws w) (low v) (low w)
+      ∙ ap (thenBy (compareOf (tileYOf ws v) (tileYOf ws w))) (digits (2 ^ 21) (tileXOf ws v) (layerIdOf ws v) (tileXOf ws w) (layerIdOf ws w) (layer-lt v) (layer-lt w)))
+    where
+      layer-lt : (u : ℕ) → layerIdOf ws u < 2 ^ 21
+      layer-lt u = rw (t .layer-id u) (mod-lt (orderKey ws u) (lit< tt))
+
+      low : (u : ℕ) → tileXOf ws u * 2 ^ 21 + layerIdOf ws u < 2 ^ 33
+      low u = rw (t .tile-x u) (digits-lt (mod-lt (orderKey ws u / 2 ^ 21) (lit< tt)) (layer-lt u))
 
 -- ---- the words of accepted packings
 
@@ -98,21 +113,32 @@ compare-tiles zero (suc n) = rw (tile-of-none, tile-of-suc n) (sym (compare-less
 compare-tiles (suc m) zero = rw (tile-of-none, tile-of-suc m) (sym (compare-greater (suc m) 0 (omega arith)))
 compare-tiles (suc m) (suc n) = rw (tile-of-suc m, tile-of-suc n) (compare-suc m n)
 
-word-lt : (layer tx ty x y m c : ℤ) {w : ℕ} → packOf cpu layer tx ty x y m c ≡ given w → w < 2 ^ 64
-word-lt layer tx ty x y m c e =
-    let word = given-word cpu cpu-layout layer tx ty x y m c e .1 in
-    let h = join-lt cpu (storedOf ty ∷ storedOf tx ∷ plus layer ∷ plus x ∷ plus y ∷ plus m ∷ modℤ 64 c ∷ []) (omega arith) in
-    rw (← word) h
+-- that they compare as tile y, then tile x, then layer do
+abbrev pub Compared : List ℕ → Type 0
+Compared ws = (layer tx ty x y m c layer′ tx′ ty′ x′ y′ m′ c′ : ℤ) (v w : ℕ)
+    → packOf ws layer tx ty x y m c ≡ given v → packOf ws layer′ tx′ ty′ x′ y′ m′ c′ ≡ given w
+    → compareOf (orderKey ws v) (orderKey ws w) ≡ thenBy (compareℤ ty ty′) (thenBy (compareℤ tx tx′) (compareℤ layer layer′))
 
--- they compare as tile y, then tile x, then layer do
-pub order-of-fields : (layer tx ty x y m c layer′ tx′ ty′ x′ y′ m′ c′ : ℤ) {v w : ℕ}
-    → packOf cpu layer tx ty x y m c ≡ given v → packOf cpu layer′ tx′ ty′ x′ y′ m′ c′ ≡ given w
-    → compareOf (orderKey cpu v) (orderKey cpu w) ≡ thenBy (compareℤ ty ty′) (thenBy (compareℤ tx tx′) (compareℤ layer layer′))
-order-of-fields layer tx ty x y m c layer′ tx′ ty′ x′ y′ m′ c′ {v} {w} e f =
-    let a = given-back cpu cpu-layout layer tx ty x y m c e in
-    let b = given-back cpu cpu-layout layer′ tx′ ty′ x′ y′ m′ c′ f in
-    let rows = ap₂ compareℤ (sym (a .tile-y)) (sym (b .tile-y)) ∙ compare-tiles (tileYOf cpu v) (tileYOf cpu w) in
-    let tiles = ap₂ compareℤ (sym (a .tile-x)) (sym (b .tile-x)) ∙ compare-tiles (tileXOf cpu v) (tileXOf cpu w) in
-    let layers = ap₂ compareℤ (sym (a .layer-id)) (sym (b .layer-id)) in
-    lexical v w (word-lt layer tx ty x y m c e) (word-lt layer′ tx′ ty′ x′ y′ m′ c′ f)
-    ∙ sym (ap₂ thenBy rows (ap₂ thenBy tiles layers))
+module _ (ws : List ℕ) (layout : Layout ws) (t : Keyed ws) where
+  word-lt : (layer tx ty x y m c : ℤ) {w : ℕ} → packOf ws layer tx ty x y m c ≡ given w → w < 2 ^ 64
+  word-lt layer tx ty x y m c e =
+      let word = given-word ws layout layer tx ty x y m c e .1 in
+      let h = join-lt ws (storedOf ty ∷ storedOf tx ∷ plus layer ∷ plus x ∷ plus y ∷ plus m ∷ modℤ (2 ^ widthOf ws 6) c ∷ []) (omega (arith, layout .seven)) in
+      rw (← word) (rw (t .sixty-four) at h)
+
+  pub order-of-fields : Compared ws
+  order-of-fields layer tx ty x y m c layer′ tx′ ty′ x′ y′ m′ c′ v w e f =
+      let a = given-back ws layout layer tx ty x y m c e in
+      let b = given-back ws layout layer′ tx′ ty′ x′ y′ m′ c′ f in
+      let rows = ap₂ compareℤ (sym (a .tile-y)) (sym (b .tile-y)) ∙ compare-tiles (tileYOf ws v) (tileYOf ws w) in
+      let tiles = ap₂ compareℤ (sym (a .tile-x)) (sym (b .tile-x)) ∙ compare-tiles (tileXOf ws v) (tileXOf ws w) in
+      let layers = ap₂ compareℤ (sym (a .layer-id)) (sym (b .layer-id)) in
+      lexical ws t v w (word-lt layer tx ty x y m c e) (word-lt layer′ tx′ ty′ x′ y′ m′ c′ f)
+      ∙ sym (ap₂ thenBy rows (ap₂ thenBy tiles layers))
+
+-- in tiles 16 and 4 pixels high
+pub cpu-compared : Compared cpu
+cpu-compared = order-of-fields cpu cpu-layout cpu-keyed
+
+pub gpu-compared : Compared gpu
+gpu-compared = order-of-fields gpu gpu-layout gpu-keyed

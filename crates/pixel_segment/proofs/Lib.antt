@@ -5,4 +5,5 @@ pub mod ReadBack
 pub mod Covers
 pub mod Opposite
 pub mod Edges
+pub mod Heights
 pub mod Lexical

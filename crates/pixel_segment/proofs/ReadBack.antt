@@ -11,11 +11,11 @@ use lib.Dec.{lit<}
 use lib.IntN.{ℤ, pos, negsuc}
 use lib.ListN.{length, getD, drop}
 use lib.Pow.{pow-pos, pow-add}
-use Rattle.laws.specs.Answer.{given, refused}
+use Rattle.laws.specs.Answer.{Answer, given, refused}
 use Rattle.laws.specs.Integer.{plus, minus, modℤ}
 use Rattle.laws.proofs.Parts.{difference, added, equal}
 use Rattle.pixel_segment.specs.Field.{sum, widthOf, fieldOf, tileXOf, tileYOf, layerIdOf, localXOf, localYOf, multiplierOf, tileOf, signedOf, coverOf}
-use Rattle.pixel_segment.specs.Pack.{join, storedOf, wordOf, isPackable, InRange, packedAnswer, packOf, ReadsBack, Packs}
+use Rattle.pixel_segment.specs.Pack.{join, storedOf, wordOf, isPackable, InRange, packedAnswer, packOf, ReadsBack, PacksTo, Packs}
 use Rattle.pixel_segment.specs.declared.Packed.{Packed}
 use Rattle.pixel_segment.proofs.Widths.{sum-step, sum-drop-le}
 use Rattle.pixel_segment.proofs.Ranges.{Layout, halves, in-range}
@@ -156,8 +156,11 @@ module _ (ws : List ℕ) (layout : Layout ws) (layer tx ty x y m c : ℤ) where
       subst (λ (v : ℕ). ReadsBack ws v layer tx ty x y m c) (a .1) (reads-back (in-range ws layout layer tx ty x y m c (a .0)))
 
   -- so the promise is that of the answer
+  pub packs-to : (a : Answer ℕ) → a ≡ packOf ws layer tx ty x y m c → PacksTo ws layer tx ty x y m c a
+  packs-to a e = record { answer = e; back = λ w f. given-back (sym e ∙ f) }
+
   pub packs : (r : Packed) → packedAnswer r ≡ packOf ws layer tx ty x y m c → Packs ws layer tx ty x y m c r
-  packs r e = record { answer = e; back = λ w f. given-back (sym e ∙ f) }
+  packs r e = packs-to (packedAnswer r) e
 
 -- ---- two packings
 

@@ -1,4 +1,4 @@
--- Laws of the table of widths, and the ranges of the fields. Assumes nothing.
+-- Laws of the tables of widths over the tile height 2^k, and the ranges of the fields; those of `cpu` are their uses at 4. Assumes nothing.
 use mathlib.Core.Path.{_≡_, refl, ap, sym, _∙_}
 use mathlib.Core.List.{List, [], _∷_}
 use Prim.Native.Nat.{ℕ, zero, suc, _+_, _-_, _*_, _^_, _%_, _≤_, _<_, max}
@@ -6,10 +6,10 @@ use native.Mathlib.Nat.{one-mul, mul-le-mul}
 use native.Mathlib.Numerals.{add-one}
 use native.Mathlib.Omega.{arith}
 use lib.Arith.{digits-lt}
-use lib.Dec.{lit<}
+use lib.Dec.{lit<, lit≤}
 use lib.IntN.{ℤ, natAbs}
 use lib.ListN.{getD, drop, length}
-use lib.Pow.{shl-exact, pow-add}
+use lib.Pow.{shl-exact, pow-add, pow-mono}
 use lib.Seq.{drop-cons}
 use mir.Syntax.{w8, w16}
 use mir.Val.{SFits}
@@ -47,9 +47,12 @@ sum-past zero (x ∷ xs) h = absurd (omega arith)
 sum-past (suc k) [] h = refl
 sum-past (suc k) (x ∷ xs) h = sum-past k xs (omega arith)
 
--- every shift is below 64
-pub shift-lt : (k : ℕ) → shiftOf cpu k < 64
-shift-lt k = rw add-one (omega (arith, sum-drop-le k (drop 1 cpu)))
+-- every shift is below 64, where tile y has a bit
+pub shift-lt-at : (k : ℕ) → k < 15 → (i : ℕ) → shiftOf (widthsAt k) i < 64
+shift-lt-at k h i = rw add-one (omega (arith, sum-drop-le i (drop 1 (widthsAt k))))
+
+pub shift-lt : (i : ℕ) → shiftOf cpu i < 64
+shift-lt i = shift-lt-at 4 (lit< tt) i
 
 abbrev largest : List ℕ → ℕ
 largest [] = 0
@@ -60,9 +63,12 @@ getD-le [] i = omega arith
 getD-le (x ∷ xs) zero = omega arith
 getD-le (x ∷ xs) (suc i) = omega (arith, getD-le xs i)
 
--- and so is every width
-pub width-lt : (k : ℕ) → getD cpu k 0 < 64
-width-lt k = omega (arith, getD-le cpu k)
+-- no width is above 21
+pub width-le-at : (k : ℕ) → k ≤ 15 → (i : ℕ) → widthOf (widthsAt k) i ≤ 21
+width-le-at k h i = omega (arith, getD-le (widthsAt k) i)
+
+pub width-lt : (i : ℕ) → getD cpu i 0 < 64
+width-lt i = omega (arith, width-le-at 4 (lit≤ tt) i)
 
 -- a field has its place in the table
 pub index-lt : (f : BitField) → indexOf f < 7
@@ -75,14 +81,11 @@ index-lt DoubleAreaMultiplier = omega arith
 index-lt Cover = omega arith
 
 -- no field has more values than a layer id
+pub size-le-at : (k : ℕ) → k ≤ 15 → (i : ℕ) → 2 ^ widthOf (widthsAt k) i ≤ 2 ^ 21
+size-le-at k h i = pow-mono (width-le-at k h i)
+
 pub size-le : (f : BitField) → 2 ^ widthOf cpu (indexOf f) ≤ 2 ^ 21
-size-le TileY = omega arith
-size-le TileX = omega arith
-size-le LayerId = omega arith
-size-le LocalX = omega arith
-size-le LocalY = omega arith
-size-le DoubleAreaMultiplier = omega arith
-size-le Cover = omega arith
+size-le f = size-le-at 4 (lit≤ tt) (indexOf f)
 
 -- 1 shifted left by less than 64
 pub shifted : (k : ℕ) → k < 64 → (1 * 2 ^ k) % 2 ^ 64 ≡ 2 ^ k
@@ -108,20 +111,32 @@ pub record InCover (z : ℤ) : Type 0 where
   pub below : minus z ≤ 32
   pub whole : Whole z
 
-pub in-cover : (w : ℕ) → InCover (coverOf cpu w)
+pub in-cover-at : (k w : ℕ) → InCover (coverOf (widthsAt k) w)
 unfolding coverOf
-in-cover w = record { above = omega (arith, d); below = omega (arith, d); whole = d .whole }
+in-cover-at k w = record { above = omega (arith, d); below = omega (arith, d); whole = d .whole }
   where
-    d : Difference ((fieldOf cpu 6 w + 32) % 64) 32 (coverOf cpu w)
-    d = difference ((fieldOf cpu 6 w + 32) % 64) 32
+    d : Difference ((fieldOf (widthsAt k) 6 w + 32) % 64) 32 (coverOf (widthsAt k) w)
+    d = difference ((fieldOf (widthsAt k) 6 w + 32) % 64) 32
+
+pub in-cover : (w : ℕ) → InCover (coverOf cpu w)
+in-cover w = in-cover-at 4 w
+
+pub cover-fits-at : (k w : ℕ) → SFits w8 (coverOf (widthsAt k) w)
+cover-fits-at k w = sfits w8 (coverOf (widthsAt k) w) (omega (arith, in-cover-at k w))
 
 pub cover-fits : (w : ℕ) → SFits w8 (coverOf cpu w)
-cover-fits w = sfits w8 (coverOf cpu w) (omega (arith, in-cover w))
+cover-fits w = cover-fits-at 4 w
 
 -- a double area is from -2,016 to 2,016
-pub area-le : (w : ℕ) → natAbs (doubleAreaOf cpu w) ≤ 2016
+pub area-le-at : (k w : ℕ) → natAbs (doubleAreaOf (widthsAt k) w) ≤ 2016
 unfolding doubleAreaOf
-area-le w = rw abs-times (mul-le-mul {n₁ = multiplierOf cpu w} {m₁ = natAbs (coverOf cpu w)} {n₂ = 63} {m₂ = 32} (omega arith) (omega (arith, in-cover w)))
+area-le-at k w = rw abs-times (mul-le-mul {n₁ = multiplierOf (widthsAt k) w} {m₁ = natAbs (coverOf (widthsAt k) w)} {n₂ = 63} {m₂ = 32} (omega arith) (omega (arith, in-cover-at k w)))
+
+pub area-le : (w : ℕ) → natAbs (doubleAreaOf cpu w) ≤ 2016
+area-le w = area-le-at 4 w
+
+pub area-fits-at : (k w : ℕ) → SFits w16 (doubleAreaOf (widthsAt k) w)
+area-fits-at k w = small w16 (doubleAreaOf (widthsAt k) w) (omega (arith, area-le-at k w))
 
 pub area-fits : (w : ℕ) → SFits w16 (doubleAreaOf cpu w)
-area-fits w = small w16 (doubleAreaOf cpu w) (omega (arith, area-le w))
+area-fits w = area-fits-at 4 w

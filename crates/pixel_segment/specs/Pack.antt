@@ -88,7 +88,10 @@ pub record ReadsBack (ws : List ℕ) (w : ℕ) (layer tx ty x y m c : ℤ) : Typ
   pub multiplier : pos (multiplierOf ws w) ≡ m
   pub cover : coverOf ws w ≡ c
 
--- what packing promises: the answer, and that a word that it gives reads back
-pub record Packs (ws : List ℕ) (layer tx ty x y m c : ℤ) (r : Packed) : Type 0 where
-  pub answer : packedAnswer r ≡ packOf ws layer tx ty x y m c
-  pub back : (w : ℕ) → packedAnswer r ≡ given w → ReadsBack ws w layer tx ty x y m c
+-- what packing promises of its answer: it is that of the definition, and a word that it gives reads back
+pub record PacksTo (ws : List ℕ) (layer tx ty x y m c : ℤ) (a : Answer ℕ) : Type 0 where
+  pub answer : a ≡ packOf ws layer tx ty x y m c
+  pub back : (w : ℕ) → a ≡ given w → ReadsBack ws w layer tx ty x y m c
+
+abbrev pub Packs : List ℕ → ℤ → ℤ → ℤ → ℤ → ℤ → ℤ → ℤ → Packed → Type 0
+Packs ws layer tx ty x y m c r = PacksTo ws layer tx ty x y m c (packedAnswer r)

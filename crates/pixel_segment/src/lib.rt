@@ -24,7 +24,7 @@ pub enum Packed {
 }
 
 // A tile number as it is stored: plus 1, and 0 for what is then negative.
-fn stored(tile: i16) -> u64
+pub fn stored(tile: i16) -> u64
     ensures { λ r. ⌜ r ≡ storedOf tile ⌝ }
 {
     if tile < 0 { 0 } else { tile as u64 + 1 }
@@ -32,7 +32,7 @@ fn stored(tile: i16) -> u64
 
 // The low bits of a cover, as many as its field has. 256 is a multiple of the field's size, and with it no cover is
 // negative.
-fn cover_bits(cover: i8) -> u64
+pub fn cover_bits(cover: i8) -> u64
     ensures { λ r. ⌜ r ≡ modℤ (2 ^ widthOf cpu 6) cover ⌝ }
 {
     ((cover as i16 + 256) as u64) % consts::size(BitField::Cover)

@@ -2,21 +2,32 @@
 use crate::consts;
 use crate::consts::BitField;
 ghost use mathlib.Core.Path.{_≡_};
+ghost use mathlib.Core.Bool.{_&&_};
+ghost use Prim.Native.Nat.{_^_, _≤_};
+ghost use lib.IntN.{pos, _+ℤ_};
+ghost use lib.Signed.{leZ, ltZ};
 ghost use Rattle.laws.specs.Integer.{plus};
 ghost use Rattle.pixel_segment.specs.Field.{cpu, widthOf, indexOf};
 ghost use Rattle.pixel_segment.specs.Pack.{isHeld, lowestSigned, isPackable};
+
+// Whether a number is one of n from `low` on.
+pub fn is_among(n: u64, low: i64, v: i64) -> bool
+    requires { ⌜ (plus low ≡ 0) × (n ≤ 2 ^ 21) ⌝ }
+    ensures { λ r. ⌜ r ≡ (leZ low v && ltZ v (low +ℤ pos n)) ⌝ }
+{
+    (low <= v) & (v < low + n as i64)
+}
 
 // Whether a field holds a number: it holds as many as it has values, from `low` on.
 fn is_held(field: BitField, low: i64, v: i64) -> bool
     requires { ⌜ plus low ≡ 0 ⌝ }
     ensures { λ r. ⌜ r ≡ isHeld low (widthOf cpu (indexOf field)) v ⌝ }
 {
-    let n = consts::size(field);
-    (low <= v) & (v < low + n as i64)
+    is_among(consts::size(field), low, v)
 }
 
 // The lowest number of the signed field.
-fn lowest_cover() -> i64
+pub fn lowest_cover() -> i64
     ensures { λ r. ⌜ r ≡ lowestSigned (widthOf cpu 6) ⌝ }
 {
     let half = consts::size(BitField::Cover) / 2;

@@ -20,6 +20,7 @@ use Rattle.segment_rows.specs.Rows.{ascends, isRow, Ordered, Words}
 use Rattle.segment_rows.specs.Search.{Place, found, absent, searchOf, orderAt, between}
 use Rattle.segment_rows.specs.declared.search.Key.the-variants.{TileY}
 use Rattle.segment_rows.proofs.Ascending.{from-ordered, from-intro}
+use Rattle.pixel_segment.proofs.Heights.{cpu-keyed}
 use Rattle.segment_rows.proofs.Rows.{tile-y-ordered}
 use Rattle.segment_rows.proofs.TileLayers.{filter-ascends}
 use Rattle.plate.specs.Crop.{isInCrop}
@@ -172,7 +173,7 @@ module _ (l : List ℕ) (s : Words l) (h : ascends (orderKey cpu) l ≡ true) wh
       record {
         up =
             λ i j p q.
-            tile-y-ordered (getD l i 0) (getD l j 0) (s .small i) (s .small j) (from-ordered (orderKey cpu) 0 l h i j p q);
+            tile-y-ordered cpu cpu-keyed (getD l i 0) (getD l j 0) (s .small i) (s .small j) (from-ordered (orderKey cpu) 0 l h i j p q);
       }
 
   pub rows-in-order : RowsOf l

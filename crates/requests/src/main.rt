@@ -3,6 +3,7 @@ mod sets;
 mod planes;
 mod backwards;
 mod bounds;
+mod four_high;
 mod standing;
 
 fn main() {
@@ -11,4 +12,5 @@ fn main() {
     sets::print_cases();
     backwards::print_cases();
     bounds::print_cases();
+    four_high::print_cases();
 }

@@ -1,5 +1,6 @@
 // Where a caller stands in a row, and refusal 2 of the tile that it asks for.
 use row_statements::RowState;
+use segment_rows::search;
 ghost use mathlib.Core.Path.{_≡_};
 ghost use Rattle.laws.specs.Integer.{plus};
 ghost use Rattle.row_statements.specs.State.{stateIn, isStray, isNotNext, isNotWorked, isWrongNext, isWrongWorked};
@@ -8,7 +9,7 @@ ghost use Rattle.row_statements.specs.State.{stateIn, isStray, isNotNext, isNot
 pub fn natural(z: i32) -> u32
     ensures { λ r. ⌜ r ≡ plus z ⌝ }
 {
-    if z < 0 { 0 } else { z as u32 }
+    search::natural(z)
 }
 
 // Whether no opening and no works lead to the state.

@@ -3,8 +3,8 @@ use mathlib.Core.Path.{_≡_, refl, ap, sym, _∙_}
 use mathlib.Core.Bool.{Bool, true, false, _&&_, and-assoc, and-true}
 use mathlib.Core.List.{List, [], _∷_}
 use mathlib.Core.Logic.{⊎-elim}
-use Prim.Native.Nat.{ℕ, zero, suc, _+_, _-_, _/_, _^_, _≤_, _<_}
-use native.Mathlib.Nat.{not-suc-le-zero, le-of-suc-le-suc}
+use Prim.Native.Nat.{ℕ, zero, suc, _+_, _-_, _/_, _≤_, _<_}
+use native.Mathlib.Nat.{not-suc-le-zero, le-of-suc-le-suc, div-eq-of-lt, div-eq-of-lt-le}
 use native.Mathlib.Numerals.{add-one}
 use native.Mathlib.Omega.{arith}
 use borrow.Author.Tests.{leb-true, le-leb, lt-leb, ne-eqb}
@@ -14,6 +14,31 @@ use lib.Seq.{drop-cons}
 use Rattle.laws.proofs.Bools.{left, right, both, not-right}
 use Rattle.laws.proofs.Orders.{le-or-lt}
 use Rattle.segment_rows.specs.Rows.{ascendsFrom, ascends}
+
+-- the key before plus the highest key minus a key reaches the bound exactly where the key is lower
+no-descent : (bound previous key : ℕ) → previous < bound → previous ≤ key → (previous + (bound - 1) - key) / bound ≡ 0
+no-descent bound previous key p up = div-eq-of-lt (omega arith)
+
+one-descent : (bound previous key : ℕ) → previous < bound → key < previous → (previous + (bound - 1) - key) / bound ≡ 1
+one-descent bound previous key p down = div-eq-of-lt-le {k = 1} bound (omega arith) (omega arith)
+
+descent-le : (bound previous key : ℕ) → previous < bound → (previous + (bound - 1) - key) / bound ≤ 1
+descent-le bound previous key p =
+    ⊎-elim
+    (λ (up : previous ≤ key). omega (arith, no-descent bound previous key p up))
+    (λ (down : key < previous). omega (arith, one-descent bound previous key p down))
+    (le-or-lt previous key)
+
+counted-one : (bound descents previous key : ℕ) → previous < bound → key < bound → eqb (descents + (previous + (bound - 1) - key) / bound) 0 ≡ (eqb descents 0 && leb previous key)
+counted-one bound descents previous key p k =
+    ⊎-elim
+    (λ (up : previous ≤ key).
+    let none : descents + (previous + (bound - 1) - key) / bound ≡ descents = omega (arith, no-descent bound previous key p up) in
+    rw (none, le-leb previous key up, and-true))
+    (λ (down : key < previous).
+    let one : descents + (previous + (bound - 1) - key) / bound ≡ descents + 1 = omega (arith, one-descent bound previous key p down) in
+    rw (one, lt-leb previous key down) (ne-eqb (descents + 1) 0 (λ e. omega arith) ∙ sym (not-right (eqb descents 0) false refl)))
+    (le-or-lt previous key)
 
 module _ (f : ℕ → ℕ) where
   pub ascends-step : (k : ℕ) (l : List ℕ) (i : ℕ) → i < length l → ascendsFrom f k (drop i l) ≡ (leb k (f (getD l i 0)) && ascendsFrom f (f (getD l i 0)) (drop (i + 1) l))
@@ -32,43 +57,32 @@ module _ (f : ℕ → ℕ) where
       ∙ ap (λ (t : Bool). ok && t) (sym (ascends-step k l i h))
       ∙ p)
 
-  -- ---- a loop over keys of 44 bits that counts the descents
+  -- ---- a loop over keys below a bound that counts the descents
 
   -- what holds after i elements
-  pub record Counted (l : List ℕ) (descents previous i : ℕ) : Type 0 where
+  pub record Counted (bound : ℕ) (l : List ℕ) (descents previous i : ℕ) : Type 0 where
     pub within : i ≤ length l
     pub most : descents ≤ i
-    pub small : previous < 2 ^ 44
+    pub small : previous < bound
     pub whole : (eqb descents 0 && ascendsFrom f previous (drop i l)) ≡ ascends f l
 
-  pub counted-begin : (l : List ℕ) → Counted l 0 0 0
-  counted-begin l = record { within = omega arith; most = omega arith; small = omega arith; whole = refl }
+  pub counted-begin : (bound : ℕ) (l : List ℕ) → 0 < bound → Counted bound l 0 0 0
+  counted-begin bound l h = record { within = omega arith; most = omega arith; small = h; whole = refl }
 
-  -- the key before plus the highest key minus a key has the bit above the keys exactly where the key is lower
-  counted-one : (descents previous key : ℕ) → previous < 2 ^ 44 → key < 2 ^ 44 → eqb (descents + (previous + (2 ^ 44 - 1) - key) / 2 ^ 44) 0 ≡ (eqb descents 0 && leb previous key)
-  counted-one descents previous key p k =
-      ⊎-elim
-      (λ (up : previous ≤ key).
-      let none : descents + (previous + (2 ^ 44 - 1) - key) / 2 ^ 44 ≡ descents = omega arith in
-      rw (none, le-leb previous key up, and-true))
-      (λ (down : key < previous).
-      let one : descents + (previous + (2 ^ 44 - 1) - key) / 2 ^ 44 ≡ descents + 1 = omega arith in
-      rw (one, lt-leb previous key down) (ne-eqb (descents + 1) 0 (λ e. omega arith) ∙ sym (not-right (eqb descents 0) false refl)))
-      (le-or-lt previous key)
-
-  pub counted-next : {l : List ℕ} {descents previous i : ℕ} (key : ℕ) → Counted l descents previous i → i < length l → key ≡ f (getD l i 0) → key < 2 ^ 44 → Counted l (descents + (previous + (2 ^ 44 - 1) - key) / 2 ^ 44) key (i + 1)
-  counted-next {l} {descents} {previous} {i} key c h e k =
+  pub counted-next : {bound : ℕ} {l : List ℕ} {descents previous i : ℕ} (key : ℕ) → Counted bound l descents previous i → i < length l → key ≡ f (getD l i 0) → key < bound
+      → Counted bound l (descents + (previous + (bound - 1) - key) / bound) key (i + 1)
+  counted-next {bound} {l} {descents} {previous} {i} key c h e k =
       record {
         within = omega arith;
-        most = omega arith;
+        most = omega (arith, descent-le bound previous key (c .small));
         small = k;
         whole =
-            rw (counted-one descents previous key (c .small) k)
+            rw (counted-one bound descents previous key (c .small) k)
             (ascends-again (eqb descents 0) (ascends f l) previous l i key h e (c .whole));
       }
 
-  pub counted-end : {l : List ℕ} {descents previous i : ℕ} → Counted l descents previous i → length l ≤ i → eqb descents 0 ≡ ascends f l
-  counted-end {l} {descents} {previous} {i} c h =
+  pub counted-end : {bound : ℕ} {l : List ℕ} {descents previous i : ℕ} → Counted bound l descents previous i → length l ≤ i → eqb descents 0 ≡ ascends f l
+  counted-end {bound} {l} {descents} {previous} {i} c h =
       sym (and-true (eqb descents 0)) ∙ ap (λ (t : Bool). eqb descents 0 && t) (sym (ascends-end previous l i h)) ∙ c .whole
 
   -- every element is at least the start

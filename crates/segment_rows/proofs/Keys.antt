@@ -3,7 +3,7 @@ use mathlib.Core.Path.{_≡_, refl, ap, ap₂, sym, _∙_}
 use mathlib.Core.Bool.{Bool, true, false, cond}
 use mathlib.Core.Logic.{⊎-elim}
 use mathlib.Core.List.{List}
-use Prim.Native.Nat.{ℕ, zero, suc, _^_, _≤_, _<_}
+use Prim.Native.Nat.{ℕ, zero, suc, _/_, _%_, _^_, _≤_, _<_}
 use native.Mathlib.Omega.{arith}
 use borrow.Author.Tests.{lt-ltb, le-ltb, le-leb, lt-leb, eq-eqb, ne-eqb, eqb-true}
 use lib.Dec.{ltb, leb, eqb, leb·suc-suc}
@@ -15,10 +15,11 @@ use Rattle.laws.proofs.Bools.{left, right}
 use Rattle.laws.proofs.Every.{all-at}
 use Rattle.laws.proofs.Orders.{le-or-lt}
 use Rattle.laws.proofs.Parts.{equal, difference}
-use Rattle.pixel_segment.specs.Field.{cpu, tileOf, tileXOf, tileYOf}
+use Rattle.pixel_segment.specs.Field.{tileOf, tileXOf, tileYOf}
 use Rattle.pixel_segment.specs.Order.{isLt, isEq, compareOf, compareℤ, compareBool, orderKey}
 use Rattle.segment_rows.specs.Rows.{ascends, isRow, Ordered, Words}
 use Rattle.segment_rows.proofs.Ascending.{from-ordered}
+use Rattle.pixel_segment.proofs.Heights.{Keyed}
 use Rattle.pixel_segment.proofs.Lexical.{compare-less, compare-equal, compare-greater}
 
 -- ---- tile numbers compare as their stored forms do
@@ -114,18 +115,23 @@ sorted-at-least f k l o = record { up = λ i j p q. rising (f (getD l i 0)) (f (
         (λ (p : m < k). rw (lt-leb k m p) (low (leb k n)))
         (le-or-lt k m)
 
--- ---- rows in order
+-- ---- rows in order, at every tile height
 
-pub tile-x-ordered : (ty : ℕ) (row : List ℕ) → Words row → isRow cpu ty row ≡ true → Ordered (tileXOf cpu) row
-tile-x-ordered ty row s h = record { up = up }
+key-tile-x : (a b : ℕ) → a ≤ b → a / 2 ^ 33 ≡ b / 2 ^ 33 → a / 2 ^ 21 % 2 ^ 12 ≤ b / 2 ^ 21 % 2 ^ 12
+key-tile-x a b h e = omega arith
+
+pub tile-x-ordered : (ws : List ℕ) → Keyed ws → (ty : ℕ) (row : List ℕ) → Words row → isRow ws ty row ≡ true → Ordered (tileXOf ws) row
+tile-x-ordered ws table ty row s h = record { up = up }
   where
-    inside : (v w : ℕ) → v < 2 ^ 64 → w < 2 ^ 64 → orderKey cpu v ≤ orderKey cpu w → tileYOf cpu v ≡ tileYOf cpu w → tileXOf cpu v ≤ tileXOf cpu w
-    inside v w hv hw k e = omega arith
+    inside : (v w : ℕ) → v < 2 ^ 64 → w < 2 ^ 64 → orderKey ws v ≤ orderKey ws w → tileYOf ws v ≡ tileYOf ws w → tileXOf ws v ≤ tileXOf ws w
+    inside v w hv hw k e =
+        rw (table .tile-x v, table .tile-x w)
+        (key-tile-x (orderKey ws v) (orderKey ws w) k (sym (table .tile-y v hv) ∙ e ∙ table .tile-y w hw))
 
-    up : (i j : ℕ) → i ≤ j → j < length row → tileXOf cpu (getD row i 0) ≤ tileXOf cpu (getD row j 0)
+    up : (i j : ℕ) → i ≤ j → j < length row → tileXOf ws (getD row i 0) ≤ tileXOf ws (getD row j 0)
     up i j p q =
-        let key = from-ordered (orderKey cpu) 0 row (left (ascends (orderKey cpu) row) (all (λ w. eqb (tileYOf cpu w) ty) row) h) i j p q in
-        let in-row = right (ascends (orderKey cpu) row) (all (λ w. eqb (tileYOf cpu w) ty) row) h in
-        let a = eqb-true (tileYOf cpu (getD row i 0)) ty (all-at (λ w. eqb (tileYOf cpu w) ty) row in-row i 0 (omega arith)) in
-        let b = eqb-true (tileYOf cpu (getD row j 0)) ty (all-at (λ w. eqb (tileYOf cpu w) ty) row in-row j 0 q) in
+        let key = from-ordered (orderKey ws) 0 row (left (ascends (orderKey ws) row) (all (λ w. eqb (tileYOf ws w) ty) row) h) i j p q in
+        let in-row = right (ascends (orderKey ws) row) (all (λ w. eqb (tileYOf ws w) ty) row) h in
+        let a = eqb-true (tileYOf ws (getD row i 0)) ty (all-at (λ w. eqb (tileYOf ws w) ty) row in-row i 0 (omega arith)) in
+        let b = eqb-true (tileYOf ws (getD row j 0)) ty (all-at (λ w. eqb (tileYOf ws w) ty) row in-row j 0 q) in
         inside (getD row i 0) (getD row j 0) (s .small i) (s .small j) key (a ∙ sym b)

@@ -17,6 +17,7 @@ use Rattle.pixel_segment.specs.Field.{cpu, tileXOf, tileYOf, layerIdOf}
 use Rattle.pixel_segment.specs.Order.{orderKey}
 use Rattle.segment_rows.specs.Rows.{ascendsFrom, ascends, isRow, Ordered, Words}
 use Rattle.segment_rows.proofs.Ascending.{from-ordered}
+use Rattle.pixel_segment.proofs.Heights.{Keyed, cpu-keyed}
 use Rattle.pixel_segment.proofs.Lexical.{keyed}
 
 -- ---- filtered lists
@@ -65,30 +66,34 @@ filter-words p l s = all-small (filter p l) (all-kept p (λ w. ltb w (2 ^ 64)) l
 digits-le : (a b x y l m : ℕ) → a * 2 ^ 33 + (x * 2 ^ 21 + l) ≤ b * 2 ^ 33 + (y * 2 ^ 21 + m) → a ≡ b → x ≡ y → l ≤ m
 digits-le a b x y l m h p q = omega arith
 
-inside : (v w : ℕ) → v < 2 ^ 64 → w < 2 ^ 64 → orderKey cpu v ≤ orderKey cpu w → tileYOf cpu v ≡ tileYOf cpu w → tileXOf cpu v ≡ tileXOf cpu w → layerIdOf cpu v ≤ layerIdOf cpu w
-inside v w hv hw k ey ex =
-    digits-le (tileYOf cpu v) (tileYOf cpu w) (tileXOf cpu v) (tileXOf cpu w) (layerIdOf cpu v) (layerIdOf cpu w)
-    (subst₂ _≤_ (keyed v hv) (keyed w hw) k) ey ex
+inside : (ws : List ℕ) → Keyed ws → (v w : ℕ) → v < 2 ^ 64 → w < 2 ^ 64 → orderKey ws v ≤ orderKey ws w → tileYOf ws v ≡ tileYOf ws w → tileXOf ws v ≡ tileXOf ws w → layerIdOf ws v ≤ layerIdOf ws w
+inside ws table v w hv hw k ey ex =
+    digits-le (tileYOf ws v) (tileYOf ws w) (tileXOf ws v) (tileXOf ws w) (layerIdOf ws v) (layerIdOf ws w)
+    (subst₂ _≤_ (keyed ws table v hv) (keyed ws table w hw) k) ey ex
 
-module _ (ty t : ℕ) (row : List ℕ) (s : Words row) (h : isRow cpu ty row ≡ true) where
+module _ (ws : List ℕ) (table : Keyed ws) (ty t : ℕ) (row : List ℕ) (s : Words row) (h : isRow ws ty row ≡ true) where
   part : List ℕ
-  part = filter (λ w. eqb (tileXOf cpu w) t) row
+  part = filter (λ w. eqb (tileXOf ws w) t) row
 
-  pub layers-ordered : Ordered (layerIdOf cpu) (filter (λ w. eqb (tileXOf cpu w) t) row)
+  pub layers-ordered-in : Ordered (layerIdOf ws) (filter (λ w. eqb (tileXOf ws w) t) row)
   unfolding part
-  layers-ordered =
+  layers-ordered-in =
       record {
         up =
             λ i j p q.
             let g : i < length part = omega arith in
-            let up = filter-ascends (orderKey cpu) (λ w. eqb (tileXOf cpu w) t) 0 row (left (ascends (orderKey cpu) row) (all (λ w. eqb (tileYOf cpu w) ty) row) h) in
-            let in-row = all-kept (λ w. eqb (tileXOf cpu w) t) (λ w. eqb (tileYOf cpu w) ty) row (right (ascends (orderKey cpu) row) (all (λ w. eqb (tileYOf cpu w) ty) row) h) in
-            let in-tile = all-own (λ w. eqb (tileXOf cpu w) t) row in
-            let words = filter-words (λ w. eqb (tileXOf cpu w) t) row s in
-            inside (getD part i 0) (getD part j 0) (words .small i) (words .small j)
-            (from-ordered (orderKey cpu) 0 part up i j p q)
-            (eqb-true (tileYOf cpu (getD part i 0)) ty (all-at (λ w. eqb (tileYOf cpu w) ty) part in-row i 0 g)
-            ∙ sym (eqb-true (tileYOf cpu (getD part j 0)) ty (all-at (λ w. eqb (tileYOf cpu w) ty) part in-row j 0 q)))
-            (eqb-true (tileXOf cpu (getD part i 0)) t (all-at (λ w. eqb (tileXOf cpu w) t) part in-tile i 0 g)
-            ∙ sym (eqb-true (tileXOf cpu (getD part j 0)) t (all-at (λ w. eqb (tileXOf cpu w) t) part in-tile j 0 q)));
+            let up = filter-ascends (orderKey ws) (λ w. eqb (tileXOf ws w) t) 0 row (left (ascends (orderKey ws) row) (all (λ w. eqb (tileYOf ws w) ty) row) h) in
+            let in-row = all-kept (λ w. eqb (tileXOf ws w) t) (λ w. eqb (tileYOf ws w) ty) row (right (ascends (orderKey ws) row) (all (λ w. eqb (tileYOf ws w) ty) row) h) in
+            let in-tile = all-own (λ w. eqb (tileXOf ws w) t) row in
+            let words = filter-words (λ w. eqb (tileXOf ws w) t) row s in
+            inside ws table (getD part i 0) (getD part j 0) (words .small i) (words .small j)
+            (from-ordered (orderKey ws) 0 part up i j p q)
+            (eqb-true (tileYOf ws (getD part i 0)) ty (all-at (λ w. eqb (tileYOf ws w) ty) part in-row i 0 g)
+            ∙ sym (eqb-true (tileYOf ws (getD part j 0)) ty (all-at (λ w. eqb (tileYOf ws w) ty) part in-row j 0 q)))
+            (eqb-true (tileXOf ws (getD part i 0)) t (all-at (λ w. eqb (tileXOf ws w) t) part in-tile i 0 g)
+            ∙ sym (eqb-true (tileXOf ws (getD part j 0)) t (all-at (λ w. eqb (tileXOf ws w) t) part in-tile j 0 q)));
       }
+
+-- in tiles 16 pixels high
+pub layers-ordered : (ty t : ℕ) (row : List ℕ) → Words row → isRow cpu ty row ≡ true → Ordered (layerIdOf cpu) (filter (λ w. eqb (tileXOf cpu w) t) row)
+layers-ordered ty t row s h = layers-ordered-in cpu cpu-keyed ty t row s h

@@ -17,8 +17,9 @@ use Rattle.laws.proofs.Orders.{le-or-lt}
 use Rattle.laws.proofs.Filtered.{filter-all, filter-none, filter-append, filter-middle, filter-ext}
 use Rattle.pixel_segment.specs.Field.{cpu, tileOf, tileXOf, layerIdOf}
 use Rattle.pixel_segment.specs.Order.{isLt, isEq, compareOf, compareBool}
+use Rattle.pixel_segment.proofs.Heights.{Keyed, cpu-keyed}
 use Rattle.segment_rows.specs.Rows.{isRow, Ordered, Words}
-use Rattle.segment_rows.specs.Search.{searchOf, orderAt, lastPlace, afterOf, between, leftPart, tilePart, layerPart}
+use Rattle.segment_rows.specs.Search.{searchOf, orderAtIn, lastPlace, afterOf, between, leftPartIn, tilePartIn, layerPartIn, leftPart, tilePart, layerPart}
 use Rattle.segment_rows.specs.declared.search.Key.the-variants.{TileXAtLeast}
 use Rattle.segment_rows.proofs.Sorted.{Split, splits, sorted-search}
 use Rattle.segment_rows.proofs.Keys.{compare-tile, le-tile, is-eq, is-lt, sorted-by, sorted-at-least, tile-x-ordered}
@@ -160,27 +161,38 @@ module _ (f : ℕ → ℕ) (k : ℕ) (l : List ℕ) (o : Ordered f l) where
       from true e = refl
       from false e = absurd (omega arith)
 
--- ---- the parts of a row in order, and of a tile's part
+-- ---- the parts of a row in order, and of a tile's part, at every tile height
 
-module _ (ty t : ℕ) (row : List ℕ) (s : Words row) (h : isRow cpu ty row ≡ true) where
-  at-least : orderAt (TileXAtLeast (tileOf t) false) ≡ (λ w. compareBool (leb t (tileXOf cpu w)) false)
-  at-least = fun-ext (λ w. ap (λ (b : Bool). compareBool b false) (le-tile t (tileXOf cpu w)))
+module _ (ws : List ℕ) (table : Keyed ws) (ty t : ℕ) (row : List ℕ) (s : Words row) (h : isRow ws ty row ≡ true) where
+  at-least : orderAtIn ws (TileXAtLeast (tileOf t) false) ≡ (λ w. compareBool (leb t (tileXOf ws w)) false)
+  at-least = fun-ext (λ w. ap (λ (b : Bool). compareBool b false) (le-tile t (tileXOf ws w)))
 
   -- the segments of a tile are those whose tile x it is
-  pub tile-part : tilePart (tileOf t) row ≡ filter (λ w. eqb (tileXOf cpu w) t) row
-  unfolding tilePart
-  tile-part =
-      ap₂ (λ (a b : ℕ → ℕ). between (afterOf (searchOf a row)) (afterOf (searchOf b row)) row) at-least (fun-ext (λ w. compare-tile (tileXOf cpu w) t))
-      ∙ equal-part (tileXOf cpu) t row (tile-x-ordered ty row s h)
+  pub tile-part-in : tilePartIn ws (tileOf t) row ≡ filter (λ w. eqb (tileXOf ws w) t) row
+  tile-part-in =
+      ap₂ (λ (a b : ℕ → ℕ). between (afterOf (searchOf a row)) (afterOf (searchOf b row)) row) at-least (fun-ext (λ w. compare-tile (tileXOf ws w) t))
+      ∙ equal-part (tileXOf ws) t row (tile-x-ordered ws table ty row s h)
 
   -- the segments left of a tile are those whose tile x is less
-  pub left-part : leftPart (tileOf t) row ≡ filter (λ w. ltb (tileXOf cpu w) t) row
-  unfolding leftPart
-  left-part =
+  pub left-part-in : leftPartIn ws (tileOf t) row ≡ filter (λ w. ltb (tileXOf ws w) t) row
+  left-part-in =
       ap (λ (a : ℕ → ℕ). between 0 (afterOf (searchOf a row)) row) at-least
-      ∙ below-part (tileXOf cpu) t row (tile-x-ordered ty row s h)
+      ∙ below-part (tileXOf ws) t row (tile-x-ordered ws table ty row s h)
 
 -- the segments of a layer in a part that ascends by layer
+pub layer-part-in : (ws : List ℕ) (id : ℕ) (part : List ℕ) → Ordered (layerIdOf ws) part → layerPartIn ws id part ≡ filter (λ w. eqb (layerIdOf ws w) id) part
+layer-part-in ws id part o = equal-part (layerIdOf ws) id part o
+
+-- in tiles 16 pixels high
+module _ (ty t : ℕ) (row : List ℕ) (s : Words row) (h : isRow cpu ty row ≡ true) where
+  pub tile-part : tilePart (tileOf t) row ≡ filter (λ w. eqb (tileXOf cpu w) t) row
+  unfolding tilePart
+  tile-part = tile-part-in cpu cpu-keyed ty t row s h
+
+  pub left-part : leftPart (tileOf t) row ≡ filter (λ w. ltb (tileXOf cpu w) t) row
+  unfolding leftPart
+  left-part = left-part-in cpu cpu-keyed ty t row s h
+
 pub layer-part : (id : ℕ) (part : List ℕ) → Ordered (layerIdOf cpu) part → layerPart id part ≡ filter (λ w. eqb (layerIdOf cpu w) id) part
 unfolding layerPart
-layer-part id part o = equal-part (layerIdOf cpu) id part o
+layer-part id part o = layer-part-in cpu id part o

@@ -1,5 +1,5 @@
 -- `search_last_by_key`: the Rust's halving. `at w` is the rank of the element w: how its key compares with the key that is looked for, so
--- one definition serves every key. On a slice that the key does not sort, the halving decides; on a sorted one see proofs/Sorted. Stands for
+-- one definition serves every key. Keys and parts take the table of widths as a parameter. On a slice that the key does not sort, the halving decides; on a sorted one see proofs/Sorted. Stands for
 -- the clause on `search_last_by_key`, P5.
 use mathlib.Core.Bool.{Bool, false, cond}
 use mathlib.Core.List.{List, [], _∷_}
@@ -59,13 +59,17 @@ lastPlace below (suc n) = found (below + n)
 
 -- ---- the keys of the painter: how a word compares with the value that is looked for
 
+abbrev pub orderAtIn : List ℕ → Key → ℕ → ℕ
+orderAtIn ws (TileY k) w = compareℤ (tileOf (tileYOf ws w)) k
+orderAtIn ws (TileX k) w = compareℤ (tileOf (tileXOf ws w)) k
+orderAtIn ws (LayerId k) w = compareOf (layerIdOf ws w) k
+orderAtIn ws (TileXAtLeast start k) w = compareBool (leZ start (tileOf (tileXOf ws w))) k
+orderAtIn ws (LayerIdAtLeast start k) w = compareBool (leb start (layerIdOf ws w)) k
+orderAtIn ws (TileYNotNegative k) w = compareBool (leZ (pos 0) (tileOf (tileYOf ws w))) k
+
+-- in tiles 16 pixels high
 abbrev pub orderAt : Key → ℕ → ℕ
-orderAt (TileY k) w = compareℤ (tileOf (tileYOf cpu w)) k
-orderAt (TileX k) w = compareℤ (tileOf (tileXOf cpu w)) k
-orderAt (LayerId k) w = compareOf (layerIdOf cpu w) k
-orderAt (TileXAtLeast start k) w = compareBool (leZ start (tileOf (tileXOf cpu w))) k
-orderAt (LayerIdAtLeast start k) w = compareBool (leb start (layerIdOf cpu w)) k
-orderAt (TileYNotNegative k) w = compareBool (leZ (pos 0) (tileOf (tileYOf cpu w))) k
+orderAt key w = orderAtIn cpu key w
 
 -- ---- the parts of a row that searches find
 
@@ -79,13 +83,23 @@ abbrev pub between {ℓ} : {A : Type ℓ} → ℕ → ℕ → List A → List A
 between start end l = take (end - start) (drop start l)
 
 -- the segments left of a tile: up to the last one whose tile x is not at least the tile's
-unfoldable pub leftPart : ℤ → List ℕ → List ℕ
-leftPart t row = between 0 (afterOf (searchOf (orderAt (TileXAtLeast t false)) row)) row
+abbrev pub leftPartIn : List ℕ → ℤ → List ℕ → List ℕ
+leftPartIn ws t row = between 0 (afterOf (searchOf (orderAtIn ws (TileXAtLeast t false)) row)) row
 
 -- the segments of a tile: from there up to the last one of the tile
-unfoldable pub tilePart : ℤ → List ℕ → List ℕ
-tilePart t row = between (afterOf (searchOf (orderAt (TileXAtLeast t false)) row)) (afterOf (searchOf (orderAt (TileX t)) row)) row
+abbrev pub tilePartIn : List ℕ → ℤ → List ℕ → List ℕ
+tilePartIn ws t row = between (afterOf (searchOf (orderAtIn ws (TileXAtLeast t false)) row)) (afterOf (searchOf (orderAtIn ws (TileX t)) row)) row
 
 -- the segments of one layer in a tile's part that ascends: from the last one of a lower layer up to the last one of the layer
+abbrev pub layerPartIn : List ℕ → ℕ → List ℕ → List ℕ
+layerPartIn ws id part = between (afterOf (searchOf (orderAtIn ws (LayerIdAtLeast id false)) part)) (afterOf (searchOf (orderAtIn ws (LayerId id)) part)) part
+
+-- in tiles 16 pixels high
+unfoldable pub leftPart : ℤ → List ℕ → List ℕ
+leftPart t row = leftPartIn cpu t row
+
+unfoldable pub tilePart : ℤ → List ℕ → List ℕ
+tilePart t row = tilePartIn cpu t row
+
 unfoldable pub layerPart : ℕ → List ℕ → List ℕ
-layerPart id part = between (afterOf (searchOf (orderAt (LayerIdAtLeast id false)) part)) (afterOf (searchOf (orderAt (LayerId id)) part)) part
+layerPart id part = layerPartIn cpu id part

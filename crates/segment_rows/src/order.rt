@@ -2,17 +2,18 @@
 use pixel_segment::consts;
 use pixel_segment::consts::BitField;
 ghost use mathlib.Core.Path.{_≡_};
+ghost use Prim.Native.Nat.{_/_, _^_, _<_};
 ghost use Rattle.pixel_segment.specs.Field.{cpu};
 ghost use Rattle.pixel_segment.specs.Order.{orderKey};
 ghost use Rattle.segment_rows.specs.Rows.{ascends, isRow};
 
-// Whether the words don't descend in the fields down to the layer id. Descents are counted, by the bit above a key: the
-// key before, plus the highest key, minus a key has it exactly where the key before is greater. No early exit: a row is
-// in order more often than not.
-pub fn does_ascend(row: &[u64]) -> bool
-    ensures { λ r. ⌜ r ≡ ascends (orderKey cpu) (now (row .entry)) ⌝ }
+// Whether the words don't descend in the bits from an offset on. Descents are counted, by the bit above a key: the key
+// before, plus the highest key, minus a key has it exactly where the key before is greater. No early exit: a row is in
+// order more often than not. Short enough to be compiled once for each tile height, with its bits as constants.
+pub fn does_ascend_above(row: &[u64], offset: u32) -> bool
+    requires { ⌜ (0 < offset) × (offset < 64) ⌝ }
+    ensures { λ r. ⌜ r ≡ ascends (λ w. w / 2 ^ offset) (now (row .entry)) ⌝ }
 {
-    let offset = consts::shift(BitField::LayerId);
     let bits = 64 - offset;
     let highest = (1u64 << bits) - 1;
     let mut descents: u64 = 0;
@@ -25,6 +26,13 @@ pub fn does_ascend(row: &[u64]) -> bool
         i += 1;
     }
     descents == 0
+}
+
+// Whether the words don't descend in the fields down to the layer id.
+pub fn does_ascend(row: &[u64]) -> bool
+    ensures { λ r. ⌜ r ≡ ascends (orderKey cpu) (now (row .entry)) ⌝ }
+{
+    does_ascend_above(row, consts::shift(BitField::LayerId))
 }
 
 // Whether a row is in order and in one tile row, given by its stored number. In an ascending row the first and the last

@@ -19,7 +19,7 @@ pub fn end_of(found: Found) -> usize
 
 // The segments from one place up to another; nothing where the second is before the first, as it may be in a row that
 // is in no order.
-fn slice_between(segments: &[u64], start: usize, end: usize) -> &[u64]
+pub fn slice_between(segments: &[u64], start: usize, end: usize) -> &[u64]
     requires { ⌜ end ≤ length (now segments) ⌝ }
     ensures { λ r. ⌜ now r ≡ between start end (now (segments .entry)) ⌝ }
 {

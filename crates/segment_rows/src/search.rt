@@ -11,6 +11,7 @@ ghost use mathlib.Core.Bool.{cond};
 ghost use Prim.Native.Nat.{_+_, _-_, _/_, _%_, _^_, _≤_, _<_, min};
 ghost use lib.Dec.{leb};
 ghost use lib.IntN.{pos, _+ℤ_};
+ghost use Rattle.laws.specs.Integer.{plus};
 ghost use Rattle.pixel_segment.specs.Field.{cpu, tileYOf, tileXOf, layerIdOf};
 ghost use Rattle.pixel_segment.specs.Order.{rank, isGt};
 ghost use Rattle.pixel_segment.specs.Pack.{storedOf};
@@ -56,7 +57,7 @@ pub fn compare_key(word: u64, key: Key) -> Ordering
 }
 
 // The answer at the element where the halving ends.
-fn answer(order: Ordering, start: usize) -> Found
+pub fn answer(order: Ordering, start: usize) -> Found
     requires { ⌜ start < 2 ^ 63 ⌝ }
     ensures { λ r. ⌜ placeIn r ≡ ended (rank order) start ⌝ }
 {
@@ -67,22 +68,29 @@ fn answer(order: Ordering, start: usize) -> Found
     }
 }
 
+// A number that is not negative, as a natural one; 0 for one that is.
+pub fn natural(z: i32) -> u32
+    ensures { λ r. ⌜ r ≡ plus z ⌝ }
+{
+    if z < 0 { 0 } else { z as u32 }
+}
+
 // A tile number as it is stored: plus 1, and 0 for what is then negative.
-fn stored(tile: i32) -> u32
+pub fn stored(tile: i32) -> u32
     ensures { λ r. ⌜ r ≡ storedOf tile ⌝ }
 {
     if tile < 0 { 0 } else { tile as u32 + 1 }
 }
 
 // The least stored number above a tile's: that of the next tile.
-fn above_tile(tile: i16) -> u32
+pub fn above_tile(tile: i16) -> u32
     ensures { λ r. ⌜ r ≡ storedOf (tile +ℤ pos 1) ⌝ }
 {
     stored(tile as i32 + 1)
 }
 
 // The least number above a layer id, if there is one.
-fn above_layer_id(layer_id: u32) -> u32
+pub fn above_layer_id(layer_id: u32) -> u32
     ensures { λ r. ⌜ r ≡ min («layer_id» + 1) (2 ^ 32 - 1) ⌝ }
 {
     if layer_id < NO_FIELD {
@@ -94,7 +102,7 @@ fn above_layer_id(layer_id: u32) -> u32
 
 // The least number above a key that asks whether a field is at least a start: none where that is wanted, else the
 // start.
-fn above_start(wanted: bool, start: u32) -> u32
+pub fn above_start(wanted: bool, start: u32) -> u32
     ensures { λ r. ⌜ r ≡ cond wanted (2 ^ 32 - 1) start ⌝ }
 {
     if wanted { NO_FIELD } else { start }
@@ -108,7 +116,7 @@ fn choose(is_first: bool, first: usize, second: usize) -> usize
 
 // Where the halving ends: left of the middle where the field of the middle word, of so many values from a bit on, is at
 // least `above`, else from the middle on. Short enough to be compiled once for each field, with its bits as constants.
-fn halve(segments: &[u64], offset: u32, size: u64, above: u32) -> usize
+pub fn halve(segments: &[u64], offset: u32, size: u64, above: u32) -> usize
     requires { ⌜ (offset < 64) × (0 < size) × (size ≤ 2 ^ 32) ⌝ }
     ensures { λ r. ⌜ r ≡ endOf (λ w. leb above (w / 2 ^ offset % size)) (now (segments .entry)) ⌝ }
 {

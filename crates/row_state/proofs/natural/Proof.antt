@@ -1,30 +1,14 @@
 -- `natural` meets its contract. Assumes nothing.
-use native.Mathlib.Omega.{arith}
-use lib.IntN.{pos}
-use mir.Syntax.{w32}
+use borrow.Author.Needs.{needs}
 use mir.Facts.{toZ-ofZ}
-use Rattle.laws.proofs.Parts.{whole, lt-true, lt-false}
-use Rattle.laws.proofs.Machine.{within, unsigned}
 use Rattle.row_state.proofs.natural.Statement.{statement}
 use Rattle.row_state.proofs.natural.Tie as tie
 
-cast-result : tie.Need-cast-result
-cast-result c =
-    let z = c .before .args .z in
-    let h = within w32 z (c .before .fits .z) in
-    let low = lt-false z (pos 0) (rw (toZ-ofZ (c .before .fits .z)) at (c .if1 .left)) in
-    rw (toZ-ofZ (c .before .fits .z)) (unsigned w32 z (omega (arith, whole z, low)) (omega arith))
+natural-requires : tie.Need-natural-requires
+natural-requires c κs = search needs
 
 returns : tie.Need-returns
-returns c =
-    let z = c .before .args .z in
-    omega (arith, whole z, lt-true z (pos 0) (rw (toZ-ofZ (c .before .fits .z)) at (c .if1 .taken)))
-
-returns-2 : tie.Need-returns-2
-returns-2 c =
-    let z = c .before .args .z in
-    let low = lt-false z (pos 0) (rw (toZ-ofZ (c .before .fits .z)) at (c .if1 .left)) in
-    rw (toZ-ofZ (c .before .fits .z)) (omega (arith, whole z, low))
+returns c = rw (c .natural .ensures, toZ-ofZ (c .before .fits .z))
 
 pub natural-spec : {M : Type 1} → statement M
-natural-spec = tie.close (tie.spec cast-result returns returns-2)
+natural-spec = tie.close (tie.spec natural-requires returns)

@@ -63,7 +63,7 @@ loop-again c =
     (rw (kept w8 (cover .cover .result) (cover .cover .ok), cover .cover .ensures) at (c .raised .ensures))
 
 returns : tie.Need-returns Inv-loop μ-loop
-returns c = load-end (c .before .loop .inv) (omega arith)
+returns c = load-end cpu (c .before .loop .inv) (omega arith)
 
 pub add-loads-spec : {M : Type 1} → statement M
 add-loads-spec =

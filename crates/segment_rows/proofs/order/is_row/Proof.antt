@@ -3,6 +3,8 @@ use mathlib.Core.Path.{sym, _∙_}
 use native.Mathlib.Omega.{arith}
 use borrow.Author.Tests.{not-true, not-false}
 use borrow.Author.Needs.{needs}
+use Rattle.pixel_segment.specs.Field.{cpu}
+use Rattle.pixel_segment.proofs.Heights.{cpu-keyed}
 use Rattle.segment_rows.proofs.Rows.{descends, no-words, told-by-ends}
 use Rattle.segment_rows.proofs.order.is_row.Statement.{statement}
 use Rattle.segment_rows.proofs.order.is_row.Tie as tie
@@ -13,12 +15,12 @@ does-ascend-requires c κs = search needs
 returns : tie.Need-returns
 returns c =
     let s = c .before .before .before .args in
-    descends (s .stored-tile-y) (s .row .now) (sym (c .before .does-ascend .ensures) ∙ not-true _ (c .if1 .taken))
+    descends cpu (s .stored-tile-y) (s .row .now) (sym (c .before .does-ascend .ensures) ∙ not-true _ (c .if1 .taken))
 
 returns-2 : tie.Need-returns-2
 returns-2 c =
     let s = c .before .before .before .before .args in
-    no-words (s .stored-tile-y) (s .row .now) (c .if2 .taken) (sym (c .before .before .does-ascend .ensures) ∙ not-false _ (c .before .if1 .left))
+    no-words cpu (s .stored-tile-y) (s .row .now) (c .if2 .taken) (sym (c .before .before .does-ascend .ensures) ∙ not-false _ (c .before .if1 .left))
 
 shared-slice-read-extract : tie.Need-shared-slice-read-extract
 shared-slice-read-extract c = search needs
@@ -43,7 +45,7 @@ returns-3 c =
     let at-ascends = c .before .before .before .before .before .before in
     let s = at-ascends .before .before in
     rw (c .extract2 .ensures, c .before .before .extract .ensures)
-    (told-by-ends (s .args .stored-tile-y) (s .args .row .now)
+    (told-by-ends cpu cpu-keyed (s .args .stored-tile-y) (s .args .row .now)
     (λ i. at-ascends .before .shared-slice-known .given i .fits)
     (omega arith)
     (sym (at-ascends .does-ascend .ensures) ∙ not-false _ (c .before .before .before .before .before .if1 .left)))

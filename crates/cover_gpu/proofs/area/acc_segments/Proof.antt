@@ -1,0 +1,217 @@
+-- `area::acc_segments` meets its contract: two tables are filled, of double areas and of covers, while loads are judged. Assumes nothing.
+use mathlib.Core.Path.{_≡_, refl, sym, ap}
+use mathlib.Core.Bool.{false≢true}
+use Prim.Native.Nat.{ℕ, _+_, _-_, _*_, _≤_}
+use native.Mathlib.Omega.{arith}
+use borrow.Author.Needs.{needs}
+use lib.IntN.{pos, natAbs}
+use lib.ListN.{length, getD}
+use mir.Facts.{toZ-ofZ}
+use mir.Syntax.{w8, w16}
+use Rattle.laws.proofs.Machine.{small, kept}
+use Rattle.pixel_segment.specs.Field.{gpu, coverOf, doubleAreaOf}
+use Rattle.cover_statements.specs.Carry.{absCover}
+use Rattle.cover_statements.proofs.Areas.{area-weight}
+use Rattle.cover_statements.proofs.Judging.{Loaded, Summed, load-start, load-next, load-refused, load-accepted, sum-zeros, sum-fits, sum-next, sum-whole}
+use Rattle.cover_statements.proofs.Loads.{light-at}
+use Rattle.cover_gpu.proofs.area.acc_segments.Statement.{statement}
+use Rattle.cover_gpu.proofs.area.acc_segments.Tie as tie
+
+abbrev Inv-loop : tie.InvT-loop
+Inv-loop part areas₀ covers₀ loads₀ i₀ areas covers loads i =
+    Loaded gpu 4 part loads₀ i loads
+    × Summed gpu 4 63 (doubleAreaOf gpu) part i loads areas
+    × Summed gpu 4 1 (coverOf gpu) part i loads covers
+
+abbrev μ-loop : tie.MeasureT-loop
+μ-loop part areas₀ covers₀ loads₀ i₀ areas covers loads i = length part - i
+
+loop-holds : tie.Need-loop-holds Inv-loop μ-loop
+loop-holds c =
+    let s = c .before in (
+      load-start (search needs) (λ y h. light-at (s .args .incoming) (s .pre .0) y (omega arith)),
+      sum-zeros (s .pre .1),
+      sum-zeros (s .pre .2),
+    )
+
+mul-t13 : tie.Need-mul-t13 Inv-loop μ-loop
+mul-t13 c = omega arith
+
+shared-slice-read-t16 : tie.Need-shared-slice-read-t16 Inv-loop μ-loop
+shared-slice-read-t16 c = omega arith
+
+cover-requires : tie.Need-cover-requires Inv-loop μ-loop
+cover-requires c κs = tt
+
+local-y-requires : tie.Need-local-y-requires Inv-loop μ-loop
+local-y-requires c κs = tt
+
+cast-y : tie.Need-cast-y Inv-loop μ-loop
+cast-y c = omega arith
+
+mul-before : tie.Need-mul-before Inv-loop μ-loop
+mul-before c = omega arith
+
+array-read-before : tie.Need-array-read-before Inv-loop μ-loop
+array-read-before c = omega arith
+
+cover-magnitude-requires : tie.Need-cover-magnitude-requires Inv-loop μ-loop
+cover-magnitude-requires c κs = tt
+
+-- the word, its load as the definition has it, and the cover's own weight
+abbrev word : (m : tie.After-cover-magnitude Inv-loop μ-loop) → ℕ
+word m = let l = m .before .before .before .before .before in getD (l .before .before .args .part .now) (l .loop .i) 0
+
+load : (m : tie.After-cover-magnitude Inv-loop μ-loop) → getD (m .before .before .before .before .before .loop .loads) (m .before .local-y .result) 0 + m .cover-magnitude .result ≡ getD (m .before .before .before .before .before .loop .loads) (m .before .local-y .result) 0 + absCover gpu (word m)
+load m =
+    let o = m .before .before in
+    ap (λ (a : ℕ). getD (o .before .before .before .loop .loads) (m .before .local-y .result) 0 + a)
+    (rw (kept w8 (o .cover .result) (o .cover .ok), o .cover .ensures) at (m .cover-magnitude .ensures .0))
+
+cover-weight : (w : ℕ) → natAbs (coverOf gpu w) ≤ 1 * absCover gpu w
+cover-weight w = omega arith
+
+add-load : tie.Need-add-load Inv-loop μ-loop
+add-load c =
+    let l = c .before .before .before .before .before in
+    omega (arith, l .loop .inv .0 .light (c .before .local-y .result) (omega arith), c .cover-magnitude .ensures .1)
+
+returns : tie.Need-returns Inv-loop μ-loop
+returns c =
+    let m = c .before in
+    let t = m .before .before .before .before in
+    record {
+      light = sym (load-refused (t .before .loop .inv .0) (t .loop-test .taken) (omega arith) (m .before .local-y .ensures) (load m) (c .if1 .taken));
+      sums = λ e. absurd (false≢true e);
+    }
+
+mul-loads : tie.Need-mul-loads Inv-loop μ-loop
+mul-loads c = omega arith
+
+array-write-loads : tie.Need-array-write-loads Inv-loop μ-loop
+array-write-loads c = omega arith
+
+cell-requires : tie.Need-cell-requires Inv-loop μ-loop
+cell-requires c κs = tt
+
+mul-areas : tie.Need-mul-areas Inv-loop μ-loop
+mul-areas c = omega arith
+
+element-copy-out-areas : tie.Need-element-copy-out-areas Inv-loop μ-loop
+element-copy-out-areas c = omega arith
+
+double-area-requires : tie.Need-double-area-requires Inv-loop μ-loop
+double-area-requires c κs = tt
+
+add-areas : tie.Need-add-areas Inv-loop μ-loop
+add-areas c =
+    let k = c .before .before in
+    let m = k .before .before in
+    let t = m .before .before .before .before in
+    let l = t .before in
+    rw (
+      kept w16 (getD (l .loop .areas) (k .cell .result) (pos 0)) (c .before .areas .given),
+      kept w16 (c .double-area .result) (c .double-area .ok),
+      c .double-area .ensures,
+    )
+    (small w16 _ (omega (arith, sum-fits (l .loop .inv .1) (t .loop-test .taken) (omega arith) (omega arith) (area-weight gpu refl) (k .cell .ensures) (m .before .local-y .ensures) (load m) (k .before .if1 .left))))
+
+mul-t28 : tie.Need-mul-t28 Inv-loop μ-loop
+mul-t28 c = omega arith
+
+element-set-from-areas : tie.Need-element-set-from-areas Inv-loop μ-loop
+element-set-from-areas c = omega arith
+
+element-copy-out-covers : tie.Need-element-copy-out-covers Inv-loop μ-loop
+element-copy-out-covers c = omega arith
+
+add-covers : tie.Need-add-covers Inv-loop μ-loop
+add-covers c =
+    let k = c .before .before .before in
+    let m = k .before .before in
+    let o = m .before .before in
+    let t = o .before .before in
+    let l = t .before in
+    rw (
+      kept w8 (getD (l .loop .covers) (k .cell .result) (pos 0)) (c .covers .given),
+      kept w8 (o .cover .result) (o .cover .ok),
+      o .cover .ensures,
+    )
+    (small w8 _ (omega (arith, sum-fits (l .loop .inv .2) (t .loop-test .taken) (omega arith) (omega arith) cover-weight (k .cell .ensures) (m .before .local-y .ensures) (load m) (k .before .if1 .left))))
+
+element-set-from-covers : tie.Need-element-set-from-covers Inv-loop μ-loop
+element-set-from-covers c = omega arith
+
+add-i : tie.Need-add-i Inv-loop μ-loop
+add-i c = omega arith
+
+loop-less : tie.Need-loop-less Inv-loop μ-loop
+loop-less c = omega arith
+
+loop-again : tie.Need-loop-again Inv-loop μ-loop
+loop-again c =
+    let d = c .before in
+    let k = d .before .before in
+    let m = k .before .before in
+    let o = m .before .before in
+    let t = o .before .before in
+    let l = t .before in
+    let long = l .loop .inv .0 .long in (
+      load-next (l .loop .inv .0) (t .loop-test .taken) (omega arith) (m .before .local-y .ensures) (load m) (k .before .if1 .left),
+      sum-next (l .loop .inv .1) (t .loop-test .taken) (omega arith) (omega arith) (area-weight gpu refl) long (k .cell .ensures) (m .before .local-y .ensures) (load m)
+          (rw (
+            toZ-ofZ (add-areas d),
+            kept w16 (getD (l .loop .areas) (k .cell .result) (pos 0)) (d .before .areas .given),
+            kept w16 (d .double-area .result) (d .double-area .ok),
+            d .double-area .ensures,
+          )),
+      sum-next (l .loop .inv .2) (t .loop-test .taken) (omega arith) (omega arith) cover-weight long (k .cell .ensures) (m .before .local-y .ensures) (load m)
+          (rw (
+            toZ-ofZ (add-covers c),
+            kept w8 (getD (l .loop .covers) (k .cell .result) (pos 0)) (c .covers .given),
+            kept w8 (o .cover .result) (o .cover .ok),
+            o .cover .ensures,
+          )),
+    )
+
+returns-2 : tie.Need-returns-2 Inv-loop μ-loop
+returns-2 c =
+    let l = c .before in
+    record {
+      light = sym (load-accepted (l .loop .inv .0) (omega arith));
+      sums = λ e. record { areas-are = sum-whole (l .loop .inv .1) (omega arith); covers-are = sum-whole (l .loop .inv .2) (omega arith) };
+    }
+
+pub acc-segments-spec : {M : Type 1} → statement M
+acc-segments-spec =
+    tie.close
+    (tie.spec
+    Inv-loop
+    μ-loop
+    loop-holds
+    mul-t13
+    shared-slice-read-t16
+    cover-requires
+    local-y-requires
+    cast-y
+    mul-before
+    array-read-before
+    cover-magnitude-requires
+    add-load
+    returns
+    mul-loads
+    array-write-loads
+    cell-requires
+    mul-areas
+    element-copy-out-areas
+    double-area-requires
+    add-areas
+    mul-t28
+    element-set-from-areas
+    element-copy-out-covers
+    add-covers
+    element-set-from-covers
+    add-i
+    loop-less
+    loop-again
+    returns-2)

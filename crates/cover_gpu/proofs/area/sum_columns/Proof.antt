@@ -1,0 +1,54 @@
+-- `area::sum_columns` meets its contract. Assumes nothing.
+use mathlib.Core.Path.{refl}
+use mathlib.Core.List.{List}
+use Prim.Native.Nat.{ℕ, _-_}
+use native.Mathlib.Omega.{arith}
+use Rattle.pixel_segment.specs.Field.{gpu}
+use Rattle.cover_statements.specs.Cell.{Accumulated}
+use Rattle.cover_statements.proofs.Carries.{light}
+use Rattle.cover_statements.proofs.Columns.{Columns, columns-start, columns-ready, columns-next, columns-end}
+use Rattle.cover_gpu.proofs.area.sum_columns.Statement.{statement}
+use Rattle.cover_gpu.proofs.area.sum_columns.Tie as tie
+
+-- of every part with these cells
+abbrev Inv-loop : tie.InvT-loop
+Inv-loop areas₀ covers sums₀ column₀ areas sums column = (part : List ℕ) → Accumulated gpu 4 part areas₀ covers → Columns gpu 4 sums₀ part covers column areas sums
+
+abbrev μ-loop : tie.MeasureT-loop
+μ-loop areas₀ covers sums₀ column₀ areas sums column = 16 - column
+
+loop-holds : tie.Need-loop-holds Inv-loop μ-loop
+loop-holds c part a = columns-start (λ w. omega arith) a
+
+compute-doubled-areas-requires : tie.Need-compute-doubled-areas-requires Inv-loop μ-loop
+compute-doubled-areas-requires c κs =
+    let t = c .before in
+    let s = t .before .before .pre in
+    columns-ready (λ w. omega arith) (t .before .loop .inv (s .part) (s .cells)) (t .loop-test .taken) refl (light (s .light))
+
+add-column : tie.Need-add-column Inv-loop μ-loop
+add-column c = omega arith
+
+loop-less : tie.Need-loop-less Inv-loop μ-loop
+loop-less c = omega arith
+
+loop-again : tie.Need-loop-again Inv-loop μ-loop
+loop-again c part a =
+    let t = c .before .before in
+    columns-next (λ w. omega arith) (t .before .loop .inv part a) (t .loop-test .taken) (c .compute-doubled-areas .ensures)
+
+returns : tie.Need-returns Inv-loop μ-loop
+returns c = record { areas-are = λ part a. columns-end (c .before .loop .inv part a) (omega arith) }
+
+pub sum-columns-spec : {M : Type 1} → statement M
+sum-columns-spec =
+    tie.close
+    (tie.spec
+    Inv-loop
+    μ-loop
+    loop-holds
+    compute-doubled-areas-requires
+    add-column
+    loop-less
+    loop-again
+    returns)

@@ -1,0 +1,88 @@
+-- `carry::add_loads` meets its contract. Assumes nothing.
+use Prim.Native.Nat.{_-_}
+use native.Mathlib.Omega.{arith}
+use borrow.Author.Needs.{needs}
+use lib.ListN.{length}
+use mir.Syntax.{w8}
+use Rattle.laws.proofs.Machine.{kept}
+use Rattle.pixel_segment.specs.Field.{gpu}
+use Rattle.cover_statements.proofs.Loads.{Loading, load-start, load-next, load-end}
+use Rattle.cover_gpu.proofs.carry.add_loads.Statement.{statement}
+use Rattle.cover_gpu.proofs.carry.add_loads.Tie as tie
+
+abbrev Inv-loop : tie.InvT-loop
+Inv-loop part loads₀ i₀ loads i = Loading gpu 4 part loads₀ i loads
+
+abbrev μ-loop : tie.MeasureT-loop
+μ-loop part loads₀ i₀ loads i = length part - i
+
+loop-holds : tie.Need-loop-holds Inv-loop μ-loop
+loop-holds c = load-start (search needs) (c .before .pre)
+
+mul-t8 : tie.Need-mul-t8 Inv-loop μ-loop
+mul-t8 c = search needs
+
+shared-slice-read-t11 : tie.Need-shared-slice-read-t11 Inv-loop μ-loop
+shared-slice-read-t11 c = omega arith
+
+local-y-requires : tie.Need-local-y-requires Inv-loop μ-loop
+local-y-requires c κs = tt
+
+cast-y : tie.Need-cast-y Inv-loop μ-loop
+cast-y c = omega arith
+
+mul-raised : tie.Need-mul-raised Inv-loop μ-loop
+mul-raised c = omega arith
+
+array-read-raised : tie.Need-array-read-raised Inv-loop μ-loop
+array-read-raised c = omega arith
+
+cover-requires : tie.Need-cover-requires Inv-loop μ-loop
+cover-requires c κs = tt
+
+raised-requires : tie.Need-raised-requires Inv-loop μ-loop
+raised-requires c κs = c .before .before .before .before .loop .inv .capped .at (c .before .local-y .result)
+
+mul-loads : tie.Need-mul-loads Inv-loop μ-loop
+mul-loads c = omega arith
+
+array-write-loads : tie.Need-array-write-loads Inv-loop μ-loop
+array-write-loads c = omega arith
+
+add-i : tie.Need-add-i Inv-loop μ-loop
+add-i c = omega arith
+
+loop-less : tie.Need-loop-less Inv-loop μ-loop
+loop-less c = omega arith
+
+loop-again : tie.Need-loop-again Inv-loop μ-loop
+loop-again c =
+    let cover = c .before in
+    let y = cover .before in
+    load-next (y .before .before .before .loop .inv) (omega arith) (y .local-y .ensures) (omega arith)
+    (rw (kept w8 (cover .cover .result) (cover .cover .ok), cover .cover .ensures) at (c .raised .ensures))
+
+returns : tie.Need-returns Inv-loop μ-loop
+returns c = load-end gpu (c .before .loop .inv) (omega arith)
+
+pub add-loads-spec : {M : Type 1} → statement M
+add-loads-spec =
+    tie.close
+    (tie.spec
+    Inv-loop
+    μ-loop
+    loop-holds
+    mul-t8
+    shared-slice-read-t11
+    local-y-requires
+    cast-y
+    mul-raised
+    array-read-raised
+    cover-requires
+    raised-requires
+    mul-loads
+    array-write-loads
+    add-i
+    loop-less
+    loop-again
+    returns)

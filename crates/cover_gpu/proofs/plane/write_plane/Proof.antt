@@ -1,0 +1,55 @@
+-- `plane::write_plane` meets its contract. Assumes nothing.
+use Prim.Native.Nat.{_+_, _*_, _-_}
+use native.Mathlib.Omega.{arith}
+use lib.Ieee.{nan}
+use lib.ListN.{getD}
+use Rattle.cover_statements.specs.Weighed.{coveragesIn}
+use Rattle.cover_statements.proofs.PlaneRows.{PlaneRows, rows-start, rows-room, rows-next, rows-end}
+use Rattle.cover_gpu.proofs.plane.write_plane.Statement.{statement}
+use Rattle.cover_gpu.proofs.plane.write_plane.Tie as tie
+
+abbrev Inv-loop : tie.InvT-loop
+Inv-loop weights plane₀ y₀ plane y = PlaneRows 4 (λ column row. getD (coveragesIn weights) (column * 4 + row) nan) plane₀ y plane
+
+abbrev μ-loop : tie.MeasureT-loop
+μ-loop weights plane₀ y₀ plane y = 4 - y
+
+loop-holds : tie.Need-loop-holds Inv-loop μ-loop
+loop-holds c = rows-start (c .before .pre .2)
+
+write-row-requires : tie.Need-write-row-requires Inv-loop μ-loop
+write-row-requires c κs =
+    let l = c .before .before in
+    let s = l .before .before in
+    (s .pre .0, s .pre .1, c .before .loop-test .taken, rows-room (l .loop .inv) (c .before .loop-test .taken))
+
+add-y : tie.Need-add-y Inv-loop μ-loop
+add-y c = omega arith
+
+loop-less : tie.Need-loop-less Inv-loop μ-loop
+loop-less c = omega arith
+
+loop-again : tie.Need-loop-again Inv-loop μ-loop
+loop-again c =
+    let t = c .before .before .before .before in
+    rows-next (t .before .loop .inv) (t .loop-test .taken) (c .before .before .write-row .ensures)
+
+same-length : tie.Need-same-length Inv-loop μ-loop
+same-length c = c .before .loop .inv .long
+
+returns : tie.Need-returns Inv-loop μ-loop
+returns c = rows-end (c .before .loop .inv) (omega arith)
+
+pub write-plane-spec : {M : Type 1} → statement M
+write-plane-spec =
+    tie.close
+    (tie.spec
+    Inv-loop
+    μ-loop
+    loop-holds
+    write-row-requires
+    add-y
+    loop-less
+    loop-again
+    same-length
+    returns)

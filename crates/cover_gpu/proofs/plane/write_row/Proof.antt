@@ -1,0 +1,109 @@
+-- `plane::write_row` meets its contract. Assumes nothing.
+use mathlib.Core.Path.{refl, sym, _∙_}
+use Prim.Native.Nat.{_+_, _*_, _-_}
+use native.Mathlib.Omega.{arith}
+use lib.Ieee.{nan}
+use lib.IntN.{pos}
+use lib.ListN.{getD}
+use mir.Syntax.{w16}
+use Rattle.laws.proofs.Machine.{kept, unsigned}
+use Rattle.laws.proofs.Parts.{whole}
+use Rattle.cover_statements.specs.Weighed.{coverageIn, coveragesIn}
+use Rattle.cover_statements.proofs.PlaneRows.{Row, row-start, row-next, row-end}
+use Rattle.cover_statements.proofs.Weighings.{map-lt}
+use Rattle.cover_gpu.proofs.plane.write_row.Statement.{statement}
+use Rattle.cover_gpu.proofs.plane.write_row.Tie as tie
+
+abbrev Inv-loop : tie.InvT-loop
+Inv-loop weights y plane₀ x₀ plane x = Row (λ column row. getD (coveragesIn weights) (column * 4 + row) nan) y plane₀ x plane
+
+abbrev μ-loop : tie.MeasureT-loop
+μ-loop weights y plane₀ x₀ plane x = 16 - x
+
+loop-holds : tie.Need-loop-holds Inv-loop μ-loop
+loop-holds c = row-start (c .before .pre .3)
+
+mul-coverage : tie.Need-mul-coverage Inv-loop μ-loop
+mul-coverage c = omega arith
+
+add-coverage : tie.Need-add-coverage Inv-loop μ-loop
+add-coverage c = omega arith
+
+mul-coverage-2 : tie.Need-mul-coverage-2 Inv-loop μ-loop
+mul-coverage-2 c = omega arith
+
+shared-slice-copy-out-coverage : tie.Need-shared-slice-copy-out-coverage Inv-loop μ-loop
+shared-slice-copy-out-coverage c = omega arith
+
+cast-coverage : tie.Need-cast-coverage Inv-loop μ-loop
+cast-coverage c =
+    let l = c .before .before in
+    let s = l .before .before in
+    let k = l .loop .x * 4 + s .args .y in
+    let w = getD (s .args .weights .now) k (pos 0) in
+    rw (kept w16 w (c .coverage-arg .given))
+    (unsigned w16 w (s .pre .0 .low k (omega arith)) (omega (arith, whole w, s .pre .0 .high k (omega arith))))
+
+coverage-requires : tie.Need-coverage-requires Inv-loop μ-loop
+coverage-requires c κs =
+    let l = c .before .before in
+    let s = l .before .before in
+    let k = l .loop .x * 4 + s .args .y in
+    rw (kept w16 (getD (s .args .weights .now) k (pos 0)) (c .coverage-arg .given)) (s .pre .0 .high k (omega arith))
+
+mul-plane : tie.Need-mul-plane Inv-loop μ-loop
+mul-plane c = omega arith
+
+add-plane : tie.Need-add-plane Inv-loop μ-loop
+add-plane c = omega arith
+
+mul-plane-2 : tie.Need-mul-plane-2 Inv-loop μ-loop
+mul-plane-2 c = omega arith
+
+slice-write-plane : tie.Need-slice-write-plane Inv-loop μ-loop
+slice-write-plane c = omega arith
+
+add-x : tie.Need-add-x Inv-loop μ-loop
+add-x c = omega arith
+
+loop-less : tie.Need-loop-less Inv-loop μ-loop
+loop-less c = omega arith
+
+loop-again : tie.Need-loop-again Inv-loop μ-loop
+loop-again c =
+    let a = c .before in
+    let l = a .before .before in
+    let s = l .before .before in
+    let k = l .loop .x * 4 + s .args .y in
+    row-next (l .loop .inv) (omega arith) refl
+    ((rw (kept w16 (getD (s .args .weights .now) k (pos 0)) (a .coverage-arg .given)) at (c .coverage .ensures))
+    ∙ sym (map-lt coverageIn (s .args .weights .now) k nan (pos 0) (omega arith)))
+
+same-length : tie.Need-same-length Inv-loop μ-loop
+same-length c = c .before .loop .inv .long
+
+returns : tie.Need-returns Inv-loop μ-loop
+returns c = row-end (c .before .loop .inv) (omega arith)
+
+pub write-row-spec : {M : Type 1} → statement M
+write-row-spec =
+    tie.close
+    (tie.spec
+    Inv-loop
+    μ-loop
+    loop-holds
+    mul-coverage
+    add-coverage
+    mul-coverage-2
+    shared-slice-copy-out-coverage
+    cast-coverage
+    coverage-requires
+    mul-plane
+    add-plane
+    mul-plane-2
+    slice-write-plane
+    add-x
+    loop-less
+    loop-again
+    same-length
+    returns)

@@ -1,0 +1,6 @@
+-- Laws of one layer's row of tiles four pixels high.
+pub mod Within
+pub mod Parts
+pub mod Verdicts
+pub mod Runs
+pub mod Alike

@@ -1,0 +1,34 @@
+-- `covers::cover_within` meets its contract. Assumes nothing.
+use mathlib.Core.Path.{_≡_, sym, _∙_}
+use mathlib.Core.Bool.{true, false}
+use borrow.Author.Needs.{needs}
+use borrow.Author.Tests.{eq-eqb, ne-eqb}
+use lib.Dec.{eqb}
+use mir.Syntax.{w8}
+use Rattle.laws.proofs.Machine.{kept}
+use Rattle.pixel_segment.specs.Field.{gpu, layerIdOf}
+use Rattle.layer_row_gpu.proofs.covers.cover_within.Statement.{statement}
+use Rattle.layer_row_gpu.proofs.covers.cover_within.Tie as tie
+
+layer-id-requires : tie.Need-layer-id-requires
+layer-id-requires c κs = search needs
+
+cover-requires : tie.Need-cover-requires
+cover-requires c κs = search needs
+
+returns : tie.Need-returns
+returns c =
+    let l = c .before .before in
+    let s = l .before in
+    let own : eqb (layerIdOf gpu (s .args .segment .0)) (s .args .layer-id) ≡ true = eq-eqb _ _ (sym (l .layer-id .ensures) ∙ c .before .if1 .taken) in
+    rw (own, kept w8 (c .cover .result) (c .cover .ok)) (c .cover .ensures)
+
+returns-2 : tie.Need-returns-2
+returns-2 c =
+    let l = c .before in
+    let s = l .before in
+    let other : eqb (layerIdOf gpu (s .args .segment .0)) (s .args .layer-id) ≡ false = ne-eqb _ _ (λ e. c .if1 .left (l .layer-id .ensures ∙ e)) in
+    rw other
+
+pub cover-within-spec : {M : Type 1} → statement M
+cover-within-spec = tie.close (tie.spec layer-id-requires cover-requires returns returns-2)

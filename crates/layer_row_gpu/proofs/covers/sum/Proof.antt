@@ -1,0 +1,91 @@
+-- `covers::sum` meets its contract. Assumes nothing.
+use mathlib.Core.Path.{_∙_}
+use Prim.Native.Nat.{_-_}
+use native.Mathlib.Omega.{arith}
+use borrow.Author.Needs.{needs}
+use lib.IntN.{pos}
+use lib.ListN.{length, getD, replicate, length-replicate}
+use mir.Facts.{toZ-ofZ}
+use mir.Syntax.{w8}
+use Rattle.laws.proofs.Machine.{small, kept}
+use Rattle.pixel_segment.specs.Field.{gpu, localYOf}
+use Rattle.cover_statements.proofs.Tables.{Filling, fill-start, fill-next, fill-fits, fill-end}
+use Rattle.layer_row_gpu.specs.InnerCovers.{coverWithin}
+use Rattle.layer_row_gpu.proofs.Within.{covers-within, within-light}
+use Rattle.layer_row_gpu.proofs.covers.sum.Statement.{statement}
+use Rattle.layer_row_gpu.proofs.covers.sum.Tie as tie
+
+abbrev Inv-loop : tie.InvT-loop
+Inv-loop part layer-id covers₀ i₀ covers i = Filling (localYOf gpu) (coverWithin layer-id) 4 127 part (replicate 4 (pos 0)) i covers
+
+abbrev μ-loop : tie.MeasureT-loop
+μ-loop part layer-id covers₀ i₀ covers i = length part - i
+
+loop-holds : tie.Need-loop-holds Inv-loop μ-loop
+loop-holds c = fill-start (length-replicate 4 (pos 0)) (within-light (c .before .args .layer-id) (c .before .args .part .now) (c .before .pre))
+
+mul-t7 : tie.Need-mul-t7 Inv-loop μ-loop
+mul-t7 c = search needs
+
+shared-slice-read-t10 : tie.Need-shared-slice-read-t10 Inv-loop μ-loop
+shared-slice-read-t10 c = omega arith
+
+local-y-requires : tie.Need-local-y-requires Inv-loop μ-loop
+local-y-requires c κs = tt
+
+cast-y : tie.Need-cast-y Inv-loop μ-loop
+cast-y c = omega arith
+
+array-copy-out-covers : tie.Need-array-copy-out-covers Inv-loop μ-loop
+array-copy-out-covers c = omega arith
+
+cover-within-requires : tie.Need-cover-within-requires Inv-loop μ-loop
+cover-within-requires c κs = tt
+
+add-covers : tie.Need-add-covers Inv-loop μ-loop
+add-covers c =
+    let s = c .before in
+    let y = s .before in
+    let l = y .before .before .before in
+    rw (kept w8 (getD (l .loop .covers) (y .local-y .result) (pos 0)) (s .covers .given), kept w8 (c .cover-within .result) (c .cover-within .ok), c .cover-within .ensures)
+    (small w8 _ (omega (arith, fill-fits (l .loop .inv) (omega arith) (omega arith) (y .local-y .ensures))))
+
+array-set-from-covers : tie.Need-array-set-from-covers Inv-loop μ-loop
+array-set-from-covers c = omega arith
+
+add-i : tie.Need-add-i Inv-loop μ-loop
+add-i c = omega arith
+
+loop-less : tie.Need-loop-less Inv-loop μ-loop
+loop-less c = omega arith
+
+loop-again : tie.Need-loop-again Inv-loop μ-loop
+loop-again c =
+    let s = c .before in
+    let y = s .before in
+    let l = y .before .before .before in
+    fill-next (l .loop .inv) (omega arith) (omega arith) (y .local-y .ensures)
+    (rw (toZ-ofZ (add-covers c), kept w8 (getD (l .loop .covers) (y .local-y .result) (pos 0)) (s .covers .given), kept w8 (c .cover-within .result) (c .cover-within .ok), c .cover-within .ensures))
+
+returns : tie.Need-returns Inv-loop μ-loop
+returns c = fill-end (c .before .loop .inv) (omega arith) ∙ covers-within (c .before .before .before .args .layer-id) (c .before .before .before .args .part .now)
+
+pub sum-spec : {M : Type 1} → statement M
+sum-spec =
+    tie.close
+    (tie.spec
+    Inv-loop
+    μ-loop
+    loop-holds
+    mul-t7
+    shared-slice-read-t10
+    local-y-requires
+    cast-y
+    array-copy-out-covers
+    cover-within-requires
+    add-covers
+    array-set-from-covers
+    add-i
+    loop-less
+    loop-again
+    returns)

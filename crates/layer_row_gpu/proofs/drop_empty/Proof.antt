@@ -1,0 +1,20 @@
+-- `drop_empty` meets its contract. Assumes nothing.
+use mathlib.Core.Path.{sym, _∙_}
+use borrow.Author.Needs.{needs}
+use Rattle.layer_row_gpu.proofs.drop_empty.Statement.{statement}
+use Rattle.layer_row_gpu.proofs.drop_empty.Tie as tie
+
+is-empty-requires : tie.Need-is-empty-requires
+is-empty-requires c κs = search needs
+
+default-requires : tie.Need-default-requires
+default-requires c κs = search needs
+
+returns : tie.Need-returns
+returns c = rw (sym (c .before .before .is-empty .ensures) ∙ c .before .if1 .taken) (c .default .ensures)
+
+returns-2 : tie.Need-returns-2
+returns-2 c = rw (sym (c .before .is-empty .ensures) ∙ c .if1 .left)
+
+pub drop-empty-spec : {M : Type 1} → statement M
+drop-empty-spec = tie.close (tie.spec is-empty-requires default-requires returns returns-2)

@@ -1,0 +1,122 @@
+-- `judging::judge_opening` meets its contract: a line for each condition, the lowest first. Assumes nothing.
+use mathlib.Core.Path.{_≡_, sym, ap, _∙_}
+use mathlib.Core.List.{List}
+use Prim.Native.Nat.{ℕ, suc}
+use native.Mathlib.Numerals.{add-one}
+use native.Mathlib.Omega.{arith}
+use borrow.Author.Needs.{needs}
+use borrow.Author.Tests.{not-false}
+use mir.Syntax.{w16}
+use mir.Val.{SFits}
+use mir.Facts.{toZ-ofZ}
+use Rattle.laws.specs.Integer.{plus}
+use Rattle.laws.proofs.Machine.{sfits}
+use Rattle.pixel_segment.specs.Field.{gpu}
+use Rattle.segment_rows.specs.Rows.{isRow}
+use Rattle.cover_statements.specs.Carry.{isLight}
+use Rattle.cover_statements.specs.Cover.{noCover}
+use Rattle.layer_row_gpu.specs.InnerCovers.{layerWithin}
+use Rattle.layer_row_gpu.specs.LayerState.{hasBadSpan}
+use Rattle.layer_row_gpu.specs.OpenLayer.{layerLeft, openLayerVerdict}
+use Rattle.layer_row_gpu.proofs.Parts.{left-from}
+use Rattle.layer_row_gpu.proofs.Verdicts.{Span, good-span}
+use Rattle.layer_row_gpu.proofs.judging.judge_opening.Statement.{statement}
+use Rattle.layer_row_gpu.proofs.judging.judge_opening.Tie as tie
+
+-- whether the numbers are out of range
+span-told : (c : tie.After-has-bad-span) → c .has-bad-span .result ≡ hasBadSpan (c .before .before .args .tile-y) (c .before .before .args .from) (c .before .before .args .to)
+span-told c =
+    let s = c .before .before in
+    c .has-bad-span .ensures ∙ rw (toZ-ofZ (s .fits .tile-y), toZ-ofZ (s .fits .from), toZ-ofZ (s .fits .to))
+
+-- whether the row is in order, as the definition asks it
+row-told : (c : tie.After-is-row) → c .is-row .result ≡ isRow gpu (suc (plus (c .before .before .before .before .before .args .tile-y))) (c .before .before .before .before .before .args .row .now)
+row-told c =
+    let s = c .before .before .before .before .before in
+    c .is-row .ensures
+    ∙ ap (λ (n : ℕ). isRow gpu n (s .args .row .now)) (add-one (c .before .natural .result) ∙ ap suc (c .before .natural .ensures ∙ ap plus (toZ-ofZ (s .fits .tile-y))))
+
+-- where neither 2 nor 3 applies
+span : (c : tie.Else2) → Span (c .before .before .before .before .before .before .args .tile-y) (c .before .before .before .before .before .before .args .from) (c .before .before .before .before .before .before .args .to)
+span c =
+    let b = c .before .before .before .before in
+    good-span _ _ _ (sym (span-told b) ∙ c .before .before .before .if1 .left)
+
+first-fits : (c : tie.Else2) → SFits w16 (c .before .before .before .before .before .before .args .from)
+first-fits c =
+    let p = span c in
+    sfits w16 _ (record { above = omega (arith, p .first .1, p .last .1); below = omega (arith, p .first .0) })
+
+-- whether number 9 does not apply
+light-told : (c : tie.After-is-light) → c .is-light .result ≡ isLight gpu 4 (noCover 4) (layerLeft (c .before .before .before .before .before .before .before .before .args .from) (c .before .before .before .before .before .before .before .before .args .layer-id) (c .before .before .before .before .before .before .before .before .args .row .now))
+light-told c =
+    let e = c .before .before in
+    let k = e .before .before .before .before .before in
+    let s = k .before in
+    let in-order = sym (row-told (e .before)) ∙ not-false (e .before .is-row .result) (e .if2 .left) in
+    c .is-light .ensures
+    ∙ ap (λ (l : List ℕ). isLight gpu 4 (noCover 4) (layerWithin (s .args .layer-id) l)) (rw (toZ-ofZ (s .fits .from), toZ-ofZ (first-fits e)) at (c .before .left-of-tile .ensures))
+    ∙ ap (isLight gpu 4 (noCover 4)) (left-from _ (record { small = λ i. k .shared-slice-known .given i .fits }) in-order (s .args .from) (span e .first .0) (s .args .layer-id))
+
+has-bad-span-requires : tie.Need-has-bad-span-requires
+has-bad-span-requires c κs = search needs
+
+returns : tie.Need-returns
+unfolding openLayerVerdict
+returns c = rw (← span-told (c .before), c .if1 .taken)
+
+natural-requires : tie.Need-natural-requires
+natural-requires c κs = search needs
+
+cast-is-row : tie.Need-cast-is-row
+cast-is-row c = search needs
+
+add-is-row : tie.Need-add-is-row
+add-is-row c = search needs
+
+is-row-requires : tie.Need-is-row-requires
+is-row-requires c κs = search needs
+
+returns-2 : tie.Need-returns-2
+unfolding openLayerVerdict
+returns-2 c = rw (← span-told (c .before .before .before .before), c .before .before .before .if1 .left, ← row-told (c .before), c .if2 .taken)
+
+cast-left-of-tile : tie.Need-cast-left-of-tile
+cast-left-of-tile c = rw (toZ-ofZ (c .before .before .before .before .before .before .fits .from)) (first-fits c)
+
+left-of-tile-requires : tie.Need-left-of-tile-requires
+left-of-tile-requires c κs = search needs
+
+is-light-requires : tie.Need-is-light-requires
+is-light-requires c κs = search needs
+
+returns-3 : tie.Need-returns-3
+unfolding openLayerVerdict
+returns-3 c =
+    let l = c .before in
+    let e = l .before .before in
+    rw (← span-told (e .before .before .before .before), e .before .before .before .if1 .left, ← row-told (e .before), e .if2 .left, ← light-told l, c .if3 .taken)
+
+returns-4 : tie.Need-returns-4
+unfolding openLayerVerdict
+returns-4 c =
+    let l = c .before in
+    let e = l .before .before in
+    rw (← span-told (e .before .before .before .before), e .before .before .before .if1 .left, ← row-told (e .before), e .if2 .left, ← light-told l, c .if3 .left)
+
+pub judge-opening-spec : {M : Type 1} → statement M
+judge-opening-spec =
+    tie.close
+    (tie.spec
+    has-bad-span-requires
+    returns
+    natural-requires
+    cast-is-row
+    add-is-row
+    is-row-requires
+    returns-2
+    cast-left-of-tile
+    left-of-tile-requires
+    is-light-requires
+    returns-3
+    returns-4)

@@ -1,0 +1,87 @@
+-- `work_tile` meets its contract. Assumes nothing.
+use mathlib.Core.Path.{_≡_, sym, ap, _∙_}
+use borrow.Author.Needs.{needs}
+use lib.IntN.{ℤ}
+use mir.Facts.{toZ-ofZ}
+use Rattle.laws.specs.Lists.{over}
+use Rattle.refusals.specs.Refusal.{Judgement, judgementIn, pass}
+use Rattle.pixel_segment.specs.Field.{gpu}
+use Rattle.cover_statements.specs.Cover.{coverAt}
+use Rattle.cover_statements.specs.Plane.{planeOf}
+use Rattle.layer_row_gpu.specs.LayerState.{layerStateIn, layerTile, pastTile}
+use Rattle.layer_row_gpu.specs.WorkLayer.{workLayerVerdict, workedState, workedPlane}
+use Rattle.layer_row_gpu.proofs.Verdicts.{work-passed, workable}
+use Rattle.layer_row_gpu.proofs.work_tile.Statement.{statement}
+use Rattle.layer_row_gpu.proofs.work_tile.Tie as tie
+
+-- the judge's verdict
+told : (c : tie.After-judge-work) → let a = c .before .before .before .before .args in judgementIn (c .judge-work .result) ≡ workLayerVerdict (layerStateIn (a .state)) (a .tile) (a .row .now) (a .plane .now)
+told c = rw (toZ-ofZ (c .before .before .before .before .fits .tile)) at (c .judge-work .ensures)
+
+passes : (c : tie.After-enum-told) → let a = c .before .before .before .before .before .before .args in workLayerVerdict (layerStateIn (a .state)) (a .tile) (a .row .now) (a .plane .now) ≡ pass
+passes c = sym (told (c .before .before)) ∙ ap judgementIn (c .enum-told .given .1)
+
+judge-work-requires : tie.Need-judge-work-requires
+judge-work-requires c κs = search needs
+
+enum-known-refusal : tie.Need-enum-known-refusal
+enum-known-refusal c = search needs
+
+enum-told : tie.Need-enum-told
+enum-told c = search needs
+
+work-requires : tie.Need-work-requires
+work-requires c κs =
+    let a = c .before .before .before .before .before .before .before .args in
+    workable (layerStateIn (a .state)) (a .tile) (a .row .now) (a .plane .now) (passes (c .before))
+
+same-length : tie.Need-same-length
+same-length c = search needs
+
+returns : tie.Need-returns
+returns c =
+    let j = c .before .before .before in
+    let a = j .before .before .before .before .args in
+    let s = layerStateIn (a .state) in
+    let v = sym (told j) ∙ ap judgementIn (c .before .refusal .given .1) in
+    record {
+      answer = sym v;
+      state-is = sym (ap (λ (k : Judgement). workedState k s (a .tile) (a .row .now)) v);
+      plane-is = sym (ap (λ (k : Judgement). workedPlane k s (a .tile) (a .row .now) (a .plane .now)) v);
+    }
+
+same-length-2 : tie.Need-same-length-2
+same-length-2 c = search needs
+
+returns-2 : tie.Need-returns-2
+returns-2 c =
+    let w = c .before .before in
+    let t = w .before .before in
+    let a = t .before .before .before .before .before .before .args in
+    let s = layerStateIn (a .state) in
+    let v = passes t in
+    let due = sym (work-passed s (a .tile) (a .row .now) (a .plane .now) v .tile-is) in
+    record {
+      answer = sym v;
+      state-is =
+          w .work .ensures .0
+          ∙ ap (λ (z : ℤ). pastTile s (layerTile s z (a .row .now))) due
+          ∙ sym (ap (λ (k : Judgement). workedState k s (a .tile) (a .row .now)) v);
+      plane-is =
+          w .work .ensures .1
+          ∙ ap (λ (z : ℤ). over (planeOf gpu 4 (a .state .rule) (coverAt (a .state .cover .covers)) (layerTile s z (a .row .now))) (a .plane .now)) due
+          ∙ sym (ap (λ (k : Judgement). workedPlane k s (a .tile) (a .row .now) (a .plane .now)) v);
+    }
+
+pub work-tile-spec : {M : Type 1} → statement M
+work-tile-spec =
+    tie.close
+    (tie.spec
+    judge-work-requires
+    enum-known-refusal
+    enum-told
+    work-requires
+    same-length
+    returns
+    same-length-2
+    returns-2)

@@ -1,0 +1,27 @@
+-- `GpuSegment::tile_y` meets its contract. Assumes nothing.
+use mathlib.Core.Path.{_∙_}
+use native.Mathlib.Omega.{arith}
+use borrow.Author.Needs.{needs}
+use mir.Syntax.{w16}
+use mir.Facts.{toZ-pos, toZ-ofZ}
+use Rattle.pixel_segment.specs.Field.{tileOf}
+use Rattle.pixel_segment.proofs.Widths.{tile-fits}
+use Rattle.pixel_segment_gpu.proofs.GpuSegment.tile_y.Statement.{statement}
+use Rattle.pixel_segment_gpu.proofs.GpuSegment.tile_y.Tie as tie
+
+extract-requires : tie.Need-extract-requires
+extract-requires c κs = search needs
+
+cast-result : tie.Need-cast-result
+cast-result c = search needs
+
+sub-result : tie.Need-sub-result
+unfolding tileOf
+sub-result c = rw (toZ-pos w16 {n = c .extract .result} (omega arith)) (tile-fits (c .extract .result) (omega arith))
+
+returns : tie.Need-returns
+unfolding tileOf
+returns c = toZ-ofZ (sub-result c) ∙ rw (toZ-pos w16 {n = c .extract .result} (omega arith), c .extract .ensures)
+
+pub tile-y-spec : {M : Type 1} → statement M
+tile-y-spec = tie.close (tie.spec extract-requires cast-result sub-result returns)

@@ -1,0 +1,35 @@
+-- `consts::append` meets its contract. Assumes nothing.
+-- the word with the field below it is within 64 bits
+use Prim.Native.Nat.{_<_, _+_, _*_, _^_, _%_}
+use native.Mathlib.Nat.{mod-lt}
+use native.Mathlib.Omega.{arith}
+use borrow.Author.Needs.{needs}
+use lib.Pow.{pow-pos}
+use Rattle.pixel_segment.specs.Field.{gpu, indexOf, widthOf}
+use Rattle.pixel_segment.proofs.Widths.{joined-lt}
+use Rattle.pixel_segment_gpu.proofs.Widths.{width-lt}
+use Rattle.pixel_segment_gpu.proofs.consts.append.Statement.{statement}
+use Rattle.pixel_segment_gpu.proofs.consts.append.Tie as tie
+
+whole : (c : tie.After-size) → c .before .args .word * 2 ^ widthOf gpu (indexOf (c .before .args .field)) + c .before .args .value % 2 ^ widthOf gpu (indexOf (c .before .args .field)) < 2 ^ 64
+whole c =
+    let k = widthOf gpu (indexOf (c .before .args .field)) in
+    joined-lt k (width-lt (indexOf (c .before .args .field))) (c .before .pre) (mod-lt (c .before .args .value) (pow-pos k))
+
+size-requires : tie.Need-size-requires
+size-requires c κs = search needs
+
+mul-result : tie.Need-mul-result
+mul-result c = let h = whole c in rw (c .size .ensures) (omega arith)
+
+rem-result : tie.Need-rem-result
+rem-result c = rw (c .size .ensures) (pow-pos (widthOf gpu (indexOf (c .before .args .field))))
+
+add-result : tie.Need-add-result
+add-result c = let h = whole c in rw (c .size .ensures) (omega arith)
+
+returns : tie.Need-returns
+returns c = rw (c .size .ensures)
+
+pub append-spec : {M : Type 1} → statement M
+append-spec = tie.close (tie.spec size-requires mul-result rem-result add-result returns)

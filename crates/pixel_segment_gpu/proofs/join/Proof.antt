@@ -1,0 +1,73 @@
+-- `join` meets its contract: the word is put together by seven steps of one definition. Assumes nothing.
+use borrow.Author.Needs.{needs}
+use mir.Facts.{toZ-ofZ}
+use Rattle.pixel_segment_gpu.proofs.join.Statement.{statement}
+use Rattle.pixel_segment_gpu.proofs.join.Tie as tie
+
+stored-requires : tie.Need-stored-requires
+stored-requires c κs = search needs
+
+append-requires : tie.Need-append-requires
+append-requires c κs = search needs
+
+stored-requires-2 : tie.Need-stored-requires-2
+stored-requires-2 c κs = search needs
+
+append-requires-2 : tie.Need-append-requires-2
+append-requires-2 c κs = search needs
+
+append-requires-3 : tie.Need-append-requires-3
+append-requires-3 c κs = search needs
+
+append-requires-4 : tie.Need-append-requires-4
+append-requires-4 c κs = search needs
+
+append-requires-5 : tie.Need-append-requires-5
+append-requires-5 c κs = search needs
+
+append-requires-6 : tie.Need-append-requires-6
+append-requires-6 c κs = search needs
+
+cover-bits-requires : tie.Need-cover-bits-requires
+cover-bits-requires c κs = search needs
+
+append-requires-7 : tie.Need-append-requires-7
+append-requires-7 c κs = search needs
+
+returns : tie.Need-returns
+returns c =
+    let p6 = c .before .before in
+    let p2 = p6 .before .before .before .before in
+    let p1 = p2 .before .before in
+    let s = p1 .before .before in
+    rw (
+      c .append7 .ensures,
+      c .before .cover-bits .ensures,
+      p6 .append6 .ensures,
+      p6 .before .append5 .ensures,
+      p6 .before .before .append4 .ensures,
+      p6 .before .before .before .append3 .ensures,
+      p2 .append2 .ensures,
+      p2 .before .stored2 .ensures,
+      p1 .append .ensures,
+      p1 .before .stored .ensures,
+      toZ-ofZ (s .fits .tile-x),
+      toZ-ofZ (s .fits .tile-y),
+      toZ-ofZ (s .fits .cover),
+    )
+
+pub join-spec : {M : Type 1} → statement M
+join-spec =
+    tie.close
+    (tie.spec
+    stored-requires
+    append-requires
+    stored-requires-2
+    append-requires-2
+    append-requires-3
+    append-requires-4
+    append-requires-5
+    append-requires-6
+    cover-bits-requires
+    append-requires-7
+    returns)

@@ -1,0 +1,66 @@
+-- `order::is_row` meets its contract. Assumes nothing.
+use mathlib.Core.Path.{sym, _∙_}
+use native.Mathlib.Omega.{arith}
+use borrow.Author.Tests.{not-true, not-false}
+use borrow.Author.Needs.{needs}
+use Rattle.pixel_segment.specs.Field.{gpu}
+use Rattle.pixel_segment.proofs.Heights.{gpu-keyed}
+use Rattle.segment_rows.proofs.Rows.{descends, no-words, told-by-ends}
+use Rattle.pixel_segment_gpu.proofs.order.is_row.Statement.{statement}
+use Rattle.pixel_segment_gpu.proofs.order.is_row.Tie as tie
+
+does-ascend-requires : tie.Need-does-ascend-requires
+does-ascend-requires c κs = search needs
+
+returns : tie.Need-returns
+returns c =
+    let s = c .before .before .before .args in
+    descends gpu (s .stored-tile-y) (s .row .now) (sym (c .before .does-ascend .ensures) ∙ not-true _ (c .if1 .taken))
+
+returns-2 : tie.Need-returns-2
+returns-2 c =
+    let s = c .before .before .before .before .args in
+    no-words gpu (s .stored-tile-y) (s .row .now) (c .if2 .taken) (sym (c .before .before .does-ascend .ensures) ∙ not-false _ (c .before .if1 .left))
+
+shared-slice-read-extract : tie.Need-shared-slice-read-extract
+shared-slice-read-extract c = search needs
+
+extract-requires : tie.Need-extract-requires
+extract-requires c κs = search needs
+
+sub-extract : tie.Need-sub-extract
+sub-extract c = search needs
+
+mul-extract : tie.Need-mul-extract
+mul-extract c = search needs
+
+shared-slice-read-extract-2 : tie.Need-shared-slice-read-extract-2
+shared-slice-read-extract-2 c = search needs
+
+extract-requires-2 : tie.Need-extract-requires-2
+extract-requires-2 c κs = search needs
+
+returns-3 : tie.Need-returns-3
+returns-3 c =
+    let at-ascends = c .before .before .before .before .before .before in
+    let s = at-ascends .before .before in
+    rw (c .extract2 .ensures, c .before .before .extract .ensures)
+    (told-by-ends gpu gpu-keyed (s .args .stored-tile-y) (s .args .row .now)
+    (λ i. at-ascends .before .shared-slice-known .given i .fits)
+    (omega arith)
+    (sym (at-ascends .does-ascend .ensures) ∙ not-false _ (c .before .before .before .before .before .if1 .left)))
+
+pub is-row-spec : {M : Type 1} → statement M
+is-row-spec =
+    tie.close
+    (tie.spec
+    does-ascend-requires
+    returns
+    returns-2
+    shared-slice-read-extract
+    extract-requires
+    sub-extract
+    mul-extract
+    shared-slice-read-extract-2
+    extract-requires-2
+    returns-3)

@@ -1,0 +1,44 @@
+-- `parts::of_layer` meets its contract. Assumes nothing.
+use native.Mathlib.Omega.{arith}
+use borrow.Author.Needs.{needs}
+use Rattle.segment_rows.proofs.Halving.{told-le}
+use Rattle.pixel_segment_gpu.proofs.parts.of_layer.Statement.{statement}
+use Rattle.pixel_segment_gpu.proofs.parts.of_layer.Tie as tie
+
+search-last-by-layer-id-at-least-requires : tie.Need-search-last-by-layer-id-at-least-requires
+search-last-by-layer-id-at-least-requires c κs = search needs
+
+end-of-requires : tie.Need-end-of-requires
+end-of-requires c κs = omega (arith, told-le _ _ (c .search-last-by-layer-id-at-least .ensures))
+
+search-last-by-layer-id-requires : tie.Need-search-last-by-layer-id-requires
+search-last-by-layer-id-requires c κs = search needs
+
+end-of-requires-2 : tie.Need-end-of-requires-2
+end-of-requires-2 c κs = omega (arith, told-le _ _ (c .search-last-by-layer-id .ensures))
+
+slice-between-requires : tie.Need-slice-between-requires
+slice-between-requires c κs = omega (arith, c .end-of2 .ensures, told-le _ _ (c .before .search-last-by-layer-id .ensures))
+
+returns : tie.Need-returns
+returns c =
+    let second = c .before in
+    let first = second .before .before in
+    rw (
+      c .slice-between .ensures,
+      second .end-of2 .ensures,
+      second .before .search-last-by-layer-id .ensures,
+      first .end-of .ensures,
+      first .before .search-last-by-layer-id-at-least .ensures,
+    )
+
+pub of-layer-spec : {M : Type 1} → statement M
+of-layer-spec =
+    tie.close
+    (tie.spec
+    search-last-by-layer-id-at-least-requires
+    end-of-requires
+    search-last-by-layer-id-requires
+    end-of-requires-2
+    slice-between-requires
+    returns)

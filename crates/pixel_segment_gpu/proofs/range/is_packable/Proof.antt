@@ -1,0 +1,76 @@
+-- `range::is_packable` meets its contract. Assumes nothing.
+use borrow.Author.Needs.{needs}
+use mir.Syntax.{w64}
+use mir.Facts.{toZ-ofZ}
+use Rattle.laws.proofs.Machine.{kept}
+use Rattle.pixel_segment.specs.Pack.{isPackable}
+use Rattle.pixel_segment_gpu.proofs.range.is_packable.Statement.{statement}
+use Rattle.pixel_segment_gpu.proofs.range.is_packable.Tie as tie
+
+is-held-requires : tie.Need-is-held-requires
+is-held-requires c κs = search needs
+
+is-held-requires-2 : tie.Need-is-held-requires-2
+is-held-requires-2 c κs = search needs
+
+is-held-requires-3 : tie.Need-is-held-requires-3
+is-held-requires-3 c κs = search needs
+
+is-held-requires-4 : tie.Need-is-held-requires-4
+is-held-requires-4 c κs = search needs
+
+is-held-requires-5 : tie.Need-is-held-requires-5
+is-held-requires-5 c κs = search needs
+
+is-held-requires-6 : tie.Need-is-held-requires-6
+is-held-requires-6 c κs = search needs
+
+lowest-cover-requires : tie.Need-lowest-cover-requires
+lowest-cover-requires c κs = search needs
+
+is-held-requires-7 : tie.Need-is-held-requires-7
+is-held-requires-7 c κs = rw (kept w64 (c .lowest-cover .result) (c .lowest-cover .ok), c .lowest-cover .ensures)
+
+returns : tie.Need-returns
+unfolding isPackable
+returns c =
+    let l = c .before in
+    let h6 = l .before in
+    let h5 = h6 .before in
+    let h4 = h5 .before in
+    let h3 = h4 .before in
+    let h2 = h3 .before in
+    let h1 = h2 .before in
+    let s = h1 .before in
+    rw (
+      h1 .is-held .ensures,
+      h2 .is-held2 .ensures,
+      h3 .is-held3 .ensures,
+      h4 .is-held4 .ensures,
+      h5 .is-held5 .ensures,
+      h6 .is-held6 .ensures,
+      c .is-held7 .ensures,
+      kept w64 (l .lowest-cover .result) (l .lowest-cover .ok),
+      l .lowest-cover .ensures,
+      toZ-ofZ (s .fits .layer-id),
+      toZ-ofZ (s .fits .tile-x),
+      toZ-ofZ (s .fits .tile-y),
+      toZ-ofZ (s .fits .local-x),
+      toZ-ofZ (s .fits .local-y),
+      toZ-ofZ (s .fits .double-area-multiplier),
+      toZ-ofZ (s .fits .cover),
+    )
+
+pub is-packable-spec : {M : Type 1} → statement M
+is-packable-spec =
+    tie.close
+    (tie.spec
+    is-held-requires
+    is-held-requires-2
+    is-held-requires-3
+    is-held-requires-4
+    is-held-requires-5
+    is-held-requires-6
+    lowest-cover-requires
+    is-held-requires-7
+    returns)

@@ -1,0 +1,83 @@
+-- `search::search_last_by_key` meets its contract: a case for each key. Assumes nothing.
+use borrow.Author.Needs.{needs}
+use mir.Syntax.{w16}
+use Rattle.laws.proofs.Machine.{kept}
+use Rattle.pixel_segment_gpu.proofs.search.search_last_by_key.Statement.{statement}
+use Rattle.pixel_segment_gpu.proofs.search.search_last_by_key.Tie as tie
+
+enum-known-key : tie.Need-enum-known-key
+enum-known-key c = search needs
+
+search-last-by-tile-y-requires : tie.Need-search-last-by-tile-y-requires
+search-last-by-tile-y-requires c κs = search needs
+
+enum-known-key-2 : tie.Need-enum-known-key-2
+enum-known-key-2 c = search needs
+
+search-last-by-tile-x-requires : tie.Need-search-last-by-tile-x-requires
+search-last-by-tile-x-requires c κs = search needs
+
+enum-known-key-3 : tie.Need-enum-known-key-3
+enum-known-key-3 c = search needs
+
+search-last-by-layer-id-requires : tie.Need-search-last-by-layer-id-requires
+search-last-by-layer-id-requires c κs = search needs
+
+enum-known-key-4 : tie.Need-enum-known-key-4
+enum-known-key-4 c = search needs
+
+search-last-by-tile-x-at-least-requires : tie.Need-search-last-by-tile-x-at-least-requires
+search-last-by-tile-x-at-least-requires c κs = search needs
+
+enum-known-key-5 : tie.Need-enum-known-key-5
+enum-known-key-5 c = search needs
+
+search-last-by-layer-id-at-least-requires : tie.Need-search-last-by-layer-id-at-least-requires
+search-last-by-layer-id-at-least-requires c κs = search needs
+
+enum-known-key-6 : tie.Need-enum-known-key-6
+enum-known-key-6 c = search needs
+
+search-last-by-tile-y-not-negative-requires : tie.Need-search-last-by-tile-y-not-negative-requires
+search-last-by-tile-y-not-negative-requires c κs = search needs
+
+returns : tie.Need-returns
+returns c = rw (c .before .before .key .given .1, c .search-last-by-tile-y .ensures, kept w16 (c .before .before .key .given .0 .0) (c .before .known-told .given .0 .1))
+
+returns-2 : tie.Need-returns-2
+returns-2 c = rw (c .before .before .key2 .given .1, c .search-last-by-tile-x .ensures, kept w16 (c .before .before .key2 .given .0 .0) (c .before .known-told2 .given .0 .1))
+
+returns-3 : tie.Need-returns-3
+returns-3 c = rw (c .before .before .key3 .given .1, c .search-last-by-layer-id .ensures)
+
+returns-4 : tie.Need-returns-4
+returns-4 c = rw (c .before .before .key4 .given .1, c .search-last-by-tile-x-at-least .ensures, kept w16 (c .before .before .key4 .given .0 .0) (c .before .known-told4 .given .0 .1))
+
+returns-5 : tie.Need-returns-5
+returns-5 c = rw (c .before .before .key5 .given .1, c .search-last-by-layer-id-at-least .ensures)
+
+returns-6 : tie.Need-returns-6
+returns-6 c = rw (c .before .before .key6 .given .1, c .search-last-by-tile-y-not-negative .ensures)
+
+pub search-last-by-key-spec : {M : Type 1} → statement M
+search-last-by-key-spec =
+    tie.close
+    (tie.spec
+    enum-known-key
+    search-last-by-tile-y-requires
+    enum-known-key-2
+    search-last-by-tile-x-requires
+    enum-known-key-3
+    search-last-by-layer-id-requires
+    enum-known-key-4
+    search-last-by-tile-x-at-least-requires
+    enum-known-key-5
+    search-last-by-layer-id-at-least-requires
+    enum-known-key-6
+    search-last-by-tile-y-not-negative-requires
+    returns
+    returns-2
+    returns-3
+    returns-4
+    returns-5
+    returns-6)

@@ -1,0 +1,30 @@
+-- `search::search_last_by_layer_id_at_least` meets its contract. Assumes nothing.
+use mathlib.Core.Path.{refl}
+use native.Mathlib.Omega.{arith}
+use borrow.Author.Needs.{needs}
+use Rattle.pixel_segment.specs.Field.{gpu, layerIdOf}
+use Rattle.segment_rows.proofs.Halving.{same-end}
+use Rattle.segment_rows.proofs.Above.{above-test}
+use Rattle.pixel_segment_gpu.proofs.search.search_last_by_layer_id_at_least.Statement.{
+  statement,
+}
+use Rattle.pixel_segment_gpu.proofs.search.search_last_by_layer_id_at_least.Tie as tie
+
+above-start-requires : tie.Need-above-start-requires
+above-start-requires c κs = search needs
+
+halve-by-layer-id-requires : tie.Need-halve-by-layer-id-requires
+halve-by-layer-id-requires c κs = search needs
+
+tell-requires : tie.Need-tell-requires
+tell-requires c κs =
+    let s = c .before .before .before in
+    same-end _ _ _ (c .halve-by-layer-id .ensures)
+    (λ w. rw (c .before .above-start .ensures) (above-test (s .args .wanted) _ (s .args .start) (layerIdOf gpu w) _ (omega arith) refl))
+
+returns : tie.Need-returns
+returns c = search needs
+
+pub search-last-by-layer-id-at-least-spec : {M : Type 1} → statement M
+search-last-by-layer-id-at-least-spec =
+    tie.close (tie.spec above-start-requires halve-by-layer-id-requires tell-requires returns)

@@ -1,0 +1,35 @@
+-- `search::search_last_by_tile_y_not_negative` meets its contract. Assumes nothing.
+use native.Mathlib.Omega.{arith}
+use borrow.Author.Needs.{needs}
+use lib.IntN.{pos}
+use Rattle.pixel_segment.specs.Field.{gpu, tileYOf}
+use Rattle.segment_rows.proofs.Halving.{same-end}
+use Rattle.segment_rows.proofs.Above.{at-least-tile, above-test}
+use Rattle.pixel_segment_gpu.proofs.search.search_last_by_tile_y_not_negative.Statement.{
+  statement,
+}
+use Rattle.pixel_segment_gpu.proofs.search.search_last_by_tile_y_not_negative.Tie as tie
+
+stored-requires : tie.Need-stored-requires
+stored-requires c κs = search needs
+
+above-start-requires : tie.Need-above-start-requires
+above-start-requires c κs = search needs
+
+halve-by-tile-y-requires : tie.Need-halve-by-tile-y-requires
+halve-by-tile-y-requires c κs = search needs
+
+tell-requires : tie.Need-tell-requires
+tell-requires c κs =
+    let s = c .before .before .before .before in
+    same-end _ _ _ (c .halve-by-tile-y .ensures)
+    (λ w.
+    rw (c .before .above-start .ensures, c .before .before .stored .ensures)
+    (above-test (s .args .wanted) _ 1 (tileYOf gpu w) _ (omega arith) (at-least-tile (pos 0) (tileYOf gpu w))))
+
+returns : tie.Need-returns
+returns c = search needs
+
+pub search-last-by-tile-y-not-negative-spec : {M : Type 1} → statement M
+search-last-by-tile-y-not-negative-spec =
+    tie.close (tie.spec stored-requires above-start-requires halve-by-tile-y-requires tell-requires returns)
