@@ -3,4 +3,5 @@ pub mod Words
 pub mod Layers
 pub mod Same
 pub mod Apart
+pub mod Unmoved
 pub mod Example

@@ -1,3 +1,4 @@
 -- Two rows worked beside each other.
 pub mod Apart
+pub mod Unmoved
 pub mod Example
