@@ -40,4 +40,5 @@ pub mod timed_scenes;
 pub mod timed_words;
 pub mod timing;
 pub mod two_calls;
+pub mod two_rows;
 pub mod words;

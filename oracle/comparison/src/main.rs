@@ -8,7 +8,7 @@ use std::{env, process::ExitCode};
 
 use comparison::{
     bench, cached, covers, curve, deciding, jobs, layers, listing, loads, openings, paintings, plates, rows, standing,
-    stored, stored_jobs, succession, tally::Tally, tiles, words,
+    stored, stored_jobs, succession, tally::Tally, tiles, two_rows, words,
 };
 
 fn main() -> ExitCode {
@@ -42,6 +42,7 @@ fn main() -> ExitCode {
     deciding::compare(&mut tally);
     succession::compare(&mut tally);
     standing::compare(&mut tally);
+    two_rows::compare(&mut tally);
     jobs::compare(&mut tally);
     stored_jobs::compare(&mut tally);
     curve::compare(&mut tally);
