@@ -57,7 +57,7 @@ fn gives_one(records: [u32; 60], count: usize, answer: usize, first: u32) -> boo
     (got == answer) & (layers[0] == first)
 }
 
-fn print(name: &[u8], ok: bool) {
+pub fn print(name: &[u8], ok: bool) {
     io::write_all(STDOUT_FILENO, name);
     if ok {
         io::write_all(STDOUT_FILENO, b": yes\n");
