@@ -22,7 +22,7 @@ use Rattle.pass_statements.specs.declared.decide.Bottom.the-variants.{Se
 use Rattle.pass_statements.specs.declared.unchanged.PreviousCount.{PreviousCount}
 use Rattle.pass_statements.specs.Unchanged.{isKept, wereRemoved}
 use Rattle.pass_statements.specs.Clips.{stepOf, unmaskedAfter, clipsFrom, marksOf, Marking}
-use Rattle.pass_statements.specs.Covered.{hides, lookAt, itemAt, coveredFrom, coveredOf}
+use Rattle.pass_statements.specs.Covered.{hides, lookAt, itemAt, coveredFrom, startOf, coveredOf}
 use Rattle.pass_statements.specs.Decide.{shownFrom, shownOf, areSolid, decisionBy, bottomOf, mixedOf, DecidedBy, passedOf, outcomeOf, Deciding}
 use Rattle.pass_statements.specs.Decision.{solid, paint, decisionIn}
 use Rattle.pass_statements.specs.declared.Index.{Index}
@@ -129,10 +129,9 @@ pub decided-passed : {items : List Item} {old : List Bool} (free : List Bool) {c
 decided-passed {items} {old} free {column} {unclipped} {r} clear removed m e =
     let s = marksOf items .unmasked in
     let u = marksOf items .unclipped in
-    let start : Covered = record { first = Absent; unchanged = not removed; skipped = record { 0 = 0 } } in
     let same : coveredOf items column unclipped removed ≡ coveredOf items s u removed =
     ap₂ (λ (a b : List Bool). coveredOf items a b removed) (m .unmasked-is) (m .unclipped-is)
-    ∙ covered-over items s old u free (length items) start (omega (arith, unmasked-long items)) (omega (arith, unclipped-long items)) in
+    ∙ covered-over items s old u free (length items) (startOf items removed) (omega (arith, unmasked-long items)) (omega (arith, unclipped-long items)) in
     let found = coveredOf items s u removed in
     let left : shownOf (found .skipped .0) items column ≡ shownOf (found .skipped .0) items s =
     ap (shownOf (found .skipped .0) items) (m .unmasked-is)

@@ -16,3 +16,4 @@ pub mod Deciding
 pub mod Outcomes
 pub mod Seen
 pub mod Words
+pub mod Repainting

@@ -1,6 +1,6 @@
 -- The list that three lent columns and a table are: its length and its items. Assumes nothing.
 use mathlib.Core.Path.{_≡_, sym, ap, _∙_}
-use mathlib.Core.Bool.{Bool, false}
+use mathlib.Core.Bool.{Bool, false, not}
 use mathlib.Core.List.{List, _∷_}
 use Prim.Native.Nat.{ℕ, suc, _+_, _*_, _≤_, _<_}
 use native.Mathlib.Omega.{arith}
@@ -31,33 +31,33 @@ cover-entry covers i h =
 -- ---- the item of an entry: its layer is found in the table, or missing
 
 module _ (table : List Layer) (e : Entry) where
-  pub item-found : {x : Item} {l l′ : Layer} {cover : List ℤ} → x ≡ itemFor l (record { id = e .id; cover = cover; segments = e .segments }) → l ≡ l′ → cover ≡ e .cover → lookup table (e .id) ≡ given l′ → x ≡ itemOf table e
+  pub item-found : {x : Item} {l l′ : Layer} {cover : List ℤ} → x ≡ itemFor l (record { id = e .id; cover = cover; segments = e .segments; changed = e .changed }) → l ≡ l′ → cover ≡ e .cover → lookup table (e .id) ≡ given l′ → x ≡ itemOf table e
   item-found px pl pc h = rw (h, px, pl, pc)
 
-  pub item-missing : lookup table (e .id) ≡ refused 8 → record { id = e .id; full = false; func = Clip 0; unchanged = false } ≡ itemOf table e
+  pub item-missing : lookup table (e .id) ≡ refused 8 → record { id = e .id; full = false; func = Clip 0; unchanged = not (e .changed) } ≡ itemOf table e
   item-missing h = rw h
 
 -- ---- the items of n entries
 
-module _ (table : List Layer) (n : ℕ) (ids : List ℕ) (covers : List ℤ) (segments : List Bool) where
+module _ (table : List Layer) (n : ℕ) (ids : List ℕ) (covers : List ℤ) (flags : List Bool) where
   -- the item in place i
   abbrev pub itemIn : ℕ → Item
-  itemIn i = itemOf table (entryAt ids covers segments i)
+  itemIn i = itemOf table (entryAt ids covers flags i)
 
-  items-tabulated : itemsOf table (entriesOf n ids covers segments) ≡ tabulate n itemIn
+  items-tabulated : itemsOf table (entriesOf n ids covers flags) ≡ tabulate n itemIn
   unfolding entriesOf
-  items-tabulated = map-tabulate (itemOf table) n (entryAt ids covers segments)
+  items-tabulated = map-tabulate (itemOf table) n (entryAt ids covers flags)
 
-  pub length-items : length (itemsOf table (entriesOf n ids covers segments)) ≡ n
+  pub length-items : length (itemsOf table (entriesOf n ids covers flags)) ≡ n
   length-items = ap length items-tabulated ∙ length-tabulate n itemIn
 
-  pub item-in : (d : Item) (i : ℕ) → i < n → getD (itemsOf table (entriesOf n ids covers segments)) i d ≡ itemIn i
+  pub item-in : (d : Item) (i : ℕ) → i < n → getD (itemsOf table (entriesOf n ids covers flags)) i d ≡ itemIn i
   item-in d i h = ap (λ (xs : List Item). getD xs i d) items-tabulated ∙ getD-tabulate n itemIn d i h
 
   -- an item that was read is the one in its place
-  pub item-read : {x : Item} (i : ℕ) → i < n → x ≡ itemIn i → x ≡ itemAt (itemsOf table (entriesOf n ids covers segments)) i
+  pub item-read : {x : Item} (i : ℕ) → i < n → x ≡ itemIn i → x ≡ itemAt (itemsOf table (entriesOf n ids covers flags)) i
   item-read i h e = e ∙ sym (item-in _ i h)
 
   -- what is left of the list, an item at a time
-  pub drop-items : (i : ℕ) → i < n → drop i (itemsOf table (entriesOf n ids covers segments)) ≡ itemIn i ∷ drop (suc i) (itemsOf table (entriesOf n ids covers segments))
+  pub drop-items : (i : ℕ) → i < n → drop i (itemsOf table (entriesOf n ids covers flags)) ≡ itemIn i ∷ drop (suc i) (itemsOf table (entriesOf n ids covers flags))
   drop-items i h = rw items-tabulated (drop-tabulate n itemIn i h)

@@ -85,11 +85,11 @@ module _ (items : List Item) where
         rw is (passed-over clear (wereRemoved previous (length items)) i (rw is at h)))
         (either (isKept unchanged previous items))
 
--- 'The full-cover pass doesn't look at masked layers when it judges "unchanged"', nor at anything else of theirs: lists that agree where nothing
--- is masked off have one result
+-- 'The full-cover pass doesn't look at masked layers when it judges "unchanged"', nor at anything else of theirs but whether a clip is changed
+-- (W-208): lists that agree where nothing is masked off, and on whether a clip is changed, have one result. proofs/Repainting has what a mark does
 module _ (items items′ : List Item) where
   pub masked-unseen : (unmasked unclipped : List Bool) (removed : Bool) → Alike unmasked items items′ → coveredOf items unmasked unclipped removed ≡ coveredOf items′ unmasked unclipped removed
-  masked-unseen unmasked unclipped removed a = rw (a .same-length) (unseen items items′ unmasked unclipped (a .same-layer) (length items′) _)
+  masked-unseen unmasked unclipped removed a = rw (a .same-length, a .same-clips) (unseen items items′ unmasked unclipped (a .same-layer) (length items′) _)
 
   -- and so, where the second pass marks them alike, one outcome of both passes
   pub masked-passed : (clear : Color) (removed : Bool) → marksOf items ≡ marksOf items′ → Alike (marksOf items .unmasked) items items′ → passedOf clear removed items ≡ passedOf clear removed items′

@@ -1,11 +1,12 @@
 -- The third pass (`skip_fully_covered_layers_pass`), as the Rust goes: from the highest layer that is not masked off down to the first that
 -- hides all below it. It finds the first cover that tells whether the tile can be solid, whether the layers looked at are unchanged, and how
--- many are skipped.
+-- many are skipped. Other than in the Rust, the tile also counts as changed where any listed clip is changed (W-208).
 use mathlib.Core.Bool.{Bool, false, cond, not, _&&_, _||_}
 use mathlib.Core.List.{List}
 use mathlib.Core.Option.{Option, some, none}
 use Prim.Native.Nat.{ℕ, zero, suc}
 use lib.ListN.{length, getD}
+use Rattle.laws.specs.Lists.{all}
 use Rattle.styling.specs.declared.Color.{Color}
 use Rattle.styling.specs.declared.Func.the-variants.{Clip}
 use Rattle.styling.specs.Style.{isClipped, isOpaque, solidColor}
@@ -14,6 +15,7 @@ use Rattle.pass_statements.specs.declared.item.Item.{Item}
 use Rattle.pass_statements.specs.declared.covered.InterestingCover.{InterestingCover}
 use Rattle.pass_statements.specs.declared.covered.InterestingCover.the-variants.{Absent, Opaque, Incomplete}
 use Rattle.pass_statements.specs.declared.covered.Covered.{Covered}
+use Rattle.pass_statements.specs.Clips.{isClip}
 
 -- the first one stands
 abbrev pub firstOf : InterestingCover → InterestingCover → InterestingCover
@@ -65,6 +67,16 @@ coveredFrom items unmasked unclipped (suc i) found =
     let on = coveredFrom items unmasked unclipped i seen in
     cond (getD unmasked i false) (cond (hides x free) seen on) past
 
+-- no listed clip is changed, masked off or not, skipped or not
+abbrev pub isClipUnchanged : Item → Bool
+isClipUnchanged x = not (isClip (x .func)) || x .unchanged
+
+abbrev pub areClipsUnchanged : List Item → Bool
+areClipsUnchanged items = all isClipUnchanged items
+
+-- what is known before the first look
+abbrev pub startOf : List Item → Bool → Covered
+startOf items removed = record { first = Absent; unchanged = not removed && areClipsUnchanged items; skipped = record { 0 = 0 } }
+
 abbrev pub coveredOf : List Item → List Bool → List Bool → Bool → Covered
-coveredOf items unmasked unclipped removed =
-    coveredFrom items unmasked unclipped (length items) (record { first = Absent; unchanged = not removed; skipped = record { 0 = 0 } })
+coveredOf items unmasked unclipped removed = coveredFrom items unmasked unclipped (length items) (startOf items removed)

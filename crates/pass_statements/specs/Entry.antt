@@ -1,5 +1,5 @@
--- An entry of a tile's list: a layer id, the cover that comes in from the left (zeros where none does), and whether the layer has segments in
--- the tile; and a list as it lies in three lent columns.
+-- An entry of a tile's list: a layer id, the cover that comes in from the left (zeros where none does), whether the layer has segments in the
+-- tile, and whether it is changed, as the table said at listing (W-208); and a list as it lies in three lent columns.
 use mathlib.Core.Bool.{Bool, false}
 use mathlib.Core.List.{List}
 use Prim.Native.Nat.{ℕ, _+_, _*_}
@@ -11,14 +11,17 @@ pub record Entry : Type 0 where
   pub id : ℕ
   pub cover : List ℤ
   pub segments : Bool
+  pub changed : Bool
 
 -- the sixteen covers of entry i
 unfoldable pub coverFrom : List ℤ → ℕ → List ℤ
 coverFrom covers i = tabulate 16 (λ y. getD covers (16 * i + y) (pos 0))
 
+-- entry i: the flag at place i says whether it has segments, the flag at place 256 + i whether it is changed
 abbrev pub entryAt : List ℕ → List ℤ → List Bool → ℕ → Entry
-entryAt ids covers segments i = record { id = getD ids i 0; cover = coverFrom covers i; segments = getD segments i false }
+entryAt ids covers flags i =
+    record { id = getD ids i 0; cover = coverFrom covers i; segments = getD flags i false; changed = getD flags (256 + i) false }
 
 -- the first n entries
 unfoldable pub entriesOf : ℕ → List ℕ → List ℤ → List Bool → List Entry
-entriesOf n ids covers segments = tabulate n (entryAt ids covers segments)
+entriesOf n ids covers flags = tabulate n (entryAt ids covers flags)

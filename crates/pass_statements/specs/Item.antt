@@ -1,8 +1,8 @@
 -- What the passes read of a listed layer. A layer is full in a tile where it has no segment there and its incoming cover is full by its rule
--- (`layer_is_full` of the Rust).
+-- (`layer_is_full` of the Rust). It is unchanged where its entry says so: the table's own word plays no part here (W-208).
 use mathlib.Core.Bool.{Bool, false, not, _&&_}
 use mathlib.Core.List.{List, map}
-use Prim.Native.Nat.{ℕ, _*_, _≤_}
+use Prim.Native.Nat.{ℕ, _+_, _*_, _≤_}
 use lib.IntN.{ℤ}
 use lib.ListN.{length}
 use Rattle.laws.specs.Answer.{Answer, refused, given}
@@ -20,12 +20,12 @@ itemFor l e =
       id = e .id;
       full = not (e .segments) && isFull (l .props .«fill_rule») (e .cover);
       func = l .props .func;
-      unchanged = l .«is_unchanged»;
+      unchanged = not (e .changed);
     }
 
 -- the layer of an entry by the table. Refusal 8 keeps out a list with a layer that the table lacks
 abbrev pub itemFrom : Answer Layer → Entry → Item
-itemFrom (refused n) e = record { id = e .id; full = false; func = Clip 0; unchanged = false }
+itemFrom (refused n) e = record { id = e .id; full = false; func = Clip 0; unchanged = not (e .changed) }
 itemFrom (given l) e = itemFor l e
 
 abbrev pub itemOf : List Layer → Entry → Item
@@ -36,8 +36,8 @@ itemsOf table entries = map (itemOf table) entries
 
 -- ---- what functions over the lent columns ask: n entries, and a judged table
 
-pub record EntryColumns (n : ℕ) (ids : List ℕ) (covers : List ℤ) (segments : List Bool) : Type 0 where
+pub record EntryColumns (n : ℕ) (ids : List ℕ) (covers : List ℤ) (flags : List Bool) : Type 0 where
   pub few : n ≤ 256
   pub ids-long : n ≤ length ids
   pub covers-long : 16 * n ≤ length covers
-  pub segments-long : n ≤ length segments
+  pub flags-long : 256 + n ≤ length flags

@@ -9,14 +9,17 @@ use mathlib.Core.List.{List, [], _∷_, map}
 use mathlib.Core.Option.{Option, some, none}
 use Prim.Native.Nat.{ℕ, suc, _+_, _<_}
 use lib.Dec.{ltb, leb, eqb}
-use lib.ListN.{length, getD, drop}
+use lib.ListN.{length, getD, set, drop}
 use Rattle.laws.specs.Lists.{any}
 use Rattle.styling.specs.Ascending.{strictlyAscends}
+use Rattle.styling.specs.declared.Layer.{Layer}
 use Rattle.styling.specs.declared.Func.{Func}
 use Rattle.styling.specs.declared.Func.the-variants.{Draw, Clip}
 use Rattle.styling.specs.Style.{isClipped, isOpaque}
 use Rattle.pass_statements.specs.Clips.{isClip, marksOf}
-use Rattle.pass_statements.specs.Covered.{itemAt}
+use Rattle.pass_statements.specs.Covered.{itemAt, areClipsUnchanged}
+use Rattle.pass_statements.specs.Entry.{Entry}
+use Rattle.pass_statements.specs.Item.{itemsOf}
 use Rattle.pass_statements.specs.declared.item.Item.{Item}
 
 -- the latest listed clip below a layer id
@@ -107,7 +110,24 @@ pub record Over (items : List Item) (unmasked : List Bool) (i p : ℕ) : Type 0 
   pub above : itemAt items i .id < itemAt items p .id
   pub covers : Hides items unmasked p
 
--- two lists of the same length with the same layers in the places that are not masked off
+-- two lists of the same length with the same layers in the places that are not masked off; and a clip is changed in both or in neither (W-208)
 pub record Alike (unmasked : List Bool) (items items′ : List Item) : Type 0 where
   pub same-length : length items ≡ length items′
   pub same-layer : (i : ℕ) → getD unmasked i false ≡ true → itemAt items i ≡ itemAt items′ i
+  pub same-clips : areClipsUnchanged items ≡ areClipsUnchanged items′
+
+-- ---- marks (W-208)
+
+-- a layer that the table says is a clip is listed in place i, and its mark is set
+pub record ChangedClipAt (table : List Layer) (entries : List Entry) (i : ℕ) : Type 0 where
+  pub listed : i < length entries
+  pub clips : isClip (itemAt (itemsOf table entries) i .func) ≡ true
+  pub marked : getD (map (λ e. e .changed) entries) i false ≡ true
+
+-- a layer with another mark
+abbrev pub remarked : Item → Bool → Item
+remarked x changed = record { id = x .id; full = x .full; func = x .func; unchanged = not changed }
+
+-- the list in which the layer in place i has the mark that is given, and all else is the same
+abbrev pub withMark : List Item → ℕ → Bool → List Item
+withMark items i changed = set items i (remarked (itemAt items i) changed)

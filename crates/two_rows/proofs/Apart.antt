@@ -45,7 +45,7 @@ made-right all (MadeCall.later m) = made-right (all .1) m
 module _ (o : OpenRow) where
   -- what an accepted work or listing answers and leaves, read back, is the row's
   pub record IsRows (n : ℕ) (t : TileResult) : Type 0 where
-    pub entries : t .entries ≡ map entryOf (layersOn o n)
+    pub entries : t .entries ≡ map (entryOf (tableOn o)) (layersOn o n)
     pub carries : t .carries ≡ queueOn o (suc n)
 
   work-read : {p : Past} {c : WorkChoice} {r : TileWorked} {back : WorkLent} {t : TileAnswer} → RightWork o p c r back → workAnswer (r .answer) ≡ given t
@@ -68,7 +68,7 @@ module _ (o : OpenRow) where
   unfolding listingOut
   list-read {p} {c} {r} {back} {n} right a = by (listDueVerdict o (p .tiles) c) refl (sym a ∙ right .gives .answer) (right .gives .state)
     where
-      by : (v : Judgement) → listDueVerdict o (p .tiles) c ≡ v → given n ≡ listingOut v (layersOn o (p .tiles)) (queueOn o (suc (p .tiles))) (stateOn o p) (c .lent) .answer → stateIn (r .state) ≡ listingOut v (layersOn o (p .tiles)) (queueOn o (suc (p .tiles))) (stateOn o p) (c .lent) .state
+      by : (v : Judgement) → listDueVerdict o (p .tiles) c ≡ v → given n ≡ listingOut v (tableOn o) (layersOn o (p .tiles)) (queueOn o (suc (p .tiles))) (stateOn o p) (c .lent) .answer → stateIn (r .state) ≡ listingOut v (tableOn o) (layersOn o (p .tiles)) (queueOn o (suc (p .tiles))) (stateOn o p) (c .lent) .state
           → IsRows (p .tiles) (record { entries = entriesFrom n (back .list); carries = carriesIn (stateIn (r .state) .left) (back .queue) })
       by (refuse m) e g s = absurd (let z : _≡_ {A = ℕ} 0 1 = cc in omega arith)
       by pass e g s =
@@ -102,7 +102,7 @@ module _ {o o′ : OpenRow} (i : IsOpen o) (i′ : IsOpen o′) {id : ℕ} (agre
       let now = same-layer i i′ agree n in
       let next = same-layer i i′ agree (suc n) in
       record {
-        presence = ap (λ (l : List Entry). presenceIn l id) (w .entries) ∙ now .presence ∙ ap (λ (m : ℕ). presenceIn (map entryOf (layersOn o′ m)) id) e ∙ sym (ap (λ (l : List Entry). presenceIn l id) (w′ .entries));
+        presence = ap (λ (l : List Entry). presenceIn l id) (w .entries) ∙ now .presence ∙ ap (λ (m : ℕ). presenceIn (map (entryOf (tableOn o′)) (layersOn o′ m)) id) e ∙ sym (ap (λ (l : List Entry). presenceIn l id) (w′ .entries));
         carry = ap (λ (q : List Carry). carryIn q id) (w .carries) ∙ next .carry ∙ ap (λ (m : ℕ). carryIn (queueOn o′ (suc m)) id) e ∙ sym (ap (λ (q : List Carry). carryIn q id) (w′ .carries));
       }
 

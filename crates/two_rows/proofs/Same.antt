@@ -159,9 +159,9 @@ module _ {o : OpenRow} (is-open : IsOpen o) (id : ℕ) where
       ∙ handed-has (tableOn o) 0 (layersOn o n) id (layers-ascend (is-open .in-order) (tableOn o) (o .from) n)
       ∙ rw (listed-is n, cover-is n, own-is n)
 
-  presence-is : (n : ℕ) → presenceIn (map entryOf (layersOn o n)) id ≡ cond (hasCarry (queueOn o n) id || hasAny (part n)) (some (record { cover = heldIn (queueOn o n) id; segments = hasAny (part n) })) none
+  presence-is : (n : ℕ) → presenceIn (map (entryOf (tableOn o)) (layersOn o n)) id ≡ cond (hasCarry (queueOn o n) id || hasAny (part n)) (some (record { cover = heldIn (queueOn o n) id; segments = hasAny (part n) })) none
   presence-is n =
-      presence-in 0 (layersOn o n) id (layers-ascend (is-open .in-order) (tableOn o) (o .from) n)
+      presence-in (tableOn o) 0 (layersOn o n) id (layers-ascend (is-open .in-order) (tableOn o) (o .from) n)
       ∙ rw (listed-is n, cover-is n, own-is n)
 
 -- ---- both

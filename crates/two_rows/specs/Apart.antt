@@ -51,7 +51,7 @@ pub record AgreeOn (id : ℕ) (o o′ : OpenRow) : Type 0 where
 
 -- ---- what a list and a queue say of a layer: nothing, or what is compared of it
 
--- of a list's entry: the incoming cover, and whether the layer has segments in the tile
+-- of a list's entry: the incoming cover, and whether the layer has segments in the tile. Whether it is changed is its own table's word
 pub record Presence : Type 0 where
   pub cover : List ℤ
   pub segments : Bool
@@ -67,7 +67,7 @@ carryIn (c ∷ q) id = cond (eqb (c .id) id) (some c) (carryIn q id)
 -- ---- tile from + n: the layer's carry before it, its entry in the list, its coverages
 pub record SameLayer (id : ℕ) (o o′ : OpenRow) (n : ℕ) : Type 0 where
   pub carry : carryIn (queueOn o n) id ≡ carryIn (queueOn o′ n) id
-  pub presence : presenceIn (map entryOf (layersOn o n)) id ≡ presenceIn (map entryOf (layersOn o′ n)) id
+  pub presence : presenceIn (map (entryOf (tableOn o)) (layersOn o n)) id ≡ presenceIn (map (entryOf (tableOn o′)) (layersOn o′ n)) id
   pub plane : planeOn o n id ≡ planeOn o′ n id
 
 -- ---- along two runs of listings, decidings, works and paintings
