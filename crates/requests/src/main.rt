@@ -4,6 +4,7 @@ mod planes;
 mod backwards;
 mod bounds;
 mod four_high;
+mod languages;
 mod standing;
 
 fn main() {
@@ -13,4 +14,5 @@ fn main() {
     backwards::print_cases();
     bounds::print_cases();
     four_high::print_cases();
+    languages::print_cases();
 }

@@ -22,31 +22,39 @@ use Rattle.row_statements.specs.State.{State, stateIn}
 use Rattle.row_statements.specs.TileWork.{WorkLent, TileAnswer, tileAnswer, workOut, workAnswer}
 use Rattle.row_statements.specs.Painting.{paintOut, paintAnswer}
 use Rattle.row_statements.specs.Due.{OpenRow, Past, atFirst, WorkChoice, PaintChoice, tableOn, queueOn, layersOn, planeOn, stateOn, saysOn, paintOn, workDueVerdict, paintDueVerdict}
-use Rattle.row_statements.specs.Run.{openRow, Held, heldFirst, Event, Run}
-use Rattle.row_statements.specs.Claim.{Right, RightWork, RightPaint, pastAfter, AllRight}
+use Rattle.row_statements.specs.Run.{openRow, Held, heldFirst, Event}
+use Rattle.row_statements.specs.Claim.{RightWork, RightPaint}
 use Rattle.row_statements.specs.InnerHolding.{IsOpen, Holds}
 use Rattle.row_statements.specs.declared.TileWorked.{TileWorked}
 use Rattle.row_statements.specs.declared.Painted.{Painted}
-use Rattle.row_statements.proofs.Run.{accepted, is-open, held-first, run}
-use Rattle.two_rows.specs.Apart.{AgreeOn, entryIn, carryIn, MadeCall, SameWork, Apart, LayersApart}
+use Rattle.row_statements.proofs.Run.{accepted, is-open, held-first}
+use Rattle.listing_statements.specs.Listing.{ListLent, entriesFrom, listAnswer, listingOut}
+use Rattle.listing_statements.specs.declared.TileListed.{TileListed}
+use Rattle.listing_runs.specs.Due.{ListChoice, listDueVerdict}
+use Rattle.listing_runs.specs.Run.{Call}
+use Rattle.listing_runs.specs.Claim.{RightListing, RightCall, AllRight}
+use Rattle.listing_runs.proofs.Run.{run}
+use Rattle.two_rows.specs.Apart.{AgreeOn, presenceIn, carryIn, MadeCall, TileResult, ResultOf, SameTile, Apart, LayersApart}
 use Rattle.two_rows.proofs.Same.{same-layer}
 
 -- every call of a run is right
-made-right : {o : OpenRow} {p q : Past} {es : List Event} {e : Event} → AllRight o p es → MadeCall o p es q e → Right o q e
+made-right : {o : OpenRow} {p q : Past} {es : List Call} {e : Call} → AllRight o p es → MadeCall o p es q e → RightCall o q e
 made-right all MadeCall.here = all .0
 made-right all (MadeCall.later m) = made-right (all .1) m
 
 module _ (o : OpenRow) where
-  -- what an accepted work answers and leaves, read back, is the row's
-  pub record WorkRead (n : ℕ) (t : TileAnswer) (s : State) (back : WorkLent) : Type 0 where
-    pub entries : entriesIn (t .listed) (back .list) ≡ map (entryOf (tableOn o)) (layersOn o n)
-    pub carries : carriesIn (s .left) (back .queue) ≡ queueOn o (suc n)
+  -- what an accepted work or listing answers and leaves, read back, is the row's
+  pub record IsRows (n : ℕ) (t : TileResult) : Type 0 where
+    pub entries : t .entries ≡ map (entryOf (tableOn o)) (layersOn o n)
+    pub carries : t .carries ≡ queueOn o (suc n)
 
-  work-read : {p : Past} {c : WorkChoice} {r : TileWorked} {back : WorkLent} {t : TileAnswer} → RightWork o p c r back → workAnswer (r .answer) ≡ given t → WorkRead (p .tiles) t (stateIn (r .state)) back
+  work-read : {p : Past} {c : WorkChoice} {r : TileWorked} {back : WorkLent} {t : TileAnswer} → RightWork o p c r back → workAnswer (r .answer) ≡ given t
+      → IsRows (p .tiles) (record { entries = entriesIn (t .listed) (back .list); carries = carriesIn (stateIn (r .state) .left) (back .queue) })
   unfolding workOut
   work-read {p} {c} {r} {back} {t} right a = by (workDueVerdict o (p .tiles) c) refl (sym a ∙ right .gives .answer) (right .gives .state)
     where
-      by : (v : Judgement) → workDueVerdict o (p .tiles) c ≡ v → given t ≡ workOut v (saysOn o (p .tiles) c) (stateOn o p) (c .kept) (c .lent) .answer → stateIn (r .state) ≡ workOut v (saysOn o (p .tiles) c) (stateOn o p) (c .kept) (c .lent) .state → WorkRead (p .tiles) t (stateIn (r .state)) back
+      by : (v : Judgement) → workDueVerdict o (p .tiles) c ≡ v → given t ≡ workOut v (saysOn o (p .tiles) c) (stateOn o p) (c .kept) (c .lent) .answer → stateIn (r .state) ≡ workOut v (saysOn o (p .tiles) c) (stateOn o p) (c .kept) (c .lent) .state
+          → IsRows (p .tiles) (record { entries = entriesIn (t .listed) (back .list); carries = carriesIn (stateIn (r .state) .left) (back .queue) })
       by (refuse m) e g s = absurd (let z : _≡_ {A = ℕ} 0 1 = cc in omega arith)
       by pass e g s =
           let told : t ≡ tileAnswer (saysOn o (p .tiles) c) = cc in
@@ -54,6 +62,25 @@ module _ (o : OpenRow) where
             entries = ap (λ (x : TileAnswer). entriesIn (x .listed) (back .list)) told ∙ right .list-read e;
             carries = ap (λ (x : State). carriesIn (x .left) (back .queue)) s ∙ right .queue-read e;
           }
+
+  list-read : {p : Past} {c : ListChoice} {r : TileListed} {back : ListLent} {n : ℕ} → RightListing o p c r back → listAnswer (r .answer) ≡ given n
+      → IsRows (p .tiles) (record { entries = entriesFrom n (back .list); carries = carriesIn (stateIn (r .state) .left) (back .queue) })
+  unfolding listingOut
+  list-read {p} {c} {r} {back} {n} right a = by (listDueVerdict o (p .tiles) c) refl (sym a ∙ right .gives .answer) (right .gives .state)
+    where
+      by : (v : Judgement) → listDueVerdict o (p .tiles) c ≡ v → given n ≡ listingOut v (tableOn o) (layersOn o (p .tiles)) (queueOn o (suc (p .tiles))) (stateOn o p) (c .lent) .answer → stateIn (r .state) ≡ listingOut v (tableOn o) (layersOn o (p .tiles)) (queueOn o (suc (p .tiles))) (stateOn o p) (c .lent) .state
+          → IsRows (p .tiles) (record { entries = entriesFrom n (back .list); carries = carriesIn (stateIn (r .state) .left) (back .queue) })
+      by (refuse m) e g s = absurd (let z : _≡_ {A = ℕ} 0 1 = cc in omega arith)
+      by pass e g s =
+          let many : n ≡ length (layersOn o (p .tiles)) = cc in
+          record {
+            entries = ap (λ (m : ℕ). entriesFrom m (back .list)) many ∙ right .list-read e;
+            carries = ap (λ (x : State). carriesIn (x .left) (back .queue)) s ∙ right .queue-read e;
+          }
+
+  result-read : (p : Past) {e : Call} {t : TileResult} → RightCall o p e → ResultOf e t → IsRows (p .tiles) t
+  result-read p right (ResultOf.work a) = work-read right a
+  result-read p right (ResultOf.list a) = list-read right a
 
   -- and an accepted painting leaves the layer's coverages
   pub plane-long : (n id : ℕ) → length (planeOn o n id) ≡ 256
@@ -70,18 +97,18 @@ module _ (o : OpenRow) where
 -- ---- both runs
 
 module _ {o o′ : OpenRow} (i : IsOpen o) (i′ : IsOpen o′) {id : ℕ} (agree : AgreeOn id o o′) where
-  work-same : {n n′ : ℕ} {t t′ : TileAnswer} {s s′ : State} {back back′ : WorkLent} → n ≡ n′ → WorkRead o n t s back → WorkRead o′ n′ t′ s′ back′ → SameWork id t t′ s s′ back back′
-  work-same {n} {n′} {t} {t′} {s} {s′} {back} {back′} e w w′ =
+  tile-same : {n n′ : ℕ} {t t′ : TileResult} → n ≡ n′ → IsRows o n t → IsRows o′ n′ t′ → SameTile id t t′
+  tile-same {n} {n′} {t} {t′} e w w′ =
       let now = same-layer i i′ agree n in
       let next = same-layer i i′ agree (suc n) in
       record {
-        entry = ap (λ (l : List Entry). entryIn l id) (w .entries) ∙ now .entry ∙ ap (λ (m : ℕ). entryIn (map (entryOf (tableOn o′)) (layersOn o′ m)) id) e ∙ sym (ap (λ (l : List Entry). entryIn l id) (w′ .entries));
+        presence = ap (λ (l : List Entry). presenceIn l id) (w .entries) ∙ now .presence ∙ ap (λ (m : ℕ). presenceIn (map (entryOf (tableOn o′)) (layersOn o′ m)) id) e ∙ sym (ap (λ (l : List Entry). presenceIn l id) (w′ .entries));
         carry = ap (λ (q : List Carry). carryIn q id) (w .carries) ∙ next .carry ∙ ap (λ (m : ℕ). carryIn (queueOn o′ (suc m)) id) e ∙ sym (ap (λ (q : List Carry). carryIn q id) (w′ .carries));
       }
 
-  module _ {es es′ : List Event} (all : AllRight o atFirst es) (all′ : AllRight o′ atFirst es′) where
+  module _ {es es′ : List Call} (all : AllRight o atFirst es) (all′ : AllRight o′ atFirst es′) where
     paint-same : {p p′ : Past} {c c′ : PaintChoice} {r r′ : Painted} {back back′ : List Float} {mark mark′ : ℕ}
-        → MadeCall o atFirst es p (Event.paint c r back) → MadeCall o′ atFirst es′ p′ (Event.paint c′ r′ back′) → p .tiles ≡ p′ .tiles → c .layer ≡ id → c′ .layer ≡ id
+        → MadeCall o atFirst es p (Call.row (Event.paint c r back)) → MadeCall o′ atFirst es′ p′ (Call.row (Event.paint c′ r′ back′)) → p .tiles ≡ p′ .tiles → c .layer ≡ id → c′ .layer ≡ id
         → paintAnswer (r .answer) ≡ given mark → paintAnswer (r′ .answer) ≡ given mark′ → take 256 back ≡ take 256 back′
     paint-same {p} {p′} {c} {c′} {r} {r′} {back} {back′} m m′ e l l′ a a′ =
         paint-read o p c (made-right all m) a
@@ -108,6 +135,6 @@ layers-apart id c c′ lent lent′ back back′ s s′ es es′ h h′ w w′ g
     let all′ = run c′ lent′ back′ s′ es′ h′ w′ g′ r′ .1 in
     record {
       opening = opening-same i i′ agree (held-first c lent back s w a) (held-first c′ lent′ back′ s′ w′ a′);
-      work = λ m m′ e given-by given-by′. work-same i i′ agree e (work-read (openRow c) (made-right all m) given-by) (work-read (openRow c′) (made-right all′ m′) given-by′);
+      tile = λ {p} {p′} m m′ e t t′. tile-same i i′ agree e (result-read (openRow c) p (made-right all m) t) (result-read (openRow c′) p′ (made-right all′ m′) t′);
       paint = paint-same i i′ agree all all′;
     }

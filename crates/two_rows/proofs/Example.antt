@@ -44,6 +44,7 @@ unfolding coverOf doubleAreaOf tileOf halved searchOf leftPart tilePart layerPar
 differing =
     record {
       agree = record { first = refl; segments = λ v. refl; rule = refl };
+      changed = (refl, refl);
       masks = (refl, refl);
       skips = (refl, refl);
       decisions = (refl, refl);

@@ -3,6 +3,7 @@ pub mod Words
 pub mod Layers
 pub mod Same
 pub mod Apart
+pub mod Unmoved
 pub mod Example
 pub mod Turned
 pub mod Backwards

@@ -23,12 +23,16 @@ use Rattle.row_statements.specs.Opening.{OpenCall, openOf, OpensRow}
 use Rattle.row_statements.specs.TileWork.{WorkLent, TileAnswer, workAnswer}
 use Rattle.row_statements.specs.Painting.{paintAnswer}
 use Rattle.row_statements.specs.Due.{OpenRow, Past, atFirst, WorkChoice, PaintChoice, tableOn, queueOn, layersOn, planeOn}
-use Rattle.row_statements.specs.Run.{openRow, Held, heldFirst, Event, Run}
-use Rattle.row_statements.specs.Claim.{pastAfter}
+use Rattle.row_statements.specs.Run.{openRow, heldFirst, Event}
 use Rattle.row_statements.specs.declared.RowState.{RowState}
 use Rattle.row_statements.specs.declared.Opened.the-variants as opened
 use Rattle.row_statements.specs.declared.TileWorked.{TileWorked}
 use Rattle.row_statements.specs.declared.Painted.{Painted}
+use Rattle.listing_statements.specs.Listing.{ListLent, entriesFrom, listAnswer}
+use Rattle.listing_statements.specs.declared.TileListed.{TileListed}
+use Rattle.listing_runs.specs.Due.{ListChoice}
+use Rattle.listing_runs.specs.Run.{HeldAll, heldWith, Call, Calls}
+use Rattle.listing_runs.specs.Claim.{pastCall}
 
 -- a word without its tile y: the two rows may be different tile rows
 abbrev pub belowTileY : ℕ → ℕ
@@ -45,19 +49,16 @@ pub record AgreeOn (id : ℕ) (o o′ : OpenRow) : Type 0 where
   pub segments : (v : ℕ) → countBy (eqb v) (layerSegments id (o .row)) ≡ countBy (eqb v) (layerSegments id (o′ .row))
   pub rule : ruleIn (tableOn o) id ≡ ruleIn (tableOn o′) id
 
--- ---- what a list and a queue say of a layer: nothing, or its entry. Whether the layer is changed is its own table's word, and no part of it
+-- ---- what a list and a queue say of a layer: nothing, or what is compared of it
 
+-- of a list's entry: the incoming cover, and whether the layer has segments in the tile. Whether it is changed is its own table's word
 pub record Presence : Type 0 where
-  pub id : ℕ
   pub cover : List ℤ
   pub segments : Bool
 
-abbrev pub presenceOf : Entry → Presence
-presenceOf e = record { id = e .id; cover = e .cover; segments = e .segments }
-
-unfoldable pub entryIn : List Entry → ℕ → Option Presence
-entryIn [] id = none
-entryIn (e ∷ es) id = cond (eqb (e .id) id) (some (presenceOf e)) (entryIn es id)
+unfoldable pub presenceIn : List Entry → ℕ → Option Presence
+presenceIn [] id = none
+presenceIn (e ∷ es) id = cond (eqb (e .id) id) (some (record { cover = e .cover; segments = e .segments })) (presenceIn es id)
 
 unfoldable pub carryIn : List Carry → ℕ → Option Carry
 carryIn [] id = none
@@ -66,35 +67,50 @@ carryIn (c ∷ q) id = cond (eqb (c .id) id) (some c) (carryIn q id)
 -- ---- tile from + n: the layer's carry before it, its entry in the list, its coverages
 pub record SameLayer (id : ℕ) (o o′ : OpenRow) (n : ℕ) : Type 0 where
   pub carry : carryIn (queueOn o n) id ≡ carryIn (queueOn o′ n) id
-  pub entry : entryIn (map (entryOf (tableOn o)) (layersOn o n)) id ≡ entryIn (map (entryOf (tableOn o′)) (layersOn o′ n)) id
+  pub presence : presenceIn (map (entryOf (tableOn o)) (layersOn o n)) id ≡ presenceIn (map (entryOf (tableOn o′)) (layersOn o′ n)) id
   pub plane : planeOn o n id ≡ planeOn o′ n id
 
--- ---- along two runs
+-- ---- along two runs of listings, decidings, works and paintings
 
 -- a call of a run, with what the calls before it tell
-pub data MadeCall (o : OpenRow) : Past → List Event → Past → Event → Type 0 where
-  here : {p : Past} {e : Event} {es : List Event} → MadeCall o p (e ∷ es) p e
-  later : {p q : Past} {e f : Event} {es : List Event} → MadeCall o (pastAfter o e p) es q f → MadeCall o p (e ∷ es) q f
+pub data MadeCall (o : OpenRow) : Past → List Call → Past → Call → Type 0 where
+  here : {p : Past} {e : Call} {es : List Call} → MadeCall o p (e ∷ es) p e
+  later : {p q : Past} {e f : Call} {es : List Call} → MadeCall o (pastCall o e p) es q f → MadeCall o p (e ∷ es) q f
 
--- what two accepted works of one tile say of the layer, read back from what they answered and left: its entry in the list, and the carry handed on
-pub record SameWork (id : ℕ) (t t′ : TileAnswer) (s s′ : State) (back back′ : WorkLent) : Type 0 where
-  pub entry : entryIn (entriesIn (t .listed) (back .list)) id ≡ entryIn (entriesIn (t′ .listed) (back′ .list)) id
-  pub carry : carryIn (carriesIn (s .left) (back .queue)) id ≡ carryIn (carriesIn (s′ .left) (back′ .queue)) id
+-- a tile's list and the carries past it, read back from what an accepted work or an accepted listing answered and left
+pub record TileResult : Type 0 where
+  pub entries : List Entry
+  pub carries : List Carry
 
--- of two runs after accepted openings: the carry that each opens with; every tile that both work; and the 256 coverages of the layer wherever both
--- paint it. Only the calls that are compared need be accepted
-pub record Apart (id : ℕ) (o o′ : OpenRow) (s s′ : State) (opened opened′ : Columns) (es es′ : List Event) : Type 0 where
-  pub opening : carryIn (carriesIn (s .left) opened) id ≡ carryIn (carriesIn (s′ .left) opened′) id
-  pub work : {p p′ : Past} {c c′ : WorkChoice} {r r′ : TileWorked} {back back′ : WorkLent} {t t′ : TileAnswer} →
-      MadeCall o atFirst es p (Event.work c r back) →
-      MadeCall o′ atFirst es′ p′ (Event.work c′ r′ back′) →
-      p .tiles ≡ p′ .tiles →
+pub data ResultOf : Call → TileResult → Type 0 where
+  work : {c : WorkChoice} {r : TileWorked} {back : WorkLent} {t : TileAnswer} →
       workAnswer (r .answer) ≡ given t →
-      workAnswer (r′ .answer) ≡ given t′ →
-      SameWork id t t′ (stateIn (r .state)) (stateIn (r′ .state)) back back′
+      ResultOf (Call.row (Event.work c r back))
+      (record { entries = entriesIn (t .listed) (back .list); carries = carriesIn (stateIn (r .state) .left) (back .queue) })
+  list : {c : ListChoice} {r : TileListed} {back : ListLent} {n : ℕ} →
+      listAnswer (r .answer) ≡ given n →
+      ResultOf (Call.list c r back)
+      (record { entries = entriesFrom n (back .list); carries = carriesIn (stateIn (r .state) .left) (back .queue) })
+
+-- what two of them say of the layer: whether and how it is listed, and the carry handed on
+pub record SameTile (id : ℕ) (t t′ : TileResult) : Type 0 where
+  pub presence : presenceIn (t .entries) id ≡ presenceIn (t′ .entries) id
+  pub carry : carryIn (t .carries) id ≡ carryIn (t′ .carries) id
+
+-- of two runs after accepted openings: the carry that each opens with; every tile that both work or list; and the 256 coverages of the layer wherever
+-- both paint it. Only the calls that are compared need be accepted
+pub record Apart (id : ℕ) (o o′ : OpenRow) (s s′ : State) (opened opened′ : Columns) (es es′ : List Call) : Type 0 where
+  pub opening : carryIn (carriesIn (s .left) opened) id ≡ carryIn (carriesIn (s′ .left) opened′) id
+  pub tile : {p p′ : Past} {e e′ : Call} {t t′ : TileResult} →
+      MadeCall o atFirst es p e →
+      MadeCall o′ atFirst es′ p′ e′ →
+      p .tiles ≡ p′ .tiles →
+      ResultOf e t →
+      ResultOf e′ t′ →
+      SameTile id t t′
   pub paint : {p p′ : Past} {c c′ : PaintChoice} {r r′ : Painted} {back back′ : List Float} {mark mark′ : ℕ} →
-      MadeCall o atFirst es p (Event.paint c r back) →
-      MadeCall o′ atFirst es′ p′ (Event.paint c′ r′ back′) →
+      MadeCall o atFirst es p (Call.row (Event.paint c r back)) →
+      MadeCall o′ atFirst es′ p′ (Call.row (Event.paint c′ r′ back′)) →
       p .tiles ≡ p′ .tiles →
       c .layer ≡ id →
       c′ .layer ≡ id →
@@ -105,12 +121,12 @@ pub record Apart (id : ℕ) (o o′ : OpenRow) (s s′ : State) (opened opened�
 -- the claim: whatever else differs
 abbrev pub LayersApart : Type 0
 LayersApart =
-    (id : ℕ) (c c′ : OpenCall) (lent lent′ back back′ : Columns) (s s′ : RowState) (es es′ : List Event) (h h′ : Held) →
+    (id : ℕ) (c c′ : OpenCall) (lent lent′ back back′ : Columns) (s s′ : RowState) (es es′ : List Call) (h h′ : HeldAll) →
     Words (c .row) →
     Words (c′ .row) →
     OpensRow (openOf c lent) (opened.Row s) back →
     OpensRow (openOf c′ lent′) (opened.Row s′) back′ →
     AgreeOn id (openRow c) (openRow c′) →
-    Run (openRow c) (heldFirst s back) es h →
-    Run (openRow c′) (heldFirst s′ back′) es′ h′ →
+    Calls (openRow c) (heldWith (heldFirst s back) []) es h →
+    Calls (openRow c′) (heldWith (heldFirst s′ back′) []) es′ h′ →
     Apart id (openRow c) (openRow c′) (stateIn s) (stateIn s′) back back′ es es′

@@ -1,8 +1,8 @@
--- Two rows that agree on layer 5, a clipped draw, and differ in what rests on other layers: which layers are masked off, how many are skipped, the
--- decision, and the layer's mark. In the first it stands alone; in the second a clip lies below it and an opaque draw over it. proofs/Example has it.
+-- Two rows that agree on layer 5, a clipped draw, and differ in its table's word and in what rests on other layers: whether it is changed, which layers
+-- are masked off, how many are skipped, the decision, and the layer's mark. In the first it stands alone; in the second a clip lies below it and an opaque draw over it. proofs/Example has it.
 use mathlib.Core.Path.{_≡_}
-use mathlib.Core.Bool.{true, false}
-use mathlib.Core.List.{List, [], _∷_, _++_}
+use mathlib.Core.Bool.{Bool, true, false}
+use mathlib.Core.List.{List, [], _∷_, _++_, map}
 use mathlib.Core.Option.{some, none}
 use Prim.Native.Nat.{ℕ}
 use lib.Ieee.{Float, binary32, ofBits}
@@ -15,9 +15,10 @@ use Rattle.styling.specs.declared.Color.{Color}
 use Rattle.cached_tile.specs.Kept.{noTile}
 use Rattle.pass_statements.specs.Decide.{Outcome}
 use Rattle.pass_statements.specs.Decision.{solid}
+use Rattle.layer_workbench.specs.Work.{entryOf}
 use Rattle.layer_workbench.specs.declared.PreviousClear.the-variants.{Absent}
 use Rattle.row_statements.specs.Lent.{LentTable}
-use Rattle.row_statements.specs.Due.{OpenRow, outcomeOn, markOn}
+use Rattle.row_statements.specs.Due.{OpenRow, tableOn, layersOn, outcomeOn, markOn}
 use Rattle.two_rows.specs.Apart.{AgreeOn}
 
 -- a layer's segments in tile -1: cover 16 in each of the pixel rows below n
@@ -30,12 +31,12 @@ red = record { r = ofBits binary32 0x3F800000; g = ofBits binary32 0; b = ofBits
 abbrev clear : Color
 clear = record { r = ofBits binary32 0; g = ofBits binary32 0; b = ofBits binary32 0; a = ofBits binary32 0 }
 
--- the records of a clip of span 9, a clipped draw and an opaque one
+-- the records of a clip of span 9, a clipped draw, changed or not, and an opaque one
 abbrev clip : ℕ → List ℕ
 clip id = id ∷ 0 ∷ 1 ∷ 9 ∷ 0 ∷ 0 ∷ 0 ∷ 0 ∷ []
 
-abbrev clipped : ℕ → List ℕ
-clipped id = id ∷ 0 ∷ 0 ∷ 0 ∷ 1 ∷ 0 ∷ 0 ∷ 0 ∷ []
+abbrev clipped : ℕ → ℕ → List ℕ
+clipped id unchanged = id ∷ 0 ∷ 0 ∷ 0 ∷ 1 ∷ 0 ∷ 0 ∷ unchanged ∷ []
 
 abbrev opaque : ℕ → List ℕ
 opaque id = id ∷ 0 ∷ 0 ∷ 0 ∷ 0 ∷ 0 ∷ 0 ∷ 0 ∷ []
@@ -44,7 +45,7 @@ abbrev reds : ℕ → List Float
 reds n = replicate n (ofBits binary32 0x3F800000)
 
 abbrev pub alone : OpenRow
-alone = record { tileY = 0; from = 0; to = 1; row = segments 5 16; table = record { words = clipped 5; floats = reds 4; count = 1 } }
+alone = record { tileY = 0; from = 0; to = 1; row = segments 5 16; table = record { words = clipped 5 0; floats = reds 4; count = 1 } }
 
 abbrev pub among : OpenRow
 among =
@@ -53,14 +54,19 @@ among =
       from = 0;
       to = 1;
       row = segments 3 1 ++ (segments 5 16 ++ segments 7 16);
-      table = record { words = clip 3 ++ (clipped 5 ++ opaque 7); floats = reds 12; count = 3 };
+      table = record { words = clip 3 ++ (clipped 5 1 ++ opaque 7); floats = reds 12; count = 3 };
     }
+
+-- which listed layers of the tile are changed
+abbrev changes : OpenRow → List Bool
+changes o = map (λ e. e .changed) (map (entryOf (tableOn o)) (layersOn o 0))
 
 abbrev decided : OpenRow → Outcome
 decided o = outcomeOn o 0 noTile clear Absent
 
 pub record Differing : Type 0 where
   pub agree : AgreeOn 5 alone among
+  pub changed : (changes alone ≡ true ∷ []) × (changes among ≡ true ∷ false ∷ true ∷ [])
   pub masks : (decided alone .unmasked ≡ false ∷ []) × (decided among .unmasked ≡ true ∷ true ∷ true ∷ [])
   pub skips : (decided alone .skipped ≡ 0) × (decided among .skipped ≡ 2)
   pub decisions : (decided alone .decision ≡ solid clear 0) × (decided among .decision ≡ solid (record { r = ofBits binary32 0x3F800000; g = ofBits binary32 0x3F800000; b = ofBits binary32 0x3F800000; a = ofBits binary32 0x3F800000 }) 1)

@@ -1,5 +1,6 @@
 -- Two rows worked beside each other.
 pub mod Apart
+pub mod Unmoved
 pub mod Example
 pub mod SameCalls
 pub mod Backwards

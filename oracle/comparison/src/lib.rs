@@ -47,4 +47,5 @@ pub mod timed_tiles;
 pub mod timed_words;
 pub mod timing;
 pub mod two_calls;
+pub mod two_rows;
 pub mod words;

@@ -7,7 +7,7 @@
 use std::{env, process::ExitCode};
 
 use comparison::{
-    backwards, bench, cached, covers, curve, deciding, edited_sets, jobs, layers, listing, loads, openings, paintings, plates, rows, standing, stored, stored_jobs, succession, tally::Tally, tiles, words,
+    backwards, bench, cached, covers, curve, deciding, edited_sets, jobs, layers, listing, loads, openings, paintings, plates, rows, standing, stored, stored_jobs, succession, tally::Tally, tiles, two_rows, words,
 };
 
 fn main() -> ExitCode {
@@ -43,6 +43,7 @@ fn main() -> ExitCode {
     backwards::compare(&mut tally);
     standing::compare(&mut tally);
     edited_sets::compare(&mut tally);
+    two_rows::compare(&mut tally);
     jobs::compare(&mut tally);
     stored_jobs::compare(&mut tally);
     curve::compare(&mut tally);

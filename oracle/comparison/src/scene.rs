@@ -135,7 +135,7 @@ pub fn any_table(random: &mut Random) -> Vec<Record> {
 }
 
 /// A layer; of eight, `clips` are clips, and as many of the draws are clipped.
-fn any_record(random: &mut Random, id: u32, clips: usize) -> Record {
+pub fn any_record(random: &mut Random, id: u32, clips: usize) -> Record {
     let func = u32::from(random.below(8) < clips);
     let long = random.once_in(6);
     Record {
