@@ -55,8 +55,9 @@ fn expect_told(text: &[u8], cursor: Cursor, told: [usize; 4], bottom: [f32; 4]) 
     text::expect_float(text, c7, bottom[3])
 }
 
-// What a tile is given; then the refusal, the state, the cached tile, the answer, the list's four columns, the carries
-// handed on; then the paintings. Lent columns were 7 each or false, and still are past what is written.
+// What a tile is given; then the refusal, the state, the cached tile, the answer, the list's four columns (of the flags
+// those that say whether there are segments, then the marks), the carries handed on; then the paintings. Lent columns
+// were 7 each or false, and still are past what is written.
 pub fn tile(
     text: &[u8],
     stand: Stand,
@@ -71,7 +72,7 @@ pub fn tile(
     let mut next_covers = rooms::covers();
     let mut list_ids = rooms::ids();
     let mut list_covers = rooms::covers();
-    let mut segments = rooms::flags();
+    let mut flags = rooms::flag_pairs();
     let mut unmasked = rooms::flags();
     tile_in(
         text,
@@ -86,7 +87,7 @@ pub fn tile(
         &mut next_covers,
         &mut list_ids,
         &mut list_covers,
-        &mut segments,
+        &mut flags,
         &mut unmasked,
     )
 }
@@ -104,7 +105,7 @@ fn tile_in(
     next_covers: &mut [i8],
     list_ids: &mut [u32],
     list_covers: &mut [i8],
-    segments: &mut [bool],
+    flags: &mut [bool],
     unmasked: &mut [bool],
 ) -> Stand {
     let given = read_given(text, stand.at);
@@ -134,7 +135,7 @@ fn tile_in(
         next_covers,
         list_ids,
         list_covers,
-        segments,
+        flags,
         unmasked,
         &mut told,
         &mut bottom,
@@ -151,7 +152,7 @@ fn tile_in(
     let c3 = lists::expect_tile(text, c2, kept);
     let c4 = expect_told(text, c3, told, bottom);
     let listed = stand::carried(number, told[2]);
-    let c5 = expect_list(text, c4, listed, list_ids, list_covers, segments, unmasked);
+    let c5 = expect_list(text, c4, listed, list_ids, list_covers, flags, unmasked);
     let left = stand::carried(number, counts[0]);
     let c6 = lists::expect_words(text, c5, next_ids, left, 7);
     let c7 = lists::expect_covers(text, c6, next_covers, 16 * left, 7);
@@ -183,13 +184,13 @@ fn expect_list(
     listed: usize,
     ids: &[u32],
     covers: &[i8],
-    segments: &[bool],
+    flags: &[bool],
     unmasked: &[bool],
 ) -> Cursor
     requires { ⌜ listed ≤ 4096 ⌝ }
 {
     let c1 = lists::expect_words(text, cursor, ids, listed, 7);
     let c2 = lists::expect_covers(text, c1, covers, 16 * listed, 7);
-    let c3 = lists::expect_flags(text, c2, segments, listed);
+    let c3 = lists::expect_flags(text, c2, flags, listed);
     lists::expect_flags(text, c3, unmasked, listed)
 }

@@ -48,7 +48,7 @@ fn put_decided(
 pub extern "C" fn ffi_decide_tile(
     list_ids: &[u32],
     list_covers: &[i8],
-    list_segments: &[bool],
+    list_flags: &[bool],
     n: usize,
     layers: &[u32],
     colors: &[f32],
@@ -65,7 +65,7 @@ pub extern "C" fn ffi_decide_tile(
     ensures { λ r. ⌜ DecideTold
         (decidingOf
         (decideCall
-        (tileList (now («list_ids» .entry)) (now («list_covers» .entry)) (now («list_segments» .entry))) n
+        (tileList (now («list_ids» .entry)) (now («list_covers» .entry)) (now («list_flags» .entry))) n
         (lentTable (now (layers .entry)) (now (colors .entry)) count)
         (keptOf «is_kept» (now (kept .entry))) (colorFrom (now (clear .entry)))
         (previousOf «is_previous» (now (previous .entry))))
@@ -85,7 +85,7 @@ pub extern "C" fn ffi_decide_tile(
     let decided = tile_deciding::decide_tile(
         list_ids,
         list_covers,
-        list_segments,
+        list_flags,
         n,
         layers,
         colors,

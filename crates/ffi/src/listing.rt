@@ -50,7 +50,7 @@ pub extern "C" fn ffi_list_tile(
     next_covers: &mut [i8],
     list_ids: &mut [u32],
     list_covers: &mut [i8],
-    list_segments: &mut [bool],
+    list_flags: &mut [bool],
     listed: &mut usize,
 ) -> u32
     ensures { λ r. ⌜ ListTold
@@ -59,12 +59,12 @@ pub extern "C" fn ffi_list_tile(
         (lentTable (now (layers .entry)) (now (colors .entry)) count)
         (columns (now (ids .entry)) (now (covers .entry))))
         (listLent (columns (now («next_ids» .entry)) (now («next_covers» .entry)))
-        (tileList (now («list_ids» .entry)) (now («list_covers» .entry)) (now («list_segments» .entry)))))
+        (tileList (now («list_ids» .entry)) (now («list_covers» .entry)) (now («list_flags» .entry)))))
         (listNumbers (now (words .entry)) (now (counts .entry)) (now (listed .entry)))
         r
         (listNumbers (now (words .exit)) (now (counts .exit)) (now (listed .exit)))
         (listLent (columns (now («next_ids» .exit)) (now («next_covers» .exit)))
-        (tileList (now («list_ids» .exit)) (now («list_covers» .exit)) (now («list_segments» .exit)))) ⌝ }
+        (tileList (now («list_ids» .exit)) (now («list_covers» .exit)) (now («list_flags» .exit)))) ⌝ }
 {
     let state_words = *words;
     let state_counts = *counts;
@@ -81,7 +81,7 @@ pub extern "C" fn ffi_list_tile(
         next_covers,
         list_ids,
         list_covers,
-        list_segments,
+        list_flags,
     );
     let state = done.state;
     let answer = done.answer;

@@ -114,7 +114,7 @@ pub extern "C" fn ffi_work_tile(
     next_covers: &mut [i8],
     list_ids: &mut [u32],
     list_covers: &mut [i8],
-    list_segments: &mut [bool],
+    list_flags: &mut [bool],
     list_unmasked: &mut [bool],
     told: &mut [usize; 4],
     bottom: &mut [f32; 4],
@@ -127,7 +127,7 @@ pub extern "C" fn ffi_work_tile(
         (previousOf «is_previous» (now (previous .entry))) (columns (now (ids .entry)) (now (covers .entry))))
         (workLent (columns (now («next_ids» .entry)) (now («next_covers» .entry)))
         (listColumns (now («list_ids» .entry)) (now («list_covers» .entry))
-        (now («list_segments» .entry)) (now («list_unmasked» .entry)))))
+        (now («list_flags» .entry)) (now («list_unmasked» .entry)))))
         (workNumbers (now (words .entry)) (now (counts .entry)) (now (kept .entry))
         (now (told .entry)) (now (bottom .entry)))
         r
@@ -135,7 +135,7 @@ pub extern "C" fn ffi_work_tile(
         (now (told .exit)) (now (bottom .exit)))
         (workLent (columns (now («next_ids» .exit)) (now («next_covers» .exit)))
         (listColumns (now («list_ids» .exit)) (now («list_covers» .exit))
-        (now («list_segments» .exit)) (now («list_unmasked» .exit)))) ⌝ }
+        (now («list_flags» .exit)) (now («list_unmasked» .exit)))) ⌝ }
 {
     let state_words = *words;
     let state_counts = *counts;
@@ -162,7 +162,7 @@ pub extern "C" fn ffi_work_tile(
         next_covers,
         list_ids,
         list_covers,
-        list_segments,
+        list_flags,
         list_unmasked,
     );
     let after = worked.kept;

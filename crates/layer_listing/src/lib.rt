@@ -1,4 +1,6 @@
 // The layers of a tile, surveyed for refusals 7, 8 and 9, and written into the columns of a lent list.
+pub mod marks;
+
 use cover::carry;
 use cover::entry;
 use layer_table::Found;
@@ -14,6 +16,7 @@ ghost use Rattle.queue_statements.specs.Queue.{queueOf};
 ghost use Rattle.tile_layers.specs.Listing.{layersIn, Lists, ListRoom};
 ghost use Rattle.tile_layers.specs.Walk.{Walks};
 ghost use Rattle.layer_listing.specs.Survey.{Surveyed};
+ghost use Rattle.layer_listing.specs.InnerWriting.{Writes};
 
 // How many layers a tile has, and whether each is in the table and none's covers grow too large.
 pub struct Survey {
@@ -69,22 +72,22 @@ pub fn survey_layers(
     }
 }
 
-// The list of a tile's layers, at the front of three lent columns.
-pub fn list_layers(
+// The list of a tile's layers without marks, at the front of three lent columns.
+fn write_layers(
     ids: &[u32],
     covers: &[i8],
     n: usize,
     part: &[u64],
     list_ids: &mut [u32],
     list_covers: &mut [i8],
-    list_segments: &mut [bool],
+    list_flags: &mut [bool],
 )
     requires { ⌜ Walks n (now ids) (now part) × (16 * n ≤ length (now covers))
         × ListRoom (layersIn (queueOf n (now ids) (now covers)) (now part)) (now «list_ids») (now «list_covers»)
-        (now «list_segments») ⌝ }
-    ensures { λ _. ⌜ Lists (layersIn (queueOf n (now (ids .entry)) (now (covers .entry))) (now (part .entry)))
-        (now («list_ids» .entry)) (now («list_covers» .entry)) (now («list_segments» .entry)) (now («list_ids» .exit))
-        (now («list_covers» .exit)) (now («list_segments» .exit)) ⌝ }
+        (now «list_flags») ⌝ }
+    ensures { λ _. ⌜ Writes (layersIn (queueOf n (now (ids .entry)) (now (covers .entry))) (now (part .entry)))
+        (now («list_ids» .entry)) (now («list_covers» .entry)) (now («list_flags» .entry)) (now («list_ids» .exit))
+        (now («list_covers» .exit)) (now («list_flags» .exit)) ⌝ }
 {
     let mut k: usize = 0;
     let mut i: usize = 0;
@@ -98,9 +101,36 @@ pub fn list_layers(
             k,
             walk::incoming_cover(covers, next.carried, i),
         );
-        list_segments[k] = j < end;
+        list_flags[k] = j < end;
         i = next.i;
         j = end;
         k += 1;
     }
+}
+
+// The list of a tile's layers, `listed` being their number: ids and incoming covers, whether each has segments, and, from
+// place 256 on, whether each is changed.
+pub fn list_layers(
+    ids: &[u32],
+    covers: &[i8],
+    n: usize,
+    part: &[u64],
+    listed: usize,
+    layers: &[u32],
+    colors: &[f32],
+    count: usize,
+    list_ids: &mut [u32],
+    list_covers: &mut [i8],
+    list_flags: &mut [bool],
+)
+    requires { ⌜ Walks n (now ids) (now part) × (16 * n ≤ length (now covers)) × Table (now layers) (now colors) count
+        × ListRoom (layersIn (queueOf n (now ids) (now covers)) (now part)) (now «list_ids») (now «list_covers»)
+        (now «list_flags») × (listed ≡ length (layersIn (queueOf n (now ids) (now covers)) (now part))) ⌝ }
+    ensures { λ _. ⌜ Lists (tableOf (now (layers .entry)) (now (colors .entry)) count)
+        (layersIn (queueOf n (now (ids .entry)) (now (covers .entry))) (now (part .entry)))
+        (now («list_ids» .entry)) (now («list_covers» .entry)) (now («list_flags» .entry)) (now («list_ids» .exit))
+        (now («list_covers» .exit)) (now («list_flags» .exit)) ⌝ }
+{
+    write_layers(ids, covers, n, part, list_ids, list_covers, list_flags);
+    marks::mark_changed(list_ids, listed, layers, colors, count, list_flags);
 }

@@ -2,7 +2,7 @@
 use mathlib.Core.Path.{_≡_, ap, ap₂, _∙_}
 use mathlib.Core.Bool.{Bool, true}
 use mathlib.Core.List.{List, map}
-use Prim.Native.Nat.{ℕ}
+use Prim.Native.Nat.{ℕ, _≤_}
 use lib.ListN.{length}
 use lib.IntN.{ℤ}
 use Rattle.styling.specs.declared.Color.{Color}
@@ -42,14 +42,14 @@ module _ (table : List Layer) (entries : List Entry) (k : kept.Kept) (clear : Co
       }
 
 -- the whole work: a list that is written, decided from its columns, and carries that are handed on
-module _ (table : List Layer) (ls : List Listed) (k : kept.Kept) (clear : Color) (previous : PreviousClear) (oldIds : List ℕ) (oldCovers : List ℤ) (oldSegments oldUnmasked : List Bool) (oldQueueIds : List ℕ) (oldQueueCovers : List ℤ) where
-  pub worked : {n left : ℕ} {d : DecidedTile} {ids : List ℕ} {covers : List ℤ} {segments unmasked : List Bool} {queueIds : List ℕ} {queueCovers : List ℤ} → areWide (incomingOf ls) ≡ true → n ≡ length ls → Lists ls oldIds oldCovers oldSegments ids covers segments → Decides (outcomeByEntries table k clear previous (entriesOf n ids covers segments)) k n oldUnmasked d unmasked → Hands (handedOn table ls) oldQueueIds oldQueueCovers left queueIds queueCovers → Works table k clear previous ls (record { decision = d .decision; listed = n; skipped = d .skipped; kept = d .kept; left = left }) × (ListWritten ls (outcomeIn table k clear previous ls) oldIds oldCovers oldSegments oldUnmasked ids covers segments unmasked × QueueWritten (handedOn table ls) oldQueueIds oldQueueCovers queueIds queueCovers)
-  worked {n} {left} {d} {ids} {covers} {segments} {unmasked} wide en written dec hands =
-      let entries : entriesOf n ids covers segments ≡ map entryOf ls =
-      ap (λ (m : ℕ). entriesOf m ids covers segments) en
-      ∙ ap (λ (l : List ℕ). entriesOf (length ls) l covers segments) (written .ids-are)
-      ∙ ap₂ (λ (l : List ℤ) (s : List Bool). entriesOf (length ls) (over (idsIn (incomingOf ls)) oldIds) l s) (written .covers-are) (written .segments-are)
-      ∙ entries-are ls oldIds oldCovers oldSegments wide in
+module _ (table : List Layer) (ls : List Listed) (k : kept.Kept) (clear : Color) (previous : PreviousClear) (oldIds : List ℕ) (oldCovers : List ℤ) (oldFlags oldUnmasked : List Bool) (oldQueueIds : List ℕ) (oldQueueCovers : List ℤ) where
+  pub worked : {n left : ℕ} {d : DecidedTile} {ids : List ℕ} {covers : List ℤ} {flags unmasked : List Bool} {queueIds : List ℕ} {queueCovers : List ℤ} → areWide (incomingOf ls) ≡ true → n ≡ length ls → length ls ≤ 256 → 512 ≤ length oldFlags → Lists table ls oldIds oldCovers oldFlags ids covers flags → Decides (outcomeByEntries table k clear previous (entriesOf n ids covers flags)) k n oldUnmasked d unmasked → Hands (handedOn table ls) oldQueueIds oldQueueCovers left queueIds queueCovers → Works table k clear previous ls (record { decision = d .decision; listed = n; skipped = d .skipped; kept = d .kept; left = left }) × (ListWritten table ls (outcomeIn table k clear previous ls) oldIds oldCovers oldFlags oldUnmasked ids covers flags unmasked × QueueWritten (handedOn table ls) oldQueueIds oldQueueCovers queueIds queueCovers)
+  worked {n} {left} {d} {ids} {covers} {flags} {unmasked} wide en few room written dec hands =
+      let entries : entriesOf n ids covers flags ≡ map (entryOf table) ls =
+      ap (λ (m : ℕ). entriesOf m ids covers flags) en
+      ∙ ap (λ (l : List ℕ). entriesOf (length ls) l covers flags) (written .ids-are)
+      ∙ ap₂ (λ (l : List ℤ) (s : List Bool). entriesOf (length ls) (over (idsIn (incomingOf ls)) oldIds) l s) (written .covers-are) (written .flags-are)
+      ∙ entries-are table ls oldIds oldCovers oldFlags wide few room in
       let told : Decides (outcomeIn table k clear previous ls) k n oldUnmasked d unmasked = rw entries at dec in (
         record {
           decision = told .decision;
@@ -62,7 +62,7 @@ module _ (table : List Layer) (ls : List Listed) (k : kept.Kept) (clear : Color)
           record {
             ids-are = written .ids-are;
             covers-are = written .covers-are;
-            segments-are = written .segments-are;
+            flags-are = written .flags-are;
             unmasked-are = told .unmasked-are;
           },
           record { ids-are = hands .ids-are; covers-are = hands .covers-are },

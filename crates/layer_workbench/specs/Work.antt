@@ -12,7 +12,7 @@ use Rattle.styling.specs.Color.{sameColor}
 use Rattle.styling.specs.declared.Color.{Color}
 use Rattle.styling.specs.declared.Layer.{Layer}
 use Rattle.queue_statements.specs.Queue.{Carry, idsIn, coversIn}
-use Rattle.tile_layers.specs.Listing.{Listed, hasAny, incomingOf, segmentsOf}
+use Rattle.tile_layers.specs.Listing.{Listed, hasAny, incomingOf, isChanged, flagsOver}
 use Rattle.layer_carrying.specs.Carrying.{handedOn}
 use Rattle.pass_statements.specs.Entry.{Entry}
 use Rattle.pass_statements.specs.Item.{itemsOf}
@@ -30,8 +30,8 @@ use Rattle.layer_workbench.specs.declared.Worked.{Worked}
 
 -- ---- what the passes see
 
-abbrev pub entryOf : Listed → Entry
-entryOf l = record { id = l .id; cover = l .cover; segments = hasAny (l .own) }
+abbrev pub entryOf : List Layer → Listed → Entry
+entryOf table l = record { id = l .id; cover = l .cover; segments = hasAny (l .own); changed = isChanged table (l .id) }
 
 -- the clear colour is unchanged where the one before is given and is the same
 abbrev pub clearUnchanged : PreviousClear → Color → Bool
@@ -51,7 +51,7 @@ outcomeByEntries table k clear previous entries = outcomeOf clear (clearUnchange
 
 -- from the layers of a tile
 abbrev pub outcomeIn : List Layer → kept.Kept → Color → PreviousClear → List Listed → Outcome
-outcomeIn table k clear previous ls = outcomeByEntries table k clear previous (map entryOf ls)
+outcomeIn table k clear previous ls = outcomeByEntries table k clear previous (map (entryOf table) ls)
 
 -- the cached tile afterwards: any work updates the count, paint clears tag 1, and nothing else changes
 abbrev pub keptBy : TileDecision → kept.Kept → kept.Kept
@@ -81,21 +81,21 @@ pub record Works (table : List Layer) (k : kept.Kept) (clear : Color) (previous 
   pub kept-is : r .kept ≡ keptAfter (outcomeIn table k clear previous ls) k (length ls)
   pub handed : r .left ≡ length (carriesAfter table (outcomeIn table k clear previous ls) ls)
 
-pub record ListWritten (ls : List Listed) (o : Outcome) (oldIds : List ℕ) (oldCovers : List ℤ) (oldSegments oldUnmasked : List Bool) (ids : List ℕ) (covers : List ℤ) (segments unmasked : List Bool) : Type 0 where
+pub record ListWritten (table : List Layer) (ls : List Listed) (o : Outcome) (oldIds : List ℕ) (oldCovers : List ℤ) (oldFlags oldUnmasked : List Bool) (ids : List ℕ) (covers : List ℤ) (flags unmasked : List Bool) : Type 0 where
   pub ids-are : ids ≡ over (idsIn (incomingOf ls)) oldIds
   pub covers-are : covers ≡ over (coversIn (incomingOf ls)) oldCovers
-  pub segments-are : segments ≡ over (segmentsOf ls) oldSegments
+  pub flags-are : flags ≡ flagsOver table ls oldFlags
   pub unmasked-are : unmasked ≡ over (o .unmasked) oldUnmasked
 
 pub record QueueWritten (q : List Carry) (oldIds : List ℕ) (oldCovers : List ℤ) (ids : List ℕ) (covers : List ℤ) : Type 0 where
   pub ids-are : ids ≡ over (idsIn q) oldIds
   pub covers-are : covers ≡ over (coversIn q) oldCovers
 
--- room for 256 entries in a list and in a queue
-pub record Rooms (listIds : List ℕ) (listCovers : List ℤ) (segments unmasked : List Bool) (queueIds : List ℕ) (queueCovers : List ℤ) : Type 0 where
+-- room for 256 entries in a list, with two flags each, and in a queue
+pub record Rooms (listIds : List ℕ) (listCovers : List ℤ) (flags unmasked : List Bool) (queueIds : List ℕ) (queueCovers : List ℤ) : Type 0 where
   pub list-ids : 256 ≤ length listIds
   pub list-covers : 4096 ≤ length listCovers
-  pub list-segments : 256 ≤ length segments
+  pub list-flags : 512 ≤ length flags
   pub list-unmasked : 256 ≤ length unmasked
   pub queue-ids : 256 ≤ length queueIds
   pub queue-covers : 4096 ≤ length queueCovers

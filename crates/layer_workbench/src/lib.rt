@@ -78,7 +78,7 @@ fn kept_by(decision: Decision, kept: Kept) -> Kept
 pub fn decide_tile(
     ids: &[u32],
     covers: &[i8],
-    segments: &[bool],
+    flags: &[bool],
     n: usize,
     layers: &[u32],
     colors: &[f32],
@@ -88,11 +88,11 @@ pub fn decide_tile(
     previous: PreviousClear,
     unmasked: &mut [bool],
 ) -> DecidedTile
-    requires { ⌜ EntryColumns n (now ids) (now covers) (now segments) × Table (now layers) (now colors) count
+    requires { ⌜ EntryColumns n (now ids) (now covers) (now flags) × Table (now layers) (now colors) count
         × (n ≤ length (now unmasked)) ⌝ }
     ensures { λ r. ⌜ Decides
         (outcomeByEntries (tableOf (now (layers .entry)) (now (colors .entry)) count) kept clear previous
-        (entriesOf n (now (ids .entry)) (now (covers .entry)) (now (segments .entry)))) kept n (now (unmasked .entry)) r
+        (entriesOf n (now (ids .entry)) (now (covers .entry)) (now (flags .entry)))) kept n (now (unmasked .entry)) r
         (now (unmasked .exit)) ⌝ }
 {
     let counted = kept.update_layer_count(n as u32);
@@ -104,7 +104,7 @@ pub fn decide_tile(
         previous_count(before),
         ids,
         covers,
-        segments,
+        flags,
         n,
         layers,
         colors,
@@ -138,20 +138,20 @@ pub fn work(
     next_covers: &mut [i8],
     list_ids: &mut [u32],
     list_covers: &mut [i8],
-    list_segments: &mut [bool],
+    list_flags: &mut [bool],
     list_unmasked: &mut [bool],
 ) -> Worked
     requires { ⌜ Walks n (now ids) (now part) × (16 * n ≤ length (now covers)) × Table (now layers) (now colors) count
-        × Rooms (now «list_ids») (now «list_covers») (now «list_segments») (now «list_unmasked») (now «next_ids»)
+        × Rooms (now «list_ids») (now «list_covers») (now «list_flags») (now «list_unmasked») (now «next_ids»)
         (now «next_covers») × (areLight (layersIn (queueOf n (now ids) (now covers)) (now part)) ≡ true)
         × (listed ≡ length (layersIn (queueOf n (now ids) (now covers)) (now part))) × (listed ≤ 256) ⌝ }
     ensures answer { λ r. ⌜ Works (tableOf (now (layers .entry)) (now (colors .entry)) count) kept clear previous
         (layersIn (queueOf n (now (ids .entry)) (now (covers .entry))) (now (part .entry))) r ⌝ }
-    ensures list { λ r. ⌜ ListWritten (layersIn (queueOf n (now (ids .entry)) (now (covers .entry)))
-        (now (part .entry))) (outcomeIn (tableOf (now (layers .entry)) (now (colors .entry)) count) kept clear previous
+    ensures list { λ r. ⌜ ListWritten (tableOf (now (layers .entry)) (now (colors .entry)) count)
+        (layersIn (queueOf n (now (ids .entry)) (now (covers .entry))) (now (part .entry))) (outcomeIn (tableOf (now (layers .entry)) (now (colors .entry)) count) kept clear previous
         (layersIn (queueOf n (now (ids .entry)) (now (covers .entry))) (now (part .entry)))) (now («list_ids» .entry))
-        (now («list_covers» .entry)) (now («list_segments» .entry)) (now («list_unmasked» .entry))
-        (now («list_ids» .exit)) (now («list_covers» .exit)) (now («list_segments» .exit))
+        (now («list_covers» .entry)) (now («list_flags» .entry)) (now («list_unmasked» .entry))
+        (now («list_ids» .exit)) (now («list_covers» .exit)) (now («list_flags» .exit))
         (now («list_unmasked» .exit)) ⌝ }
     ensures queue { λ r. ⌜ QueueWritten (carriesAfter (tableOf (now (layers .entry)) (now (colors .entry)) count)
         (outcomeIn (tableOf (now (layers .entry)) (now (colors .entry)) count) kept clear previous
@@ -159,11 +159,23 @@ pub fn work(
         (layersIn (queueOf n (now (ids .entry)) (now (covers .entry))) (now (part .entry)))) (now («next_ids» .entry))
         (now («next_covers» .entry)) (now («next_ids» .exit)) (now («next_covers» .exit)) ⌝ }
 {
-    layer_listing::list_layers(ids, covers, n, part, list_ids, list_covers, list_segments);
+    layer_listing::list_layers(
+        ids,
+        covers,
+        n,
+        part,
+        listed,
+        layers,
+        colors,
+        count,
+        list_ids,
+        list_covers,
+        list_flags,
+    );
     let decided = decide_tile(
         list_ids,
         list_covers,
-        list_segments,
+        list_flags,
         listed,
         layers,
         colors,

@@ -37,22 +37,22 @@ use Rattle.listing_runs.specs.InnerHolding.{HoldsList, HoldsLists}
 pub masks-long : (table : List Layer) (k : kept.Kept) (clear : Color) (previous : PreviousClear) (ls : List Listed) → length (outcomeIn table k clear previous ls .unmasked) ≡ length ls
 unfolding outcomeByEntries
 masks-long table k clear previous ls =
-    outcome-long clear (clearUnchanged previous clear) (countFrom (previousCount k)) (map (itemOf table) (map entryOf ls))
-    ∙ length-map (map entryOf ls) (itemOf table)
-    ∙ length-map ls entryOf
+    outcome-long clear (clearUnchanged previous clear) (countFrom (previousCount k)) (map (itemOf table) (map (entryOf table) ls))
+    ∙ length-map (map (entryOf table) ls) (itemOf table)
+    ∙ length-map ls (entryOf table)
 
 -- ---- the list of the tile from + n, once it is due and its layers pass
 
 module _ {o : OpenRow} (is-open : IsOpen o) (n : ℕ) where
-  pub held-list : {tile : ℤ} {count : ℕ} {list : TileList} (old : TileList) → isNotDue o n tile ≡ false → listVerdict (tableOn o) (layersOn o n) ≡ pass → isTileListShort old ≡ false → count ≡ length (layersOn o n) → list ≡ listedOver (layersOn o n) old → HoldsList o n (record { tile = tile; count = count; list = list })
+  pub held-list : {tile : ℤ} {count : ℕ} {list : TileList} (old : TileList) → isNotDue o n tile ≡ false → listVerdict (tableOn o) (layersOn o n) ≡ pass → isTileListShort old ≡ false → count ≡ length (layersOn o n) → list ≡ listedOver (tableOn o) (layersOn o n) old → HoldsList o n (record { tile = tile; count = count; list = list })
   held-list {tile} {count} {list} old due passes room many is =
       let l = list-passed (tableOn o) (layersOn o n) passes in
       let wide = list-wide (queueOn o n) (groupsOf (tilePart (pos (o .from + n)) (o .row))) (queue-wide (is-open .in-order) (tableOn o) (o .from) n) in
-      let says = written (layersOn o n) old room (l .few) wide in
+      let says = written (tableOn o) (layersOn o n) old room (l .few) wide in
       record {
         tile = is-next (stateOn o (record { tiles = n; clip = atFirst .clip })) tile due .is-tile;
         decidable = record { few = l .few; ascends = ap strictlyAscends (listed-ids (layersOn o n)) ∙ layers-ascend (is-open .in-order) (tableOn o) (o .from) n; known = l .known };
-        says = subst (λ (m : ℕ). ListSays (layersOn o n) m list) (sym many) (subst (ListSays (layersOn o n) (length (layersOn o n))) (sym is) says);
+        says = subst (λ (m : ℕ). ListSays (tableOn o) (layersOn o n) m list) (sym many) (subst (ListSays (tableOn o) (layersOn o n) (length (layersOn o n))) (sym is) says);
       }
 
 -- ---- one of the lists

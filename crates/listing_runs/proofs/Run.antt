@@ -21,8 +21,8 @@ use Rattle.listing_runs.proofs.Steps.{right-list, after-event, right-de
 other-list : {o : OpenRow} {p : Past} {h : Held} → Holds o p h → (a : ListCall) (lent : ListLent) {r : TileListed} {back : ListLent} → a .state ≡ h .state → ListsTile (listingOf a lent) r back → RightOtherListing o p a lent r back
 unfolding listingOut
 other-list holds a lent {r} {back} es g n e =
-    let d : ListsTile (listingOut (refuse n) (listedBy a) (handedOn (layersOf (a .table)) (listedBy a)) (a .state) lent) r back =
-    subst (λ (v : Judgement). ListsTile (listingOut v (listedBy a) (handedOn (layersOf (a .table)) (listedBy a)) (a .state) lent) r back) e g in
+    let d : ListsTile (listingOut (refuse n) (layersOf (a .table)) (listedBy a) (handedOn (layersOf (a .table)) (listedBy a)) (a .state) lent) r back =
+    subst (λ (v : Judgement). ListsTile (listingOut v (layersOf (a .table)) (listedBy a) (handedOn (layersOf (a .table)) (listedBy a)) (a .state) lent) r back) e g in
     record { answer = d .answer; state = d .state ∙ es ∙ holds .state; lent-is = d .lent-is }
 
 -- ---- one call, and any list of them

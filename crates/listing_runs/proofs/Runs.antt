@@ -67,11 +67,11 @@ decide-named c =
     named (ltb (length (c .unmasked)) 256) 1 (unless (tagOutOfRange (c .kept)) 6 pass) refl (named (tagOutOfRange (c .kept)) 6 pass refl tt)
 
 -- so there is an answer of the code that gives it
-list-gives : (v : Judgement) → Named v → (o : OpenRow) (p : Past) (c : ListChoice) → let g = listingOut v (layersOn o (p .tiles)) (queueOn o (suc (p .tiles))) (stateOn o p) (c .lent) in ListsTile g (listResult g) (g .lent)
+list-gives : (v : Judgement) → Named v → (o : OpenRow) (p : Past) (c : ListChoice) → let g = listingOut v (tableOn o) (layersOn o (p .tiles)) (queueOn o (suc (p .tiles))) (stateOn o p) (c .lent) in ListsTile g (listResult g) (g .lent)
 unfolding listingOut
 list-gives (refuse n) named o p c = record { answer = ap refused named; state = state-back (stateOn o p); lent-is = refl }
 list-gives pass named o p c =
-    record { answer = refl; state = state-back (listingOut pass (layersOn o (p .tiles)) (queueOn o (suc (p .tiles))) (stateOn o p) (c .lent) .state); lent-is = refl }
+    record { answer = refl; state = state-back (listingOut pass (tableOn o) (layersOn o (p .tiles)) (queueOn o (suc (p .tiles))) (stateOn o p) (c .lent) .state); lent-is = refl }
 
 decide-gives : (v : Judgement) → Named v → (o : OpenRow) (c : DecideChoice) → let g = decidingOut v (outcomeDue o c) (length (layersOn o (nthOn o c))) (c .kept) (c .unmasked) in DecidesTile g (decideResult g) (g .unmasked)
 unfolding decidingOut

@@ -37,6 +37,7 @@ use Rattle.listing_statements.specs.declared.ListAnswer.the-variants as listed
 use Rattle.listing_statements.specs.declared.TileListed.{TileListed}
 use Rattle.listing_statements.specs.declared.TileDecided.{TileDecided}
 use Rattle.listing_statements.proofs.AsWork.{noColor, or-false, asLent, withoutDecision, out-same, listing-is}
+use Rattle.styling.specs.declared.Layer.{Layer}
 use Rattle.listing_statements.proofs.Lists.{decided}
 use Rattle.listing_runs.specs.Due.{ListChoice, listDueVerdict, listDue, DecideChoice, nthOn, decideDueVerdict, outcomeDue, decideDue}
 use Rattle.listing_runs.specs.Run.{HeldList, heldWith, SameEntries, listOn, decideOn, rowAfter, listsAfter, listsWorked, listsPast}
@@ -59,7 +60,7 @@ module _ {o : OpenRow} {p : Past} {h : Held} (is-open : IsOpen o) (holds : Holds
       listing-is (listOn o h c) (c .lent)
       ∙ ap withoutDecision (work-due is-open holds asChoice same)
       ∙ out-same (c .lent) (saysOn o (p .tiles) asChoice) (stateOn o p) (workDueVerdict o (p .tiles) asChoice)
-      ∙ ap (λ (v : Judgement). listingOut v (layersOn o (p .tiles)) (queueOn o (suc (p .tiles))) (stateOn o p) (c .lent)) verdict-same
+      ∙ ap (λ (v : Judgement). listingOut v (tableOn o) (layersOn o (p .tiles)) (queueOn o (suc (p .tiles))) (stateOn o p) (c .lent)) verdict-same
 
   -- what a verdict that passes tells
   record Accepted : Type 0 where
@@ -76,7 +77,7 @@ module _ {o : OpenRow} {p : Past} {h : Held} (is-open : IsOpen o) (holds : Holds
 
   -- what it leaves, by the verdict
   abbrev out : Judgement → ListGiven
-  out v = listingOut v (layersOn o (p .tiles)) (queueOn o (suc (p .tiles))) (stateOn o p) (c .lent)
+  out v = listingOut v (tableOn o) (layersOn o (p .tiles)) (queueOn o (suc (p .tiles))) (stateOn o p) (c .lent)
 
   module _ (e : listDueVerdict o (p .tiles) c ≡ pass) where
     abbrev handed : Columns
@@ -85,14 +86,14 @@ module _ {o : OpenRow} {p : Past} {h : Held} (is-open : IsOpen o) (holds : Holds
     past-row : {s : State} {k : Columns} → s ≡ nextState (stateOn o p) (length (queueOn o (suc (p .tiles)))) → k ≡ handed → Holds o (pastWork pass p) (record { state = s; queue = k; taken = c .queue })
     past-row es ek = past-tile is-open holds asChoice same (verdict-same ∙ e) es ek
 
-    past-list : {count : ℕ} {list : TileList} → count ≡ length (layersOn o (p .tiles)) → list ≡ listedOver (layersOn o (p .tiles)) (c .lent .list) → HoldsList o (p .tiles) (record { tile = c .tile; count = count; list = list })
+    past-list : {count : ℕ} {list : TileList} → count ≡ length (layersOn o (p .tiles)) → list ≡ listedOver (tableOn o) (layersOn o (p .tiles)) (c .lent .list) → HoldsList o (p .tiles) (record { tile = c .tile; count = count; list = list })
     past-list many is = held-list is-open (p .tiles) (c .lent .list) (accepted e .due) (accepted e .layers) (accepted e .room) many is
 
     queue-back : {back : ListLent} → back ≡ out pass .lent → carriesIn (length (queueOn o (suc (p .tiles)))) (back .queue) ≡ queueOn o (suc (p .tiles))
     unfolding listingOut
     queue-back el = ap (λ (b : ListLent). carriesIn (length (queueOn o (suc (p .tiles)))) (b .queue)) el ∙ past-row refl refl .queue .reads
 
-    list-back : {back : ListLent} → back ≡ out pass .lent → entriesFrom (length (layersOn o (p .tiles))) (back .list) ≡ map entryOf (layersOn o (p .tiles))
+    list-back : {back : ListLent} → back ≡ out pass .lent → entriesFrom (length (layersOn o (p .tiles))) (back .list) ≡ map (entryOf (tableOn o)) (layersOn o (p .tiles))
     unfolding listingOut
     list-back el = ap (λ (b : ListLent). entriesFrom (length (layersOn o (p .tiles))) (b .list)) el ∙ past-list refl refl .says .entries
 
@@ -161,7 +162,7 @@ after-event is-open p (Event.otherPaint a plane r back) ls right hl = hl
 -- ---- deciding
 
 -- the memory that a caller keeps a list in says what the list says
-same-says : {n : ℕ} {ls : List Listed} {a b : TileList} → SameEntries n a b → ListSays ls n a → ListSays ls n b
+same-says : {n : ℕ} {table : List Layer} {ls : List Listed} {a b : TileList} → SameEntries n a b → ListSays table ls n a → ListSays table ls n b
 same-says same says = record { count = says .count; room = same .room ∙ says .room; ids = same .ids ∙ says .ids; entries = same .reads ∙ says .entries }
 
 module _ {o : OpenRow} (is-open : IsOpen o) (n : ℕ) (l : HeldList) (holds : HoldsList o n l) (c : DecideChoice) (et : l .tile ≡ c .tile) (same : SameEntries (l .count) (l .list) (c .list)) where

@@ -33,7 +33,7 @@ pub record RightListing (o : OpenRow) (p : Past) (c : ListChoice) (r : TileListe
   pub gives : ListsTile (listDue o p c) r back
   -- where it is accepted: the carries handed on and the list, read back from the lent columns, are the row's
   pub queue-read : listDueVerdict o (p .tiles) c ≡ pass → carriesIn (length (queueOn o (suc (p .tiles)))) (back .queue) ≡ queueOn o (suc (p .tiles))
-  pub list-read : listDueVerdict o (p .tiles) c ≡ pass → entriesFrom (length (layersOn o (p .tiles))) (back .list) ≡ map entryOf (layersOn o (p .tiles))
+  pub list-read : listDueVerdict o (p .tiles) c ≡ pass → entriesFrom (length (layersOn o (p .tiles))) (back .list) ≡ map (entryOf (tableOn o)) (layersOn o (p .tiles))
 
 pub record RightDeciding (o : OpenRow) (p : Past) (c : DecideChoice) (r : TileDecided) (back : List Bool) : Type 0 where
   -- the tile that is named is one of those whose listing or work was due to be accepted

@@ -36,7 +36,7 @@ listDueVerdict o n c =
     (listVerdict (tableOn o) (layersOn o n)))
 
 abbrev pub listDue : OpenRow → Past → ListChoice → ListGiven
-listDue o p c = listingOut (listDueVerdict o (p .tiles) c) (layersOn o (p .tiles)) (queueOn o (suc (p .tiles))) (stateOn o p) (c .lent)
+listDue o p c = listingOut (listDueVerdict o (p .tiles) c) (tableOn o) (layersOn o (p .tiles)) (queueOn o (suc (p .tiles))) (stateOn o p) (c .lent)
 
 -- ---- deciding
 

@@ -70,7 +70,7 @@ call = record { tileY = pos 0; from = pos 0; to = pos 3; row = example.row; tabl
 -- ---- the calls
 
 abbrev columns : TileList
-columns = tileList (example.list .ids) (example.list .covers) (example.list .segments)
+columns = tileList (example.list .ids) (example.list .covers) (example.list .flags)
 
 abbrev working : ℤ → Choice
 working tile =

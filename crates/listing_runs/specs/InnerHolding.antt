@@ -12,7 +12,7 @@ use Rattle.listing_runs.specs.Run.{HeldList, HeldAll}
 pub record HoldsList (o : OpenRow) (n : ℕ) (l : HeldList) : Type 0 where
   pub tile : l .tile ≡ pos (o .from + n)
   pub decidable : Decidable (tableOn o) (layersOn o n)
-  pub says : ListSays (layersOn o n) (l .count) (l .list)
+  pub says : ListSays (tableOn o) (layersOn o n) (l .count) (l .list)
 
 abbrev pub HoldsLists : OpenRow → ℕ → List HeldList → Type 0
 HoldsLists o zero [] = Unit {0}

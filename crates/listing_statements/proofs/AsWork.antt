@@ -22,7 +22,7 @@ abbrev pub asWork : ListCall → WorkCall
 asWork c = workCall (c .state) (c .tile) (c .row) (c .table) noTile noColor Absent (c .queue)
 
 abbrev pub asLent : ListLent → WorkLent
-asLent lent = workLent (lent .queue) (listColumns (lent .list .ids) (lent .list .covers) (lent .list .segments) (replicate 256 false))
+asLent lent = workLent (lent .queue) (listColumns (lent .list .ids) (lent .list .covers) (lent .list .flags) (replicate 256 false))
 
 -- what a work gives, without what was decided
 abbrev listedTold : Answer TileAnswer → Answer ℕ
@@ -37,7 +37,7 @@ or-false true = refl
 or-false false = refl
 
 -- by the verdict, without the decision
-pub out-same : (lent : ListLent) (t : TileSays) (s : State) (v : Judgement) → withoutDecision (workOut v t s noTile (asLent lent)) ≡ listingOut v (t .layers) (t .handed) s lent
+pub out-same : (lent : ListLent) (t : TileSays) (s : State) (v : Judgement) → withoutDecision (workOut v t s noTile (asLent lent)) ≡ listingOut v (t .table) (t .layers) (t .handed) s lent
 unfolding workOut listingOut
 out-same lent t s (refuse n) = refl
 out-same lent t s pass = refl

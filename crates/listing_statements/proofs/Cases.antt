@@ -19,7 +19,7 @@ use Rattle.listing_statements.specs.Deciding.{DecideCall, decideCall, li
 
 -- a list of n entries with these ids, of the layers 1 to 4
 abbrev listOf : List ℕ → ℕ → kept.Kept → DecideCall
-listOf ids n k = decideCall (tileList ids (replicate 4096 (pos 0)) (replicate 256 false)) n table k black Absent
+listOf ids n k = decideCall (tileList ids (replicate 4096 (pos 0)) (replicate 512 false)) n table k black Absent
 
 abbrev masks : ℕ → List Bool
 masks n = replicate n false

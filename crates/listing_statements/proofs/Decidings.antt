@@ -64,7 +64,7 @@ module _ (p : ℕ → Bool) (n : ℕ) (ids : List ℕ) where
 
 module _ (c : DecideCall) (unmasked : List Bool) where
   pub record Passed : Type 0 where
-    pub columns : EntryColumns (c .count) (c .list .ids) (c .list .covers) (c .list .segments)
+    pub columns : EntryColumns (c .count) (c .list .ids) (c .list .covers) (c .list .flags)
     pub in-table : Table (c .table .words) (c .table .floats) (c .table .count)
     pub masks : c .count ≤ length unmasked
 
@@ -73,7 +73,7 @@ module _ (c : DecideCall) (unmasked : List Bool) where
   ids-room e =
       let i = ltb (length (c .list .ids)) 256 in
       let v = ltb (length (c .list .covers) / 16) 256 in
-      let s = ltb (length (c .list .segments)) 256 in
+      let s = ltb (length (c .list .flags)) 512 in
       let u = ltb (length unmasked) 256 in
       ltb-false (length (c .list .ids)) 256 (or-left i v (or-left (i || v) s (or-left (i || v || s) u (or-left (i || v || s || u) (isLentShort (c .table)) e))))
 
@@ -94,7 +94,7 @@ module _ (c : DecideCall) (unmasked : List Bool) where
       let few = ltb-false 256 (c .count) (seven .0) in
       let i = ltb (length (c .list .ids)) 256 in
       let v = ltb (length (c .list .covers) / 16) 256 in
-      let s = ltb (length (c .list .segments)) 256 in
+      let s = ltb (length (c .list .flags)) 512 in
       let u = ltb (length unmasked) 256 in
       let ivsu = or-left (i || v || s || u) (isLentShort (c .table)) (one .0) in
       let ivs = or-left (i || v || s) u ivsu in
@@ -105,7 +105,7 @@ module _ (c : DecideCall) (unmasked : List Bool) where
               few = few;
               ids-long = omega (arith, few, ltb-false (length (c .list .ids)) 256 (or-left i v iv));
               covers-long = omega (arith, few, ltb-false (length (c .list .covers) / 16) 256 (or-right i v iv));
-              segments-long = omega (arith, few, ltb-false (length (c .list .segments)) 256 (or-right (i || v) s ivs));
+              flags-long = omega (arith, few, ltb-false (length (c .list .flags)) 512 (or-right (i || v) s ivs));
             };
         in-table = table-judging.table (not-false _ (four .0));
         masks = omega (arith, few, ltb-false (length unmasked) 256 (or-right (i || v || s) u ivsu));

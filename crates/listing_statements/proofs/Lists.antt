@@ -17,7 +17,8 @@ use Rattle.styling.specs.declared.Layer.{Layer}
 use Rattle.cached_tile.specs.Kept.{tagOutOfRange}
 use Rattle.queue_statements.specs.Queue.{idsIn, coversIn}
 use Rattle.queue_statements.proofs.Columns.{areWide, length-covers, take-ids}
-use Rattle.tile_layers.specs.Listing.{Listed, incomingOf, segmentsOf, hasAny, areKnown}
+use Rattle.tile_layers.specs.Listing.{Listed, incomingOf, flagsOver, areKnown}
+use Rattle.tile_layers.proofs.Flags.{length-flags}
 use Rattle.tile_layers.proofs.Ordering.{listedIds}
 use Rattle.pass_statements.specs.Decide.{Outcome}
 use Rattle.layer_workbench.specs.Work.{outcomeByEntries, outcomeIn}
@@ -39,31 +40,31 @@ in-table table (l ∷ ls) = ap (λ (b : Bool). isGiven (lookup table (l .id)) &&
 
 -- ---- layers written to the columns of a list
 
-pub written : (ls : List Listed) (l : TileList) → isTileListShort l ≡ false → length ls ≤ 256 → areWide (incomingOf ls) ≡ true → ListSays ls (length ls) (listedOver ls l)
-written ls l short few wide =
+pub written : (table : List Layer) (ls : List Listed) (l : TileList) → isTileListShort l ≡ false → length ls ≤ 256 → areWide (incomingOf ls) ≡ true → ListSays table ls (length ls) (listedOver table ls l)
+written table ls l short few wide =
     let i = ltb (length (l .ids)) 256 in
     let v = ltb (length (l .covers) / 16) 256 in
-    let s = ltb (length (l .segments)) 256 in
+    let s = ltb (length (l .flags)) 512 in
     let iv = or-left (i || v) s short in
     let ids-room = ltb-false (length (l .ids)) 256 (or-left i v iv) in
     let covers-room = ltb-false (length (l .covers) / 16) 256 (or-right i v iv) in
-    let segments-room = ltb-false (length (l .segments)) 256 (or-right (i || v) s short) in
+    let flags-room = ltb-false (length (l .flags)) 512 (or-right (i || v) s short) in
     let q = incomingOf ls in
     let many : length q ≡ length ls = length-map ls _ in
     let ids-many : length (idsIn q) ≡ length q = length-map q (λ c. c .id) in
     let same-ids : length (over (idsIn q) (l .ids)) ≡ length (l .ids) = length-over (l .ids) (idsIn q) (omega (arith, ids-many, many, few, ids-room)) in
     let same-covers : length (over (coversIn q) (l .covers)) ≡ length (l .covers) = length-over (l .covers) (coversIn q) (omega (arith, length-covers q wide, many, few, covers-room)) in
-    let same-segments : length (over (segmentsOf ls) (l .segments)) ≡ length (l .segments) = length-over (l .segments) (segmentsOf ls) (omega (arith, length-map ls (λ x. hasAny (x .own)), few, segments-room)) in
+    let same-flags : length (flagsOver table ls (l .flags)) ≡ length (l .flags) = length-flags table ls (l .flags) few (omega (arith, few, flags-room)) in
     record {
       count = refl;
-      room = rw (same-ids, same-covers, same-segments) short;
+      room = rw (same-ids, same-covers, same-flags) short;
       ids = ap (λ (n : ℕ). take n (over (idsIn q) (l .ids))) (sym many) ∙ take-ids q (l .ids) (l .covers);
-      entries = entries-are ls (l .ids) (l .covers) (l .segments) wide;
+      entries = entries-are table ls (l .ids) (l .covers) (l .flags) wide few flags-room;
     }
 
 -- ---- a deciding from a list that says its layers
 
-module _ (c : DecideCall) (unmasked : List Bool) {ls : List Listed} (short : isLentShort (c .table) ≡ false) (table : isLentTable (c .table) ≡ true) (d : Decidable (layersOf (c .table)) ls) (says : ListSays ls (c .count) (c .list)) where
+module _ (c : DecideCall) (unmasked : List Bool) {ls : List Listed} (short : isLentShort (c .table) ≡ false) (table : isLentTable (c .table) ≡ true) (d : Decidable (layersOf (c .table)) ls) (says : ListSays (layersOf (c .table)) ls (c .count) (c .list)) where
   -- only the mask column and the tag are left to judge
   pub verdict-is : decidingVerdict c unmasked ≡ unless (ltb (length unmasked) 256) 1 (unless (tagOutOfRange (c .kept)) 6 pass)
   unfolding linesFor

@@ -102,14 +102,14 @@ module _ (c : WorkCall) (lent : WorkLent) (w : Words (c .row)) (e : argsVerdict 
           known = l .known;
         }
 
-    says : ListSays ls (length ls) (listedOver ls (lentPart lent .list))
-    says = written ls (lentPart lent .list) list-room (decidable .few) wide
+    says : ListSays (layersOf (c .table)) ls (length ls) (listedOver (layersOf (c .table)) ls (lentPart lent .list))
+    says = written (layersOf (c .table)) ls (lentPart lent .list) list-room (decidable .few) wide
 
   -- ---- the two calls
 
   -- what the listing gives, by the verdict on the layers
   abbrev listingBy : Judgement → ListGiven
-  listingBy v = listingOut v ls (handedOn (layersOf (c .table)) ls) (c .state) (lentPart lent)
+  listingBy v = listingOut v (layersOf (c .table)) ls (handedOn (layersOf (c .table)) ls) (c .state) (lentPart lent)
 
   first-is : listingFirst c lent ≡ listingBy (layersVerdict c)
   first-is = ap (λ (v : Judgement). listingBy (andThen v (layersVerdict c))) (lines .0)

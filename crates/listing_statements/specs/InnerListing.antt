@@ -20,7 +20,7 @@ use Rattle.listing_statements.specs.declared.TileListed.{TileListed}
 
 -- what is left of a listing once 1 to 5 pass: judged by 7 to 9, and then done
 abbrev pub listedWith : ListCall → ListLent → ListGiven
-listedWith c lent = listingOut (listedVerdict c) (listedBy c) (handedOn (layersOf (c .table)) (listedBy c)) (c .state) lent
+listedWith c lent = listingOut (listedVerdict c) (layersOf (c .table)) (listedBy c) (handedOn (layersOf (c .table)) (listedBy c)) (c .state) lent
 
 abbrev pub refusedListing : RowState → Refusal → TileListed
 refusedListing s r = record { state = s; answer = Refused r }
@@ -32,11 +32,11 @@ doneListing s n left =
       answer = Told n;
     }
 
--- room for 256 entries in a list and in a queue
-pub record ListingRooms (listIds : List ℕ) (listCovers : List ℤ) (segments : List Bool) (queueIds : List ℕ) (queueCovers : List ℤ) : Type 0 where
+-- room for 256 entries in a list, with two flags each, and in a queue
+pub record ListingRooms (listIds : List ℕ) (listCovers : List ℤ) (flags : List Bool) (queueIds : List ℕ) (queueCovers : List ℤ) : Type 0 where
   pub list-ids : 256 ≤ length listIds
   pub list-covers : 4096 ≤ length listCovers
-  pub list-segments : 256 ≤ length segments
+  pub list-flags : 512 ≤ length flags
   pub queue-ids : 256 ≤ length queueIds
   pub queue-covers : 4096 ≤ length queueCovers
 
@@ -48,4 +48,4 @@ pub record ListingJudged (c : ListCall) (lent : ListLent) : Type 0 where
   pub walks : Walks (c .state .left) (c .queue .ids) (tilePart (c .tile) (c .row))
   pub covers-long : 16 * c .state .left ≤ length (c .queue .covers)
   pub in-table : Table (c .table .words) (c .table .floats) (c .table .count)
-  pub rooms : ListingRooms (lent .list .ids) (lent .list .covers) (lent .list .segments) (lent .queue .ids) (lent .queue .covers)
+  pub rooms : ListingRooms (lent .list .ids) (lent .list .covers) (lent .list .flags) (lent .queue .ids) (lent .queue .covers)

@@ -17,9 +17,9 @@ pub record Decidable (table : List Layer) (ls : List Listed) : Type 0 where
   pub ascends : strictlyAscends (idsIn (incomingOf ls)) ≡ true
   pub known : areKnown table ls ≡ true
 
--- the first n entries of the list are these layers
-pub record ListSays (ls : List Listed) (n : ℕ) (l : TileList) : Type 0 where
+-- the first n entries of the list are these layers, marked by the table
+pub record ListSays (table : List Layer) (ls : List Listed) (n : ℕ) (l : TileList) : Type 0 where
   pub count : n ≡ length ls
   pub room : isTileListShort l ≡ false
   pub ids : take n (l .ids) ≡ idsIn (incomingOf ls)
-  pub entries : entriesFrom n l ≡ map entryOf ls
+  pub entries : entriesFrom n l ≡ map (entryOf table) ls

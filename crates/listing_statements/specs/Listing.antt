@@ -13,7 +13,8 @@ use Rattle.laws.specs.Lists.{over}
 use Rattle.refusals.specs.Refusal.{Judgement, pass, refuse, andThen, numberOf}
 use Rattle.segment_rows.specs.Search.{tilePart}
 use Rattle.queue_statements.specs.Queue.{Carry, idsIn, coversIn}
-use Rattle.tile_layers.specs.Listing.{Listed, layersIn, incomingOf, segmentsOf}
+use Rattle.styling.specs.declared.Layer.{Layer}
+use Rattle.tile_layers.specs.Listing.{Listed, layersIn, incomingOf, flagsOver}
 use Rattle.layer_carrying.specs.Carrying.{handedOn}
 use Rattle.pass_statements.specs.Entry.{Entry, entriesOf}
 use Rattle.row_statements.specs.Lent.{Columns, LentTable, carriesIn, isQueueShort, queueOver, areEntriesShort, layersOf, isLentShort}
@@ -24,32 +25,32 @@ use Rattle.listing_statements.specs.declared.ListAnswer.{ListAnswer}
 use Rattle.listing_statements.specs.declared.ListAnswer.the-variants.{Refused, Listed as Told}
 use Rattle.listing_statements.specs.declared.TileListed.{TileListed}
 
--- ---- a tile's list as it is lent: layer ids, 16 incoming covers for each, and whether the layer has segments in the tile. A second flag of each
--- entry, where a list has one, stands 256 places behind the first in the same column, so that it adds no column
+-- ---- a tile's list as it is lent: layer ids, 16 incoming covers for each, and whether the layer has segments in the tile. The second flag of each
+-- entry, whether its layer is changed, stands 256 places behind the first in the same column, so that it adds no column
 
 pub record TileList : Type 0 where
   pub ids : List ℕ
   pub covers : List ℤ
-  pub segments : List Bool
+  pub flags : List Bool
 
 abbrev pub tileList : List ℕ → List ℤ → List Bool → TileList
-tileList ids covers segments = record { ids = ids; covers = covers; segments = segments }
+tileList ids covers flags = record { ids = ids; covers = covers; flags = flags }
 
 -- its first n entries
 abbrev pub entriesFrom : ℕ → TileList → List Entry
-entriesFrom n l = entriesOf n (l .ids) (l .covers) (l .segments)
+entriesFrom n l = entriesOf n (l .ids) (l .covers) (l .flags)
 
--- 1: fewer than 256 entries
+-- 1: fewer than 256 entries, of two flags each
 abbrev pub isTileListShort : TileList → Bool
-isTileListShort l = areEntriesShort (l .ids) (l .covers) (l .segments)
+isTileListShort l = areEntriesShort (l .ids) (l .covers) (l .flags)
 
--- layers written over what the columns held
-abbrev pub listedOver : List Listed → TileList → TileList
-listedOver ls l =
+-- layers, with their marks by the table, written over what the columns held
+abbrev pub listedOver : List Layer → List Listed → TileList → TileList
+listedOver table ls l =
     record {
       ids = over (idsIn (incomingOf ls)) (l .ids);
       covers = over (coversIn (incomingOf ls)) (l .covers);
-      segments = over (segmentsOf ls) (l .segments);
+      flags = flagsOver table ls (l .flags);
     }
 
 -- ---- the call
@@ -102,18 +103,18 @@ pub record ListGiven : Type 0 where
   pub state : State
   pub lent : ListLent
 
--- by the verdict, the tile's layers and the carries past it
-unfoldable pub listingOut : Judgement → List Listed → List Carry → State → ListLent → ListGiven
-listingOut (refuse number) ls handed s lent = record { answer = refused number; state = s; lent = lent }
-listingOut pass ls handed s lent =
+-- by the verdict, the table, the tile's layers and the carries past it
+unfoldable pub listingOut : Judgement → List Layer → List Listed → List Carry → State → ListLent → ListGiven
+listingOut (refuse number) table ls handed s lent = record { answer = refused number; state = s; lent = lent }
+listingOut pass table ls handed s lent =
     record {
       answer = given (length ls);
       state = nextState s (length handed);
-      lent = record { queue = queueOver handed (lent .queue); list = listedOver ls (lent .list) };
+      lent = record { queue = queueOver handed (lent .queue); list = listedOver table ls (lent .list) };
     }
 
 abbrev pub listingOf : ListCall → ListLent → ListGiven
-listingOf c lent = listingOut (listingVerdict c lent) (listedBy c) (handedOn (layersOf (c .table)) (listedBy c)) (c .state) lent
+listingOf c lent = listingOut (listingVerdict c lent) (layersOf (c .table)) (listedBy c) (handedOn (layersOf (c .table)) (listedBy c)) (c .state) lent
 
 -- ---- the promise
 

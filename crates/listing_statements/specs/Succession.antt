@@ -19,7 +19,7 @@ abbrev pub listingPart : WorkCall → ListCall
 listingPart c = listCall (c .state) (c .tile) (c .row) (c .table) (c .queue)
 
 abbrev pub lentPart : WorkLent → ListLent
-lentPart lent = listLent (lent .queue) (tileList (lent .list .ids) (lent .list .covers) (lent .list .segments))
+lentPart lent = listLent (lent .queue) (tileList (lent .list .ids) (lent .list .covers) (lent .list .flags))
 
 abbrev pub listingFirst : WorkCall → WorkLent → ListGiven
 listingFirst c lent = listingOf (listingPart c) (lentPart lent)
@@ -36,7 +36,7 @@ bothTold n (refused number) = refused number
 bothTold n (given t) = given (record { decision = t .decision; listed = n; skipped = t .skipped })
 
 abbrev pub lentBoth : ListLent → List Bool → WorkLent
-lentBoth back unmasked = record { queue = back .queue; list = listColumns (back .list .ids) (back .list .covers) (back .list .segments) unmasked }
+lentBoth back unmasked = record { queue = back .queue; list = listColumns (back .list .ids) (back .list .covers) (back .list .flags) unmasked }
 
 abbrev pub decidedBy : DecideGiven → ℕ → State → ListLent → WorkGiven
 decidedBy d n s back = record { answer = bothTold n (d .answer); state = s; kept = d .kept; lent = lentBoth back (d .unmasked) }

@@ -12,5 +12,5 @@ use Rattle.pass_statements.specs.Item.{itemsOf}
 use Rattle.layer_workbench.specs.Work.{entryOf}
 use Rattle.painter.specs.Painting.{itemsIn}
 
-pub items-known : (table : List Layer) (ls : List Listed) → areKnown table ls ≡ true → itemsIn table ls ≡ itemsOf table (map entryOf ls)
-items-known table ls h = ap (λ (ks : List Listed). itemsOf table (map entryOf ks)) (filter-all (λ l. isGiven (lookup table (l .id))) ls h)
+pub items-known : (table : List Layer) (ls : List Listed) → areKnown table ls ≡ true → itemsIn table ls ≡ itemsOf table (map (entryOf table) ls)
+items-known table ls h = ap (λ (ks : List Listed). itemsOf table (map (entryOf table) ks)) (filter-all (λ l. isGiven (lookup table (l .id))) ls h)

@@ -33,7 +33,7 @@ use Rattle.painter.specs.declared.painting.Painting as painting
 
 -- the listed layers that the table has: a layer that it lacks is no clip. After an accepted tile work it has them all
 abbrev pub itemsIn : List Layer → List Listed → List Item
-itemsIn table ls = itemsOf table (map entryOf (filter (λ l. isGiven (lookup table (l .id))) ls))
+itemsIn table ls = itemsOf table (map (entryOf table) (filter (λ l. isGiven (lookup table (l .id))) ls))
 
 -- a draw of the layer id needs a clip in the tile
 abbrev pub needsIn : List Layer → List Carry → List ℕ → Func → ℕ → Bool

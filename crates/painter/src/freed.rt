@@ -5,6 +5,7 @@ use styling::Func;
 use styling::Layer;
 use tile_layers::walk;
 ghost use mathlib.Core.Path.{_≡_};
+ghost use mathlib.Core.Bool.{false};
 ghost use mathlib.Core.Option.{none};
 ghost use Prim.Native.Nat.{_*_, _≤_};
 ghost use lib.ListN.{length};
@@ -33,6 +34,7 @@ fn freed_after(
       cover = cover .covers;
       segments =
           «has_segments»;
+      changed = false;
     })) id freed ⌝ }
 {
     let props = layer.props;
@@ -63,7 +65,7 @@ fn freed_by(
 ) -> bool
     requires { ⌜ Table (now layers) (now colors) count ⌝ }
     ensures { λ r. ⌜ r ≡ freedBy (lookup (tableOf (now (layers .entry)) (now (colors .entry)) count) at)
-        (record { id = at; cover = cover .covers; segments = «has_segments» }) id freed ⌝ }
+        (record { id = at; cover = cover .covers; segments = «has_segments»; changed = false }) id freed ⌝ }
 {
     match layer_table::find(layers, count, at) {
         Found::At(p) => {

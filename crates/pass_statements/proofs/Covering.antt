@@ -1,6 +1,6 @@
 -- The third pass as it runs: what is left of it, over the i lowest layers, gives what the whole pass gives. Assumes nothing.
 use mathlib.Core.Path.{_≡_, refl, sym, ap, _∙_}
-use mathlib.Core.Bool.{Bool, true, false, cond, not, _&&_}
+use mathlib.Core.Bool.{Bool, true, false, cond}
 use mathlib.Core.Logic.{_⊎_, inl, inr, ⊎-map}
 use mathlib.Core.List.{List}
 use Prim.Native.Nat.{ℕ, zero, suc, _-_, _≤_, _<_}
@@ -10,8 +10,7 @@ use lib.ListN.{length, getD}
 use Rattle.laws.proofs.Bools.{clash}
 use Rattle.pass_statements.specs.declared.item.Item.{Item}
 use Rattle.pass_statements.specs.declared.covered.Covered.{Covered}
-use Rattle.pass_statements.specs.declared.covered.InterestingCover.the-variants.{Absent}
-use Rattle.pass_statements.specs.Covered.{hides, lookAt, itemAt, coveredFrom, areClipsUnchanged, coveredOf}
+use Rattle.pass_statements.specs.Covered.{hides, lookAt, itemAt, coveredFrom, startOf, coveredOf}
 
 -- ---- one layer, by its tests
 
@@ -38,9 +37,8 @@ pub record Looking (items : List Item) (unmasked unclipped : List Bool) (n : ℕ
   pub rest : coveredFrom items unmasked unclipped i found ≡ coveredOf items unmasked unclipped removed
 
 module _ {items : List Item} {unmasked unclipped : List Bool} {n : ℕ} {removed : Bool} where
-  pub look-start : {clips : Bool} → length items ≡ n → clips ≡ areClipsUnchanged items
-      → Looking items unmasked unclipped n removed n (record { first = Absent; unchanged = not removed && clips; skipped = record { 0 = 0 } })
-  look-start e c = record { reached = omega arith; rest = rw (c, e) }
+  pub look-start : {found : Covered} → length items ≡ n → found ≡ startOf items removed → Looking items unmasked unclipped n removed n found
+  look-start e f = record { reached = omega arith; rest = rw (f, e) }
 
   module _ {i : ℕ} {found : Covered} (v : Looking items unmasked unclipped n removed i found) (p : 0 < i) where
     before : coveredFrom items unmasked unclipped (suc (i - 1)) found ≡ coveredOf items unmasked unclipped removed

@@ -47,6 +47,22 @@ mark-read table e = by (lookup table (e .id))
     by (refused n) = refl
     by (given l) = refl
 
+-- an entry whose mark is not set is no changed clip; one whose mark is set is one where it is a clip
+module _ (table : List Layer) (e : Entry) where
+  pub unmarked : e .changed ≡ false → true ≡ isClipUnchanged (itemOf table e)
+  unmarked m = by (isClip (itemOf table e .func)) (itemOf table e .unchanged) (mark-read table e ∙ ap not m)
+    where
+      by : (c u : Bool) → u ≡ true → true ≡ (not c || u)
+      by true u q = sym q
+      by false u q = refl
+
+  pub marked-draws : {c : Bool} → e .changed ≡ true → c ≡ isClip (itemOf table e .func) → not c ≡ isClipUnchanged (itemOf table e)
+  marked-draws {c} m q = ap not q ∙ by (isClip (itemOf table e .func)) (itemOf table e .unchanged) (mark-read table e ∙ ap not m)
+    where
+      by : (c u : Bool) → u ≡ false → not c ≡ (not c || u)
+      by true u r = sym r
+      by false u r = refl
+
 -- ---- a changed clip
 
 clip-at : (items : List Item) (i : ℕ) → i < length items → isClip (itemAt items i .func) ≡ true → itemAt items i .unchanged ≡ false → areClipsUnchanged items ≡ false

@@ -66,7 +66,7 @@ pub fn fill(column: &mut [bool], n: usize, mark: bool)
 pub fn skip_trivial_clips_pass(
     ids: &[u32],
     covers: &[i8],
-    segments: &[bool],
+    flags: &[bool],
     n: usize,
     layers: &[u32],
     colors: &[f32],
@@ -74,10 +74,10 @@ pub fn skip_trivial_clips_pass(
     unmasked: &mut [bool],
     unclipped: &mut [bool],
 )
-    requires { ⌜ EntryColumns n (now ids) (now covers) (now segments) × Table (now layers) (now colors) count
+    requires { ⌜ EntryColumns n (now ids) (now covers) (now flags) × Table (now layers) (now colors) count
         × (n ≤ length (now unmasked)) × (n ≤ length (now unclipped)) ⌝ }
     ensures { λ _. ⌜ Marking (itemsOf (tableOf (now (layers .entry)) (now (colors .entry)) count)
-        (entriesOf n (now (ids .entry)) (now (covers .entry)) (now (segments .entry)))) (now (unmasked .entry))
+        (entriesOf n (now (ids .entry)) (now (covers .entry)) (now (flags .entry)))) (now (unmasked .entry))
         (now (unclipped .entry)) (now (unmasked .exit)) (now (unclipped .exit)) ⌝ }
 {
     fill(unmasked, n, true);
@@ -86,7 +86,7 @@ pub fn skip_trivial_clips_pass(
     let mut i: usize = 0;
     while i < n {
         let at = Index(i);
-        let x = item::item_at(ids, covers, segments, n, layers, colors, count, at);
+        let x = item::item_at(ids, covers, flags, n, layers, colors, count, at);
         let s = trivial_clip_steps::clip_step(x, cur, at);
         mark(unmasked, unclipped, at, s);
         cur = s.cur;

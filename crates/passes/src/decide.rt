@@ -44,7 +44,7 @@ fn is_color(paint: Paint) -> bool
 fn are_solid(
     ids: &[u32],
     covers: &[i8],
-    segments: &[bool],
+    flags: &[bool],
     n: usize,
     layers: &[u32],
     colors: &[f32],
@@ -53,11 +53,11 @@ fn are_solid(
     skipped: Index,
     below: usize,
 ) -> bool
-    requires { ⌜ EntryColumns n (now ids) (now covers) (now segments) × Table (now layers) (now colors) count
+    requires { ⌜ EntryColumns n (now ids) (now covers) (now flags) × Table (now layers) (now colors) count
         × (n ≤ length (now unmasked)) ⌝ }
     ensures { λ r. ⌜ r ≡ areSolid below (shownOf (skipped .0)
         (itemsOf (tableOf (now (layers .entry)) (now (colors .entry)) count)
-        (entriesOf n (now (ids .entry)) (now (covers .entry)) (now (segments .entry)))) (now (unmasked .entry))) ⌝ }
+        (entriesOf n (now (ids .entry)) (now (covers .entry)) (now (flags .entry)))) (now (unmasked .entry))) ⌝ }
 {
     let mut ok = true;
     let mut left = below;
@@ -67,7 +67,7 @@ fn are_solid(
         i += 1;
         if unmasked[at] {
             if left == 0 {
-                let x = item::item_at(ids, covers, segments, n, layers, colors, count, Index(at));
+                let x = item::item_at(ids, covers, flags, n, layers, colors, count, Index(at));
                 let func = x.func;
                 ok = ok & is_color(func.solid_color());
             } else {
@@ -82,7 +82,7 @@ fn mix(
     bottom: Bottom,
     ids: &[u32],
     covers: &[i8],
-    segments: &[bool],
+    flags: &[bool],
     n: usize,
     layers: &[u32],
     colors: &[f32],
@@ -90,11 +90,11 @@ fn mix(
     unmasked: &[bool],
     skipped: Index,
 ) -> Decision
-    requires { ⌜ EntryColumns n (now ids) (now covers) (now segments) × Table (now layers) (now colors) count
+    requires { ⌜ EntryColumns n (now ids) (now covers) (now flags) × Table (now layers) (now colors) count
         × (n ≤ length (now unmasked)) ⌝ }
     ensures { λ r. ⌜ decisionIn r ≡ mixedOf bottom (shownOf (skipped .0)
         (itemsOf (tableOf (now (layers .entry)) (now (colors .entry)) count)
-        (entriesOf n (now (ids .entry)) (now (covers .entry)) (now (segments .entry)))) (now (unmasked .entry))) ⌝ }
+        (entriesOf n (now (ids .entry)) (now (covers .entry)) (now (flags .entry)))) (now (unmasked .entry))) ⌝ }
 {
     match bottom {
         Bottom::Settled(decision) => decision,
@@ -102,7 +102,7 @@ fn mix(
             if are_solid(
                 ids,
                 covers,
-                segments,
+                flags,
                 n,
                 layers,
                 colors,
@@ -125,7 +125,7 @@ fn decide_unmasked(
     removed: bool,
     ids: &[u32],
     covers: &[i8],
-    segments: &[bool],
+    flags: &[bool],
     n: usize,
     layers: &[u32],
     colors: &[f32],
@@ -133,17 +133,17 @@ fn decide_unmasked(
     unmasked: &[bool],
     unclipped: &[bool],
 ) -> Decided
-    requires { ⌜ EntryColumns n (now ids) (now covers) (now segments) × Table (now layers) (now colors) count
+    requires { ⌜ EntryColumns n (now ids) (now covers) (now flags) × Table (now layers) (now colors) count
         × (n ≤ length (now unmasked)) × (n ≤ length (now unclipped)) ⌝ }
     ensures { λ r. ⌜ DecidedBy (coveredOf (itemsOf (tableOf (now (layers .entry)) (now (colors .entry)) count)
-        (entriesOf n (now (ids .entry)) (now (covers .entry)) (now (segments .entry)))) (now (unmasked .entry))
+        (entriesOf n (now (ids .entry)) (now (covers .entry)) (now (flags .entry)))) (now (unmasked .entry))
         (now (unclipped .entry)) removed) clear (itemsOf (tableOf (now (layers .entry)) (now (colors .entry)) count)
-        (entriesOf n (now (ids .entry)) (now (covers .entry)) (now (segments .entry)))) (now (unmasked .entry)) r ⌝ }
+        (entriesOf n (now (ids .entry)) (now (covers .entry)) (now (flags .entry)))) (now (unmasked .entry)) r ⌝ }
 {
     let found = covered::skip_fully_covered_layers_pass(
         ids,
         covers,
-        segments,
+        flags,
         n,
         layers,
         colors,
@@ -159,7 +159,7 @@ fn decide_unmasked(
         bottom,
         ids,
         covers,
-        segments,
+        flags,
         n,
         layers,
         colors,
@@ -179,25 +179,25 @@ fn run_passes(
     removed: bool,
     ids: &[u32],
     covers: &[i8],
-    segments: &[bool],
+    flags: &[bool],
     n: usize,
     layers: &[u32],
     colors: &[f32],
     count: usize,
     unmasked: &mut [bool],
 ) -> Decided
-    requires { ⌜ EntryColumns n (now ids) (now covers) (now segments) × Table (now layers) (now colors) count
+    requires { ⌜ EntryColumns n (now ids) (now covers) (now flags) × Table (now layers) (now colors) count
         × (n ≤ length (now unmasked)) ⌝ }
     ensures { λ r. ⌜ Deciding (passedOf clear removed (itemsOf
         (tableOf (now (layers .entry)) (now (colors .entry)) count)
-        (entriesOf n (now (ids .entry)) (now (covers .entry)) (now (segments .entry))))) (now (unmasked .entry)) r
+        (entriesOf n (now (ids .entry)) (now (covers .entry)) (now (flags .entry))))) (now (unmasked .entry)) r
         (now (unmasked .exit)) ⌝ }
 {
     let mut unclipped = [false; 256];
     clips::skip_trivial_clips_pass(
         ids,
         covers,
-        segments,
+        flags,
         n,
         layers,
         colors,
@@ -210,7 +210,7 @@ fn run_passes(
         removed,
         ids,
         covers,
-        segments,
+        flags,
         n,
         layers,
         colors,
@@ -227,18 +227,18 @@ pub fn decide(
     previous: PreviousCount,
     ids: &[u32],
     covers: &[i8],
-    segments: &[bool],
+    flags: &[bool],
     n: usize,
     layers: &[u32],
     colors: &[f32],
     count: usize,
     unmasked: &mut [bool],
 ) -> Decided
-    requires { ⌜ EntryColumns n (now ids) (now covers) (now segments) × Table (now layers) (now colors) count
+    requires { ⌜ EntryColumns n (now ids) (now covers) (now flags) × Table (now layers) (now colors) count
         × (n ≤ length (now unmasked)) ⌝ }
     ensures { λ r. ⌜ Deciding (outcomeOf clear «clear_unchanged» previous
         (itemsOf (tableOf (now (layers .entry)) (now (colors .entry)) count)
-        (entriesOf n (now (ids .entry)) (now (covers .entry)) (now (segments .entry))))) (now (unmasked .entry)) r
+        (entriesOf n (now (ids .entry)) (now (covers .entry)) (now (flags .entry))))) (now (unmasked .entry)) r
         (now (unmasked .exit)) ⌝ }
 {
     if tile_unchanged::is_kept(
@@ -246,7 +246,7 @@ pub fn decide(
         previous,
         ids,
         covers,
-        segments,
+        flags,
         n,
         layers,
         colors,
@@ -264,7 +264,7 @@ pub fn decide(
         removed,
         ids,
         covers,
-        segments,
+        flags,
         n,
         layers,
         colors,

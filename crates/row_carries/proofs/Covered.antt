@@ -37,9 +37,9 @@ item-id : (a : Answer Layer) (e : Entry) → itemFrom a e .id ≡ e .id
 item-id (refused n) e = refl
 item-id (given l) e = refl
 
-item-ids : (table : List Layer) (ls : List Listed) → map (λ x. x .id) (itemsOf table (map entryOf ls)) ≡ listedIds ls
+item-ids : (table : List Layer) (ls : List Listed) → map (λ x. x .id) (itemsOf table (map (entryOf table) ls)) ≡ listedIds ls
 item-ids table [] = refl
-item-ids table (l ∷ ls) = ap₂ _∷_ (item-id (lookup table (l .id)) (entryOf l)) (item-ids table ls)
+item-ids table (l ∷ ls) = ap₂ _∷_ (item-id (lookup table (l .id)) (entryOf table l)) (item-ids table ls)
 
 opaque-draws : (f : Func) → isOpaque f ≡ true → isClip f ≡ false
 opaque-draws (Draw style) h = refl
@@ -55,13 +55,13 @@ module _ {ty : ℕ} {row : List ℕ} (r : InOrder ty row) (table : List Layer) (
   pub item-at-id : (n p : ℕ) → p < length (layersAt table row from n) → itemAt (itemsAt table row from n) p .id ≡ listedIdAt table row from n p
   item-at-id n p h =
       ap (λ (x : Item). x .id) (item-listed table (layersAt table row from n) p h)
-      ∙ item-id (lookup table (listedIdAt table row from n p)) (entryOf (getD (layersAt table row from n) p noListed))
+      ∙ item-id (lookup table (listedIdAt table row from n p)) (entryOf table (getD (layersAt table row from n) p noListed))
 
   hidden : (n i p : ℕ) (o : Outcome) → i < p → p ≡ o .skipped → Over (itemsAt table row from n) (o .unmasked) i p → CoveredUnder table row from n o i
   hidden n i p o h s c =
       let ls = layersAt table row from n in
       let items = itemsAt table row from n in
-      let many : length items ≡ length ls = length-map (map entryOf ls) (itemOf table) ∙ length-map ls entryOf in
+      let many : length items ≡ length ls = length-map (map (entryOf table) ls) (itemOf table) ∙ length-map ls (entryOf table) in
       let over = c .covers in
       let at : p < length ls = rw (← many) (over .listed) in
       record {

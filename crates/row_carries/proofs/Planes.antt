@@ -60,10 +60,10 @@ zero-empty EvenOdd = refl
 
 -- ---- the item of a listed layer
 
-pub item-listed : (table : List Layer) (ls : List Listed) (p : ℕ) → p < length ls → itemAt (itemsOf table (map entryOf ls)) p ≡ itemOf table (entryOf (getD ls p noListed))
+pub item-listed : (table : List Layer) (ls : List Listed) (p : ℕ) → p < length ls → itemAt (itemsOf table (map (entryOf table) ls)) p ≡ itemOf table (entryOf table (getD ls p noListed))
 item-listed table ls p h =
-    map-at (itemOf table) (map entryOf ls) p (drop-cons (map entryOf ls) p (entryOf noListed) (rw (length-map ls entryOf) h)) _
-    ∙ ap (itemOf table) (map-at entryOf ls p (drop-cons ls p noListed h) (entryOf noListed))
+    map-at (itemOf table) (map (entryOf table) ls) p (drop-cons (map (entryOf table) ls) p (entryOf table noListed) (rw (length-map ls (entryOf table)) h)) _
+    ∙ ap (itemOf table) (map-at (entryOf table) ls p (drop-cons ls p noListed h) (entryOf table noListed))
 
 -- an item that is full has no segments, and a cover that is full by the layer's rule
 record Full (rule : FillRule) (e : Entry) : Type 0 where
@@ -112,7 +112,7 @@ module _ {ty : ℕ} {row : List ℕ} (r : InOrder ty row) (table : List Layer) (
       let rule = ruleIn table (l .id) in
       let left = leftCover cpu (suc (from + n)) (l .id) row in
       let is : ListedIs table row from n l = listed-is r table from n p h in
-      let told : Full rule (entryOf l) = is-full (lookup table (l .id)) (entryOf l) (rw (item-listed table (layersAt table row from n) p h) at f) in
+      let told : Full rule (entryOf table l) = is-full (lookup table (l .id)) (entryOf table l) (rw (item-listed table (layersAt table row from n) p h) at f) in
       let by-row : every 16 (λ y. fullAt rule (left y)) ≡ true =
       sym (full-from-row (held-wide (queueAfter table row from n) (l .id) (queue-wide r table from n)) (held-from-row r table from n (l .id)))
       ∙ ap (isFull rule) (sym (is .cover-is))

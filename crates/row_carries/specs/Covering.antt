@@ -23,7 +23,7 @@ use Rattle.row_carries.specs.Carries.{layersAt}
 
 -- what the passes read of the layers of tile from + n
 abbrev pub itemsAt : List Layer → List ℕ → ℕ → ℕ → List Item
-itemsAt table row from n = itemsOf table (map entryOf (layersAt table row from n))
+itemsAt table row from n = itemsOf table (map (entryOf table) (layersAt table row from n))
 
 -- the id of the layer that is listed in a place
 abbrev pub listedIdAt : List Layer → List ℕ → ℕ → ℕ → ℕ → ℕ

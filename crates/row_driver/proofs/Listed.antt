@@ -122,8 +122,8 @@ module _ (a : WorkCall) (lent : WorkLent) (ready : Workable a lent) where
   flags-long : length (saysFor a .outcome .unmasked) ≡ length (listedFor a)
   unfolding outcomeByEntries
   flags-long =
-      outcome-long (a .clear) (clearUnchanged (a .previous) (a .clear)) (countFrom (previousCount (a .kept))) (map (itemOf (layersOf (a .table))) (map entryOf (listedFor a)))
-      ∙ length-map (map entryOf (listedFor a)) (itemOf (layersOf (a .table))) ∙ length-map (listedFor a) entryOf
+      outcome-long (a .clear) (clearUnchanged (a .previous) (a .clear)) (countFrom (previousCount (a .kept))) (map (itemOf (layersOf (a .table))) (map (entryOf (layersOf (a .table))) (listedFor a)))
+      ∙ length-map (map (entryOf (layersOf (a .table))) (listedFor a)) (itemOf (layersOf (a .table))) ∙ length-map (listedFor a) (entryOf (layersOf (a .table)))
 
   ids-long : length (idsIn (incomingOf (listedFor a))) ≡ length (listedFor a)
   ids-long = length-map (incomingOf (listedFor a)) (λ c. c .id) ∙ length-map (listedFor a) (λ x. record { id = x .id; cover = x .cover })

@@ -31,7 +31,7 @@ use Rattle.row_lines.specs.declared.Driven.the-variants.{Refused}
 -- ---- the arrays of the driver
 
 abbrev emptyList : ListColumns
-emptyList = record { ids = replicate 256 0; covers = replicate 4096 (pos 0); segments = replicate 256 false; unmasked = replicate 256 false }
+emptyList = record { ids = replicate 256 0; covers = replicate 4096 (pos 0); flags = replicate 512 false; unmasked = replicate 256 false }
 
 queue-long : isQueueShort emptyQueue ≡ false
 queue-long = refl

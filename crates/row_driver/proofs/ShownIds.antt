@@ -54,13 +54,13 @@ item-id : (a : Answer Layer) (e : Entry) → itemFrom a e .id ≡ e .id
 item-id (refused n) e = refl
 item-id (given l) e = refl
 
-items-ids : (table : List Layer) (ls : List Listed) → map idOf (itemsOf table (map entryOf ls)) ≡ idsIn (incomingOf ls)
+items-ids : (table : List Layer) (ls : List Listed) → map idOf (itemsOf table (map (entryOf table) ls)) ≡ idsIn (incomingOf ls)
 items-ids table [] = refl
-items-ids table (l ∷ ls) = ap₂ (λ (i : ℕ) (is : List ℕ). i ∷ is) (item-id (lookup table (l .id)) (entryOf l)) (items-ids table ls)
+items-ids table (l ∷ ls) = ap₂ (λ (i : ℕ) (is : List ℕ). i ∷ is) (item-id (lookup table (l .id)) (entryOf table l)) (items-ids table ls)
 
 pub shown-ids : (table : List Layer) (skipped : ℕ) (shown : List Bool) (ls : List Listed)
-    → shownIn skipped shown (idsIn (incomingOf ls)) ≡ map (λ x. x .id) (shownOf skipped (itemsOf table (map entryOf ls)) shown)
+    → shownIn skipped shown (idsIn (incomingOf ls)) ≡ map (λ x. x .id) (shownOf skipped (itemsOf table (map (entryOf table) ls)) shown)
 shown-ids table skipped shown ls =
-    let items = itemsOf table (map entryOf ls) in
+    let items = itemsOf table (map (entryOf table) ls) in
     let none : 0 + skipped ≡ skipped = omega arith in
     ap (shownIn skipped shown) (sym (items-ids table ls)) ∙ sym (before skipped 0 items shown) ∙ ap (λ (m : ℕ). map idOf (shownFrom 0 m items shown)) none

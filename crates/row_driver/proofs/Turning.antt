@@ -33,7 +33,7 @@ use Rattle.row_driver.specs.declared.tile.TileLine.{TileLine}
 use Rattle.row_driver.proofs.LineLaws as line
 
 -- a lent list keeps its room
-pub list-kept : (list list′ : ListColumns) → length (list′ .ids) ≡ length (list .ids) → length (list′ .covers) ≡ length (list .covers) → length (list′ .segments) ≡ length (list .segments) → length (list′ .unmasked) ≡ length (list .unmasked) → isListShort list ≡ false → isListShort list′ ≡ false
+pub list-kept : (list list′ : ListColumns) → length (list′ .ids) ≡ length (list .ids) → length (list′ .covers) ≡ length (list .covers) → length (list′ .flags) ≡ length (list .flags) → length (list′ .unmasked) ≡ length (list .unmasked) → isListShort list ≡ false → isListShort list′ ≡ false
 list-kept list list′ ei ec es eh h = rw (ei, ec, es, eh) h
 
 -- the side whose turn it is not

@@ -65,13 +65,13 @@ fn drive_tiles(
     b_covers: &mut [i8],
     list_ids: &mut [u32],
     list_covers: &mut [i8],
-    list_segments: &mut [bool],
+    list_flags: &mut [bool],
     list_unmasked: &mut [bool],
     lines: &mut [u32],
 ) -> Driven
     requires { ⌜ steps.Drivable (steps.rowBy state (now row) (now layers) (now colors) count) state n
         (columns (now «a_ids») (now «a_covers»)) (columns (now «b_ids») (now «b_covers»))
-        (listColumns (now «list_ids») (now «list_covers») (now «list_segments»)
+        (listColumns (now «list_ids») (now «list_covers») (now «list_flags»)
         (now «list_unmasked»))
         (now lines) ⌝ }
     ensures { λ r. ⌜ Drives
@@ -97,7 +97,7 @@ fn drive_tiles(
             b_covers,
             list_ids,
             list_covers,
-            list_segments,
+            list_flags,
             list_unmasked,
         );
         let worked = step.worked;
@@ -141,7 +141,7 @@ fn drive_open(
     let mut next_covers = [0i8; 4096];
     let mut list_ids = [0u32; 256];
     let mut list_covers = [0i8; 4096];
-    let mut list_segments = [false; 256];
+    let mut list_flags = [false; 512];
     let mut list_unmasked = [false; 256];
     drive_tiles(
         state,
@@ -156,7 +156,7 @@ fn drive_open(
         &mut next_covers,
         &mut list_ids,
         &mut list_covers,
-        &mut list_segments,
+        &mut list_flags,
         &mut list_unmasked,
         lines,
     )

@@ -91,23 +91,23 @@ fn work_line(
     next_covers: &mut [i8],
     list_ids: &mut [u32],
     list_covers: &mut [i8],
-    list_segments: &mut [bool],
+    list_flags: &mut [bool],
     list_unmasked: &mut [bool],
 ) -> TileLine
     requires { ⌜ Workable
         (argsOf state tile (now row) (now layers) (now colors) count (columns (now ids) (now covers)))
         (workLent (columns (now «next_ids») (now «next_covers»))
-        (listColumns (now «list_ids») (now «list_covers») (now «list_segments»)
+        (listColumns (now «list_ids») (now «list_covers») (now «list_flags»)
         (now «list_unmasked»))) ⌝ }
     ensures { λ r. ⌜ WorksLine
         (argsOf state tile (now (row .entry)) (now (layers .entry)) (now (colors .entry)) count
         (columns (now (ids .entry)) (now (covers .entry))))
         (workLent (columns (now («next_ids» .entry)) (now («next_covers» .entry)))
-        (listColumns (now («list_ids» .entry)) (now («list_covers» .entry)) (now («list_segments» .entry))
+        (listColumns (now («list_ids» .entry)) (now («list_covers» .entry)) (now («list_flags» .entry))
         (now («list_unmasked» .entry))))
         r
         (workLent (columns (now («next_ids» .exit)) (now («next_covers» .exit)))
-        (listColumns (now («list_ids» .exit)) (now («list_covers» .exit)) (now («list_segments» .exit))
+        (listColumns (now («list_ids» .exit)) (now («list_covers» .exit)) (now («list_flags» .exit))
         (now («list_unmasked» .exit)))) ⌝ }
 {
     let worked = row_working::work_judged(
@@ -126,7 +126,7 @@ fn work_line(
         next_covers,
         list_ids,
         list_covers,
-        list_segments,
+        list_flags,
         list_unmasked,
     );
     let answer = worked.answer;
@@ -177,7 +177,7 @@ pub fn turn(
     b_covers: &mut [i8],
     list_ids: &mut [u32],
     list_covers: &mut [i8],
-    list_segments: &mut [bool],
+    list_flags: &mut [bool],
     list_unmasked: &mut [bool],
 ) -> TileLine
     requires { ⌜ Workable
@@ -185,18 +185,18 @@ pub fn turn(
         (side «in_a» (columns (now «a_ids») (now «a_covers»)) (columns (now «b_ids») (now «b_covers»))))
         (workLent
         (side (not «in_a») (columns (now «a_ids») (now «a_covers»)) (columns (now «b_ids») (now «b_covers»)))
-        (listColumns (now «list_ids») (now «list_covers») (now «list_segments»)
+        (listColumns (now «list_ids») (now «list_covers») (now «list_flags»)
         (now «list_unmasked»))) ⌝ }
     ensures { λ r. ⌜ Turns «in_a» state tile
         (now (row .entry)) (now (layers .entry)) (now (colors .entry)) count
         (columns (now («a_ids» .entry)) (now («a_covers» .entry)))
         (columns (now («b_ids» .entry)) (now («b_covers» .entry)))
-        (listColumns (now («list_ids» .entry)) (now («list_covers» .entry)) (now («list_segments» .entry))
+        (listColumns (now («list_ids» .entry)) (now («list_covers» .entry)) (now («list_flags» .entry))
         (now («list_unmasked» .entry)))
         r
         (columns (now («a_ids» .exit)) (now («a_covers» .exit)))
         (columns (now («b_ids» .exit)) (now («b_covers» .exit)))
-        (listColumns (now («list_ids» .exit)) (now («list_covers» .exit)) (now («list_segments» .exit))
+        (listColumns (now («list_ids» .exit)) (now («list_covers» .exit)) (now («list_flags» .exit))
         (now («list_unmasked» .exit))) ⌝ }
 {
     if in_a {
@@ -213,7 +213,7 @@ pub fn turn(
             b_covers,
             list_ids,
             list_covers,
-            list_segments,
+            list_flags,
             list_unmasked,
         )
     } else {
@@ -230,7 +230,7 @@ pub fn turn(
             a_covers,
             list_ids,
             list_covers,
-            list_segments,
+            list_flags,
             list_unmasked,
         )
     }

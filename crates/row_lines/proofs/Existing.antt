@@ -104,7 +104,7 @@ module _ (o : OpenRow) (is-open : IsOpen o) where
   -- ---- the work on each tile, and its paintings
 
   abbrev pub emptyList : ListColumns
-  emptyList = record { ids = replicate 256 0; covers = replicate 4096 (pos 0); segments = replicate 256 false; unmasked = replicate 256 false }
+  emptyList = record { ids = replicate 256 0; covers = replicate 4096 (pos 0); flags = replicate 512 false; unmasked = replicate 256 false }
 
   abbrev pub choiceWork : ℕ → Held → WorkChoice
   choiceWork n h = record { tile = pos (o .from + n); kept = noTile; clear = clearColor; previous = Absent; queue = h .queue; lent = record { queue = emptyQueue; list = emptyList } }

@@ -127,7 +127,7 @@ row-first = refl
 -- ---- tile works: tiles 0 to 4, of which 2 is the next; two carries with the ids a and b are left
 
 abbrev lent : WorkLent
-lent = workLent (room 256) (listColumns (replicate 256 0) (replicate 4096 (pos 0)) (replicate 256 false) (replicate 256 false))
+lent = workLent (room 256) (listColumns (replicate 256 0) (replicate 4096 (pos 0)) (replicate 512 false) (replicate 256 false))
 
 abbrev black : Color
 black = record { r = nan; g = nan; b = nan; a = nan }
@@ -166,18 +166,21 @@ pub none-follows : ending 4 (pos 4) ≡ refuse 2
 unfolding argsVerdict isTableShort
 none-follows = refl
 
--- 1: lists of 256 entries pass; 255 ids, or 4,095 covers, don't
-abbrev lists : ℕ → ℕ → Bool
-lists ids covers = isListShort (listColumns (replicate ids 0) (replicate covers (pos 0)) (replicate 256 false) (replicate 256 false))
+-- 1: lists of 256 entries pass; 255 ids, 4,095 covers, or 511 flags, don't
+abbrev lists : ℕ → ℕ → ℕ → Bool
+lists ids covers flags = isListShort (listColumns (replicate ids 0) (replicate covers (pos 0)) (replicate flags false) (replicate 256 false))
 
-pub list-passes : lists 256 4096 ≡ false
+pub list-passes : lists 256 4096 512 ≡ false
 list-passes = refl
 
-pub list-lacks : lists 255 4096 ≡ true
+pub list-lacks : lists 255 4096 512 ≡ true
 list-lacks = refl
 
-pub covers-lack : lists 256 4095 ≡ true
+pub covers-lack : lists 256 4095 512 ≡ true
 covers-lack = refl
+
+pub flags-lack : lists 256 4096 511 ≡ true
+flags-lack = refl
 
 -- 5: a queue of 256 carries passes, a count of 257 doesn't
 pub queue-full : isQueue 256 (tabulate 256 (λ i. i)) ≡ true

@@ -15,7 +15,7 @@ use Rattle.laws.specs.Answer.{refused}
 use Rattle.laws.specs.Integer.{plus}
 use Rattle.laws.specs.Lists.{over}
 use Rattle.refusals.specs.Refusal.{Judgement, pass, refuse, unless, andThen}
-use Rattle.refusals.proofs.Judging.{passed, or-left}
+use Rattle.refusals.proofs.Judging.{passed, or-left, or-right}
 use Rattle.segment_rows.specs.Search.{tilePart}
 use Rattle.queue_statements.specs.Queue.{Carry}
 use Rattle.queue_statements.proofs.Columns.{areWide}
@@ -41,7 +41,7 @@ use Rattle.row_statements.specs.InnerHolding.{HoldsQueue, IsOpen, Holds}
 use Rattle.row_statements.specs.declared.TileWorked.{TileWorked}
 use Rattle.row_statements.specs.declared.WorkAnswer.{WorkAnswer}
 use Rattle.row_statements.specs.declared.WorkAnswer.the-variants.{Refused, Done}
-use Rattle.row_statements.proofs.Works.{is-next, list-passed}
+use Rattle.row_statements.proofs.Works.{is-next, flags-room, list-passed}
 use Rattle.row_statements.proofs.Holding.{holds-written, same-holds}
 
 or-false : (b : Bool) → (b || false) ≡ b
@@ -94,6 +94,7 @@ module _ {o : OpenRow} {p : Past} {h : Held} (is-open : IsOpen o) (holds : Holds
   -- what a verdict that passes tells
   record Accepted : Type 0 where
     room : isQueueShort (c .lent .queue) ≡ false
+    list-room : isListShort (c .lent .list) ≡ false
     due : isNotDue o (p .tiles) (c .tile) ≡ false
     layers : listVerdict (tableOn o) (layersOn o (p .tiles)) ≡ pass
 
@@ -102,12 +103,12 @@ module _ {o : OpenRow} {p : Past} {h : Held} (is-open : IsOpen o) (holds : Holds
       let one = passed (isQueueShort (c .lent .queue) || isListShort (c .lent .list)) 1 (unless (isNotDue o (p .tiles) (c .tile)) 2 (unless (tagOutOfRange (c .kept)) 6 (listVerdict (tableOn o) (layersOn o (p .tiles))))) e in
       let two = passed (isNotDue o (p .tiles) (c .tile)) 2 (unless (tagOutOfRange (c .kept)) 6 (listVerdict (tableOn o) (layersOn o (p .tiles)))) (one .1) in
       let three = passed (tagOutOfRange (c .kept)) 6 (listVerdict (tableOn o) (layersOn o (p .tiles))) (two .1) in
-      record { room = or-left (isQueueShort (c .lent .queue)) (isListShort (c .lent .list)) (one .0); due = two .0; layers = three .1 }
+      record { room = or-left (isQueueShort (c .lent .queue)) (isListShort (c .lent .list)) (one .0); list-room = or-right (isQueueShort (c .lent .queue)) (isListShort (c .lent .list)) (one .0); due = two .0; layers = three .1 }
 
   -- what the tile says
   says-due : isNotDue o (p .tiles) (c .tile) ≡ false → saysFor (workOn o h c) ≡ saysOn o (p .tiles) c
   says-due e =
-      let out : List Listed → List Carry → TileSays = λ ls q. record { layers = ls; outcome = outcomeIn (tableOn o) (c .kept) (c .clear) (c .previous) ls; handed = q } in
+      let out : List Listed → List Carry → TileSays = λ ls q. record { table = tableOn o; layers = ls; outcome = outcomeIn (tableOn o) (c .kept) (c .clear) (c .previous) ls; handed = q } in
       ap (λ (ls : List Listed). out ls (handedOn (tableOn o) ls)) (layers-due e)
       ∙ ap (out (layersOn o (p .tiles))) (sym (queue-next (tableOn o) (o .row) (o .from) (p .tiles)))
 
@@ -147,20 +148,20 @@ module _ {o : OpenRow} {p : Past} {h : Held} (is-open : IsOpen o) (holds : Holds
     flags-long : length (saysOn o (p .tiles) c .outcome .unmasked) ≡ length (layersOn o (p .tiles))
     unfolding outcomeByEntries
     flags-long =
-        outcome-long (c .clear) (clearUnchanged (c .previous) (c .clear)) (countFrom (previousCount (c .kept))) (map (itemOf (tableOn o)) (map entryOf (layersOn o (p .tiles))))
-        ∙ length-map (map entryOf (layersOn o (p .tiles))) (itemOf (tableOn o))
-        ∙ length-map (layersOn o (p .tiles)) entryOf
+        outcome-long (c .clear) (clearUnchanged (c .previous) (c .clear)) (countFrom (previousCount (c .kept))) (map (itemOf (tableOn o)) (map (entryOf (tableOn o)) (layersOn o (p .tiles))))
+        ∙ length-map (map (entryOf (tableOn o)) (layersOn o (p .tiles))) (itemOf (tableOn o))
+        ∙ length-map (layersOn o (p .tiles)) (entryOf (tableOn o))
 
     module _ {back : WorkLent} (el : back ≡ workDue o p c .lent) where
       queue-back : carriesIn (length (queueOn o (suc (p .tiles)))) (back .queue) ≡ queueOn o (suc (p .tiles))
       unfolding workOut
       queue-back = ap (λ (b : WorkLent). carriesIn (length (queueOn o (suc (p .tiles)))) (b .queue)) (el ∙ lent-due) ∙ handed .reads
 
-      list-back : entriesIn (length (layersOn o (p .tiles))) (back .list) ≡ map entryOf (layersOn o (p .tiles))
+      list-back : entriesIn (length (layersOn o (p .tiles))) (back .list) ≡ map (entryOf (tableOn o)) (layersOn o (p .tiles))
       unfolding workOut
       list-back =
           ap (λ (b : WorkLent). entriesIn (length (layersOn o (p .tiles))) (b .list)) (el ∙ lent-due)
-          ∙ entries-are (layersOn o (p .tiles)) (c .lent .list .ids) (c .lent .list .covers) (c .lent .list .segments) listed-wide
+          ∙ entries-are (tableOn o) (layersOn o (p .tiles)) (c .lent .list .ids) (c .lent .list .covers) (c .lent .list .flags) listed-wide (list-passed (tableOn o) (layersOn o (p .tiles)) (accepted e .layers) .few) (flags-room (c .lent .list) (accepted e .list-room))
 
       unmasked-back : take (length (layersOn o (p .tiles))) (back .list .unmasked) ≡ saysOn o (p .tiles) c .outcome .unmasked
       unfolding workOut over

@@ -28,7 +28,7 @@ use Rattle.layer_carrying.specs.Carrying.{handedOn}
 use Rattle.row_carries.proofs.Parts.{tile-ordered}
 use Rattle.layer_workbench.specs.Work.{outcomeIn, Works, ListWritten, QueueWritten, Rooms}
 use Rattle.layer_workbench.specs.declared.Worked.{Worked}
-use Rattle.row_statements.specs.Lent.{LentTable, carriesIn, isQueueShort, isListShort, layersOf, isLentShort, isLentTable}
+use Rattle.row_statements.specs.Lent.{ListColumns, LentTable, carriesIn, isQueueShort, isListShort, layersOf, isLentShort, isLentTable}
 use Rattle.row_statements.specs.State.{State, nextState, isStray, isNotNext, isWrongNext}
 use Rattle.row_statements.specs.Conditions.{firstFive}
 use Rattle.row_statements.specs.TileWork.{WorkCall, WorkLent, listVerdict, argsVerdict, isShortFor, saysFor, workOut, GivesWork}
@@ -103,6 +103,13 @@ five-then short wrong tileY row table n ids below = by short wrong (not (isRow c
     by false false false false true = refl
     by false false false false false = refl
 
+-- where 1 does not apply, there are two flags for each of 256 entries
+pub flags-room : (l : ListColumns) → isListShort l ≡ false → 512 ≤ length (l .flags)
+flags-room l e =
+    let iv = ltb (length (l .ids)) 256 || ltb (length (l .covers) / 16) 256 in
+    let s = ltb (length (l .flags)) 512 in
+    ltb-false (length (l .flags)) 512 (or-right iv s (or-left (iv || s) (ltb (length (l .unmasked)) 256) e))
+
 module _ (c : WorkCall) (lent : WorkLent) where
   -- ---- 1 to 6
 
@@ -145,11 +152,11 @@ module _ (c : WorkCall) (lent : WorkLent) where
         in-queue = not-false _ (five .0);
       }
 
-  rooms : Passed → Rooms (lent .list .ids) (lent .list .covers) (lent .list .segments) (lent .list .unmasked) (lent .queue .ids) (lent .queue .covers)
+  rooms : Passed → Rooms (lent .list .ids) (lent .list .covers) (lent .list .flags) (lent .list .unmasked) (lent .queue .ids) (lent .queue .covers)
   rooms p =
       let i = ltb (length (lent .list .ids)) 256 in
       let v = ltb (length (lent .list .covers) / 16) 256 in
-      let s = ltb (length (lent .list .segments)) 256 in
+      let s = ltb (length (lent .list .flags)) 512 in
       let h = ltb (length (lent .list .unmasked)) 256 in
       let ivs = or-left (i || v || s) h (p .list-room) in
       let iv = or-left (i || v) s ivs in
@@ -158,7 +165,7 @@ module _ (c : WorkCall) (lent : WorkLent) where
       record {
         list-ids = ltb-false (length (lent .list .ids)) 256 (or-left i v iv);
         list-covers = omega (arith, covers);
-        list-segments = ltb-false (length (lent .list .segments)) 256 (or-right (i || v) s ivs);
+        list-flags = flags-room (lent .list) (p .list-room);
         list-unmasked = ltb-false (length (lent .list .unmasked)) 256 (or-right (i || v || s) h (p .list-room));
         queue-ids = q .ids-long;
         queue-covers = q .covers-long;
@@ -192,11 +199,11 @@ module _ (c : WorkCall) (lent : WorkLent) where
   refused-by {v} {r} {s} {t} e es h = rw (e, h) (record { answer = refl; state = es; kept = refl; lent-is = refl })
 
   -- an accepted work gives what the workbench does
-  pub done-by : (s : RowState) {v : Judgement} {w : Worked} {t : TileWorked} {queueIds : List ℕ} {queueCovers : List ℤ} {ids : List ℕ} {covers : List ℤ} {segments unmasked : List Bool} (part : List ℕ) → part ≡ tilePart (c .tile) (c .row) → v ≡ pass → stateIn s ≡ c .state → t ≡ doneWork s w
+  pub done-by : (s : RowState) {v : Judgement} {w : Worked} {t : TileWorked} {queueIds : List ℕ} {queueCovers : List ℤ} {ids : List ℕ} {covers : List ℤ} {flags unmasked : List Bool} (part : List ℕ) → part ≡ tilePart (c .tile) (c .row) → v ≡ pass → stateIn s ≡ c .state → t ≡ doneWork s w
       → Works (layersOf (c .table)) (c .kept) (c .clear) (c .previous) (layersIn (carriesIn (c .state .left) (c .queue)) part) w
-      → ListWritten (layersIn (carriesIn (c .state .left) (c .queue)) part) (outcomeIn (layersOf (c .table)) (c .kept) (c .clear) (c .previous) (layersIn (carriesIn (c .state .left) (c .queue)) part)) (lent .list .ids) (lent .list .covers) (lent .list .segments) (lent .list .unmasked) ids covers segments unmasked
+      → ListWritten (layersOf (c .table)) (layersIn (carriesIn (c .state .left) (c .queue)) part) (outcomeIn (layersOf (c .table)) (c .kept) (c .clear) (c .previous) (layersIn (carriesIn (c .state .left) (c .queue)) part)) (lent .list .ids) (lent .list .covers) (lent .list .flags) (lent .list .unmasked) ids covers flags unmasked
       → QueueWritten (handedOn (layersOf (c .table)) (layersIn (carriesIn (c .state .left) (c .queue)) part)) (lent .queue .ids) (lent .queue .covers) queueIds queueCovers
-      → GivesWork (workOut v (saysFor c) (c .state) (c .kept) lent) t (record { queue = record { ids = queueIds; covers = queueCovers }; list = record { ids = ids; covers = covers; segments = segments; unmasked = unmasked } })
+      → GivesWork (workOut v (saysFor c) (c .state) (c .kept) lent) t (record { queue = record { ids = queueIds; covers = queueCovers }; list = record { ids = ids; covers = covers; flags = flags; unmasked = unmasked } })
   unfolding workOut
   done-by s {v} {w} {t} part found e es h works₀ list₀ q₀ =
       let works = rw found at works₀ in
@@ -211,6 +218,6 @@ module _ (c : WorkCall) (lent : WorkLent) where
             λ i.
             record {
               queue = record { ids = q .ids-are i; covers = q .covers-are i };
-              list = record { ids = list .ids-are i; covers = list .covers-are i; segments = list .segments-are i; unmasked = list .unmasked-are i };
+              list = record { ids = list .ids-are i; covers = list .covers-are i; flags = list .flags-are i; unmasked = list .unmasked-are i };
             };
       })

@@ -56,8 +56,8 @@ pub record RightWork (o : OpenRow) (p : Past) (c : WorkChoice) (r : TileWorked) 
   pub gives : GivesWork (workDue o p c) r back
   -- where it is accepted: the carries handed on, read back from the lent columns, are the row's
   pub queue-read : workDueVerdict o (p .tiles) c ≡ pass → carriesIn (length (queueOn o (suc (p .tiles)))) (back .queue) ≡ queueOn o (suc (p .tiles))
-  -- and the list read back is the row's: ids, incoming covers, whether a layer has segments, and which layers are not masked off
-  pub list-read : workDueVerdict o (p .tiles) c ≡ pass → entriesIn (length (layersOn o (p .tiles))) (back .list) ≡ map entryOf (layersOn o (p .tiles))
+  -- and the list read back is the row's: ids, incoming covers, whether a layer has segments and is changed by the table, and which layers are not masked off
+  pub list-read : workDueVerdict o (p .tiles) c ≡ pass → entriesIn (length (layersOn o (p .tiles))) (back .list) ≡ map (entryOf (tableOn o)) (layersOn o (p .tiles))
   pub unmasked-read : workDueVerdict o (p .tiles) c ≡ pass →
       take (length (layersOn o (p .tiles))) (back .list .unmasked) ≡ outcomeOn o (p .tiles) (c .kept) (c .clear) (c .previous) .unmasked
 

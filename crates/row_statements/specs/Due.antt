@@ -103,7 +103,7 @@ abbrev pub outcomeOn : OpenRow → ℕ → kept.Kept → Color → PreviousClear
 outcomeOn o n k clear previous = outcomeIn (tableOn o) k clear previous (layersOn o n)
 
 abbrev pub saysOn : OpenRow → ℕ → WorkChoice → TileSays
-saysOn o n c = record { layers = layersOn o n; outcome = outcomeOn o n (c .kept) (c .clear) (c .previous); handed = queueOn o (suc n) }
+saysOn o n c = record { table = tableOn o; layers = layersOn o n; outcome = outcomeOn o n (c .kept) (c .clear) (c .previous); handed = queueOn o (suc n) }
 
 abbrev pub workDue : OpenRow → Past → WorkChoice → WorkGiven
 workDue o p c = workOut (workDueVerdict o (p .tiles) c) (saysOn o (p .tiles) c) (stateOn o p) (c .kept) (c .lent)

@@ -74,7 +74,7 @@ abbrev pub room : ℕ → Columns
 room n = record { ids = replicate n 0; covers = replicate 4096 (pos 0) }
 
 abbrev pub list : ListColumns
-list = record { ids = replicate 256 0; covers = replicate 4096 (pos 0); segments = replicate 256 false; unmasked = replicate 256 false }
+list = record { ids = replicate 256 0; covers = replicate 4096 (pos 0); flags = replicate 512 false; unmasked = replicate 256 false }
 
 abbrev pub tagged : ℕ → kept.Kept
 tagged tag = record { given = true; tile = record { tags = tag; «layer_count» = 0 ∷ 0 ∷ 0 ∷ []; «solid_color» = 0 ∷ 0 ∷ 0 ∷ 0 ∷ [] } }

@@ -62,4 +62,4 @@ pub record Judged (c : WorkCall) (lent : WorkLent) : Type 0 where
   pub walks : Walks (c .state .left) (c .queue .ids) (tilePart (c .tile) (c .row))
   pub covers-long : 16 * c .state .left ≤ length (c .queue .covers)
   pub in-table : Table (c .table .words) (c .table .floats) (c .table .count)
-  pub rooms : Rooms (lent .list .ids) (lent .list .covers) (lent .list .segments) (lent .list .unmasked) (lent .queue .ids) (lent .queue .covers)
+  pub rooms : Rooms (lent .list .ids) (lent .list .covers) (lent .list .flags) (lent .list .unmasked) (lent .queue .ids) (lent .queue .covers)

@@ -12,7 +12,7 @@ use Rattle.layer_table.specs.Table as table
 use Rattle.styling.specs.declared.Layer.{Layer}
 use Rattle.queue_statements.specs.Queue as queue
 use Rattle.queue_statements.specs.Queue.{Carry, queueOf, idsIn, coversIn}
-use Rattle.tile_layers.specs.Listing.{Listed, incomingOf, segmentsOf}
+use Rattle.tile_layers.specs.Listing.{Listed, incomingOf, flagsOver}
 use Rattle.pass_statements.specs.Entry.{Entry, entriesOf}
 
 -- ---- a queue: layer ids, and 16 covers for each
@@ -36,35 +36,36 @@ isQueueShort k = queue.areColumnsShort (k .ids) (k .covers)
 abbrev pub queueOver : List Carry → Columns → Columns
 queueOver q k = record { ids = over (idsIn q) (k .ids); covers = over (coversIn q) (k .covers) }
 
--- ---- a tile's list: layer ids, incoming covers, whether a layer has segments in the tile, and whether it is not masked off
+-- ---- a tile's list: layer ids, incoming covers, two flags of each layer (that at its place says whether it has segments in the tile, that 256 places
+-- behind whether it is changed), and whether it is not masked off
 
 pub record ListColumns : Type 0 where
   pub ids : List ℕ
   pub covers : List ℤ
-  pub segments : List Bool
+  pub flags : List Bool
   pub unmasked : List Bool
 
 abbrev pub listColumns : List ℕ → List ℤ → List Bool → List Bool → ListColumns
-listColumns ids covers segments unmasked = record { ids = ids; covers = covers; segments = segments; unmasked = unmasked }
+listColumns ids covers flags unmasked = record { ids = ids; covers = covers; flags = flags; unmasked = unmasked }
 
 -- its first n entries
 abbrev pub entriesIn : ℕ → ListColumns → List Entry
-entriesIn n l = entriesOf n (l .ids) (l .covers) (l .segments)
+entriesIn n l = entriesOf n (l .ids) (l .covers) (l .flags)
 
--- 1: fewer than 256 entries, in the three columns that say what is listed, and in all four
+-- 1: fewer than 256 entries, in the three columns that say what is listed, and in all four; an entry has two flags
 abbrev pub areEntriesShort : List ℕ → List ℤ → List Bool → Bool
-areEntriesShort ids covers segments = ltb (length ids) 256 || ltb (length covers / 16) 256 || ltb (length segments) 256
+areEntriesShort ids covers flags = ltb (length ids) 256 || ltb (length covers / 16) 256 || ltb (length flags) 512
 
 abbrev pub isListShort : ListColumns → Bool
-isListShort l = areEntriesShort (l .ids) (l .covers) (l .segments) || ltb (length (l .unmasked)) 256
+isListShort l = areEntriesShort (l .ids) (l .covers) (l .flags) || ltb (length (l .unmasked)) 256
 
--- layers, and which of them are not masked off, written over what the columns held
-abbrev pub listOver : List Listed → List Bool → ListColumns → ListColumns
-listOver ls unmasked l =
+-- layers, with their marks by the table, and which of them are not masked off, written over what the columns held
+abbrev pub listOver : List Layer → List Listed → List Bool → ListColumns → ListColumns
+listOver table ls unmasked l =
     record {
       ids = over (idsIn (incomingOf ls)) (l .ids);
       covers = over (coversIn (incomingOf ls)) (l .covers);
-      segments = over (segmentsOf ls) (l .segments);
+      flags = flagsOver table ls (l .flags);
       unmasked = over unmasked (l .unmasked);
     }
 

@@ -83,9 +83,10 @@ layersVerdict c = listVerdict (layersOf (c .table)) (listedFor c)
 abbrev pub workVerdict : WorkCall → WorkLent → Judgement
 workVerdict c lent = andThen (argsVerdict c lent) (layersVerdict c)
 
--- ---- what a tile says: its layers, what the passes make of them, and the carries past it
+-- ---- what a tile says: the table it goes by, its layers, what the passes make of them, and the carries past it
 
 pub record TileSays : Type 0 where
+  pub table : List Layer
   pub layers : List Listed
   pub outcome : Outcome
   pub handed : List Carry
@@ -93,6 +94,7 @@ pub record TileSays : Type 0 where
 abbrev pub saysFor : WorkCall → TileSays
 saysFor c =
     record {
+      table = layersOf (c .table);
       layers = listedFor c;
       outcome = outcomeIn (layersOf (c .table)) (c .kept) (c .clear) (c .previous) (listedFor c);
       handed = handedOn (layersOf (c .table)) (listedFor c);
@@ -116,7 +118,7 @@ abbrev pub tileAnswer : TileSays → TileAnswer
 tileAnswer t = record { decision = t .outcome .decision; listed = length (t .layers); skipped = t .outcome .skipped }
 
 abbrev pub writtenBy : TileSays → WorkLent → WorkLent
-writtenBy t lent = record { queue = queueOver (t .handed) (lent .queue); list = listOver (t .layers) (t .outcome .unmasked) (lent .list) }
+writtenBy t lent = record { queue = queueOver (t .handed) (lent .queue); list = listOver (t .table) (t .layers) (t .outcome .unmasked) (lent .list) }
 
 -- by the verdict and what the tile says
 unfoldable pub workOut : Judgement → TileSays → State → kept.Kept → WorkLent → WorkGiven

@@ -20,19 +20,19 @@ ghost use Rattle.row_statements.specs.Lent.{lentTable, listColumns, areEntriesS
 ghost use Rattle.row_statements.specs.State.{stateIn};
 ghost use Rattle.row_statements.specs.InnerWork.{judgedBy, judgedWith, JudgesList};
 
-// Refusal 1: whether the three columns that say what is listed have fewer than 256 entries.
-pub fn are_entries_short(ids: &[u32], covers: &[i8], segments: &[bool]) -> bool
-    ensures { λ r. ⌜ r ≡ areEntriesShort (now (ids .entry)) (now (covers .entry)) (now (segments .entry)) ⌝ }
+// Refusal 1: whether the three columns that say what is listed have fewer than 256 entries, of two flags each.
+pub fn are_entries_short(ids: &[u32], covers: &[i8], flags: &[bool]) -> bool
+    ensures { λ r. ⌜ r ≡ areEntriesShort (now (ids .entry)) (now (covers .entry)) (now (flags .entry)) ⌝ }
 {
-    (ids.len() < 256) | (covers.len() / 16 < 256) | (segments.len() < 256)
+    (ids.len() < 256) | (covers.len() / 16 < 256) | (flags.len() < 512)
 }
 
 // Refusal 1: whether a lent list has fewer than 256 entries.
-pub fn is_list_short(ids: &[u32], covers: &[i8], segments: &[bool], unmasked: &[bool]) -> bool
+pub fn is_list_short(ids: &[u32], covers: &[i8], flags: &[bool], unmasked: &[bool]) -> bool
     ensures { λ r. ⌜ r ≡ isListShort
-        (listColumns (now (ids .entry)) (now (covers .entry)) (now (segments .entry)) (now (unmasked .entry))) ⌝ }
+        (listColumns (now (ids .entry)) (now (covers .entry)) (now (flags .entry)) (now (unmasked .entry))) ⌝ }
 {
-    are_entries_short(ids, covers, segments) | (unmasked.len() < 256)
+    are_entries_short(ids, covers, flags) | (unmasked.len() < 256)
 }
 
 // Refusals 1 to 5, the lowest that applies. `short` says whether 1 does.

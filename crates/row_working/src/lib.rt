@@ -81,7 +81,7 @@ pub fn work_judged(
     next_covers: &mut [i8],
     list_ids: &mut [u32],
     list_covers: &mut [i8],
-    list_segments: &mut [bool],
+    list_flags: &mut [bool],
     list_unmasked: &mut [bool],
 ) -> TileWorked
     requires { ⌜ Judged
@@ -89,7 +89,7 @@ pub fn work_judged(
         kept clear previous (columns (now ids) (now covers)))
         (workLent (columns (now «next_ids») (now «next_covers»))
         (listColumns (now «list_ids») (now «list_covers»)
-        (now «list_segments») (now «list_unmasked»))) ⌝ }
+        (now «list_flags») (now «list_unmasked»))) ⌝ }
     ensures { λ r. ⌜ GivesWork
         (workedBy
         (workCall (stateIn state) tile (now (row .entry))
@@ -97,11 +97,11 @@ pub fn work_judged(
         kept clear previous (columns (now (ids .entry)) (now (covers .entry))))
         (workLent (columns (now («next_ids» .entry)) (now («next_covers» .entry)))
         (listColumns (now («list_ids» .entry)) (now («list_covers» .entry))
-        (now («list_segments» .entry)) (now («list_unmasked» .entry)))))
+        (now («list_flags» .entry)) (now («list_unmasked» .entry)))))
         r
         (workLent (columns (now («next_ids» .exit)) (now («next_covers» .exit)))
         (listColumns (now («list_ids» .exit)) (now («list_covers» .exit))
-        (now («list_segments» .exit)) (now («list_unmasked» .exit)))) ⌝ }
+        (now («list_flags» .exit)) (now («list_unmasked» .exit)))) ⌝ }
 {
     let part = parts::in_tile(row, tile as i16);
     let judged = judging::judge_list(ids, covers, state.left, part, layers, colors, count);
@@ -126,7 +126,7 @@ pub fn work_judged(
                 next_covers,
                 list_ids,
                 list_covers,
-                list_segments,
+                list_flags,
                 list_unmasked,
             ),
         ),
@@ -150,7 +150,7 @@ pub fn work_tile(
     next_covers: &mut [i8],
     list_ids: &mut [u32],
     list_covers: &mut [i8],
-    list_segments: &mut [bool],
+    list_flags: &mut [bool],
     list_unmasked: &mut [bool],
 ) -> TileWorked
     ensures { λ r. ⌜ GivesWork
@@ -160,16 +160,16 @@ pub fn work_tile(
         kept clear previous (columns (now (ids .entry)) (now (covers .entry))))
         (workLent (columns (now («next_ids» .entry)) (now («next_covers» .entry)))
         (listColumns (now («list_ids» .entry)) (now («list_covers» .entry))
-        (now («list_segments» .entry)) (now («list_unmasked» .entry)))))
+        (now («list_flags» .entry)) (now («list_unmasked» .entry)))))
         r
         (workLent (columns (now («next_ids» .exit)) (now («next_covers» .exit)))
         (listColumns (now («list_ids» .exit)) (now («list_covers» .exit))
-        (now («list_segments» .exit)) (now («list_unmasked» .exit)))) ⌝ }
+        (now («list_flags» .exit)) (now («list_unmasked» .exit)))) ⌝ }
 {
     let short = queue::is_short(ids, covers)
         | queue::is_short(next_ids, next_covers)
         | layer_table::is_short(layers, colors, count)
-        | judging::is_list_short(list_ids, list_covers, list_segments, list_unmasked);
+        | judging::is_list_short(list_ids, list_covers, list_flags, list_unmasked);
     match judging::judge_work(short, state, tile, row, layers, colors, count, kept, ids) {
         Verdict::Refuse(refusal) => refuse(state, kept, refusal),
         Verdict::Pass => work_judged(
@@ -188,7 +188,7 @@ pub fn work_tile(
             next_covers,
             list_ids,
             list_covers,
-            list_segments,
+            list_flags,
             list_unmasked,
         ),
     }

@@ -199,13 +199,13 @@ fn hold_flag(text: &[u8], cursor: Cursor, found: bool, stored: bool) -> Cursor {
     }
 }
 
-// Whether the first n are the stored ones, and each after them is false.
+// Whether in each 256 of them the first n are the stored ones, and the others are false.
 pub fn expect_flags(text: &[u8], cursor: Cursor, found: &[bool], n: usize) -> Cursor {
     let mut at = cursor.at;
     let mut same = cursor.same;
     let mut i: usize = 0;
     while i < found.len() {
-        let held = hold_flag(text, Cursor { at: at, same: same }, found[i], i < n);
+        let held = hold_flag(text, Cursor { at: at, same: same }, found[i], i % 256 < n);
         at = held.at;
         same = held.same;
         i += 1;

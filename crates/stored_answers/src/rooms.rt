@@ -44,6 +44,13 @@ pub fn flags() -> [bool; 256]
     [false; 256]
 }
 
+// Two for each of 256 entries.
+pub fn flag_pairs() -> [bool; 512]
+    ensures { λ r. ⌜ 512 ≡ length r ⌝ }
+{
+    [false; 512]
+}
+
 pub fn plane() -> [f32; 256]
     ensures { λ r. ⌜ 256 ≡ length r ⌝ }
 {

@@ -41,7 +41,7 @@ fn done(decided: DecidedTile) -> TileDecided
 pub fn decide_tile(
     list_ids: &[u32],
     list_covers: &[i8],
-    list_segments: &[bool],
+    list_flags: &[bool],
     n: usize,
     layers: &[u32],
     colors: &[f32],
@@ -54,20 +54,20 @@ pub fn decide_tile(
     ensures { λ r. ⌜ DecidesTile
         (decidingOf
         (decideCall
-        (tileList (now («list_ids» .entry)) (now («list_covers» .entry)) (now («list_segments» .entry))) n
+        (tileList (now («list_ids» .entry)) (now («list_covers» .entry)) (now («list_flags» .entry))) n
         (lentTable (now (layers .entry)) (now (colors .entry)) count) kept clear previous)
         (now (unmasked .entry)))
         r
         (now (unmasked .exit)) ⌝ }
 {
-    let short = row_working::judging::is_list_short(list_ids, list_covers, list_segments, unmasked)
+    let short = row_working::judging::is_list_short(list_ids, list_covers, list_flags, unmasked)
         | layer_table::is_short(layers, colors, count);
     match judging::judge_deciding(short, list_ids, n, layers, colors, count, kept) {
         Verdict::Refuse(refusal) => refuse(kept, refusal),
         Verdict::Pass => done(layer_workbench::decide_tile(
             list_ids,
             list_covers,
-            list_segments,
+            list_flags,
             n,
             layers,
             colors,

@@ -4,5 +4,6 @@ pub mod Steps
 pub mod Walking
 pub mod Wide
 pub mod Filling
+pub mod Flags
 pub mod Ordering
 pub mod Members

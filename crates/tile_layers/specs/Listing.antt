@@ -1,12 +1,12 @@
 -- The layers of a tile: each layer with a segment in the tile or a carry in the incoming queue, once, ascending (`populate_layers`). Stands for
 -- 'the list has each layer with a segment or carry, once, ascending' and for refusals 7, 8 and 9 of a list.
 use mathlib.Core.Path.{_≡_}
-use mathlib.Core.Bool.{Bool, true, false, cond}
-use mathlib.Core.List.{List, [], _∷_, map}
-use Prim.Native.Nat.{ℕ, _*_, _≤_}
+use mathlib.Core.Bool.{Bool, true, false, cond, not}
+use mathlib.Core.List.{List, [], _∷_, _++_, map}
+use Prim.Native.Nat.{ℕ, _+_, _*_, _≤_}
 use lib.Dec.{ltb, eqb}
 use lib.IntN.{ℤ}
-use lib.ListN.{length}
+use lib.ListN.{length, take, drop}
 use Rattle.laws.specs.Answer.{Answer, refused, given, isGiven}
 use Rattle.laws.specs.Lists.{all, any, over}
 use Rattle.pixel_segment.specs.Field.{cpu, layerIdOf}
@@ -59,7 +59,8 @@ hasCarry q id = any (λ c. eqb (c .id) id) q
 abbrev pub hasSegment : List ℕ → ℕ → Bool
 hasSegment part id = any (λ w. eqb (layerIdOf cpu w) id) part
 
--- ---- the list as it is lent, a column for each: layer ids, incoming covers, whether the layer has segments in the tile
+-- ---- the list as it is lent, a column for each: layer ids, incoming covers, and the flags of each layer, whether it has segments in the tile and
+-- whether it is changed
 
 abbrev pub hasAny : List ℕ → Bool
 hasAny [] = false
@@ -72,17 +73,36 @@ incomingOf ls = map (λ l. record { id = l .id; cover = l .cover }) ls
 abbrev pub segmentsOf : List Listed → List Bool
 segmentsOf ls = map (λ l. hasAny (l .own)) ls
 
+-- a layer is changed where the table does not say that it is unchanged (W-208)
+abbrev pub isChangedBy : Answer Layer → Bool
+isChangedBy (refused n) = true
+isChangedBy (given l) = not (l .«is_unchanged»)
+
+abbrev pub isChanged : List Layer → ℕ → Bool
+isChanged table id = isChangedBy (lookup table id)
+
+abbrev pub changedOf : List Layer → List Listed → List Bool
+changedOf table ls = map (λ l. isChanged table (l .id)) ls
+
+-- what a lent list holds after `ws` is written from place k on
+unfoldable pub overFrom : ℕ → List Bool → List Bool → List Bool
+overFrom k ws old = take k old ++ over ws (drop k old)
+
+-- the flags: of layer i that at place i says whether it has segments, that at place 256 + i whether it is changed
+abbrev pub flagsOver : List Layer → List Listed → List Bool → List Bool
+flagsOver table ls old = overFrom 256 (changedOf table ls) (over (segmentsOf ls) old)
+
 -- the three columns, written over what they held
-pub record Lists (ls : List Listed) (oldIds : List ℕ) (oldCovers : List ℤ) (oldSegments : List Bool) (ids : List ℕ) (covers : List ℤ) (segments : List Bool) : Type 0 where
+pub record Lists (table : List Layer) (ls : List Listed) (oldIds : List ℕ) (oldCovers : List ℤ) (oldFlags : List Bool) (ids : List ℕ) (covers : List ℤ) (flags : List Bool) : Type 0 where
   pub ids-are : ids ≡ over (idsIn (incomingOf ls)) oldIds
   pub covers-are : covers ≡ over (coversIn (incomingOf ls)) oldCovers
-  pub segments-are : segments ≡ over (segmentsOf ls) oldSegments
+  pub flags-are : flags ≡ flagsOver table ls oldFlags
 
 -- the columns have an entry for each layer
-pub record ListRoom (ls : List Listed) (ids : List ℕ) (covers : List ℤ) (segments : List Bool) : Type 0 where
+pub record ListRoom (ls : List Listed) (ids : List ℕ) (covers : List ℤ) (flags : List Bool) : Type 0 where
   pub ids-long : length ls ≤ length ids
   pub covers-long : 16 * length ls ≤ length covers
-  pub segments-long : length ls ≤ length segments
+  pub flags-long : 256 + length ls ≤ length flags
 
 -- ---- refusals of a list
 

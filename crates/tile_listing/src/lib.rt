@@ -52,12 +52,13 @@ fn done(state: RowState, n: usize, left: usize) -> TileListed
     }
 }
 
-// Writes a tile's list, and hands on its carries: how many.
+// Writes a tile's list, `listed` being the number of its layers, and hands on its carries: how many.
 fn write_tile(
     ids: &[u32],
     covers: &[i8],
     n: usize,
     part: &[u64],
+    listed: usize,
     layers: &[u32],
     colors: &[f32],
     count: usize,
@@ -65,20 +66,33 @@ fn write_tile(
     next_covers: &mut [i8],
     list_ids: &mut [u32],
     list_covers: &mut [i8],
-    list_segments: &mut [bool],
+    list_flags: &mut [bool],
 ) -> usize
     requires { ⌜ Walks n (now ids) (now part) × (16 * n ≤ length (now covers)) × Table (now layers) (now colors) count
-        × ListingRooms (now «list_ids») (now «list_covers») (now «list_segments») (now «next_ids») (now «next_covers»)
+        × ListingRooms (now «list_ids») (now «list_covers») (now «list_flags») (now «next_ids») (now «next_covers»)
         × (areLight (layersIn (queueOf n (now ids) (now covers)) (now part)) ≡ true)
-        × (length (layersIn (queueOf n (now ids) (now covers)) (now part)) ≤ 256) ⌝ }
-    ensures list { λ _. ⌜ Lists (layersIn (queueOf n (now (ids .entry)) (now (covers .entry))) (now (part .entry)))
-        (now («list_ids» .entry)) (now («list_covers» .entry)) (now («list_segments» .entry)) (now («list_ids» .exit))
-        (now («list_covers» .exit)) (now («list_segments» .exit)) ⌝ }
+        × (length (layersIn (queueOf n (now ids) (now covers)) (now part)) ≤ 256)
+        × (listed ≡ length (layersIn (queueOf n (now ids) (now covers)) (now part))) ⌝ }
+    ensures list { λ _. ⌜ Lists (tableOf (now (layers .entry)) (now (colors .entry)) count)
+        (layersIn (queueOf n (now (ids .entry)) (now (covers .entry))) (now (part .entry))) (now («list_ids» .entry)) (now («list_covers» .entry)) (now («list_flags» .entry)) (now («list_ids» .exit))
+        (now («list_covers» .exit)) (now («list_flags» .exit)) ⌝ }
     ensures queue { λ r. ⌜ Hands (handedOn (tableOf (now (layers .entry)) (now (colors .entry)) count)
         (layersIn (queueOf n (now (ids .entry)) (now (covers .entry))) (now (part .entry)))) (now («next_ids» .entry))
         (now («next_covers» .entry)) r (now («next_ids» .exit)) (now («next_covers» .exit)) ⌝ }
 {
-    layer_listing::list_layers(ids, covers, n, part, list_ids, list_covers, list_segments);
+    layer_listing::list_layers(
+        ids,
+        covers,
+        n,
+        part,
+        listed,
+        layers,
+        colors,
+        count,
+        list_ids,
+        list_covers,
+        list_flags,
+    );
     layer_carrying::hand_on(
         ids,
         covers,
@@ -106,23 +120,23 @@ fn list_judged(
     next_covers: &mut [i8],
     list_ids: &mut [u32],
     list_covers: &mut [i8],
-    list_segments: &mut [bool],
+    list_flags: &mut [bool],
 ) -> TileListed
     requires { ⌜ ListingJudged
         (listCall (stateIn state) tile (now row) (lentTable (now layers) (now colors) count)
         (columns (now ids) (now covers)))
         (listLent (columns (now «next_ids») (now «next_covers»))
-        (tileList (now «list_ids») (now «list_covers») (now «list_segments»))) ⌝ }
+        (tileList (now «list_ids») (now «list_covers») (now «list_flags»))) ⌝ }
     ensures { λ r. ⌜ ListsTile
         (listedWith
         (listCall (stateIn state) tile (now (row .entry))
         (lentTable (now (layers .entry)) (now (colors .entry)) count)
         (columns (now (ids .entry)) (now (covers .entry))))
         (listLent (columns (now («next_ids» .entry)) (now («next_covers» .entry)))
-        (tileList (now («list_ids» .entry)) (now («list_covers» .entry)) (now («list_segments» .entry)))))
+        (tileList (now («list_ids» .entry)) (now («list_covers» .entry)) (now («list_flags» .entry)))))
         r
         (listLent (columns (now («next_ids» .exit)) (now («next_covers» .exit)))
-        (tileList (now («list_ids» .exit)) (now («list_covers» .exit)) (now («list_segments» .exit)))) ⌝ }
+        (tileList (now («list_ids» .exit)) (now («list_covers» .exit)) (now («list_flags» .exit)))) ⌝ }
 {
     let part = parts::in_tile(row, tile as i16);
     let judged = judging::judge_list(ids, covers, state.left, part, layers, colors, count);
@@ -137,6 +151,7 @@ fn list_judged(
                 covers,
                 state.left,
                 part,
+                judged.listed,
                 layers,
                 colors,
                 count,
@@ -144,7 +159,7 @@ fn list_judged(
                 next_covers,
                 list_ids,
                 list_covers,
-                list_segments,
+                list_flags,
             ),
         ),
     }
@@ -164,7 +179,7 @@ pub fn list_tile(
     next_covers: &mut [i8],
     list_ids: &mut [u32],
     list_covers: &mut [i8],
-    list_segments: &mut [bool],
+    list_flags: &mut [bool],
 ) -> TileListed
     ensures { λ r. ⌜ ListsTile
         (listingOf
@@ -172,15 +187,15 @@ pub fn list_tile(
         (lentTable (now (layers .entry)) (now (colors .entry)) count)
         (columns (now (ids .entry)) (now (covers .entry))))
         (listLent (columns (now («next_ids» .entry)) (now («next_covers» .entry)))
-        (tileList (now («list_ids» .entry)) (now («list_covers» .entry)) (now («list_segments» .entry)))))
+        (tileList (now («list_ids» .entry)) (now («list_covers» .entry)) (now («list_flags» .entry)))))
         r
         (listLent (columns (now («next_ids» .exit)) (now («next_covers» .exit)))
-        (tileList (now («list_ids» .exit)) (now («list_covers» .exit)) (now («list_segments» .exit)))) ⌝ }
+        (tileList (now («list_ids» .exit)) (now («list_covers» .exit)) (now («list_flags» .exit)))) ⌝ }
 {
     let short = queue::is_short(ids, covers)
         | queue::is_short(next_ids, next_covers)
         | layer_table::is_short(layers, colors, count)
-        | judging::are_entries_short(list_ids, list_covers, list_segments);
+        | judging::are_entries_short(list_ids, list_covers, list_flags);
     match judging::judge_row(short, state, tile, row, layers, colors, count, ids) {
         Verdict::Refuse(refusal) => refuse(state, refusal),
         Verdict::Pass => list_judged(
@@ -196,7 +211,7 @@ pub fn list_tile(
             next_covers,
             list_ids,
             list_covers,
-            list_segments,
+            list_flags,
         ),
     }
 }

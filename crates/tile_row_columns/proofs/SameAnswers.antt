@@ -71,7 +71,7 @@ module _ (c : WorkCall) (lent : WorkLent) {a b : Columns} (same : Alike (c .stat
       let table = layersOf (c .table) in
       let ls = layersIn carries (tilePart (c .tile) (c .row)) in
       workOut (andThen v (listVerdict table ls))
-      (record { layers = ls; outcome = outcomeIn table (c .kept) (c .clear) (c .previous) ls; handed = handedOn table ls })
+      (record { table = table; layers = ls; outcome = outcomeIn table (c .kept) (c .clear) (c .previous) ls; handed = handedOn table ls })
       (c .state) (c .kept) lent
 
   same-work : workOf (workFrom c a) lent ≡ workOf (workFrom c b) lent

@@ -27,7 +27,7 @@ pub fn work_columns(
     next_covers: &mut [i8],
     list_ids: &mut [u32],
     list_covers: &mut [i8],
-    list_segments: &mut [bool],
+    list_flags: &mut [bool],
     list_unmasked: &mut [bool],
 ) -> TileWorked
     ensures { λ r. ⌜ GivesWork
@@ -37,11 +37,11 @@ pub fn work_columns(
         (lentColumns columns))
         (workLent (lent.columns (now («next_ids» .entry)) (now («next_covers» .entry)))
         (listColumns (now («list_ids» .entry)) (now («list_covers» .entry))
-        (now («list_segments» .entry)) (now («list_unmasked» .entry)))))
+        (now («list_flags» .entry)) (now («list_unmasked» .entry)))))
         r
         (workLent (lent.columns (now («next_ids» .exit)) (now («next_covers» .exit)))
         (listColumns (now («list_ids» .exit)) (now («list_covers» .exit))
-        (now («list_segments» .exit)) (now («list_unmasked» .exit)))) ⌝ }
+        (now («list_flags» .exit)) (now («list_unmasked» .exit)))) ⌝ }
 {
     let n = queue_records::lesser(columns.entries, 256);
     let end = n * 16;
@@ -63,7 +63,7 @@ pub fn work_columns(
         next_covers,
         list_ids,
         list_covers,
-        list_segments,
+        list_flags,
         list_unmasked,
     )
 }

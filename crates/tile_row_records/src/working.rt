@@ -29,7 +29,7 @@ pub fn work_tile(
     next_covers: &mut [i8],
     list_ids: &mut [u32],
     list_covers: &mut [i8],
-    list_segments: &mut [bool],
+    list_flags: &mut [bool],
     list_unmasked: &mut [bool],
 ) -> TileWorked
     ensures { λ r. ⌜ GivesWork
@@ -39,11 +39,11 @@ pub fn work_tile(
         (columnsFor (now (queue .entry))))
         (workLent (lent.columns (now («next_ids» .entry)) (now («next_covers» .entry)))
         (listColumns (now («list_ids» .entry)) (now («list_covers» .entry))
-        (now («list_segments» .entry)) (now («list_unmasked» .entry)))))
+        (now («list_flags» .entry)) (now («list_unmasked» .entry)))))
         r
         (workLent (lent.columns (now («next_ids» .exit)) (now («next_covers» .exit)))
         (listColumns (now («list_ids» .exit)) (now («list_covers» .exit))
-        (now («list_segments» .exit)) (now («list_unmasked» .exit)))) ⌝ }
+        (now («list_flags» .exit)) (now («list_unmasked» .exit)))) ⌝ }
 {
     let columns = queue_records::read_columns(queue, state.left);
     working::work_columns(
@@ -61,7 +61,7 @@ pub fn work_tile(
         next_covers,
         list_ids,
         list_covers,
-        list_segments,
+        list_flags,
         list_unmasked,
     )
 }
@@ -82,7 +82,7 @@ pub fn work_array(
     next_covers: &mut [i8],
     list_ids: &mut [u32],
     list_covers: &mut [i8],
-    list_segments: &mut [bool],
+    list_flags: &mut [bool],
     list_unmasked: &mut [bool],
 ) -> TileWorked
     ensures { λ r. ⌜ GivesWork
@@ -92,11 +92,11 @@ pub fn work_array(
         (columnsFor queue))
         (workLent (lent.columns (now («next_ids» .entry)) (now («next_covers» .entry)))
         (listColumns (now («list_ids» .entry)) (now («list_covers» .entry))
-        (now («list_segments» .entry)) (now («list_unmasked» .entry)))))
+        (now («list_flags» .entry)) (now («list_unmasked» .entry)))))
         r
         (workLent (lent.columns (now («next_ids» .exit)) (now («next_covers» .exit)))
         (listColumns (now («list_ids» .exit)) (now («list_covers» .exit))
-        (now («list_segments» .exit)) (now («list_unmasked» .exit)))) ⌝ }
+        (now («list_flags» .exit)) (now («list_unmasked» .exit)))) ⌝ }
 {
     work_tile(
         state,
@@ -113,7 +113,7 @@ pub fn work_array(
         next_covers,
         list_ids,
         list_covers,
-        list_segments,
+        list_flags,
         list_unmasked,
     )
 }

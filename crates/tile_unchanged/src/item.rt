@@ -1,6 +1,6 @@
 // What the passes read of a listed layer: its entry and its record in one value. A list is lent as three columns, the
-// first n entries of which count: layer ids, incoming covers (16 bytes an entry), and whether the layer has segments in
-// the tile.
+// first n entries of which count: layer ids, incoming covers (16 bytes an entry), and flags: that at place i says whether
+// entry i has segments in the tile, that at place 256 + i whether its layer is changed.
 use cover::Cover;
 use cover::entry;
 use layer_table::Found;
@@ -14,8 +14,14 @@ ghost use Rattle.layer_table.specs.Table.{Table, tableOf};
 ghost use Rattle.pass_statements.specs.Entry.{entryAt};
 ghost use Rattle.pass_statements.specs.Item.{itemFor, itemOf, EntryColumns};
 
-fn item_for(layer: Layer, id: u32, cover: Cover, has_segments: bool) -> Item
-    ensures { λ r. ⌜ r ≡ itemFor layer (record { id = id; cover = cover .covers; segments = «has_segments» }) ⌝ }
+// Whether the layer is unchanged is told by its entry, never by the record.
+fn item_for(layer: Layer, id: u32, cover: Cover, has_segments: bool, changed: bool) -> Item
+    ensures { λ r. ⌜ r ≡ itemFor layer (record {
+      id = id;
+      cover = cover .covers;
+      segments = «has_segments»;
+      changed = changed;
+    }) ⌝ }
 {
     let props = layer.props;
     let fill_rule = props.fill_rule;
@@ -24,7 +30,7 @@ fn item_for(layer: Layer, id: u32, cover: Cover, has_segments: bool) -> Item
         id: id,
         full: !has_segments & cover.is_full(fill_rule),
         func: func,
-        unchanged: layer.is_unchanged,
+        unchanged: !changed,
     }
 }
 
@@ -32,30 +38,31 @@ fn item_for(layer: Layer, id: u32, cover: Cover, has_segments: bool) -> Item
 pub fn item_at(
     ids: &[u32],
     covers: &[i8],
-    segments: &[bool],
+    flags: &[bool],
     n: usize,
     layers: &[u32],
     colors: &[f32],
     count: usize,
     i: Index,
 ) -> Item
-    requires { ⌜ EntryColumns n (now ids) (now covers) (now segments) × Table (now layers) (now colors) count
+    requires { ⌜ EntryColumns n (now ids) (now covers) (now flags) × Table (now layers) (now colors) count
         × (i .0 < n) ⌝ }
     ensures { λ r. ⌜ r ≡ itemOf (tableOf (now (layers .entry)) (now (colors .entry)) count)
-        (entryAt (now (ids .entry)) (now (covers .entry)) (now (segments .entry)) (i .0)) ⌝ }
+        (entryAt (now (ids .entry)) (now (covers .entry)) (now (flags .entry)) (i .0)) ⌝ }
 {
     let at = i.0;
     let id = ids[at];
+    let changed = flags[256 + at];
     match layer_table::find(layers, count, id) {
         Found::At(p) => {
             let layer = layer_table::layer_at(layers, colors, p);
-            item_for(layer, id, entry::read_cover(covers, at), segments[at])
+            item_for(layer, id, entry::read_cover(covers, at), flags[at], changed)
         }
         Found::Absent => Item {
             id: id,
             full: false,
             func: Func::Clip(0),
-            unchanged: false,
+            unchanged: !changed,
         },
     }
 }

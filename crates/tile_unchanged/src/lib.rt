@@ -15,20 +15,20 @@ ghost use Rattle.pass_statements.specs.Unchanged.{allUnchanged, isKept, wereRem
 pub fn are_unchanged(
     ids: &[u32],
     covers: &[i8],
-    segments: &[bool],
+    flags: &[bool],
     n: usize,
     layers: &[u32],
     colors: &[f32],
     count: usize,
 ) -> bool
-    requires { ⌜ EntryColumns n (now ids) (now covers) (now segments) × Table (now layers) (now colors) count ⌝ }
+    requires { ⌜ EntryColumns n (now ids) (now covers) (now flags) × Table (now layers) (now colors) count ⌝ }
     ensures { λ r. ⌜ r ≡ allUnchanged (itemsOf (tableOf (now (layers .entry)) (now (colors .entry)) count)
-        (entriesOf n (now (ids .entry)) (now (covers .entry)) (now (segments .entry)))) ⌝ }
+        (entriesOf n (now (ids .entry)) (now (covers .entry)) (now (flags .entry)))) ⌝ }
 {
     let mut ok = true;
     let mut i = 0;
     while i < n {
-        let x = item::item_at(ids, covers, segments, n, layers, colors, count, Index(i));
+        let x = item::item_at(ids, covers, flags, n, layers, colors, count, Index(i));
         ok = ok & x.unchanged;
         i += 1;
     }
@@ -41,23 +41,23 @@ pub fn is_kept(
     previous: PreviousCount,
     ids: &[u32],
     covers: &[i8],
-    segments: &[bool],
+    flags: &[bool],
     n: usize,
     layers: &[u32],
     colors: &[f32],
     count: usize,
 ) -> bool
-    requires { ⌜ EntryColumns n (now ids) (now covers) (now segments) × Table (now layers) (now colors) count ⌝ }
+    requires { ⌜ EntryColumns n (now ids) (now covers) (now flags) × Table (now layers) (now colors) count ⌝ }
     ensures { λ r. ⌜ r ≡ isKept «clear_unchanged» previous (itemsOf
         (tableOf (now (layers .entry)) (now (colors .entry)) count)
-        (entriesOf n (now (ids .entry)) (now (covers .entry)) (now (segments .entry)))) ⌝ }
+        (entriesOf n (now (ids .entry)) (now (covers .entry)) (now (flags .entry)))) ⌝ }
 {
     match previous {
         PreviousCount::Absent => false,
         PreviousCount::Kept(k) => {
             let kept = k as usize;
             if clear_unchanged & (kept == n) {
-                are_unchanged(ids, covers, segments, n, layers, colors, count)
+                are_unchanged(ids, covers, flags, n, layers, colors, count)
             } else {
                 false
             }

@@ -39,7 +39,7 @@ made-right all (MadeCall.later m) = made-right (all .1) m
 module _ (o : OpenRow) where
   -- what an accepted work answers and leaves, read back, is the row's
   pub record WorkRead (n : ℕ) (t : TileAnswer) (s : State) (back : WorkLent) : Type 0 where
-    pub entries : entriesIn (t .listed) (back .list) ≡ map entryOf (layersOn o n)
+    pub entries : entriesIn (t .listed) (back .list) ≡ map (entryOf (tableOn o)) (layersOn o n)
     pub carries : carriesIn (s .left) (back .queue) ≡ queueOn o (suc n)
 
   work-read : {p : Past} {c : WorkChoice} {r : TileWorked} {back : WorkLent} {t : TileAnswer} → RightWork o p c r back → workAnswer (r .answer) ≡ given t → WorkRead (p .tiles) t (stateIn (r .state)) back
@@ -75,7 +75,7 @@ module _ {o o′ : OpenRow} (i : IsOpen o) (i′ : IsOpen o′) {id : ℕ} (agre
       let now = same-layer i i′ agree n in
       let next = same-layer i i′ agree (suc n) in
       record {
-        entry = ap (λ (l : List Entry). entryIn l id) (w .entries) ∙ now .entry ∙ ap (λ (m : ℕ). entryIn (map entryOf (layersOn o′ m)) id) e ∙ sym (ap (λ (l : List Entry). entryIn l id) (w′ .entries));
+        entry = ap (λ (l : List Entry). entryIn l id) (w .entries) ∙ now .entry ∙ ap (λ (m : ℕ). entryIn (map (entryOf (tableOn o′)) (layersOn o′ m)) id) e ∙ sym (ap (λ (l : List Entry). entryIn l id) (w′ .entries));
         carry = ap (λ (q : List Carry). carryIn q id) (w .carries) ∙ next .carry ∙ ap (λ (m : ℕ). carryIn (queueOn o′ (suc m)) id) e ∙ sym (ap (λ (q : List Carry). carryIn q id) (w′ .carries));
       }
 

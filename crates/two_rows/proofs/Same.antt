@@ -159,9 +159,9 @@ module _ {o : OpenRow} (is-open : IsOpen o) (id : ℕ) where
       ∙ handed-has (tableOn o) 0 (layersOn o n) id (layers-ascend (is-open .in-order) (tableOn o) (o .from) n)
       ∙ rw (listed-is n, cover-is n, own-is n)
 
-  entry-is : (n : ℕ) → entryIn (map entryOf (layersOn o n)) id ≡ cond (hasCarry (queueOn o n) id || hasAny (part n)) (some (record { id = id; cover = heldIn (queueOn o n) id; segments = hasAny (part n) })) none
+  entry-is : (n : ℕ) → entryIn (map (entryOf (tableOn o)) (layersOn o n)) id ≡ cond (hasCarry (queueOn o n) id || hasAny (part n)) (some (record { id = id; cover = heldIn (queueOn o n) id; segments = hasAny (part n) })) none
   entry-is n =
-      entry-in 0 (layersOn o n) id (layers-ascend (is-open .in-order) (tableOn o) (o .from) n)
+      entry-in (tableOn o) 0 (layersOn o n) id (layers-ascend (is-open .in-order) (tableOn o) (o .from) n)
       ∙ rw (listed-is n, cover-is n, own-is n)
 
 -- ---- both

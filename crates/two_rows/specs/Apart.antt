@@ -1,11 +1,12 @@
 -- W-214: two rows that agree on one layer's segments and its fill rule, and may differ in all else, say the same of that layer.
 use mathlib.Core.Path.{_≡_}
-use mathlib.Core.Bool.{cond}
+use mathlib.Core.Bool.{Bool, cond}
 use mathlib.Core.List.{List, [], _∷_, map}
 use mathlib.Core.Option.{Option, some, none}
 use Prim.Native.Nat.{ℕ, _%_, _^_}
 use lib.Dec.{eqb}
 use lib.Ieee.{Float}
+use lib.IntN.{ℤ}
 use lib.ListN.{take}
 use Rattle.laws.specs.Answer.{given}
 use Rattle.laws.specs.Lists.{filter}
@@ -44,11 +45,19 @@ pub record AgreeOn (id : ℕ) (o o′ : OpenRow) : Type 0 where
   pub segments : (v : ℕ) → countBy (eqb v) (layerSegments id (o .row)) ≡ countBy (eqb v) (layerSegments id (o′ .row))
   pub rule : ruleIn (tableOn o) id ≡ ruleIn (tableOn o′) id
 
--- ---- what a list and a queue say of a layer: nothing, or its entry
+-- ---- what a list and a queue say of a layer: nothing, or its entry. Whether the layer is changed is its own table's word, and no part of it
 
-unfoldable pub entryIn : List Entry → ℕ → Option Entry
+pub record Presence : Type 0 where
+  pub id : ℕ
+  pub cover : List ℤ
+  pub segments : Bool
+
+abbrev pub presenceOf : Entry → Presence
+presenceOf e = record { id = e .id; cover = e .cover; segments = e .segments }
+
+unfoldable pub entryIn : List Entry → ℕ → Option Presence
 entryIn [] id = none
-entryIn (e ∷ es) id = cond (eqb (e .id) id) (some e) (entryIn es id)
+entryIn (e ∷ es) id = cond (eqb (e .id) id) (some (presenceOf e)) (entryIn es id)
 
 unfoldable pub carryIn : List Carry → ℕ → Option Carry
 carryIn [] id = none
@@ -57,7 +66,7 @@ carryIn (c ∷ q) id = cond (eqb (c .id) id) (some c) (carryIn q id)
 -- ---- tile from + n: the layer's carry before it, its entry in the list, its coverages
 pub record SameLayer (id : ℕ) (o o′ : OpenRow) (n : ℕ) : Type 0 where
   pub carry : carryIn (queueOn o n) id ≡ carryIn (queueOn o′ n) id
-  pub entry : entryIn (map entryOf (layersOn o n)) id ≡ entryIn (map entryOf (layersOn o′ n)) id
+  pub entry : entryIn (map (entryOf (tableOn o)) (layersOn o n)) id ≡ entryIn (map (entryOf (tableOn o′)) (layersOn o′ n)) id
   pub plane : planeOn o n id ≡ planeOn o′ n id
 
 -- ---- along two runs

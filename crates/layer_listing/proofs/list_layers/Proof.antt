@@ -1,129 +1,35 @@
-use Prim.Native.Nat.{_+_, _-_}
-use native.Mathlib.Omega.{arith}
-use lib.ListN.{length}
-use Rattle.layer_listing.proofs.Writing.{Writing, write-start, write-lengths, write-room, write-next, write-end}
+-- `list_layers` meets its contract. Assumes nothing.
+use borrow.Author.Needs.{needs}
+use Rattle.layer_table.specs.Table.{tableOf}
+use Rattle.queue_statements.specs.Queue.{queueOf}
+use Rattle.tile_layers.specs.Listing.{layersIn}
+use Rattle.layer_listing.proofs.Marking.{listed}
 use Rattle.layer_listing.proofs.list_layers.Statement.{statement}
 use Rattle.layer_listing.proofs.list_layers.Tie as tie
 
--- `listing::list_layers` meets its contract. Assumes nothing.
+write-layers-requires : tie.Need-write-layers-requires
+write-layers-requires c κs = search needs
 
-abbrev Inv-loop : tie.InvT-loop
-Inv-loop ids covers n part list-ids₀ list-covers₀ list-segments₀ k₀ i₀ j₀ list-ids list-covers list-segments k i j = Writing n ids covers part list-ids₀ list-covers₀ list-segments₀ list-ids list-covers list-segments k i j
+mark-changed-requires : tie.Need-mark-changed-requires
+mark-changed-requires c κs = search needs
 
-abbrev μ-loop : tie.MeasureT-loop
-μ-loop ids covers n part list-ids₀ list-covers₀ list-segments₀ k₀ i₀ j₀ list-ids list-covers list-segments k i j = n + length part - (i + j)
+same-length : tie.Need-same-length
+same-length c = search needs
 
-loop-holds : tie.Need-loop-holds Inv-loop μ-loop
-loop-holds c =
-    let a = c .before .before .before .before .args in
-    write-start (a .n) (a .ids .now) (a .covers .now) (a .part .now) (a .list-ids .now) (a .list-covers .now) (a .list-segments .now)
+same-length-2 : tie.Need-same-length-2
+same-length-2 c = search needs
 
-add-loop : tie.Need-add-loop Inv-loop μ-loop
-add-loop c = omega (arith, c .loop .inv .walking, c .before .before .before .before .before .pre .0)
+same-length-3 : tie.Need-same-length-3
+same-length-3 c = search needs
 
-add-loop-2 : tie.Need-add-loop-2 Inv-loop μ-loop
-add-loop-2 c = omega (arith, c .before .before .before .before .before .pre .0)
-
-next-layer-requires : tie.Need-next-layer-requires Inv-loop μ-loop
-next-layer-requires c κs =
-    let s = c .before .before .before .before .before .before in
-    let w = c .before .loop .inv .walking in
-    (s .pre .0, w .within-i, w .within-j, c .loop-test .taken)
-
-mul-list-ids : tie.Need-mul-list-ids Inv-loop μ-loop
-mul-list-ids c = let a = c .before .before .before .before .before .before .before in
-    let s = c .before .before .loop .inv in
-    let n = c .next-layer in
-    let at = write-room (a .args .n) (a .args .ids .now) (a .args .covers .now) (a .args .part .now) (a .args .list-ids .now) (a .args .list-covers .now) (a .args .list-segments .now) (a .pre .2) (a .pre .1) s (n .result) (n .ensures .0 (a .args .covers .now)) in
-    let same = write-lengths (a .args .n) (a .args .ids .now) (a .args .covers .now) (a .args .part .now) (a .args .list-ids .now) (a .args .list-covers .now) (a .args .list-segments .now) (a .pre .2) (a .pre .1) s in
-    omega (arith, at, same, a .pre .2, a .good)
-
-slice-write-list-ids : tie.Need-slice-write-list-ids Inv-loop μ-loop
-slice-write-list-ids c = let a = c .before .before .before .before .before .before .before in
-    let s = c .before .before .loop .inv in
-    let n = c .next-layer in
-    let at = write-room (a .args .n) (a .args .ids .now) (a .args .covers .now) (a .args .part .now) (a .args .list-ids .now) (a .args .list-covers .now) (a .args .list-segments .now) (a .pre .2) (a .pre .1) s (n .result) (n .ensures .0 (a .args .covers .now)) in
-    let same = write-lengths (a .args .n) (a .args .ids .now) (a .args .covers .now) (a .args .part .now) (a .args .list-ids .now) (a .args .list-covers .now) (a .args .list-segments .now) (a .pre .2) (a .pre .1) s in
-    omega (arith, at, same, a .pre .2, a .good)
-
-incoming-cover-requires : tie.Need-incoming-cover-requires Inv-loop μ-loop
-incoming-cover-requires c κs =
-    let s = c .before .before .before .before .before .before .before .before in
-    λ e. omega (arith, c .before .next-layer .ensures .1 .has e, s .pre .1)
-
-write-cover-requires : tie.Need-write-cover-requires Inv-loop μ-loop
-write-cover-requires c κs = let a = c .before .before .before .before .before .before .before .before .before in
-    let s = c .before .before .before .before .loop .inv in
-    let n = c .before .before .next-layer in
-    let at = write-room (a .args .n) (a .args .ids .now) (a .args .covers .now) (a .args .part .now) (a .args .list-ids .now) (a .args .list-covers .now) (a .args .list-segments .now) (a .pre .2) (a .pre .1) s (n .result) (n .ensures .0 (a .args .covers .now)) in
-    let same = write-lengths (a .args .n) (a .args .ids .now) (a .args .covers .now) (a .args .part .now) (a .args .list-ids .now) (a .args .list-covers .now) (a .args .list-segments .now) (a .pre .2) (a .pre .1) s in
-    omega (arith, at, same, a .pre .2, a .good)
-
-slice-write-list-segments : tie.Need-slice-write-list-segments Inv-loop μ-loop
-slice-write-list-segments c = let a = c .before .before .before .before .before .before .before .before .before .before .before in
-    let s = c .before .before .before .before .before .before .loop .inv in
-    let n = c .before .before .before .before .next-layer in
-    let at = write-room (a .args .n) (a .args .ids .now) (a .args .covers .now) (a .args .part .now) (a .args .list-ids .now) (a .args .list-covers .now) (a .args .list-segments .now) (a .pre .2) (a .pre .1) s (n .result) (n .ensures .0 (a .args .covers .now)) in
-    let same = write-lengths (a .args .n) (a .args .ids .now) (a .args .covers .now) (a .args .part .now) (a .args .list-ids .now) (a .args .list-covers .now) (a .args .list-segments .now) (a .pre .2) (a .pre .1) s in
-    omega (arith, at, same, a .pre .2, a .good)
-
-add-k : tie.Need-add-k Inv-loop μ-loop
-add-k c = let a = c .before .before .before .before .before .before .before .before .before .before .before in
-    let s = c .before .before .before .before .before .before .loop .inv in
-    let n = c .before .before .before .before .next-layer in
-    let at = write-room (a .args .n) (a .args .ids .now) (a .args .covers .now) (a .args .part .now) (a .args .list-ids .now) (a .args .list-covers .now) (a .args .list-segments .now) (a .pre .2) (a .pre .1) s (n .result) (n .ensures .0 (a .args .covers .now)) in
-    let same = write-lengths (a .args .n) (a .args .ids .now) (a .args .covers .now) (a .args .part .now) (a .args .list-ids .now) (a .args .list-covers .now) (a .args .list-segments .now) (a .pre .2) (a .pre .1) s in
-    omega (arith, at, same, a .pre .2, a .good)
-
-loop-less : tie.Need-loop-less Inv-loop μ-loop
-loop-less c = omega (arith, c .before .before .before .before .next-layer .ensures .1, c .before .before .before .before .before .before .loop .inv .walking, c .before .before .before .before .before .loop-test .taken)
-
-loop-again : tie.Need-loop-again Inv-loop μ-loop
-loop-again c =
-    let a = c .before .before .before .before .before .before .before .before .before .before .before in
-    let n = c .before .before .before .before .next-layer in
-    write-next (a .args .n) (a .args .ids .now) (a .args .covers .now) (a .args .part .now) (a .args .list-ids .now) (a .args .list-covers .now) (a .args .list-segments .now) (a .pre .2) (a .pre .1)
-    (c .before .before .before .before .before .before .loop .inv) (n .result) (n .ensures .0 (a .args .covers .now)) (n .ensures .1) _ _ (c .before .before .incoming-cover .ensures) (c .before .write-cover .ensures)
-
-same-length : tie.Need-same-length Inv-loop μ-loop
-same-length c =
-    let a = c .before .before .before .before .before .before in
-    (write-lengths (a .args .n) (a .args .ids .now) (a .args .covers .now) (a .args .part .now) (a .args .list-ids .now) (a .args .list-covers .now) (a .args .list-segments .now) (a .pre .2) (a .pre .1) (c .before .loop .inv)) .ids-same
-
-same-length-2 : tie.Need-same-length-2 Inv-loop μ-loop
-same-length-2 c =
-    let a = c .before .before .before .before .before .before in
-    (write-lengths (a .args .n) (a .args .ids .now) (a .args .covers .now) (a .args .part .now) (a .args .list-ids .now) (a .args .list-covers .now) (a .args .list-segments .now) (a .pre .2) (a .pre .1) (c .before .loop .inv)) .covers-same
-
-same-length-3 : tie.Need-same-length-3 Inv-loop μ-loop
-same-length-3 c =
-    let a = c .before .before .before .before .before .before in
-    (write-lengths (a .args .n) (a .args .ids .now) (a .args .covers .now) (a .args .part .now) (a .args .list-ids .now) (a .args .list-covers .now) (a .args .list-segments .now) (a .pre .2) (a .pre .1) (c .before .loop .inv)) .segments-same
-
-returns : tie.Need-returns Inv-loop μ-loop
+returns : tie.Need-returns
 returns c =
-    let a = c .before .before .before .before .before .before in
-    write-end (a .args .n) (a .args .ids .now) (a .args .covers .now) (a .args .part .now) (a .args .list-ids .now) (a .args .list-covers .now) (a .args .list-segments .now) (a .pre .2) (a .pre .1) (c .before .loop .inv) (c .loop-test .left)
+    let s = c .before .before .before .before .before .before .before .before .before .before .before .before .before .before .before .before .before .before .before .before in
+    let a = s .args in
+    listed (tableOf (a .layers .now) (a .colors .now) (a .count)) (layersIn (queueOf (a .n) (a .ids .now) (a .covers .now)) (a .part .now)) (s .pre .4)
+    (c .before .before .before .before .before .before .before .before .before .before .write-layers .ensures) (c .before .before .mark-changed .ensures)
 
 pub list-layers-spec : {M : Type 1} → statement M
 list-layers-spec =
     tie.close
-    (tie.spec
-    Inv-loop
-    μ-loop
-    loop-holds
-    add-loop
-    add-loop-2
-    next-layer-requires
-    mul-list-ids
-    slice-write-list-ids
-    incoming-cover-requires
-    write-cover-requires
-    slice-write-list-segments
-    add-k
-    loop-less
-    loop-again
-    same-length
-    same-length-2
-    same-length-3
-    returns)
+    (tie.spec write-layers-requires mark-changed-requires same-length same-length-2 same-length-3 returns)

@@ -31,7 +31,7 @@ same-length c = search needs
 returns : tie.Need-returns
 returns c =
     let a = c .before .before .before .before .before .before .before .before .before .before .before .before .before .before .before .args in
-    decided (tableOf (a .layers .now) (a .colors .now) (a .count)) (entriesOf (a .n) (a .ids .now) (a .covers .now) (a .segments .now)) (a .kept) (a .clear) (a .previous) (a .n) (a .unmasked .now) _
+    decided (tableOf (a .layers .now) (a .colors .now) (a .count)) (entriesOf (a .n) (a .ids .now) (a .covers .now) (a .flags .now)) (a .kept) (a .clear) (a .previous) (a .n) (a .unmasked .now) _
     (c .before .before .before .before .before .before .before .before .before .update-layer-count .ensures) (c .before .before .before .before .before .before .before .is-clear-unchanged .ensures) (c .before .before .before .before .before .before .previous-count .ensures) (c .before .before .before .before .decide .ensures) (c .kept-by .ensures)
 
 pub decide-tile-spec : {M : Type 1} → statement M

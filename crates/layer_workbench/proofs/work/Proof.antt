@@ -1,6 +1,8 @@
 -- `work` meets its contract. Assumes nothing.
+use Prim.Native.Nat.{_≤_}
 use native.Mathlib.Omega.{arith}
 use borrow.Author.Needs.{needs}
+use lib.ListN.{length}
 use Rattle.layer_table.specs.Table.{tableOf}
 use Rattle.queue_statements.specs.Queue.{queueOf}
 use Rattle.tile_layers.specs.Groups.{groupsOf}
@@ -11,7 +13,9 @@ use Rattle.layer_workbench.proofs.work.Statement.{statement}
 use Rattle.layer_workbench.proofs.work.Tie as tie
 
 list-layers-requires : tie.Need-list-layers-requires
-list-layers-requires c κs = search needs
+list-layers-requires c κs =
+    let s = c .before .before .before .before .before .before .before .before .before .before .before in
+    (s .pre .0, s .pre .1, s .pre .2, record { ids-long = omega (arith, s .pre .3, s .pre .5, s .pre .6); covers-long = omega (arith, s .pre .3, s .pre .5, s .pre .6); flags-long = omega (arith, s .pre .3, s .pre .5, s .pre .6) }, s .pre .5)
 
 decide-tile-requires : tie.Need-decide-tile-requires
 decide-tile-requires c κs = search needs
@@ -44,9 +48,10 @@ returns c =
     let s = c .before .before .before .before .before .before .before .before .before .before .before .before .before .before .before .before .before .before .before .before .before .before .before .before .before .before .before .before .before .before .before .before in
     let a = s .args in
     let ls = layersIn (queueOf (a .n) (a .ids .now) (a .covers .now)) (a .part .now) in
-    worked (tableOf (a .layers .now) (a .colors .now) (a .count)) ls (a .kept) (a .clear) (a .previous) (a .list-ids .now) (a .list-covers .now) (a .list-segments .now) (a .list-unmasked .now) (a .next-ids .now) (a .next-covers .now)
+    let few : length ls ≤ 256 = omega (arith, s .pre .5, s .pre .6) in
+    worked (tableOf (a .layers .now) (a .colors .now) (a .count)) ls (a .kept) (a .clear) (a .previous) (a .list-ids .now) (a .list-covers .now) (a .list-flags .now) (a .list-unmasked .now) (a .next-ids .now) (a .next-covers .now)
     (list-wide (queueOf (a .n) (a .ids .now) (a .covers .now)) (groupsOf (a .part .now)) (queue-wide (a .n) (a .ids .now) (a .covers .now) (s .pre .1)))
-    (s .pre .5) (c .before .before .before .before .before .before .before .before .before .before .before .before .before .before .before .before .before .before .before .before .list-layers .ensures) (c .before .before .before .before .before .before .before .before .before .before .decide-tile .ensures) (c .before .before .before .before .before .hand-on .ensures)
+    (s .pre .5) few (s .pre .3 .list-flags) (c .before .before .before .before .before .before .before .before .before .before .before .before .before .before .before .before .before .before .before .before .list-layers .ensures) (c .before .before .before .before .before .before .before .before .before .before .decide-tile .ensures) (c .before .before .before .before .before .hand-on .ensures)
 
 pub work-spec : {M : Type 1} → statement M
 work-spec =

@@ -23,7 +23,7 @@ use Rattle.row_driver.proofs.Turning as turning
 use Rattle.row_driver.proofs.Driving.{Driving, start, next, done, refused}
 
 abbrev Inv-loop : tie.InvT-loop
-Inv-loop n row layers colors count a-ids₀ a-covers₀ b-ids₀ b-covers₀ list-ids₀ list-covers₀ list-segments₀ list-unmasked₀ lines₀ at₀ in-a₀ i₀ a-ids a-covers b-ids b-covers list-ids list-covers list-segments list-unmasked lines at in-a i =
+Inv-loop n row layers colors count a-ids₀ a-covers₀ b-ids₀ b-covers₀ list-ids₀ list-covers₀ list-flags₀ list-unmasked₀ lines₀ at₀ in-a₀ i₀ a-ids a-covers b-ids b-covers list-ids list-covers list-flags list-unmasked lines at in-a i =
     Driving (rowBy at₀ row layers colors count) n lines₀ i lines
     × Holds (rowBy at₀ row layers colors count) (record { tiles = i; clip = none }) (heldBy in-a at (record { ids = a-ids; covers = a-covers }) (record { ids = b-ids; covers = b-covers }))
     × (length a-ids ≡ length a-ids₀)
@@ -32,11 +32,11 @@ Inv-loop n row layers colors count a-ids₀ a-covers₀ b-ids₀ b-covers₀ lis
     × (length b-covers ≡ length b-covers₀)
     × (length list-ids ≡ length list-ids₀)
     × (length list-covers ≡ length list-covers₀)
-    × (length list-segments ≡ length list-segments₀)
+    × (length list-flags ≡ length list-flags₀)
     × (length list-unmasked ≡ length list-unmasked₀)
 
 abbrev μ-loop : tie.MeasureT-loop
-μ-loop n row layers colors count a-ids₀ a-covers₀ b-ids₀ b-covers₀ list-ids₀ list-covers₀ list-segments₀ list-unmasked₀ lines₀ at₀ in-a₀ i₀ a-ids a-covers b-ids b-covers list-ids list-covers list-segments list-unmasked lines at in-a i =
+μ-loop n row layers colors count a-ids₀ a-covers₀ b-ids₀ b-covers₀ list-ids₀ list-covers₀ list-flags₀ list-unmasked₀ lines₀ at₀ in-a₀ i₀ a-ids a-covers b-ids b-covers list-ids list-covers list-flags list-unmasked lines at in-a i =
     n - i
 
 loop-holds : tie.Need-loop-holds Inv-loop μ-loop
@@ -52,8 +52,8 @@ cast-turn c =
     let h = c .before .loop-test .taken in
     let left : Columns = record { ids = l .a-ids; covers = l .a-covers } in
     let right : Columns = record { ids = l .b-ids; covers = l .b-covers } in
-    let list₀ : ListColumns = record { ids = a .list-ids .now; covers = a .list-covers .now; segments = a .list-segments .now; unmasked = a .list-unmasked .now } in
-    let list : ListColumns = record { ids = l .list-ids; covers = l .list-covers; segments = l .list-segments; unmasked = l .list-unmasked } in
+    let list₀ : ListColumns = record { ids = a .list-ids .now; covers = a .list-covers .now; flags = a .list-flags .now; unmasked = a .list-unmasked .now } in
+    let list : ListColumns = record { ids = l .list-ids; covers = l .list-covers; flags = l .list-flags; unmasked = l .list-unmasked } in
     let inside : a .state .from + l .i < a .state .to = omega (arith, h, p .inside) in
     let long = turning.list-kept list₀ list (l .inv .6) (l .inv .7) (l .inv .8) (l .inv .9) (p .list-long) in
     let next-is = turning.tile-is (l .in-a) (l .at) left right (p .is-open) (l .inv .1) inside list long in
@@ -70,8 +70,8 @@ turn-requires c κs =
     let h = c .before .before .before .before .before .before .before .before .before .loop-test .taken in
     let left : Columns = record { ids = l .a-ids; covers = l .a-covers } in
     let right : Columns = record { ids = l .b-ids; covers = l .b-covers } in
-    let list₀ : ListColumns = record { ids = a .list-ids .now; covers = a .list-covers .now; segments = a .list-segments .now; unmasked = a .list-unmasked .now } in
-    let list : ListColumns = record { ids = l .list-ids; covers = l .list-covers; segments = l .list-segments; unmasked = l .list-unmasked } in
+    let list₀ : ListColumns = record { ids = a .list-ids .now; covers = a .list-covers .now; flags = a .list-flags .now; unmasked = a .list-unmasked .now } in
+    let list : ListColumns = record { ids = l .list-ids; covers = l .list-covers; flags = l .list-flags; unmasked = l .list-unmasked } in
     let inside : a .state .from + l .i < a .state .to = omega (arith, h, p .inside) in
     let long = turning.list-kept list₀ list (l .inv .6) (l .inv .7) (l .inv .8) (l .inv .9) (p .list-long) in
     let next-is = turning.tile-is (l .in-a) (l .at) left right (p .is-open) (l .inv .1) inside list long in
@@ -128,8 +128,8 @@ returns c =
     let h = c .before .before .before .before .before .before .before .before .before .before .before .before .before .before .before .before .before .before .before .before .before .before .before .before .before .before .before .before .loop-test .taken in
     let left : Columns = record { ids = l .a-ids; covers = l .a-covers } in
     let right : Columns = record { ids = l .b-ids; covers = l .b-covers } in
-    let list₀ : ListColumns = record { ids = a .list-ids .now; covers = a .list-covers .now; segments = a .list-segments .now; unmasked = a .list-unmasked .now } in
-    let list : ListColumns = record { ids = l .list-ids; covers = l .list-covers; segments = l .list-segments; unmasked = l .list-unmasked } in
+    let list₀ : ListColumns = record { ids = a .list-ids .now; covers = a .list-covers .now; flags = a .list-flags .now; unmasked = a .list-unmasked .now } in
+    let list : ListColumns = record { ids = l .list-ids; covers = l .list-covers; flags = l .list-flags; unmasked = l .list-unmasked } in
     let inside : a .state .from + l .i < a .state .to = omega (arith, h, p .inside) in
     let long = turning.list-kept list₀ list (l .inv .6) (l .inv .7) (l .inv .8) (l .inv .9) (p .list-long) in
     let next-is = turning.tile-is (l .in-a) (l .at) left right (p .is-open) (l .inv .1) inside list long in
@@ -167,8 +167,8 @@ loop-again c =
     let h = c .before .before .before .before .before .before .before .before .before .before .before .before .before .before .before .before .before .before .before .before .before .before .before .before .before .before .before .before .before .before .before .before .loop-test .taken in
     let left : Columns = record { ids = l .a-ids; covers = l .a-covers } in
     let right : Columns = record { ids = l .b-ids; covers = l .b-covers } in
-    let list₀ : ListColumns = record { ids = a .list-ids .now; covers = a .list-covers .now; segments = a .list-segments .now; unmasked = a .list-unmasked .now } in
-    let list : ListColumns = record { ids = l .list-ids; covers = l .list-covers; segments = l .list-segments; unmasked = l .list-unmasked } in
+    let list₀ : ListColumns = record { ids = a .list-ids .now; covers = a .list-covers .now; flags = a .list-flags .now; unmasked = a .list-unmasked .now } in
+    let list : ListColumns = record { ids = l .list-ids; covers = l .list-covers; flags = l .list-flags; unmasked = l .list-unmasked } in
     let inside : a .state .from + l .i < a .state .to = omega (arith, h, p .inside) in
     let long = turning.list-kept list₀ list (l .inv .6) (l .inv .7) (l .inv .8) (l .inv .9) (p .list-long) in
     let next-is = turning.tile-is (l .in-a) (l .at) left right (p .is-open) (l .inv .1) inside list long in

@@ -26,7 +26,7 @@ called s =
 lentTo : tie.Start → WorkLent
 lentTo s =
     let a = s .args in
-    workLent (columns (a .next-ids .now) (a .next-covers .now)) (listColumns (a .list-ids .now) (a .list-covers .now) (a .list-segments .now) (a .list-unmasked .now))
+    workLent (columns (a .next-ids .now) (a .next-covers .now)) (listColumns (a .list-ids .now) (a .list-covers .now) (a .list-flags .now) (a .list-unmasked .now))
 
 -- the tile is a number of 16 signed bits
 tile-fits : (s : tie.Start) → SFits w16 (s .args .tile)

@@ -19,7 +19,7 @@ called s =
 lentTo : tie.Start → WorkLent
 lentTo s =
     let a = s .args in
-    workLent (columns (a .next-ids .now) (a .next-covers .now)) (listColumns (a .list-ids .now) (a .list-covers .now) (a .list-segments .now) (a .list-unmasked .now))
+    workLent (columns (a .next-ids .now) (a .next-covers .now)) (listColumns (a .list-ids .now) (a .list-covers .now) (a .list-flags .now) (a .list-unmasked .now))
 
 -- what the judge of 1 to 6 says
 told : (c : tie.After-judge-work) → judgementIn (c .judge-work .result) ≡ argsVerdict (called (c .before .before .before .before .before .before .before .before .before .before .before .before .before .before .before .before .before .before .before)) (lentTo (c .before .before .before .before .before .before .before .before .before .before .before .before .before .before .before .before .before .before .before))

@@ -15,7 +15,7 @@ use Rattle.tile_deciding.proofs.decide_tile.Tie as tie
 called : tie.Start → DecideCall
 called s =
     let a = s .args in
-    decideCall (tileList (a .list-ids .now) (a .list-covers .now) (a .list-segments .now)) (a .n) (lentTable (a .layers .now) (a .colors .now) (a .count)) (a .kept) (a .clear) (a .previous)
+    decideCall (tileList (a .list-ids .now) (a .list-covers .now) (a .list-flags .now)) (a .n) (lentTable (a .layers .now) (a .colors .now) (a .count)) (a .kept) (a .clear) (a .previous)
 
 masks : tie.Start → List Bool
 masks s = s .args .unmasked .now

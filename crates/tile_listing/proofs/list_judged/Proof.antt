@@ -27,7 +27,7 @@ called s =
 lentTo : tie.Start → ListLent
 lentTo s =
     let a = s .args in
-    listLent (columns (a .next-ids .now) (a .next-covers .now)) (tileList (a .list-ids .now) (a .list-covers .now) (a .list-segments .now))
+    listLent (columns (a .next-ids .now) (a .next-covers .now)) (tileList (a .list-ids .now) (a .list-covers .now) (a .list-flags .now))
 
 -- the tile is a number of 16 signed bits
 tile-fits : (s : tie.Start) → SFits w16 (s .args .tile)
@@ -70,7 +70,7 @@ unfolding called
 write-tile-requires c κs =
     let s = c .before .before .before .before .before .before .before .before .before .before .before .before .before .before .before .before in
     let l = listable (c .before .before .before .before .before) in
-    rw (part-is (c .before .before .before .before .before .before .before .before)) (s .pre .walks, s .pre .covers-long, s .pre .in-table, s .pre .rooms, l .light, l .few)
+    rw (part-is (c .before .before .before .before .before .before .before .before)) (s .pre .walks, s .pre .covers-long, s .pre .in-table, s .pre .rooms, l .light, l .few, list-told (c .before .before .before .before .before .before .before) .listed)
 
 done-requires : tie.Need-done-requires
 done-requires c κs = c .before .before .before .before .before .before .before .before .before .before .before .before .before .before .before .before .before .before .before .before .before .before .before .before .before .pre .next-low

@@ -20,7 +20,7 @@ called s =
 lentTo : tie.Start → ListLent
 lentTo s =
     let a = s .args in
-    listLent (columns (a .next-ids .now) (a .next-covers .now)) (tileList (a .list-ids .now) (a .list-covers .now) (a .list-segments .now))
+    listLent (columns (a .next-ids .now) (a .next-covers .now)) (tileList (a .list-ids .now) (a .list-covers .now) (a .list-flags .now))
 
 -- what the judge of 1 to 5 says
 told : (c : tie.After-judge-row) → judgementIn (c .judge-row .result) ≡ listCallVerdict (called (c .before .before .before .before .before .before .before .before .before .before .before .before .before .before .before .before .before)) (lentTo (c .before .before .before .before .before .before .before .before .before .before .before .before .before .before .before .before .before))

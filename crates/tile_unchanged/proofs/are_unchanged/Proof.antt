@@ -16,10 +16,10 @@ abbrev isUnchanged : Item → Bool
 isUnchanged x = x .unchanged
 
 abbrev Inv-loop : tie.InvT-loop
-Inv-loop ids covers segments n layers colors count ok₀ i₀ ok i = Testing isUnchanged (itemsOf (tableOf layers colors count) (entriesOf n ids covers segments)) n ok i
+Inv-loop ids covers flags n layers colors count ok₀ i₀ ok i = Testing isUnchanged (itemsOf (tableOf layers colors count) (entriesOf n ids covers flags)) n ok i
 
 abbrev μ-loop : tie.MeasureT-loop
-μ-loop ids covers segments n layers colors count ok₀ i₀ ok i = n - i
+μ-loop ids covers flags n layers colors count ok₀ i₀ ok i = n - i
 
 loop-holds : tie.Need-loop-holds Inv-loop μ-loop
 loop-holds c = test-start (length-items _ _ _ _ _)
@@ -41,7 +41,7 @@ loop-again c =
     let turn = read .before in
     let a = turn .before .before .before .before .before .before .args in
     test-next _ (turn .before .loop .inv) (turn .loop-test .taken)
-    (ap isUnchanged (item-read (tableOf (a .layers .now) (a .colors .now) (a .count)) (a .n) (a .ids .now) (a .covers .now) (a .segments .now) (turn .before .loop .i) (turn .loop-test .taken) (read .item-at .ensures)))
+    (ap isUnchanged (item-read (tableOf (a .layers .now) (a .colors .now) (a .count)) (a .n) (a .ids .now) (a .covers .now) (a .flags .now) (turn .before .loop .i) (turn .loop-test .taken) (read .item-at .ensures)))
 
 returns : tie.Need-returns Inv-loop μ-loop
 returns c = test-end (c .before .loop .inv) (c .loop-test .left)

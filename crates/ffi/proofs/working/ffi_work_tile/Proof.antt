@@ -52,7 +52,7 @@ returns c =
     let a = s .args in
     worked
     (λ (x : State). workCall x (a .tile) (a .row .now) (lentTable (a .layers .now) (a .colors .now) (a .count)) (keptOf (a .is-kept) (a .kept .now)) (colorFrom (a .clear .now)) (previousOf (a .is-previous) (a .previous .now)) (columns (a .ids .now) (a .covers .now)))
-    (workLent (columns (a .next-ids .now) (a .next-covers .now)) (listColumns (a .list-ids .now) (a .list-covers .now) (a .list-segments .now) (a .list-unmasked .now)))
+    (workLent (columns (a .next-ids .now) (a .next-covers .now)) (listColumns (a .list-ids .now) (a .list-covers .now) (a .list-flags .now) (a .list-unmasked .now)))
     (c .before .before .before .before .before .before .before .before .before .before .before .before .before .before .before .before .before .before .before .before .before .before .before .before .before .before .before .to-state .ensures)
     (rw (c .before .before .before .before .before .before .before .before .before .before .before .before .before .before .before .before .before .before .before .before .before .before .before .before .before .before .before .before .to-tile .ensures, c .before .before .before .before .before .before .before .before .before .before .before .before .before .before .before .before .before .before .before .before .before .before .before .before .before .before .to-color .ensures, c .before .before .before .before .before .before .before .before .before .before .before .before .before .before .before .before .before .before .before .before .before .before .before .before .before .to-previous .ensures, toZ-ofZ (s .fits .tile)) at (c .before .before .before .before .before .before .before .before .before .before .before .before .before .before .before .before .before .before .work-tile .ensures))
     (c .put-worked .ensures)

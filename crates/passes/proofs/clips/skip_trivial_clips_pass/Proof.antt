@@ -11,11 +11,11 @@ use Rattle.passes.proofs.clips.skip_trivial_clips_pass.Statement.{state
 use Rattle.passes.proofs.clips.skip_trivial_clips_pass.Tie as tie
 
 abbrev Inv-loop : tie.InvT-loop
-Inv-loop ids covers segments n layers colors count unmasked₀ unclipped₀ cur₀ i₀ unmasked unclipped cur i =
-    Passing (itemsOf (tableOf layers colors count) (entriesOf n ids covers segments)) n unmasked₀ unclipped₀ unmasked unclipped cur i
+Inv-loop ids covers flags n layers colors count unmasked₀ unclipped₀ cur₀ i₀ unmasked unclipped cur i =
+    Passing (itemsOf (tableOf layers colors count) (entriesOf n ids covers flags)) n unmasked₀ unclipped₀ unmasked unclipped cur i
 
 abbrev μ-loop : tie.MeasureT-loop
-μ-loop ids covers segments n layers colors count unmasked₀ unclipped₀ cur₀ i₀ unmasked unclipped cur i = n - i
+μ-loop ids covers flags n layers colors count unmasked₀ unclipped₀ cur₀ i₀ unmasked unclipped cur i = n - i
 
 fill-requires : tie.Need-fill-requires Inv-loop μ-loop
 fill-requires c κs = c .before .before .before .before .before .before .before .pre .2
@@ -57,7 +57,7 @@ loop-again c =
     let a = turn .before .before .before .before .before .before .before .before .before .before .before .before .before .before .before .before .args in
     let table = tableOf (a .layers .now) (a .colors .now) (a .count) in
     pass-next (turn .before .loop .inv) (turn .loop-test .taken)
-    (drop-items table (a .n) (a .ids .now) (a .covers .now) (a .segments .now) (turn .before .loop .i) (turn .loop-test .taken))
+    (drop-items table (a .n) (a .ids .now) (a .covers .now) (a .flags .now) (turn .before .loop .i) (turn .loop-test .taken))
     (read .item-at .ensures)
     (step .clip-step .ensures)
     (mark .mark .ensures)

@@ -1,6 +1,7 @@
 -- `passes::covered::skip_fully_covered_layers_pass` meets its contract. Assumes nothing.
 use Prim.Native.Nat.{_-_}
 use native.Mathlib.Omega.{arith}
+use borrow.Author.Needs.{needs}
 use Rattle.layer_table.specs.Table.{tableOf}
 use Rattle.pass_statements.specs.Entry.{entriesOf}
 use Rattle.pass_statements.specs.Item.{itemsOf}
@@ -10,30 +11,33 @@ use Rattle.passes.proofs.covered.skip_fully_covered_layers_pass.Stateme
 use Rattle.passes.proofs.covered.skip_fully_covered_layers_pass.Tie as tie
 
 abbrev Inv-loop : tie.InvT-loop
-Inv-loop ids covers segments n layers colors count unmasked unclipped removed found₀ i₀ found i =
-    Looking (itemsOf (tableOf layers colors count) (entriesOf n ids covers segments)) unmasked unclipped n removed i found
+Inv-loop ids covers flags n layers colors count unmasked unclipped removed found₀ i₀ found i =
+    Looking (itemsOf (tableOf layers colors count) (entriesOf n ids covers flags)) unmasked unclipped n removed i found
 
 abbrev μ-loop : tie.MeasureT-loop
-μ-loop ids covers segments n layers colors count unmasked unclipped removed found₀ i₀ found i = i
+μ-loop ids covers flags n layers colors count unmasked unclipped removed found₀ i₀ found i = i
+
+start-requires : tie.Need-start-requires Inv-loop μ-loop
+start-requires c κs = search needs
 
 loop-holds : tie.Need-loop-holds Inv-loop μ-loop
-loop-holds c = look-start (length-items _ _ _ _ _)
+loop-holds c = look-start (length-items _ _ _ _ _) (c .start .ensures)
 
 sub-i : tie.Need-sub-i Inv-loop μ-loop
 sub-i c = omega arith
 
 shared-slice-read-if1 : tie.Need-shared-slice-read-if1 Inv-loop μ-loop
-shared-slice-read-if1 c = omega (arith, c .before .before .before .before .before .before .before .before .before .pre .2)
+shared-slice-read-if1 c = omega (arith, c .before .before .before .before .before .before .before .before .before .before .pre .2)
 
 item-at-requires : tie.Need-item-at-requires Inv-loop μ-loop
 item-at-requires c κs =
-    let a = c .before .before .before .before .before .before .before .before .before .before in
+    let a = c .before .before .before .before .before .before .before .before .before .before .before in
     (a .pre .0, a .pre .1, omega (arith, c .before .before .before .loop .inv .reached, c .before .before .loop-test .taken))
 
 shared-slice-read-look-at : tie.Need-shared-slice-read-look-at Inv-loop μ-loop
 shared-slice-read-look-at c =
     let turn = c .before .before .before .before in
-    omega (arith, turn .before .loop .inv .reached, turn .loop-test .taken, turn .before .before .before .before .before .before .before .before .pre .3)
+    omega (arith, turn .before .loop .inv .reached, turn .loop-test .taken, turn .before .before .before .before .before .before .before .before .before .pre .3)
 
 look-at-requires : tie.Need-look-at-requires Inv-loop μ-loop
 look-at-requires c κs = tt
@@ -41,7 +45,7 @@ look-at-requires c κs = tt
 shared-slice-read-hides : tie.Need-shared-slice-read-hides Inv-loop μ-loop
 shared-slice-read-hides c =
     let turn = c .before .before .before .before .before .before in
-    omega (arith, turn .before .loop .inv .reached, turn .loop-test .taken, turn .before .before .before .before .before .before .before .before .pre .3)
+    omega (arith, turn .before .loop .inv .reached, turn .loop-test .taken, turn .before .before .before .before .before .before .before .before .before .pre .3)
 
 hides-requires : tie.Need-hides-requires Inv-loop μ-loop
 hides-requires c κs = tt
@@ -52,10 +56,10 @@ returns c =
     let read = seen .before .before in
     let turn = read .before .before .before in
     let p = turn .loop-test .taken in
-    let a = turn .before .before .before .before .before .before .before .before .args in
+    let a = turn .before .before .before .before .before .before .before .before .before .args in
     let i = turn .before .loop .i - 1 in
     look-found (turn .before .loop .inv) p (read .before .if1 .taken)
-    (item-read (tableOf (a .layers .now) (a .colors .now) (a .count)) (a .n) (a .ids .now) (a .covers .now) (a .segments .now) i (omega (arith, turn .before .loop .inv .reached)) (read .item-at .ensures))
+    (item-read (tableOf (a .layers .now) (a .colors .now) (a .count)) (a .n) (a .ids .now) (a .covers .now) (a .flags .now) i (omega (arith, turn .before .loop .inv .reached)) (read .item-at .ensures))
     (seen .look-at .ensures)
     (c .before .hides .ensures)
     (c .if2 .taken)
@@ -69,10 +73,10 @@ loop-again c =
     let read = seen .before .before in
     let turn = read .before .before .before in
     let p = turn .loop-test .taken in
-    let a = turn .before .before .before .before .before .before .before .before .args in
+    let a = turn .before .before .before .before .before .before .before .before .before .args in
     let i = turn .before .loop .i - 1 in
     look-next (turn .before .loop .inv) p (read .before .if1 .taken)
-    (item-read (tableOf (a .layers .now) (a .colors .now) (a .count)) (a .n) (a .ids .now) (a .covers .now) (a .segments .now) i (omega (arith, turn .before .loop .inv .reached)) (read .item-at .ensures))
+    (item-read (tableOf (a .layers .now) (a .colors .now) (a .count)) (a .n) (a .ids .now) (a .covers .now) (a .flags .now) i (omega (arith, turn .before .loop .inv .reached)) (read .item-at .ensures))
     (seen .look-at .ensures)
     (c .before .hides .ensures)
     (c .if2 .left)
@@ -92,6 +96,7 @@ skip-fully-covered-layers-pass-spec =
     (tie.spec
     Inv-loop
     μ-loop
+    start-requires
     loop-holds
     sub-i
     shared-slice-read-if1

@@ -14,11 +14,11 @@ use Rattle.passes.proofs.decide.are_solid.Statement.{statement}
 use Rattle.passes.proofs.decide.are_solid.Tie as tie
 
 abbrev Inv-loop : tie.InvT-loop
-Inv-loop ids covers segments n layers colors count unmasked below ok₀ left₀ i₀ ok left i =
-    Mixing (itemsOf (tableOf layers colors count) (entriesOf n ids covers segments)) unmasked i₀ below ok left i
+Inv-loop ids covers flags n layers colors count unmasked below ok₀ left₀ i₀ ok left i =
+    Mixing (itemsOf (tableOf layers colors count) (entriesOf n ids covers flags)) unmasked i₀ below ok left i
 
 abbrev μ-loop : tie.MeasureT-loop
-μ-loop ids covers segments n layers colors count unmasked below ok₀ left₀ i₀ ok left i = n - i
+μ-loop ids covers flags n layers colors count unmasked below ok₀ left₀ i₀ ok left i = n - i
 
 loop-holds : tie.Need-loop-holds Inv-loop μ-loop
 loop-holds c = mix-start
@@ -54,7 +54,7 @@ loop-again c =
     (c .is-color .ensures
     ∙ ap hasColor (c .before .solid-color .ensures)
     ∙ ap (λ (x : Item). hasColor (solidColor (x .func)))
-    (item-read (tableOf (a .layers .now) (a .colors .now) (a .count)) (a .n) (a .ids .now) (a .covers .now) (a .segments .now) (turn .before .loop .i) p (read .item-at .ensures)))
+    (item-read (tableOf (a .layers .now) (a .colors .now) (a .count)) (a .n) (a .ids .now) (a .covers .now) (a .flags .now) (turn .before .loop .i) p (read .item-at .ensures)))
 
 sub-left : tie.Need-sub-left Inv-loop μ-loop
 sub-left c = omega (arith, c .if2 .left)

@@ -21,7 +21,7 @@ returns : tie.Need-returns
 returns c =
     let pass = c .before .before .before in
     let a = pass .before .before .before .before .before .before .before .args in
-    let items = itemsOf (tableOf (a .layers .now) (a .colors .now) (a .count)) (entriesOf (a .n) (a .ids .now) (a .covers .now) (a .segments .now)) in
+    let items = itemsOf (tableOf (a .layers .now) (a .colors .now) (a .count)) (entriesOf (a .n) (a .ids .now) (a .covers .now) (a .flags .now)) in
     decided {whole = coveredOf items (a .unmasked .now) (a .unclipped .now) (a .removed)} (a .clear) items (a .unmasked .now)
     (pass .skip-fully-covered-layers-pass .ensures)
     (c .before .bottom-of .ensures)

@@ -25,7 +25,7 @@ same-length c = search needs
 returns : tie.Need-returns
 returns c =
     let a = c .before .before .before .before .before .before .before .before .before .before .before .before .before .before .args in
-    decided-passed {items = itemsOf (tableOf (a .layers .now) (a .colors .now) (a .count)) (entriesOf (a .n) (a .ids .now) (a .covers .now) (a .segments .now))} _ (a .clear) (a .removed)
+    decided-passed {items = itemsOf (tableOf (a .layers .now) (a .colors .now) (a .count)) (entriesOf (a .n) (a .ids .now) (a .covers .now) (a .flags .now))} _ (a .clear) (a .removed)
     (c .before .before .before .before .before .before .skip-trivial-clips-pass .ensures)
     (c .decide-unmasked .ensures)
 

@@ -71,7 +71,7 @@ returns c =
     let a = b .args in
     worked-lent
     (workCall (stateIn (a .state)) (a .tile) (a .row .now) (lentTable (a .layers .now) (a .colors .now) (a .count)) (a .kept) (a .clear) (a .previous) (lentColumns (a .columns)))
-    (workLent (columns (a .next-ids .now) (a .next-covers .now)) (listColumns (a .list-ids .now) (a .list-covers .now) (a .list-segments .now) (a .list-unmasked .now)))
+    (workLent (columns (a .next-ids .now) (a .next-covers .now)) (listColumns (a .list-ids .now) (a .list-covers .now) (a .list-flags .now) (a .list-unmasked .now)))
     (a .columns)
     (n .result)
     (n .ensures)

@@ -97,8 +97,8 @@ abbrev Callee : {M : Type 1} (𝓤 : URA M) (H : Heap 𝓤) (A : Atoms 𝓤) (at
 Callee 𝓤 H A at-mem run = tripleOf 𝓤 H A g.signature (g.spec 𝓤 H A at-mem run)
 
 module _ {M : Type 1} (𝓤 : URA M) (H : Heap 𝓤) (A : Atoms 𝓤) (W : Given 𝓤 H A) (at-mem : Memory → SProp 𝓤) (run : Routine → Fun 𝓤) (κ₀ κ₁ κ₂ κ₃ κ₄ κ₅ κ₆ κ₇ κ₈ : Lft) (q₀ q₁ q₂ q₃ q₄ q₅ q₆ q₇ q₈ : Share)
-    (state : RowState) (tile : ℤ) (row : RefT (List ℕ)) (layers : RefT (List ℕ)) (colors : RefT (List Float)) (count : ℕ) (kept : Kept) (clear : Color) (previous : PreviousClear) (queue : (List CarryRecord)) (next-ids : RefT (List ℕ)) (next-covers : RefT (List ℤ)) (list-ids : RefT (List ℕ)) (list-covers : RefT (List ℤ)) (list-segments : RefT (List Bool)) (list-unmasked : RefT (List Bool))
-    (is₀ : Is S.the-row state (LL.vals S.the-type S′.the-laws state)) (is₁ : Is i32 tile (sint-vals w32 tile)) (room₂ : Room u64 (length (row .now))) (room₃ : Room u32 (length (layers .now))) (room₄ : Room f32 (length (colors .now))) (is₅ : Is usize count (uint-vals w64 count)) (is₆ : Is K.the-row kept (LL.vals K.the-type K′.the-laws kept)) (is₇ : Is Co.the-row clear (LL.vals Co.the-type Co′.the-laws clear)) (is₈ : Is Pr.the-row previous (EL.vals Pr.the-type Pr′.the-laws previous)) (is₉ : Is QueueArray queue (array-vals rec-vals queue)) (room₁₀ : Room u32 (length (next-ids .now))) (room₁₁ : Room i8 (length (next-covers .now))) (room₁₂ : Room u32 (length (list-ids .now))) (room₁₃ : Room i8 (length (list-covers .now))) (room₁₄ : Room bool (length (list-segments .now))) (room₁₅ : Room bool (length (list-unmasked .now))) where
+    (state : RowState) (tile : ℤ) (row : RefT (List ℕ)) (layers : RefT (List ℕ)) (colors : RefT (List Float)) (count : ℕ) (kept : Kept) (clear : Color) (previous : PreviousClear) (queue : (List CarryRecord)) (next-ids : RefT (List ℕ)) (next-covers : RefT (List ℤ)) (list-ids : RefT (List ℕ)) (list-covers : RefT (List ℤ)) (list-flags : RefT (List Bool)) (list-unmasked : RefT (List Bool))
+    (is₀ : Is S.the-row state (LL.vals S.the-type S′.the-laws state)) (is₁ : Is i32 tile (sint-vals w32 tile)) (room₂ : Room u64 (length (row .now))) (room₃ : Room u32 (length (layers .now))) (room₄ : Room f32 (length (colors .now))) (is₅ : Is usize count (uint-vals w64 count)) (is₆ : Is K.the-row kept (LL.vals K.the-type K′.the-laws kept)) (is₇ : Is Co.the-row clear (LL.vals Co.the-type Co′.the-laws clear)) (is₈ : Is Pr.the-row previous (EL.vals Pr.the-type Pr′.the-laws previous)) (is₉ : Is QueueArray queue (array-vals rec-vals queue)) (room₁₀ : Room u32 (length (next-ids .now))) (room₁₁ : Room i8 (length (next-covers .now))) (room₁₂ : Room u32 (length (list-ids .now))) (room₁₃ : Room i8 (length (list-covers .now))) (room₁₄ : Room bool (length (list-flags .now))) (room₁₅ : Room bool (length (list-unmasked .now))) where
   -- the call
   abbrev call : WorkCall
   call = workCall (stateIn state) tile (row .now) (lent.lentTable (layers .now) (colors .now) count) kept clear previous (columnsFor queue)
@@ -108,7 +108,7 @@ module _ {M : Type 1} (𝓤 : URA M) (H : Heap 𝓤) (A : Atoms 𝓤) (W : Given
   written ids covers l c s u = workLent (lent.columns ids covers) (lent.listColumns l c s u)
 
   abbrev memory : WorkLent
-  memory = written (next-ids .now) (next-covers .now) (list-ids .now) (list-covers .now) (list-segments .now) (list-unmasked .now)
+  memory = written (next-ids .now) (next-covers .now) (list-ids .now) (list-covers .now) (list-flags .now) (list-unmasked .now)
 
   -- the machine values of the parameters
   abbrev v₀ : Val
@@ -154,13 +154,13 @@ module _ {M : Type 1} (𝓤 : URA M) (H : Heap 𝓤) (A : Atoms 𝓤) (W : Given
   v₁₃ = sliceVal (list-covers .ptr) (length (list-covers .now))
 
   abbrev v₁₄ : Val
-  v₁₄ = sliceVal (list-segments .ptr) (length (list-segments .now))
+  v₁₄ = sliceVal (list-flags .ptr) (length (list-flags .now))
 
   abbrev v₁₅ : Val
   v₁₅ = sliceVal (list-unmasked .ptr) (length (list-unmasked .now))
 
   abbrev x : Args f.signature (κ₀, (κ₁, (κ₂, (κ₃, (κ₄, (κ₅, (κ₆, (κ₇, (κ₈, tt)))))))))
-  x = (state, (tile, (row, (layers, (colors, (count, (kept, (clear, (previous, (queue, (next-ids, (next-covers, (list-ids, (list-covers, (list-segments, (list-unmasked, tt))))))))))))))))
+  x = (state, (tile, (row, (layers, (colors, (count, (kept, (clear, (previous, (queue, (next-ids, (next-covers, (list-ids, (list-covers, (list-flags, (list-unmasked, tt))))))))))))))))
 
   abbrev at : Vals f.signature (κ₀, (κ₁, (κ₂, (κ₃, (κ₄, (κ₅, (κ₆, (κ₇, (κ₈, tt)))))))))
   at = (v₀ ∷ [], (v₁ ∷ [], (v₂ ∷ [], (v₃ ∷ [], (v₄ ∷ [], (v₅ ∷ [], (v₆ ∷ [], (v₇ ∷ [], (v₈ ∷ [], (v₉ ∷ [], (v₁₀ ∷ [], (v₁₁ ∷ [], (v₁₂ ∷ [], (v₁₃ ∷ [], (v₁₄ ∷ [], (v₁₅ ∷ [], tt))))))))))))))))
@@ -191,7 +191,7 @@ module _ {M : Type 1} (𝓤 : URA M) (H : Heap 𝓤) (A : Atoms 𝓤) (W : Given
   MListCovers = MutSlice (named 6) κ₆ i8 .own list-covers (v₁₃ ∷ [])
 
   abbrev MListSegments : Fml
-  MListSegments = MutSlice (named 7) κ₇ bool .own list-segments (v₁₄ ∷ [])
+  MListSegments = MutSlice (named 7) κ₇ bool .own list-flags (v₁₄ ∷ [])
 
   abbrev MListShown : Fml
   MListShown = MutSlice (named 8) κ₈ bool .own list-unmasked (v₁₅ ∷ [])
@@ -199,7 +199,7 @@ module _ {M : Type 1} (𝓤 : URA M) (H : Heap 𝓤) (A : Atoms 𝓤) (W : Given
   -- ---- the call: what its triple binds outside, the array at the block l lent for the lifetime ν under the name γ, and what it asks
   module _ (l ν : ℕ) (γ : GName) where
     abbrev passed : Args g.signature (κ₀, (κ₁, (κ₂, (ν ∷ [], (κ₃, (κ₄, (κ₅, (κ₆, (κ₇, (κ₈, tt))))))))))
-    passed = (state, (tile, (row, (layers, (colors, (count, (kept, (clear, (previous, (record { ptr = (l, 0); name = γ; now = queue }, (next-ids, (next-covers, (list-ids, (list-covers, (list-segments, (list-unmasked, tt))))))))))))))))
+    passed = (state, (tile, (row, (layers, (colors, (count, (kept, (clear, (previous, (record { ptr = (l, 0); name = γ; now = queue }, (next-ids, (next-covers, (list-ids, (list-covers, (list-flags, (list-unmasked, tt))))))))))))))))
 
     abbrev to-callee : Callee 𝓤 H A at-mem run .Ghost
     to-callee = (((κ₀, (κ₁, (κ₂, (ν ∷ [], (κ₃, (κ₄, (κ₅, (κ₆, (κ₇, (κ₈, tt)))))))))), (q₀, (q₁, (q₂, (fullShare, (q₃, (q₄, (q₅, (q₆, (q₇, (q₈, tt)))))))))), tt, passed, (v₀ ∷ [], (v₁ ∷ [], (v₂ ∷ [], (v₃ ∷ [], (v₄ ∷ [], (v₅ ∷ [], (v₆ ∷ [], (v₇ ∷ [], (v₈ ∷ [], (sliceVal (l, 0) 256 ∷ [], (v₁₀ ∷ [], (v₁₁ ∷ [], (v₁₂ ∷ [], (v₁₃ ∷ [], (v₁₄ ∷ [], (v₁₅ ∷ [], tt))))))))))))))))), tt)
@@ -216,10 +216,10 @@ module _ {M : Type 1} (𝓤 : URA M) (H : Heap 𝓤) (A : Atoms 𝓤) (W : Given
     abbrev Said : TileWorked → Last → Type 0
     Said r ws = GivesWork (workOf call memory) r (written (ws .1 .1 .1 .1 .1 .1 .1 .1 .1 .1 .0) (ws .1 .1 .1 .1 .1 .1 .1 .1 .1 .1 .1 .0) (ws .1 .1 .1 .1 .1 .1 .1 .1 .1 .1 .1 .1 .0) (ws .1 .1 .1 .1 .1 .1 .1 .1 .1 .1 .1 .1 .1 .0) (ws .1 .1 .1 .1 .1 .1 .1 .1 .1 .1 .1 .1 .1 .1 .0) (ws .1 .1 .1 .1 .1 .1 .1 .1 .1 .1 .1 .1 .1 .1 .1 .0))
 
-  exits : (r : TileWorked) (v : Val) (us₁₀ : List ℕ) (us₁₁ : List ℤ) (us₁₂ : List ℕ) (us₁₃ : List ℤ) (us₁₄ : List Bool) (us₁₅ : List Bool) → GivesWork (workOf call memory) r (written us₁₀ us₁₁ us₁₂ us₁₃ us₁₄ us₁₅) → Is O.the-row r (v ∷ []) → length us₁₀ ≡ length (next-ids .now) → length us₁₁ ≡ length (next-covers .now) → length us₁₂ ≡ length (list-ids .now) → length us₁₃ ≡ length (list-covers .now) → length us₁₄ ≡ length (list-segments .now) → length us₁₅ ≡ length (list-unmasked .now)
-      → ent 𝓤 (⋆ 𝓤 H A (‵ (flft κ₀ q₀) ∷ ‵ (flft κ₁ q₁) ∷ ‵ (flft κ₂ q₂) ∷ ‵ (flft κ₃ q₃) ∷ ‵ (flft κ₄ q₄) ∷ ‵ (flft κ₅ q₅) ∷ ‵ (flft κ₆ q₆) ∷ ‵ (flft κ₇ q₇) ∷ ‵ (flft κ₈ q₈) ∷ ‵ (finally u32 (next-ids .name) us₁₀) ∷ ‵ (finally i8 (next-covers .name) us₁₁) ∷ ‵ (finally u32 (list-ids .name) us₁₂) ∷ ‵ (finally i8 (list-covers .name) us₁₃) ∷ ‵ (finally bool (list-segments .name) us₁₄) ∷ ‵ (finally bool (list-unmasked .name) us₁₅) ∷ ‵ SRow ∷ ‵ SLayers ∷ ‵ SColors ∷ [])) (Post v)
+  exits : (r : TileWorked) (v : Val) (us₁₀ : List ℕ) (us₁₁ : List ℤ) (us₁₂ : List ℕ) (us₁₃ : List ℤ) (us₁₄ : List Bool) (us₁₅ : List Bool) → GivesWork (workOf call memory) r (written us₁₀ us₁₁ us₁₂ us₁₃ us₁₄ us₁₅) → Is O.the-row r (v ∷ []) → length us₁₀ ≡ length (next-ids .now) → length us₁₁ ≡ length (next-covers .now) → length us₁₂ ≡ length (list-ids .now) → length us₁₃ ≡ length (list-covers .now) → length us₁₄ ≡ length (list-flags .now) → length us₁₅ ≡ length (list-unmasked .now)
+      → ent 𝓤 (⋆ 𝓤 H A (‵ (flft κ₀ q₀) ∷ ‵ (flft κ₁ q₁) ∷ ‵ (flft κ₂ q₂) ∷ ‵ (flft κ₃ q₃) ∷ ‵ (flft κ₄ q₄) ∷ ‵ (flft κ₅ q₅) ∷ ‵ (flft κ₆ q₆) ∷ ‵ (flft κ₇ q₇) ∷ ‵ (flft κ₈ q₈) ∷ ‵ (finally u32 (next-ids .name) us₁₀) ∷ ‵ (finally i8 (next-covers .name) us₁₁) ∷ ‵ (finally u32 (list-ids .name) us₁₂) ∷ ‵ (finally i8 (list-covers .name) us₁₃) ∷ ‵ (finally bool (list-flags .name) us₁₄) ∷ ‵ (finally bool (list-unmasked .name) us₁₅) ∷ ‵ SRow ∷ ‵ SLayers ∷ ‵ SColors ∷ [])) (Post v)
   exits r v us₁₀ us₁₁ us₁₂ us₁₃ us₁₄ us₁₅ e is same₁₀ same₁₁ same₁₂ same₁₃ same₁₄ same₁₅ =
-      qed W (‵ (flft κ₀ q₀) ∷ ‵ (flft κ₁ q₁) ∷ ‵ (flft κ₂ q₂) ∷ ‵ (flft κ₃ q₃) ∷ ‵ (flft κ₄ q₄) ∷ ‵ (flft κ₅ q₅) ∷ ‵ (flft κ₆ q₆) ∷ ‵ (flft κ₇ q₇) ∷ ‵ (flft κ₈ q₈) ∷ ‵ (finally u32 (next-ids .name) us₁₀) ∷ ‵ (finally i8 (next-covers .name) us₁₁) ∷ ‵ (finally u32 (list-ids .name) us₁₂) ∷ ‵ (finally i8 (list-covers .name) us₁₃) ∷ ‵ (finally bool (list-segments .name) us₁₄) ∷ ‵ (finally bool (list-unmasked .name) us₁₅) ∷ ‵ SRow ∷ ‵ SLayers ∷ ‵ SColors ∷ []) ∵
+      qed W (‵ (flft κ₀ q₀) ∷ ‵ (flft κ₁ q₁) ∷ ‵ (flft κ₂ q₂) ∷ ‵ (flft κ₃ q₃) ∷ ‵ (flft κ₄ q₄) ∷ ‵ (flft κ₅ q₅) ∷ ‵ (flft κ₆ q₆) ∷ ‵ (flft κ₇ q₇) ∷ ‵ (flft κ₈ q₈) ∷ ‵ (finally u32 (next-ids .name) us₁₀) ∷ ‵ (finally i8 (next-covers .name) us₁₁) ∷ ‵ (finally u32 (list-ids .name) us₁₂) ∷ ‵ (finally i8 (list-covers .name) us₁₃) ∷ ‵ (finally bool (list-flags .name) us₁₄) ∷ ‵ (finally bool (list-unmasked .name) us₁₅) ∷ ‵ SRow ∷ ‵ SLayers ∷ ‵ SColors ∷ []) ∵
       suffices ! _ (ends-at 𝓤 H A f.ended stayed (f.clauses 𝓤 H A at-mem run) W (((κ₀, (κ₁, (κ₂, (κ₃, (κ₄, (κ₅, (κ₆, (κ₇, (κ₈, tt))))))))), (q₀, (q₁, (q₂, (q₃, (q₄, (q₅, (q₆, (q₇, (q₈, tt))))))))), tt, x, at), tt) v r (tt, (tt, (tt, (tt, (tt, (tt, (tt, (tt, (tt, (tt, (us₁₀, (us₁₁, (us₁₂, (us₁₃, (us₁₄, (us₁₅, tt)))))))))))))))) (tt, (tt, (tt, (tt, (tt, (tt, (tt, (tt, (tt, (tt, (same₁₀, (same₁₁, (same₁₂, (same₁₃, (same₁₄, (same₁₅, tt))))))))))))))))) $ says ! e $
       nothing ! $ move ! (9 ∷ 0 ∷ []) $ join ! $ move ! (8 ∷ 0 ∷ []) $ join ! $ move ! (7 ∷ 0 ∷ []) $ join ! $ move ! (6 ∷ 0 ∷ []) $ join ! $ move ! (5 ∷ 0 ∷ []) $ join ! $ move ! (4 ∷ 0 ∷ []) $
       join ! $ move ! (3 ∷ 0 ∷ []) $ join ! $ move ! (2 ∷ 0 ∷ []) $ join ! $ move ! (1 ∷ 0 ∷ []) $ join ! $ frame ! $ nothing ! $ move ! (6 ∷ 0 ∷ []) $ fjoin ! $ move ! (5 ∷ 0 ∷ []) $ fjoin ! $

@@ -98,8 +98,8 @@ module _ {M : Type 1} (𝓤 : URA M) (H : Heap 𝓤) (A : Atoms 𝓤) (at-mem : 
     pub of-callee : Triple 𝓤 (calls #callee) Callee
 
 module _ {M : Type 1} (𝓤 : URA M) (H : Heap 𝓤) (A : Atoms 𝓤) (W : Given 𝓤 H A) (at-mem : Memory → SProp 𝓤) (run : Routine → Fun 𝓤) (κ₀ κ₁ κ₂ κ₃ κ₄ κ₅ κ₆ κ₇ κ₈ κ₉ : Lft) (q₀ q₁ q₂ q₃ q₄ q₅ q₆ q₇ q₈ q₉ : Share)
-    (state : RowState) (tile : ℤ) (row : RefT (List ℕ)) (layers : RefT (List ℕ)) (colors : RefT (List Float)) (count : ℕ) (kept : Kept) (clear : Color) (previous : PreviousClear) (queue : RefT (List CarryRecord)) (next-ids : RefT (List ℕ)) (next-covers : RefT (List ℤ)) (list-ids : RefT (List ℕ)) (list-covers : RefT (List ℤ)) (list-segments : RefT (List Bool)) (list-unmasked : RefT (List Bool))
-    (is₀ : Is S.the-row state (LL.vals S.the-type S′.the-laws state)) (is₁ : Is i32 tile (sint-vals w32 tile)) (room₂ : Room u64 (length (row .now))) (room₃ : Room u32 (length (layers .now))) (room₄ : Room f32 (length (colors .now))) (is₅ : Is usize count (uint-vals w64 count)) (is₆ : Is K.the-row kept (LL.vals K.the-type K′.the-laws kept)) (is₇ : Is Co.the-row clear (LL.vals Co.the-type Co′.the-laws clear)) (is₈ : Is Pr.the-row previous (EL.vals Pr.the-type Pr′.the-laws previous)) (room₉ : Room Rec.the-row (length (queue .now))) (room₁₀ : Room u32 (length (next-ids .now))) (room₁₁ : Room i8 (length (next-covers .now))) (room₁₂ : Room u32 (length (list-ids .now))) (room₁₃ : Room i8 (length (list-covers .now))) (room₁₄ : Room bool (length (list-segments .now))) (room₁₅ : Room bool (length (list-unmasked .now))) where
+    (state : RowState) (tile : ℤ) (row : RefT (List ℕ)) (layers : RefT (List ℕ)) (colors : RefT (List Float)) (count : ℕ) (kept : Kept) (clear : Color) (previous : PreviousClear) (queue : RefT (List CarryRecord)) (next-ids : RefT (List ℕ)) (next-covers : RefT (List ℤ)) (list-ids : RefT (List ℕ)) (list-covers : RefT (List ℤ)) (list-flags : RefT (List Bool)) (list-unmasked : RefT (List Bool))
+    (is₀ : Is S.the-row state (LL.vals S.the-type S′.the-laws state)) (is₁ : Is i32 tile (sint-vals w32 tile)) (room₂ : Room u64 (length (row .now))) (room₃ : Room u32 (length (layers .now))) (room₄ : Room f32 (length (colors .now))) (is₅ : Is usize count (uint-vals w64 count)) (is₆ : Is K.the-row kept (LL.vals K.the-type K′.the-laws kept)) (is₇ : Is Co.the-row clear (LL.vals Co.the-type Co′.the-laws clear)) (is₈ : Is Pr.the-row previous (EL.vals Pr.the-type Pr′.the-laws previous)) (room₉ : Room Rec.the-row (length (queue .now))) (room₁₀ : Room u32 (length (next-ids .now))) (room₁₁ : Room i8 (length (next-covers .now))) (room₁₂ : Room u32 (length (list-ids .now))) (room₁₃ : Room i8 (length (list-covers .now))) (room₁₄ : Room bool (length (list-flags .now))) (room₁₅ : Room bool (length (list-unmasked .now))) where
   -- the call, with a queue
   abbrev call : lent.Columns → WorkCall
   call k = workCall (stateIn state) tile (row .now) (lent.lentTable (layers .now) (colors .now) count) kept clear previous k
@@ -109,7 +109,7 @@ module _ {M : Type 1} (𝓤 : URA M) (H : Heap 𝓤) (A : Atoms 𝓤) (W : Given
   written ids covers l c s u = workLent (lent.columns ids covers) (lent.listColumns l c s u)
 
   abbrev memory : WorkLent
-  memory = written (next-ids .now) (next-covers .now) (list-ids .now) (list-covers .now) (list-segments .now) (list-unmasked .now)
+  memory = written (next-ids .now) (next-covers .now) (list-ids .now) (list-covers .now) (list-flags .now) (list-unmasked .now)
 
   -- the machine values of the parameters
   abbrev v₀ : Val
@@ -155,13 +155,13 @@ module _ {M : Type 1} (𝓤 : URA M) (H : Heap 𝓤) (A : Atoms 𝓤) (W : Given
   v₁₃ = sliceVal (list-covers .ptr) (length (list-covers .now))
 
   abbrev v₁₄ : Val
-  v₁₄ = sliceVal (list-segments .ptr) (length (list-segments .now))
+  v₁₄ = sliceVal (list-flags .ptr) (length (list-flags .now))
 
   abbrev v₁₅ : Val
   v₁₅ = sliceVal (list-unmasked .ptr) (length (list-unmasked .now))
 
   abbrev x : Args f.signature (κ₀, (κ₁, (κ₂, (κ₃, (κ₄, (κ₅, (κ₆, (κ₇, (κ₈, (κ₉, tt))))))))))
-  x = (state, (tile, (row, (layers, (colors, (count, (kept, (clear, (previous, (queue, (next-ids, (next-covers, (list-ids, (list-covers, (list-segments, (list-unmasked, tt))))))))))))))))
+  x = (state, (tile, (row, (layers, (colors, (count, (kept, (clear, (previous, (queue, (next-ids, (next-covers, (list-ids, (list-covers, (list-flags, (list-unmasked, tt))))))))))))))))
 
   abbrev at : Vals f.signature (κ₀, (κ₁, (κ₂, (κ₃, (κ₄, (κ₅, (κ₆, (κ₇, (κ₈, (κ₉, tt))))))))))
   at = (v₀ ∷ [], (v₁ ∷ [], (v₂ ∷ [], (v₃ ∷ [], (v₄ ∷ [], (v₅ ∷ [], (v₆ ∷ [], (v₇ ∷ [], (v₈ ∷ [], (v₉ ∷ [], (v₁₀ ∷ [], (v₁₁ ∷ [], (v₁₂ ∷ [], (v₁₃ ∷ [], (v₁₄ ∷ [], (v₁₅ ∷ [], tt))))))))))))))))
@@ -195,7 +195,7 @@ module _ {M : Type 1} (𝓤 : URA M) (H : Heap 𝓤) (A : Atoms 𝓤) (W : Given
   MListCovers = MutSlice (named 7) κ₇ i8 .own list-covers (v₁₃ ∷ [])
 
   abbrev MListSegments : Fml
-  MListSegments = MutSlice (named 8) κ₈ bool .own list-segments (v₁₄ ∷ [])
+  MListSegments = MutSlice (named 8) κ₈ bool .own list-flags (v₁₄ ∷ [])
 
   abbrev MListShown : Fml
   MListShown = MutSlice (named 9) κ₉ bool .own list-unmasked (v₁₅ ∷ [])
@@ -215,7 +215,7 @@ module _ {M : Type 1} (𝓤 : URA M) (H : Heap 𝓤) (A : Atoms 𝓤) (W : Given
   -- the columns c, whose machine value is u
   module _ (c : Columns) (u : Val) where
     abbrev passed : Args g.signature (κ₀, (κ₁, (κ₂, (κ₄, (κ₅, (κ₆, (κ₇, (κ₈, (κ₉, tt)))))))))
-    passed = (state, (tile, (row, (layers, (colors, (count, (kept, (clear, (previous, (c, (next-ids, (next-covers, (list-ids, (list-covers, (list-segments, (list-unmasked, tt))))))))))))))))
+    passed = (state, (tile, (row, (layers, (colors, (count, (kept, (clear, (previous, (c, (next-ids, (next-covers, (list-ids, (list-covers, (list-flags, (list-unmasked, tt))))))))))))))))
 
     abbrev to-callee : Callee 𝓤 H A at-mem run .Ghost
     to-callee = (((κ₀, (κ₁, (κ₂, (κ₄, (κ₅, (κ₆, (κ₇, (κ₈, (κ₉, tt))))))))), (q₀, (q₁, (q₂, (q₄, (q₅, (q₆, (q₇, (q₈, (q₉, tt))))))))), tt, passed, (v₀ ∷ [], (v₁ ∷ [], (v₂ ∷ [], (v₃ ∷ [], (v₄ ∷ [], (v₅ ∷ [], (v₆ ∷ [], (v₇ ∷ [], (v₈ ∷ [], (u ∷ [], (v₁₀ ∷ [], (v₁₁ ∷ [], (v₁₂ ∷ [], (v₁₃ ∷ [], (v₁₄ ∷ [], (v₁₅ ∷ [], tt))))))))))))))))), tt)
@@ -229,10 +229,10 @@ module _ {M : Type 1} (𝓤 : URA M) (H : Heap 𝓤) (A : Atoms 𝓤) (W : Given
     abbrev Said : TileWorked → Last → Type 0
     Said r ws = GivesWork (workOf (call (lentColumns c)) memory) r (written (ws .1 .1 .1 .1 .1 .1 .1 .1 .1 .1 .0) (ws .1 .1 .1 .1 .1 .1 .1 .1 .1 .1 .1 .0) (ws .1 .1 .1 .1 .1 .1 .1 .1 .1 .1 .1 .1 .0) (ws .1 .1 .1 .1 .1 .1 .1 .1 .1 .1 .1 .1 .1 .0) (ws .1 .1 .1 .1 .1 .1 .1 .1 .1 .1 .1 .1 .1 .1 .0) (ws .1 .1 .1 .1 .1 .1 .1 .1 .1 .1 .1 .1 .1 .1 .1 .0))
 
-  exits : (r : TileWorked) (v : Val) (us₁₀ : List ℕ) (us₁₁ : List ℤ) (us₁₂ : List ℕ) (us₁₃ : List ℤ) (us₁₄ : List Bool) (us₁₅ : List Bool) → GivesWork (workOf (call (columnsFor (queue .now))) memory) r (written us₁₀ us₁₁ us₁₂ us₁₃ us₁₄ us₁₅) → Is O.the-row r (v ∷ []) → length us₁₀ ≡ length (next-ids .now) → length us₁₁ ≡ length (next-covers .now) → length us₁₂ ≡ length (list-ids .now) → length us₁₃ ≡ length (list-covers .now) → length us₁₄ ≡ length (list-segments .now) → length us₁₅ ≡ length (list-unmasked .now)
-      → ent 𝓤 (⋆ 𝓤 H A ((‵ (flft κ₀ q₀) ⊛ ‵ (flft κ₁ q₁) ⊛ ‵ (flft κ₂ q₂) ⊛ ‵ (flft κ₄ q₄) ⊛ ‵ (flft κ₅ q₅) ⊛ ‵ (flft κ₆ q₆) ⊛ ‵ (flft κ₇ q₇) ⊛ ‵ (flft κ₈ q₈) ⊛ ‵ (flft κ₉ q₉) ⊛ ‵ ftrue) ∷ (‵ (flft κ₃ q₃) ⊛ ‵ ftrue) ∷ ‵ (finally u32 (next-ids .name) us₁₀) ∷ ‵ (finally i8 (next-covers .name) us₁₁) ∷ ‵ (finally u32 (list-ids .name) us₁₂) ∷ ‵ (finally i8 (list-covers .name) us₁₃) ∷ ‵ (finally bool (list-segments .name) us₁₄) ∷ ‵ (finally bool (list-unmasked .name) us₁₅) ∷ ‵ SRow ∷ ‵ SLayers ∷ ‵ SColors ∷ ‵ SQueue ∷ [])) (Post v)
+  exits : (r : TileWorked) (v : Val) (us₁₀ : List ℕ) (us₁₁ : List ℤ) (us₁₂ : List ℕ) (us₁₃ : List ℤ) (us₁₄ : List Bool) (us₁₅ : List Bool) → GivesWork (workOf (call (columnsFor (queue .now))) memory) r (written us₁₀ us₁₁ us₁₂ us₁₃ us₁₄ us₁₅) → Is O.the-row r (v ∷ []) → length us₁₀ ≡ length (next-ids .now) → length us₁₁ ≡ length (next-covers .now) → length us₁₂ ≡ length (list-ids .now) → length us₁₃ ≡ length (list-covers .now) → length us₁₄ ≡ length (list-flags .now) → length us₁₅ ≡ length (list-unmasked .now)
+      → ent 𝓤 (⋆ 𝓤 H A ((‵ (flft κ₀ q₀) ⊛ ‵ (flft κ₁ q₁) ⊛ ‵ (flft κ₂ q₂) ⊛ ‵ (flft κ₄ q₄) ⊛ ‵ (flft κ₅ q₅) ⊛ ‵ (flft κ₆ q₆) ⊛ ‵ (flft κ₇ q₇) ⊛ ‵ (flft κ₈ q₈) ⊛ ‵ (flft κ₉ q₉) ⊛ ‵ ftrue) ∷ (‵ (flft κ₃ q₃) ⊛ ‵ ftrue) ∷ ‵ (finally u32 (next-ids .name) us₁₀) ∷ ‵ (finally i8 (next-covers .name) us₁₁) ∷ ‵ (finally u32 (list-ids .name) us₁₂) ∷ ‵ (finally i8 (list-covers .name) us₁₃) ∷ ‵ (finally bool (list-flags .name) us₁₄) ∷ ‵ (finally bool (list-unmasked .name) us₁₅) ∷ ‵ SRow ∷ ‵ SLayers ∷ ‵ SColors ∷ ‵ SQueue ∷ [])) (Post v)
   exits r v us₁₀ us₁₁ us₁₂ us₁₃ us₁₄ us₁₅ e is same₁₀ same₁₁ same₁₂ same₁₃ same₁₄ same₁₅ =
-      qed W ((‵ (flft κ₀ q₀) ⊛ ‵ (flft κ₁ q₁) ⊛ ‵ (flft κ₂ q₂) ⊛ ‵ (flft κ₄ q₄) ⊛ ‵ (flft κ₅ q₅) ⊛ ‵ (flft κ₆ q₆) ⊛ ‵ (flft κ₇ q₇) ⊛ ‵ (flft κ₈ q₈) ⊛ ‵ (flft κ₉ q₉) ⊛ ‵ ftrue) ∷ (‵ (flft κ₃ q₃) ⊛ ‵ ftrue) ∷ ‵ (finally u32 (next-ids .name) us₁₀) ∷ ‵ (finally i8 (next-covers .name) us₁₁) ∷ ‵ (finally u32 (list-ids .name) us₁₂) ∷ ‵ (finally i8 (list-covers .name) us₁₃) ∷ ‵ (finally bool (list-segments .name) us₁₄) ∷ ‵ (finally bool (list-unmasked .name) us₁₅) ∷ ‵ SRow ∷ ‵ SLayers ∷ ‵ SColors ∷ ‵ SQueue ∷ []) ∵
+      qed W ((‵ (flft κ₀ q₀) ⊛ ‵ (flft κ₁ q₁) ⊛ ‵ (flft κ₂ q₂) ⊛ ‵ (flft κ₄ q₄) ⊛ ‵ (flft κ₅ q₅) ⊛ ‵ (flft κ₆ q₆) ⊛ ‵ (flft κ₇ q₇) ⊛ ‵ (flft κ₈ q₈) ⊛ ‵ (flft κ₉ q₉) ⊛ ‵ ftrue) ∷ (‵ (flft κ₃ q₃) ⊛ ‵ ftrue) ∷ ‵ (finally u32 (next-ids .name) us₁₀) ∷ ‵ (finally i8 (next-covers .name) us₁₁) ∷ ‵ (finally u32 (list-ids .name) us₁₂) ∷ ‵ (finally i8 (list-covers .name) us₁₃) ∷ ‵ (finally bool (list-flags .name) us₁₄) ∷ ‵ (finally bool (list-unmasked .name) us₁₅) ∷ ‵ SRow ∷ ‵ SLayers ∷ ‵ SColors ∷ ‵ SQueue ∷ []) ∵
       suffices ! _ (ends-at 𝓤 H A f.ended stayed (f.clauses 𝓤 H A at-mem run) W (((κ₀, (κ₁, (κ₂, (κ₃, (κ₄, (κ₅, (κ₆, (κ₇, (κ₈, (κ₉, tt)))))))))), (q₀, (q₁, (q₂, (q₃, (q₄, (q₅, (q₆, (q₇, (q₈, (q₉, tt)))))))))), tt, x, at), tt) v r (tt, (tt, (tt, (tt, (tt, (tt, (tt, (tt, (tt, (tt, (us₁₀, (us₁₁, (us₁₂, (us₁₃, (us₁₄, (us₁₅, tt)))))))))))))))) (tt, (tt, (tt, (tt, (tt, (tt, (tt, (tt, (tt, (tt, (same₁₀, (same₁₁, (same₁₂, (same₁₃, (same₁₄, (same₁₅, tt))))))))))))))))) $ says ! e $
       split ! $ move ! (1 ∷ []) $ split ! $ move ! (1 ∷ []) $ split ! $ move ! (1 ∷ []) $ split ! $ move ! (1 ∷ []) $ split ! $ move ! (1 ∷ []) $ split ! $ move ! (1 ∷ []) $ split ! $
       move ! (1 ∷ []) $ split ! $ move ! (1 ∷ []) $ split ! $ move ! (1 ∷ []) $ drop ! $ move ! (9 ∷ []) $ split ! $ move ! (1 ∷ []) $ drop ! $ nothing ! $ move ! (2 ∷ 0 ∷ []) $ join ! $

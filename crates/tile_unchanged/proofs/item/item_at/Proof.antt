@@ -15,6 +15,12 @@ mul-id c = search needs
 shared-slice-read-id : tie.Need-shared-slice-read-id
 shared-slice-read-id c = search needs
 
+add-changed : tie.Need-add-changed
+add-changed c = search needs
+
+shared-slice-read-changed : tie.Need-shared-slice-read-changed
+shared-slice-read-changed c = search needs
+
 find-requires : tie.Need-find-requires
 find-requires c κs = search needs
 
@@ -23,7 +29,7 @@ enum-known-p c = search needs
 
 layer-at-requires : tie.Need-layer-at-requires
 layer-at-requires c κs =
-    let a = c .before .before .before .before .before .before .before .before .before in
+    let a = c .before .before .before .before .before .before .before .before .before .before in
     let found = at-place {floats = a .args .colors .now} (c .before .p .given .1) (c .before .before .before .find .ensures) (a .pre .1 .ascending) in
     omega (arith, found .within, a .pre .1 .words-long, a .pre .1 .floats-long)
 
@@ -41,10 +47,10 @@ enum-told c = search needs
 
 returns : tie.Need-returns
 returns c =
-    let a = c .before .before .before .before .before .before .before .before .before .before .before .before .before in
+    let a = c .before .before .before .before .before .before .before .before .before .before .before .before .before .before in
     let found = at-place {floats = a .args .colors .now} (c .before .before .before .before .before .p .given .1) (c .before .before .before .before .before .before .before .find .ensures) (a .pre .1 .ascending) in
     item-found (tableOf (a .args .layers .now) (a .args .colors .now) (a .args .count))
-    (entryAt (a .args .ids .now) (a .args .covers .now) (a .args .segments .now) (a .args .i .0))
+    (entryAt (a .args .ids .now) (a .args .covers .now) (a .args .flags .now) (a .args .i .0))
     (c .item-for .ensures)
     (c .before .before .before .layer-at .ensures)
     (c .before .before .read-cover .ensures ∙ sym (cover-entry (a .args .covers .now) (a .args .i .0) (omega (arith, a .pre .0 .covers-long, a .pre .2))))
@@ -52,10 +58,10 @@ returns c =
 
 returns-2 : tie.Need-returns-2
 returns-2 c =
-    let a = c .before .before .before .before .before .before .before .before in
+    let a = c .before .before .before .before .before .before .before .before .before in
     let found = at-none {floats = a .args .colors .now} (c .enum-told .given .1) (c .before .before .find .ensures) in
     item-missing (tableOf (a .args .layers .now) (a .args .colors .now) (a .args .count))
-    (entryAt (a .args .ids .now) (a .args .covers .now) (a .args .segments .now) (a .args .i .0))
+    (entryAt (a .args .ids .now) (a .args .covers .now) (a .args .flags .now) (a .args .i .0))
     (found .looked)
 
 pub item-at-spec : {M : Type 1} → statement M
@@ -64,6 +70,8 @@ item-at-spec =
     (tie.spec
     mul-id
     shared-slice-read-id
+    add-changed
+    shared-slice-read-changed
     find-requires
     enum-known-p
     layer-at-requires
