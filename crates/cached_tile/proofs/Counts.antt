@@ -49,9 +49,6 @@ module _ (t : CachedTile) (h : t .tags ≤ 3) where
   pub color-left : (n : ℕ) → solidColorOf (keepCount t n) ≡ solidColorOf t
   color-left n = rw (agree (keepsColor (bitOr (t .tags) 2)) (keepsColor (t .tags)) (each (λ tags. Bool·beq (keepsColor (bitOr tags 2)) (keepsColor tags)) refl)) refl
 
-  pub color-uncounted : solidColorOf (dropCount t) ≡ solidColorOf t
-  color-uncounted = rw (agree (keepsColor (bitAnd (t .tags) 1)) (keepsColor (t .tags)) (each (λ tags. Bool·beq (keepsColor (bitAnd tags 1)) (keepsColor tags)) refl)) refl
-
   -- ---- the tag
 
   pub tags-count : bitOr (t .tags) 2 ≤ 3
@@ -62,6 +59,3 @@ module _ (t : CachedTile) (h : t .tags ≤ 3) where
 
   pub tags-dropped : bitAnd (t .tags) 2 ≤ 3
   tags-dropped = leb-true (bitAnd (t .tags) 2) 3 (each (λ tags. leb (bitAnd tags 2) 3) refl)
-
-  pub tags-uncounted : bitAnd (t .tags) 1 ≤ 3
-  tags-uncounted = leb-true (bitAnd (t .tags) 1) 3 (each (λ tags. leb (bitAnd tags 1) 3) refl)

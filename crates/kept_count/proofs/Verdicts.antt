@@ -17,7 +17,7 @@ use Rattle.cached_tile.specs.declared.kept.Kept.{Kept}
 use Rattle.queue_statements.specs.Queue.{isQueue}
 use Rattle.queue_statements.proofs.Judging.{ordered}
 use Rattle.kept_count.specs.Keeping.{LentMembers, areMembersShort, judgedCount, areKinds, keepVerdict, keepOut, KeepsCount}
-use Rattle.kept_count.specs.InnerKeeping.{MembersLent, keptBy}
+use Rattle.kept_count.specs.InnerKeeping.{MembersLent, answeredBy}
 use Rattle.kept_count.specs.declared.CountAnswer.the-variants.{Refused}
 use Rattle.kept_count.specs.declared.CountKept.{CountKept}
 
@@ -74,10 +74,10 @@ unfolding keepOut
 refused-by may {v} {k} {r} e = rw e (record { answer = refl; kept = refl })
 
 -- and else the tile keeps its count or loses it
-pub done-by : (k : Kept) {v : Judgement} {may b : Bool} {r : CountKept} → v ≡ pass → b ≡ may → r ≡ keptBy b k → KeepsCount (keepOut v may k) r
+pub done-by : (k : Kept) {v : Judgement} {may b : Bool} {r : CountKept} → v ≡ pass → b ≡ may → r ≡ answeredBy b k → KeepsCount (keepOut v may k) r
 unfolding keepOut
 done-by k {v} {may} {b} {r} e f h = rw (e, h, f) (by may)
   where
-    by : (t : Bool) → KeepsCount (keepOut pass t k) (keptBy t k)
+    by : (t : Bool) → KeepsCount (keepOut pass t k) (answeredBy t k)
     by true = record { answer = refl; kept = refl }
     by false = record { answer = refl; kept = refl }

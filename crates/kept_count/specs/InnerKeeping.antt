@@ -31,5 +31,5 @@ pub record MembersLent (ids kinds : List ℕ) (n : ℕ) : Type 0 where
 
 -- ---- the answer, where no refusal applies
 
-abbrev pub keptBy : Bool → kept.Kept → CountKept
-keptBy may k = cond may (record { kept = k; answer = Stays }) (record { kept = uncounted k; answer = Dropped })
+abbrev pub answeredBy : Bool → kept.Kept → CountKept
+answeredBy may k = cond may (record { kept = k; answer = Stays }) (record { kept = uncounted k; answer = Dropped })

@@ -9,7 +9,7 @@ use refusals::Refusal;
 use refusals::Verdict;
 ghost use mathlib.Core.Path.{_≡_};
 ghost use Rattle.kept_count.specs.Keeping.{lentMembers, uncounted, keepOf, KeepsCount};
-ghost use Rattle.kept_count.specs.InnerKeeping.{keptBy};
+ghost use Rattle.kept_count.specs.InnerKeeping.{answeredBy};
 
 // What is answered: why the call is turned down, that the count may stay, or that it was dropped.
 pub enum CountAnswer {
@@ -40,7 +40,7 @@ fn drop_count(kept: Kept) -> Kept
 }
 
 fn keep_or_drop(may: bool, kept: Kept) -> CountKept
-    ensures { λ r. ⌜ r ≡ keptBy may kept ⌝ }
+    ensures { λ r. ⌜ r ≡ answeredBy may kept ⌝ }
 {
     if may {
         CountKept {

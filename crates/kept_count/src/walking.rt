@@ -10,7 +10,8 @@ ghost use Rattle.kept_count.specs.InnerKeeping.{metBy, MembersLent};
 // How many are met, once a layer of today's list is looked at.
 fn meet(ids: &[u32], kinds: &[u8], n: usize, met: usize, id: u32, kind: u8) -> usize
     requires { ⌜ (n ≤ 256) × (n ≤ length (now ids)) × (n ≤ length (now kinds)) ⌝ }
-    ensures { λ r. ⌜ r ≡ metBy (membersOf (now (ids .entry)) (now (kinds .entry)) n) met (record { id = id; kind = kind }) ⌝ }
+    ensures { λ r. ⌜ r ≡ metBy (membersOf (now (ids .entry)) (now (kinds .entry)) n) met
+        (record { id = id; kind = kind }) ⌝ }
 {
     if met < n {
         if (ids[met] == id) & (kinds[met] == kind) {

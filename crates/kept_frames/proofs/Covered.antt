@@ -6,7 +6,7 @@ use mathlib.Core.Logic.{inl, inr, ⊎-elim}
 use mathlib.Core.Option.{Option, none}
 use Prim.Native.Nat.{ℕ, zero, suc, _≤_, _<_}
 use native.Mathlib.Omega.{arith}
-use borrow.Author.Tests.{le-leb, leb-true, ltb-true, ltb-false}
+use borrow.Author.Tests.{le-leb, leb-true, ltb-true, ltb-false, not-true}
 use lib.ListN.{length, getD, length-map, List·getD-map}
 use lib.Dec.{ltb, leb}
 use Rattle.laws.specs.Lists.{filter}
@@ -26,21 +26,18 @@ use Rattle.pass_statements.specs.Decision as decision
 use Rattle.pass_statements.proofs.Outcomes.{ruled-at}
 use Rattle.kept_frames.specs.Picture.{unflagged, underIn, freedIn, isDrawn, hidesAll, topOf, drawsOf, seenOf, cutIn, isClearSeen, pictureOf}
 use Rattle.kept_frames.specs.Told.{WasListed, Told}
-use Rattle.kept_frames.specs.Right.{Frames, FullCoverRight}
+use Rattle.kept_frames.specs.Right.{Frames, FullCoverRight, DrawsUnchanged}
 use Rattle.kept_frames.proofs.Within.{idsOf}
 use Rattle.kept_frames.proofs.SameKinds.{SameKind, Stays, all-stay}
 use Rattle.kept_frames.proofs.Parts.{Facts, was-in, same-part}
-use Rattle.kept_frames.proofs.Latest.{clipsIn, same-latest, same-under, same-freed}
-use Rattle.kept_frames.proofs.Top.{cut, top-cut, clear-hidden}
+use Rattle.kept_frames.proofs.Latest.{clipsIn, same-latest, same-under, same-freed, unchanged-clip}
+use Rattle.kept_frames.proofs.Top.{cut, top-cut, seen-above, clear-hidden}
+use Rattle.kept_frames.proofs.SeenUnchanged.{draws-unchanged}
 use Rattle.kept_frames.proofs.Floor.{none-found, none-start, Floor, floor}
 
 -- ---- tests
 
-opposite : (a : Bool) → not a ≡ true → a ≡ false
-opposite true h = sym h
-opposite false h = refl
-
-opaque-draws : (f : Func) → isOpaque f ≡ true → isClip f ≡ false
+pub opaque-draws : (f : Func) → isOpaque f ≡ true → isClip f ≡ false
 opaque-draws (Draw s) h = refl
 opaque-draws (Clip n) h = absurd (false≢true h)
 
@@ -57,7 +54,7 @@ whole false o false fr h = absurd (false≢true h)
 
 -- ---- places and flags
 
-was-at : (xs : List Item) (i : ℕ) → i < length xs → WasListed (itemAt xs i) xs
+pub was-at : (xs : List Item) (i : ℕ) → i < length xs → WasListed (itemAt xs i) xs
 was-at [] i h = absurd (omega (arith, h))
 was-at (x ∷ xs) zero h = inl refl
 was-at (x ∷ xs) (suc i) h = inr (was-at xs i (omega (arith, h)))
@@ -70,10 +67,6 @@ fact-at : (P : Item → Bool) (before now : List Item) → Facts P before now �
 fact-at P before [] f i h e = absurd (omega (arith, h))
 fact-at P before (y ∷ ys) (f, fs) zero h e = f e
 fact-at P before (y ∷ ys) (f, fs) (suc i) h e = fact-at P before ys fs i (omega (arith, h)) e
-
-unchanged-clip : (a b : Bool) → a ≡ true → (not a || b) ≡ true → b ≡ true
-unchanged-clip true b e h = h
-unchanged-clip false b e h = absurd (false≢true e)
 
 clip-facts : (before now : List Item) → Told before now → areClipsUnchanged now ≡ true → Facts (λ x. isClip (x .func)) before now
 clip-facts before [] t h = tt
@@ -117,7 +110,7 @@ module _ (items : List Item) (up : isAscending items ≡ true) (f : Floor items 
       let x = itemAt items i in
       let drawn : isDrawn (underIn items) x ≡ true = left (isDrawn (underIn items) x) (cut (p .id) x) e in
       let high = leb-true (p .id) (x .id) (right (isDrawn (underIn items) x) (cut (p .id) x) e) in
-      let at : DrawAt items i = record { listed = l; draws = opposite (isClip (x .func)) (left (not (isClip (x .func))) (not (isClipped (x .func)) || underIn items (x .id)) drawn) } in
+      let at : DrawAt items i = record { listed = l; draws = not-true (isClip (x .func)) (left (not (isClip (x .func))) (not (isClipped (x .func)) || underIn items (x .id)) drawn) } in
       f .unchanged i (above-p i l high) l (ruled-at items up at .unmasked-is ∙ right (not (isClip (x .func))) (not (isClipped (x .func)) || underIn items (x .id)) drawn)
 
 -- ---- what is seen, from the layer that hides up
@@ -130,12 +123,12 @@ filter-map low (x ∷ xs) = by (cut low x) (filter-map low xs)
     by true r = ap (λ (ys : List Item). unflagged x ∷ ys) r
     by false r = r
 
-was-unflagged : (x : Item) (l : List Item) → WasListed x l → WasListed x (map unflagged l)
+pub was-unflagged : (x : Item) (l : List Item) → WasListed x l → WasListed x (map unflagged l)
 was-unflagged x [] s = s
 was-unflagged x (y ∷ ys) (inl e) = inl e
 was-unflagged x (y ∷ ys) (inr s) = inr (was-unflagged x ys s)
 
-drawn-kinds : (under : ℕ → Bool) (x y : Item) → SameKind x y → isDrawn under x ≡ isDrawn under y
+pub drawn-kinds : (under : ℕ → Bool) (x y : Item) → SameKind x y → isDrawn under x ≡ isDrawn under y
 drawn-kinds under x y k = rw (k .clip, k .clipped, k .id)
 
 module _ (under freed : ℕ → Bool) (p : Item) (d : isDrawn under p ≡ true) (h : hidesAll freed p ≡ true) where
@@ -210,6 +203,15 @@ module _ (before now : List Item) (fr : Frames before now) (st : Stays before no
         hidden,
       )
 
+-- every draw that is seen lies above the floor, so it is unchanged
+above-floor : (now : List Item) (up : isAscending now ≡ true) (c : areClipsUnchanged now ≡ true) (f : Floor now (marksOf now .unmasked) (marksOf now .unclipped) (length now)) → DrawsUnchanged now (pictureOf now .draws)
+above-floor now up c f =
+    let low = itemAt now (f .place) in
+    let under = isDrawn (underIn now) in
+    let listed = was-unflagged low (filter under now) (was-in under (λ y. refl) (drawn-kinds (underIn now)) low now (p-drawn now up f) (was-at now (f .place) (f .listed))) in
+    draws-unchanged now c
+    (λ i l d s. each now up f i l (both (under (itemAt now i)) (cut (low .id) (itemAt now i)) d (seen-above (freedIn now) (drawsOf now) low listed (p-hides now up f) (unflagged (itemAt now i)) s)))
+
 -- the floor of a tile that the full-cover pass keeps
 none-floor : (clear : Color) (removed : Bool) (now : List Item) → passedOf clear removed now .decision ≡ decision.none → Floor now (marksOf now .unmasked) (marksOf now .unclipped) (length now)
 none-floor clear removed now e =
@@ -220,3 +222,7 @@ none-floor clear removed now e =
 pub full-cover-right : FullCoverRight
 full-cover-right clear removed before now fr st e =
     by-floor before now fr (all-stay before now st) (right (not removed) (areClipsUnchanged now) (none-start clear removed now e)) (none-floor clear removed now e)
+
+pub full-cover-unchanged : (clear : Color) (removed : Bool) (now : List Item) → isAscending now ≡ true → passedOf clear removed now .decision ≡ decision.none → DrawsUnchanged now (pictureOf now .draws)
+full-cover-unchanged clear removed now up e =
+    above-floor now up (right (not removed) (areClipsUnchanged now) (none-start clear removed now e)) (none-floor clear removed now e)

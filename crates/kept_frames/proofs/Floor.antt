@@ -5,7 +5,7 @@ use mathlib.Core.List.{List}
 use mathlib.Core.Logic.{_⊎_, inl, inr, ⊎-elim}
 use Prim.Native.Nat.{ℕ, zero, suc, _≤_, _<_}
 use native.Mathlib.Omega.{arith}
-use borrow.Author.Tests.{eqb-true, eqb-false}
+use borrow.Author.Tests.{eqb-true, eqb-false, not-true}
 use lib.Dec.{eqb}
 use lib.ListN.{length, getD}
 use Rattle.laws.proofs.Bools.{left, right, either}
@@ -21,10 +21,6 @@ use Rattle.pass_statements.specs.declared.covered.InterestingCover.the-variants
 use Rattle.pass_statements.specs.Decision as decision
 use Rattle.pass_statements.specs.Decision.{TileDecision, solid, paint}
 use Rattle.pass_statements.proofs.Covering.{look-past, look-on, look-last}
-
-opposite : (a : Bool) → not a ≡ true → a ≡ false
-opposite true h = sym h
-opposite false h = refl
 
 -- ---- the decision
 
@@ -155,7 +151,7 @@ module _ (items : List Item) (unmasked unclipped : List Bool) where
             is-unmasked = w;
             hides-all = d;
             unchanged = λ j p q s. let is : i ≡ j = omega (arith, p, q) in subst (λ (k : ℕ). itemAt items k .unchanged ≡ true) is (right (seenBy found) (itemAt items i .unchanged) u′);
-            whole = λ j p q s. let is : i ≡ j = omega (arith, p, q) in subst (λ (k : ℕ). isPartial (itemAt items k) (getD unclipped k false) ≡ false) is (opposite (isPartial (itemAt items i) (getD unclipped i false)) (left (not (isPartial (itemAt items i) (getD unclipped i false))) (isOpaque (itemAt items i .func)) d));
+            whole = λ j p q s. let is : i ≡ j = omega (arith, p, q) in subst (λ (k : ℕ). isPartial (itemAt items k) (getD unclipped k false) ≡ false) is (not-true (isPartial (itemAt items i) (getD unclipped i false)) (left (not (isPartial (itemAt items i) (getD unclipped i false))) (isOpaque (itemAt items i .func)) d));
           }
 
       past : getD unmasked i false ≡ false → (firstBy (go i found) ≡ Opaque c → seenBy (go i found) ≡ true → Floor items unmasked unclipped i) → (firstBy (go i found) ≡ Opaque c) × (seenBy (go i found) ≡ true) → Floor items unmasked unclipped (suc i)

@@ -8,15 +8,20 @@ use borrow.Author.Tests.{eqb-true}
 use lib.Dec.{eqb}
 use lib.ListN.{length}
 use Rattle.laws.specs.Lists.{filter}
-use Rattle.laws.proofs.Bools.{left, right}
+use Rattle.laws.proofs.Bools.{left, right, not-false, clash}
+use Rattle.laws.proofs.Every.{all-at}
 use Rattle.styling.specs.Style.{isClipped}
 use Rattle.pass_statements.specs.Rules.{latestClip}
-use Rattle.pass_statements.specs.Unchanged.{allUnchanged}
+use Rattle.pass_statements.specs.Unchanged.{allUnchanged, isKept}
+use Rattle.pass_statements.specs.Covered.{areClipsUnchanged}
+use Rattle.pass_statements.specs.declared.unchanged.PreviousCount.the-variants.{Kept}
+use Rattle.pass_statements.proofs.Repainting.{not-kept}
 use Rattle.pass_statements.specs.declared.item.Item.{Item}
 use Rattle.kept_frames.specs.Picture.{unflagged, underIn, freedIn, isDrawn, topOf, seenOf, unflaggedClip, cutIn, isClearSeen, pictureOf}
 use Rattle.kept_frames.specs.Told.{Told}
-use Rattle.kept_frames.specs.Right.{FirstPassRight}
+use Rattle.kept_frames.specs.Right.{FirstPassRight, DrawsUnchanged}
 use Rattle.kept_frames.proofs.Within.{Within, same}
+use Rattle.kept_frames.proofs.SeenUnchanged.{draws-unchanged}
 use Rattle.kept_frames.proofs.Latest.{latest-flags, under-flags, freed-flags}
 
 -- where every listed layer is unchanged, truthful flags put all of them in the list before
@@ -31,6 +36,12 @@ first-pass-right clearUnchanged before now f k =
     let rest = right clearUnchanged (counts && allUnchanged now) k in
     let long = eqb-true (length before) (length now) (left counts (allUnchanged now) rest) in
     (left clearUnchanged (counts && allUnchanged now) k, same before now 0 (f .up-now) 0 (f .up-before) (told-all before now (f .told) (right counts (allUnchanged now) rest)) (sym long))
+
+pub first-pass-unchanged : (clearUnchanged : Bool) (n : ℕ) (now : List Item) → isKept clearUnchanged (Kept n) now ≡ true → DrawsUnchanged now (pictureOf now .draws)
+first-pass-unchanged clearUnchanged n now k =
+    let every-one = right (eqb n (length now)) (allUnchanged now) (right clearUnchanged (eqb n (length now) && allUnchanged now) k) in
+    let clips = not-false (areClipsUnchanged now) (λ e. clash k (not-kept clearUnchanged (Kept n) now e)) in
+    draws-unchanged now clips (λ i l d s. all-at (λ (x : Item). x .unchanged) now every-one i _ l)
 
 -- ---- what is seen rests on the list but for its flags
 

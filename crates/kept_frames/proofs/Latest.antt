@@ -1,6 +1,6 @@
 -- The latest clip below a layer rests on the listed clips alone, but for their flags. Assumes nothing.
 use mathlib.Core.Path.{_≡_, refl, sym, ap, _∙_, fun-ext}
-use mathlib.Core.Bool.{Bool, true, false, cond, _&&_}
+use mathlib.Core.Bool.{Bool, true, false, cond, not, _&&_, _||_, false≢true}
 use mathlib.Core.List.{List, [], _∷_, map}
 use mathlib.Core.Option.{Option, some, none}
 use Prim.Native.Nat.{ℕ}
@@ -14,11 +14,11 @@ use Rattle.kept_frames.specs.Picture.{unflagged, underIn, freedIn, unfla
 abbrev pub clipsIn : List Item → List Item
 clipsIn items = filter (λ x. isClip (x .func)) items
 
-latest-next : (x : Item) (xs : List Item) (id : ℕ) (found : Option Item) → latestClip (x ∷ xs) id found ≡ latestClip xs id (cond (isClip (x .func) && ltb (x .id) id) (some x) found)
+pub latest-next : (x : Item) (xs : List Item) (id : ℕ) (found : Option Item) → latestClip (x ∷ xs) id found ≡ latestClip xs id (cond (isClip (x .func) && ltb (x .id) id) (some x) found)
 unfolding latestClip
 latest-next x xs id found = refl
 
-latest-end : (id : ℕ) (found : Option Item) → latestClip [] id found ≡ found
+pub latest-end : (id : ℕ) (found : Option Item) → latestClip [] id found ≡ found
 unfolding latestClip
 latest-end id found = refl
 
@@ -74,3 +74,8 @@ module _ (items : List Item) where
 
   pub freed-flags : freedIn (map unflagged items) ≡ freedIn items
   freed-flags = fun-ext (λ id. ap (λ (o : Option Item). isFreed o id) (latest-flags items id none) ∙ freed-flag (latestClip items id none) id)
+
+-- a clip, where no clip is changed
+pub unchanged-clip : (a b : Bool) → a ≡ true → (not a || b) ≡ true → b ≡ true
+unchanged-clip true b e h = h
+unchanged-clip false b e h = absurd (false≢true e)

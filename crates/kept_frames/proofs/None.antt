@@ -14,10 +14,10 @@ use Rattle.pass_statements.specs.declared.unchanged.PreviousCount.the-variants.
 use Rattle.pass_statements.proofs.Outcomes.{outcome-passed}
 use Rattle.kept_frames.specs.Picture.{pictureOf}
 use Rattle.kept_frames.specs.Stays.{listStays}
-use Rattle.kept_frames.specs.Right.{Frames, NoneRight, UncountedDrawn}
-use Rattle.kept_frames.proofs.Kept.{first-pass-right, picture-flags}
+use Rattle.kept_frames.specs.Right.{Frames, ShowsSame, NoneRight, UncountedDrawn}
+use Rattle.kept_frames.proofs.Kept.{first-pass-right, first-pass-unchanged, picture-flags}
 use Rattle.kept_frames.proofs.Floor.{none-start}
-use Rattle.kept_frames.proofs.Covered.{full-cover-right}
+use Rattle.kept_frames.proofs.Covered.{full-cover-right, full-cover-unchanged}
 
 pub uncounted-drawn : UncountedDrawn
 uncounted-drawn clear clearUnchanged now e =
@@ -25,17 +25,25 @@ uncounted-drawn clear clearUnchanged now e =
 
 module _ (clear : Color) (clearUnchanged : Bool) (before now : List Item) (f : Frames before now) where
   abbrev Due : Type 0
-  Due = (pictureOf before ≡ pictureOf now) × (pictureOf now .clear ≡ true → clearUnchanged ≡ true)
+  Due = ShowsSame clearUnchanged before now
 
   by-first : isKept clearUnchanged (Kept (length before)) now ≡ true → Due
   by-first k =
       let (same-clear, same) = first-pass-right clearUnchanged before now f k in
-      (sym (picture-flags before) ∙ ap pictureOf same ∙ picture-flags now, λ h. same-clear)
+      record {
+        picture = sym (picture-flags before) ∙ ap pictureOf same ∙ picture-flags now;
+        clear = λ h. same-clear;
+        unchanged = first-pass-unchanged clearUnchanged (length before) now k;
+      }
 
   by-cover : listStays before now ≡ true → passedOf clear (wereRemoved (Kept (length before)) (length now)) now .decision ≡ decision.none → Due
   by-cover s e =
       let (same, hidden) = full-cover-right clear (wereRemoved (Kept (length before)) (length now)) before now f s e in
-      (same, λ h. absurd (false≢true (sym hidden ∙ h)))
+      record {
+        picture = same;
+        clear = λ h. absurd (false≢true (sym hidden ∙ h));
+        unchanged = full-cover-unchanged clear (wereRemoved (Kept (length before)) (length now)) now (f .up-now) e;
+      }
 
   counted : listStays before now ≡ true → outcomeOf clear clearUnchanged (Kept (length before)) now .decision ≡ decision.none → Due
   counted s e =

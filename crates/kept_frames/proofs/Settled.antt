@@ -11,7 +11,8 @@ use Rattle.laws.proofs.Bools.{left, right}
 use Rattle.cached_tile.specs.Tile.{keepsColor, keepColor}
 use Rattle.cached_tile.specs.Kept.{sameBytes, keepOrWrite, keepsSame}
 use Rattle.cached_tile.specs.declared.CachedTile.{CachedTile}
-use Rattle.cached_tile.proofs.Counts.{color-left, color-uncounted, color-dropped, tags-count, tags-uncounted, tags-color, tags-dropped}
+use Rattle.cached_tile.proofs.Counts.{color-left, color-dropped, tags-count, tags-color, tags-dropped}
+use Rattle.kept_frames.proofs.Tags.{color-uncounted, tags-uncounted}
 use Rattle.kept_frames.specs.Display.{Display, SameDisplay, ShowsBytes, KeepsShown, displayed, SolidRight, FirstShown}
 
 same-display : (a b : List ℕ) → sameBytes a b ≡ true → SameDisplay a b

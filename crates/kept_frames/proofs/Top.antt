@@ -5,7 +5,7 @@ use mathlib.Core.List.{List, [], _∷_}
 use mathlib.Core.Logic.{inl, inr}
 use Prim.Native.Nat.{ℕ}
 use native.Mathlib.Omega.{arith}
-use borrow.Author.Tests.{ltb-false, leb-true, leb-false, le-leb, le-ltb}
+use borrow.Author.Tests.{ltb-false, leb-true, leb-false, le-leb, le-ltb, not-true}
 use lib.Dec.{ltb, leb}
 use Rattle.laws.specs.Lists.{all, filter}
 use Rattle.laws.proofs.Bools.{left, right, not-right}
@@ -40,10 +40,6 @@ all-filter r q (y ∷ ys) h = by (r y) refl (all-filter r q ys h)
 abbrev pub cut : ℕ → Item → Bool
 cut low x = leb low (x .id)
 
-opposite : (a : Bool) → not a ≡ true → a ≡ false
-opposite true h = sym h
-opposite false h = refl
-
 module _ (freed : ℕ → Bool) where
   -- who is seen is not below one that hides
   pub seen-above : (l : List Item) (p : Item) → WasListed p l → hidesAll freed p ≡ true → (x : Item) → isSeen freed l x ≡ true → cut (p .id) x ≡ true
@@ -52,7 +48,7 @@ module _ (freed : ℕ → Bool) where
       let is : y .id ≡ p .id = ap (λ (z : Item). z .id) e in
       let hides : hidesAll freed y ≡ true = ap (hidesAll freed) e ∙ h in
       let one : not (hidesAll freed y && ltb (x .id) (y .id)) ≡ true = left (not (hidesAll freed y && ltb (x .id) (y .id))) (isSeen freed ys x) q in
-      let past : ltb (x .id) (y .id) ≡ false = ap (λ (b : Bool). b && ltb (x .id) (y .id)) (sym hides) ∙ opposite (hidesAll freed y && ltb (x .id) (y .id)) one in
+      let past : ltb (x .id) (y .id) ≡ false = ap (λ (b : Bool). b && ltb (x .id) (y .id)) (sym hides) ∙ not-true (hidesAll freed y && ltb (x .id) (y .id)) one in
       le-leb (p .id) (x .id) (omega (arith, is, ltb-false (x .id) (y .id) past))
   seen-above (y ∷ ys) p (inr s) h x q = seen-above ys p s h x (right (not (hidesAll freed y && ltb (x .id) (y .id))) (isSeen freed ys x) q)
 

@@ -32,7 +32,7 @@ use Rattle.two_rows.specs.Apart.{AgreeOn, entryIn, carryIn, MadeCall, Sa
 use Rattle.two_rows.proofs.Same.{same-layer}
 
 -- every call of a run is right
-made-right : {o : OpenRow} {p q : Past} {es : List Event} {e : Event} → AllRight o p es → MadeCall o p es q e → Right o q e
+pub made-right : {o : OpenRow} {p q : Past} {es : List Event} {e : Event} → AllRight o p es → MadeCall o p es q e → Right o q e
 made-right all MadeCall.here = all .0
 made-right all (MadeCall.later m) = made-right (all .1) m
 
