@@ -4,3 +4,4 @@ pub mod Along
 pub mod Works
 pub mod Shown
 pub mod History
+pub mod Protocol

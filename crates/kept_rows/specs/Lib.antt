@@ -2,3 +2,4 @@
 pub mod Along
 pub mod Shown
 pub mod History
+pub mod Protocol
