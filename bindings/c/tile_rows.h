@@ -66,7 +66,7 @@ uint32_t ffi_octets(uint32_t mark);
 uint32_t ffi_decide_tile(
     const uint32_t *list_ids, size_t list_ids_len,
     const int8_t *list_covers, size_t list_covers_len,
-    const bool *list_segments, size_t list_segments_len,
+    const bool *list_flags, size_t list_flags_len,
     size_t n,
     const uint32_t *layers, size_t layers_len,
     const float *colors, size_t colors_len,
@@ -111,7 +111,7 @@ uint32_t ffi_list_tile(
     int8_t *next_covers, size_t next_covers_len,
     uint32_t *list_ids, size_t list_ids_len,
     int8_t *list_covers, size_t list_covers_len,
-    bool *list_segments, size_t list_segments_len,
+    bool *list_flags, size_t list_flags_len,
     size_t *listed);
 
 /* 0, the coverages in `plane`, their mark in `mark` and the state with the painter's clip, or the number of the
@@ -247,7 +247,7 @@ uint32_t ffi_work_tile(
     int8_t *next_covers, size_t next_covers_len,
     uint32_t *list_ids, size_t list_ids_len,
     int8_t *list_covers, size_t list_covers_len,
-    bool *list_segments, size_t list_segments_len,
+    bool *list_flags, size_t list_flags_len,
     bool *list_unmasked, size_t list_unmasked_len,
     size_t told[4],
     float bottom[4]);

@@ -1,6 +1,7 @@
 //! Copies the Rust's files, unchanged, and appends to some of them one line that declares a child module: it reaches
 //! what is private there. Asserts that each copy begins with the whole text of its original.
-//! For the crate `double_windings` one line of one copy is changed, so that a NonZero cover is full from 16 on.
+//! For the crate `double_windings`, the second model, one line of two copies is changed: a NonZero cover is full from 16 on (W-205), and a tile
+//! with a listed clip that is changed counts as changed (W-208).
 
 use std::{
     env, fs,
@@ -27,11 +28,19 @@ const FILES: [(&str, Option<&str>); 16] = [
     ("cpu/painter/layer_workbench/passes/skip_fully_covered_layers.rs", None),
 ];
 
-/// The crate whose copy is changed: the file, its line, and what stands there instead.
+/// The crate whose copies are changed: the file, its line, and what stands there instead.
 const CHANGED: &str = "double_windings";
-const FILE: &str = "cpu/painter/mod.rs";
-const LINE: &str = ".eq(i8x16::splat(consts::PIXEL_WIDTH as i8))\n";
-const INSTEAD: &str = ".at_least(consts::PIXEL_WIDTH as i8)\n";
+const CHANGES: [(&str, &str, &str); 2] = [
+    ("cpu/painter/mod.rs", ".eq(i8x16::splat(consts::PIXEL_WIDTH as i8))\n", ".at_least(consts::PIXEL_WIDTH as i8)\n"),
+    (
+        "cpu/painter/layer_workbench/passes/skip_fully_covered_layers.rs",
+        "let mut visible_layers_are_unchanged = !state.layers_were_removed;\n",
+        "let is_changed_clip =
+            |&id: &u32| matches!(context.props.get(id).func, Func::Clip(_)) && !context.props.is_unchanged(id);
+        let layers_were_removed = state.layers_were_removed || workbench.ids.iter().any(is_changed_clip);
+        let mut visible_layers_are_unchanged = !layers_were_removed;\n",
+    ),
+];
 
 /// The module roots, which are not among the files. `@` stands for the folder of the copies.
 const ROOTS: &str = r#"
@@ -76,18 +85,19 @@ fn main() {
     println!("cargo:rerun-if-changed={}", here.join("build.rs").display());
     for (name, reach) in FILES {
         let reach = reach.map(|file| here.join("reach").join(file));
-        let is_changed = name == FILE && env::var("CARGO_PKG_NAME").unwrap() == CHANGED;
-        copy(&source.join(name), &copies.join(name), reach.as_deref(), is_changed);
+        let is_changed = env::var("CARGO_PKG_NAME").unwrap() == CHANGED;
+        let change = CHANGES.iter().find(|(file, ..)| is_changed && *file == name);
+        copy(&source.join(name), &copies.join(name), reach.as_deref(), change);
     }
     let roots = ROOTS.replace('@', copies.to_str().unwrap());
     fs::write(copies.with_file_name("modules.rs"), roots).unwrap();
 }
 
-fn copy(from: &Path, to: &Path, reach: Option<&Path>, is_changed: bool) {
+fn copy(from: &Path, to: &Path, reach: Option<&Path>, change: Option<&(&str, &str, &str)>) {
     println!("cargo:rerun-if-changed={}", from.display());
     let original = fs::read(from)
         .unwrap_or_else(|why| panic!("{}: {why} (FORMA_SRC names the folder that holds forma/src)", from.display()));
-    let original = if is_changed { changed(original) } else { original };
+    let original = change.map_or(original.clone(), |change| changed(original, change));
     let mut text = original.clone();
     if let Some(reach) = reach {
         println!("cargo:rerun-if-changed={}", reach.display());
@@ -102,9 +112,9 @@ fn copy(from: &Path, to: &Path, reach: Option<&Path>, is_changed: bool) {
     );
 }
 
-/// The text with the one line changed.
-fn changed(original: Vec<u8>) -> Vec<u8> {
+/// The text with its one line changed.
+fn changed(original: Vec<u8>, (file, line, instead): &(&str, &str, &str)) -> Vec<u8> {
     let text = String::from_utf8(original).unwrap();
-    assert_eq!(text.matches(LINE).count(), 1, "{LINE:?} stands once in {FILE}");
-    text.replace(LINE, INSTEAD).into_bytes()
+    assert_eq!(text.matches(line).count(), 1, "{line:?} stands once in {file}");
+    text.replace(line, instead).into_bytes()
 }

@@ -43,6 +43,8 @@ pub struct Listed {
     pub cover: Cover,
     /// Whether it has segments in the tile.
     pub has_segments: bool,
+    /// Whether it is changed, as the table says.
+    pub is_changed: bool,
     /// Whether a pass over clips masked it off.
     pub is_masked_off: bool,
     /// Whether a layer above hides it.
@@ -99,7 +101,8 @@ impl Queue {
 struct List {
     ids: [u32; ENTRIES],
     covers: [i8; 16 * ENTRIES],
-    segments: [bool; ENTRIES],
+    /// Whether each has segments, and from `ENTRIES` on whether each is changed.
+    flags: [bool; 2 * ENTRIES],
     unmasked: [bool; ENTRIES],
     count: usize,
     passed_over: usize,
@@ -110,7 +113,7 @@ impl List {
         List {
             ids: [0; ENTRIES],
             covers: [0; 16 * ENTRIES],
-            segments: [false; ENTRIES],
+            flags: [false; 2 * ENTRIES],
             unmasked: [false; ENTRIES],
             count: 0,
             passed_over: 0,
@@ -121,7 +124,8 @@ impl List {
         Listed {
             id: self.ids[place],
             cover: cover_at(&self.covers, place),
-            has_segments: self.segments[place],
+            has_segments: self.flags[place],
+            is_changed: self.flags[ENTRIES + place],
             is_masked_off: !self.unmasked[place],
             is_passed_over: place < self.passed_over,
         }
@@ -243,7 +247,7 @@ impl<'a> Row<'a> {
             &mut self.taken.covers,
             &mut self.list.ids,
             &mut self.list.covers,
-            &mut self.list.segments,
+            &mut self.list.flags,
             &mut self.list.unmasked,
             &mut told,
             &mut bottom,

@@ -191,12 +191,13 @@ fn the_rows_of_a_plate() {
 fn an_open_row_tells_of_its_layers() {
     let styles = [Fill::Solid(BLACK), Fill::Gradient, Fill::Texture].map(|fill| Style { fill, ..Style::solid(BLACK) });
     assert_eq!(styles.map(|style| style.is_opaque()), [true, false, false]);
-    let table = LayerTable::new(&[solid(4), Layer { func: Func::Draw(styles[1]), ..solid(6) }]);
+    let table = LayerTable::new(&[solid(4), Layer { func: Func::Draw(styles[1]), is_unchanged: true, ..solid(6) }]);
     let segments = [edge(4, -1, 0, 16), edge(6, 0, 3, 8)].concat();
     let mut row = Row::open(&segments, &table, 0, 0..1).unwrap();
     row.work(0, &FIRST, None).unwrap();
-    let told: Vec<_> = row.listed().map(|one| (one.id, one.cover.0[0], one.has_segments, one.is_shown())).collect();
-    assert_eq!(told, [(4, 16, false, true), (6, 0, true, true)]);
+    let told: Vec<_> = row.listed().map(|one| (one.id, one.cover.0[0], one.has_segments, one.is_changed)).collect();
+    assert_eq!(told, [(4, 16, false, true), (6, 0, true, false)]);
+    assert!(row.listed().all(|one| one.is_shown()));
     assert_eq!(row.incoming().map(|carry| carry.id).collect::<Vec<_>>(), [4]);
     assert_eq!(row.carries().map(|carry| carry.id).collect::<Vec<_>>(), [4, 6]);
 }

@@ -43,7 +43,8 @@ fn put_decided(
 }
 
 // 0, the mask column, the cached tile and the answer, or the number of the refusal. The bytes of the cached tile are
-// stored where the call is accepted and a tile is given.
+// stored where the call is accepted and a tile is given. Whether a layer is changed is told by the list's flags, from
+// place 256 on, and not by the table.
 #[no_mangle]
 pub extern "C" fn ffi_decide_tile(
     list_ids: &[u32],

@@ -34,7 +34,8 @@ fn put_listed(
 }
 
 // 0, the list, the carries handed on, how many layers are listed and the state past the tile, or the number of the
-// refusal.
+// refusal. Of the flags, that at place i says whether entry i has segments in the tile, that at place 256 + i whether
+// its layer is changed.
 #[no_mangle]
 pub extern "C" fn ffi_list_tile(
     words: &mut [u32; 6],

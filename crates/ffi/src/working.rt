@@ -93,7 +93,8 @@ fn put_worked(
 }
 
 // 0, the list, the carries handed on, the cached tile, the answer and the state past the tile, or the number of the
-// refusal. The bytes of the cached tile are stored where the call is accepted and a tile is given.
+// refusal. The bytes of the cached tile are stored where the call is accepted and a tile is given. Of the flags, that
+// at place i says whether entry i has segments in the tile, that at place 256 + i whether its layer is changed.
 #[no_mangle]
 pub extern "C" fn ffi_work_tile(
     words: &mut [u32; 6],

@@ -1,7 +1,7 @@
 -- The loop that marks the changed layers of a list, in the places from 256 on; and the whole list, written and then marked. Assumes nothing.
-use mathlib.Core.Path.{_≡_, refl, sym, ap, _∙_}
+use mathlib.Core.Path.{_≡_, sym, ap, _∙_}
 use mathlib.Core.Bool.{Bool, true, false, not}
-use mathlib.Core.List.{List, _++_, map}
+use mathlib.Core.List.{List, _++_}
 use Prim.Native.Nat.{ℕ, _+_, _≤_, _<_}
 use native.Mathlib.Omega.{arith}
 use lib.IntN.{ℤ}
@@ -13,7 +13,7 @@ use Rattle.laws.proofs.Rows.{length-tabulate, getD-tabulate, is-tabulate, fille
 use Rattle.layer_table.specs.Lookup.{lookup}
 use Rattle.styling.specs.declared.Layer.{Layer}
 use Rattle.queue_statements.specs.Queue.{Carry, idsIn}
-use Rattle.tile_layers.specs.Listing.{Listed, noListed, incomingOf, segmentsOf, isChanged, changedOf, overFrom, Lists}
+use Rattle.tile_layers.specs.Listing.{Listed, noListed, incomingOf, isChanged, changedOf, overFrom, Lists}
 use Rattle.tile_layers.proofs.Flags.{set-past}
 use Rattle.layer_listing.specs.InnerWriting.{Writes, marksFor}
 

@@ -108,8 +108,8 @@ fn write_layers(
     }
 }
 
-// The list of a tile's layers, `listed` being their number: ids and incoming covers, whether each has segments, and, from
-// place 256 on, whether each is changed.
+// The list of a tile's layers, `listed` being their number: ids and incoming covers, whether each has segments, and,
+// from place 256 on, whether each is changed.
 pub fn list_layers(
     ids: &[u32],
     covers: &[i8],

@@ -9,7 +9,6 @@ use lib.IntN.{ℤ}
 use lib.ListN.{length, getD, drop, length-map, length-append, List·getD-map}
 use Rattle.laws.specs.Lists.{over}
 use Rattle.laws.proofs.Rows.{is-tabulate, getD-tabulate}
-use Rattle.cover_statements.specs.Entry.{coverEntry}
 use Rattle.queue_statements.specs.Queue.{Carry, carryAt, queueOf, idsIn, coversIn}
 use Rattle.queue_statements.proofs.Columns.{areWide, length-covers, reads-back}
 use Rattle.styling.specs.declared.Layer.{Layer}

@@ -148,7 +148,8 @@ pub fn work(
     ensures answer { λ r. ⌜ Works (tableOf (now (layers .entry)) (now (colors .entry)) count) kept clear previous
         (layersIn (queueOf n (now (ids .entry)) (now (covers .entry))) (now (part .entry))) r ⌝ }
     ensures list { λ r. ⌜ ListWritten (tableOf (now (layers .entry)) (now (colors .entry)) count)
-        (layersIn (queueOf n (now (ids .entry)) (now (covers .entry))) (now (part .entry))) (outcomeIn (tableOf (now (layers .entry)) (now (colors .entry)) count) kept clear previous
+        (layersIn (queueOf n (now (ids .entry)) (now (covers .entry))) (now (part .entry)))
+        (outcomeIn (tableOf (now (layers .entry)) (now (colors .entry)) count) kept clear previous
         (layersIn (queueOf n (now (ids .entry)) (now (covers .entry))) (now (part .entry)))) (now («list_ids» .entry))
         (now («list_covers» .entry)) (now («list_flags» .entry)) (now («list_unmasked» .entry))
         (now («list_ids» .exit)) (now («list_covers» .exit)) (now («list_flags» .exit))

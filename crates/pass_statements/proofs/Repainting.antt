@@ -1,19 +1,16 @@
 -- W-208 in laws: a listed clip that is changed never leaves a tile as it is; the mark of a clip counts, masked off or not, and that of a draw that
 -- is masked off plays no part; marks are the list's own, whatever the table says. Assumes nothing.
 use mathlib.Core.Path.{_≡_, refl, sym, ap, _∙_}
-use mathlib.Core.Bool.{Bool, true, false, cond, not, _&&_, _||_, and-true}
+use mathlib.Core.Bool.{Bool, true, false, not, _&&_, _||_, and-true}
 use mathlib.Core.List.{List, [], _∷_, map}
-use mathlib.Core.Logic.{⊎-elim}
 use Prim.Native.Nat.{ℕ, zero, suc, _<_}
 use native.Mathlib.Nat.{le-of-suc-le-suc, not-suc-le-zero}
 use native.Mathlib.Omega.{arith}
 use lib.Dec.{eqb}
-use lib.ListN.{length, getD, set, length-set, length-map, List·getD-map}
+use lib.ListN.{length, getD, length-set, length-map}
 use lib.Seq.{getD-set-same, getD-set-other}
 use Rattle.laws.specs.Answer.{Answer, given, refused}
-use Rattle.laws.specs.Lists.{all}
-use Rattle.laws.proofs.Bools.{either, clash, not-left, not-right}
-use Rattle.laws.proofs.Orders.{eq-or-ne}
+use Rattle.laws.proofs.Bools.{clash, not-left, not-right}
 use Rattle.styling.specs.declared.Color.{Color}
 use Rattle.styling.specs.declared.Layer.{Layer}
 use Rattle.layer_table.specs.Lookup.{lookup}
@@ -28,11 +25,11 @@ use Rattle.pass_statements.specs.declared.unchanged.PreviousCount.the-va
 use Rattle.pass_statements.specs.Entry.{Entry}
 use Rattle.pass_statements.specs.Item.{itemOf, itemFrom, itemsOf}
 use Rattle.pass_statements.specs.Unchanged.{allUnchanged, isKept, wereRemoved}
-use Rattle.pass_statements.specs.Clips.{Marks, isClip, stepOf, clipsFrom, marksOf}
+use Rattle.pass_statements.specs.Clips.{isClip, stepOf, clipsFrom, marksOf}
 use Rattle.pass_statements.specs.Covered.{hides, lookAt, itemAt, coveredFrom, isClipUnchanged, areClipsUnchanged, startOf, coveredOf}
-use Rattle.pass_statements.specs.Decision.{TileDecision, none, codeOf}
+use Rattle.pass_statements.specs.Decision.{none, codeOf}
 use Rattle.pass_statements.specs.Decide.{shownOf, areSolid, decisionBy, passedOf, outcomeOf}
-use Rattle.pass_statements.specs.Rules.{isUnmasked, DrawAt, ClipAt, Alike, ChangedClipAt, remarked, withMark}
+use Rattle.pass_statements.specs.Rules.{isUnmasked, DrawAt, ClipAt, ChangedClipAt, remarked, withMark}
 use Rattle.pass_statements.proofs.Covering.{look-past, look-on, look-last}
 use Rattle.pass_statements.proofs.Outcomes.{outcome-passed}
 use Rattle.pass_statements.proofs.Words.{masked-passed}
@@ -147,10 +144,6 @@ changed-clip-repaints table entries {i} c clear unchanged previous =
 -- ---- what a mark does
 
 -- the second pass reads none
-steps-remarked : (x : Item) (changed : Bool) (cur : Current) (j : ℕ) → stepOf (remarked x changed) cur j ≡ stepOf x cur j
-unfolding stepOf
-steps-remarked x changed cur j = refl
-
 marks-from : (items : List Item) (i : ℕ) (changed : Bool) (j : ℕ) (cur : Current) (s u : List Bool) → clipsFrom (withMark items i changed) j cur s u ≡ clipsFrom items j cur s u
 unfolding clipsFrom stepOf
 marks-from [] i changed j cur s u = refl

@@ -74,7 +74,8 @@ fn write_tile(
         × (length (layersIn (queueOf n (now ids) (now covers)) (now part)) ≤ 256)
         × (listed ≡ length (layersIn (queueOf n (now ids) (now covers)) (now part))) ⌝ }
     ensures list { λ _. ⌜ Lists (tableOf (now (layers .entry)) (now (colors .entry)) count)
-        (layersIn (queueOf n (now (ids .entry)) (now (covers .entry))) (now (part .entry))) (now («list_ids» .entry)) (now («list_covers» .entry)) (now («list_flags» .entry)) (now («list_ids» .exit))
+        (layersIn (queueOf n (now (ids .entry)) (now (covers .entry))) (now (part .entry)))
+        (now («list_ids» .entry)) (now («list_covers» .entry)) (now («list_flags» .entry)) (now («list_ids» .exit))
         (now («list_covers» .exit)) (now («list_flags» .exit)) ⌝ }
     ensures queue { λ r. ⌜ Hands (handedOn (tableOf (now (layers .entry)) (now (colors .entry)) count)
         (layersIn (queueOf n (now (ids .entry)) (now (covers .entry))) (now (part .entry)))) (now («next_ids» .entry))

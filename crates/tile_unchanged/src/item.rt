@@ -1,6 +1,6 @@
 // What the passes read of a listed layer: its entry and its record in one value. A list is lent as three columns, the
-// first n entries of which count: layer ids, incoming covers (16 bytes an entry), and flags: that at place i says whether
-// entry i has segments in the tile, that at place 256 + i whether its layer is changed.
+// first n entries of which count: layer ids, incoming covers (16 bytes an entry), and flags. That at place i says
+// whether entry i has segments in the tile, that at place 256 + i whether its layer is changed.
 use cover::Cover;
 use cover::entry;
 use layer_table::Found;

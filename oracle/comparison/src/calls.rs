@@ -30,7 +30,7 @@ pub fn listing_refusal(call: &Work, memory: &Memory) -> u32 {
 fn refusal_of(call: &Work, memory: &Memory, is_mask_short: bool, tag: Option<u8>) -> u32 {
     let lent_short = is_mask_short
         || [&call.queue, &memory.next, &memory.list].iter().any(|queue| is_short(queue.ids.len(), queue.covers.len()))
-        || memory.segments.len() < 256;
+        || memory.flags.len() < 512;
     let queue = if lent_short { Vec::new() } else { carries(&call.queue, memory.state.counts[0].min(256)) };
     let tile = Tile { state: memory.state, tile: call.tile, lent_short, queue: &queue, tag };
     judge::work(&tile, &call.row, &call.table)
@@ -38,8 +38,8 @@ fn refusal_of(call: &Work, memory: &Memory, is_mask_short: bool, tag: Option<u8>
 
 /// For a deciding about the first n entries of the list that the memory holds.
 pub fn deciding_refusal(call: &Work, n: usize, memory: &Memory) -> u32 {
-    let Memory { list, segments, shown, kept, .. } = memory;
-    let lent_short = is_short(list.ids.len(), list.covers.len()) || segments.len() < 256 || shown.len() < 256;
+    let Memory { list, flags, shown, kept, .. } = memory;
+    let lent_short = is_short(list.ids.len(), list.covers.len()) || flags.len() < 512 || shown.len() < 256;
     let ids = &list.ids[..n.min(list.ids.len())];
     judge::deciding(lent_short, ids, n, call.is_kept.then_some(kept[0]), &call.table)
 }
@@ -135,7 +135,7 @@ fn shorten(random: &mut Random, memory: &mut Memory) {
         1 => memory.next.covers.truncate(16 * entries + 15),
         2 => memory.list.ids.truncate(entries),
         3 => memory.list.covers.truncate(16 * entries + 15),
-        4 => memory.segments.truncate(entries),
+        4 => memory.flags.truncate(2 * entries + 1),
         _ => memory.shown.truncate(entries),
     }
 }

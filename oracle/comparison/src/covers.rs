@@ -8,7 +8,7 @@ use reference::{
 use crate::{
     given::Fields,
     library::{self, UNTOUCHED},
-    models::{is_above_once, is_full},
+    models::{is_above_once, is_full, Why},
     random::Random,
     scene::word,
     tally::{caught, Kind, Tally},
@@ -70,7 +70,7 @@ fn empty_and_full(kind: &mut Kind) {
     let cover = any_judged_cover(&mut kind.random);
     let rust = caught(|| expected(cover));
     if is_above_once(&cover) {
-        kind.leave_out(rust.is_some_and(|[_, _, full, _]| full != painter::is_full(cover, RULES[0])));
+        kind.leave_out(Why::Winding, rust.is_some_and(|[_, _, full, _]| full != painter::is_full(cover, RULES[0])));
     }
     let ours = judged(cover);
     for (answer, told) in

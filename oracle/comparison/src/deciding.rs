@@ -57,7 +57,25 @@ fn as_listed(kind: &mut Kind, call: &Work, before: &Memory) {
         return;
     }
     let n = memory.told[2];
-    check(kind, call, n, &memory, |tables| worked_row(call, before, tables).1);
+    let decided = Work { table: otherwise_changed(&mut kind.random, &call.table), ..call.clone() };
+    check(kind, &decided, n, &memory, |tables| worked_row(call, before, tables).1);
+}
+
+/// A table that says otherwise of some layers whether they are changed: a deciding goes by the list's marks.
+fn otherwise_changed(random: &mut Random, table: &LentTable) -> LentTable {
+    let mut table = table.clone();
+    for i in 0..table.count {
+        table.layers[8 * i + 7] ^= u32::from(random.once_in(2));
+    }
+    table
+}
+
+/// The records as the list marks them, for the models, which ask the table whether a layer is changed.
+fn marked(records: &[Record], n: usize, memory: &Memory) -> Vec<Record> {
+    let Memory { list, flags, .. } = memory;
+    let mark = |id| list.ids[..n].iter().position(|&listed| listed == id).map(|i| flags[256 + i]);
+    let unchanged = |record: &Record| mark(record.id).map_or(record.unchanged, |changed| u32::from(!changed));
+    records.iter().map(|record| Record { unchanged: unchanged(record), ..*record }).collect()
 }
 
 /// One deciding on both sides; after a refusal every number must be what it was, and the cached bytes where none are
@@ -73,7 +91,7 @@ fn check(kind: &mut Kind, call: &Work, n: usize, before: &Memory, judge: impl Fn
         });
         return;
     }
-    let tables = Tables::new(&records(&call.table));
+    let tables = Tables::new(&marked(&records(&call.table), n, before));
     let Some(judged) = caught(|| judge(&tables)) else {
         kind.case(false, || format!("{}: the Rust panics", given(call, n, before)));
         return;
@@ -85,20 +103,20 @@ fn check(kind: &mut Kind, call: &Work, n: usize, before: &Memory, judge: impl Fn
         format!("{input}: the library {ours}, {seen}; the Rust {list:?}, skipped {skipped}, {decision:?}, {cached:?}")
     });
     if let Some(left_out) = &judged.left_out {
-        kind.leave_out(left_out.is_other);
+        kind.leave_out(left_out.why, left_out.is_other);
     }
 }
 
 /// A call, without what its columns hold past their entries.
 fn given(call: &Work, n: usize, memory: &Memory) -> String {
     let Work { table, is_kept, clear, previous, .. } = call;
-    let Memory { list, segments, shown, kept, .. } = memory;
-    let columns = [list.ids.len(), list.covers.len(), segments.len(), shown.len()];
+    let Memory { list, flags, shown, kept, .. } = memory;
+    let columns = [list.ids.len(), list.covers.len(), flags.len(), shown.len()];
     let held = carries(list, n.min(list.ids.len()).min(list.covers.len() / 16));
-    let segments = &segments[..n.min(segments.len())];
+    let flags = [0, 256].map(|at: usize| flags.get(at..at.saturating_add(n)));
     let kept = is_kept.then_some(kept);
     format!(
-        "{n} of columns {columns:?}, {held:?}, {segments:?}, {table:?}, kept {kept:?}, clear {clear:?}, \
+        "{n} of columns {columns:?}, {held:?}, {flags:?}, {table:?}, kept {kept:?}, clear {clear:?}, \
          before {previous:?}"
     )
 }
@@ -106,13 +124,13 @@ fn given(call: &Work, n: usize, memory: &Memory) -> String {
 /// What the models make of a tile whose list is the memory's: an incoming cover for each entry, and where it has
 /// segments, one of cover 0.
 fn judged(call: &Work, n: usize, memory: &Memory, tables: &Tables) -> Judged {
-    let Memory { list, segments, .. } = memory;
+    let Memory { list, flags, .. } = memory;
     let mut queue = Queue { ids: list.ids[..n].to_vec(), covers: list.covers[..16 * n].to_vec() };
     // The absolute value of -128 overflows in the Rust; -96 is full or not where -128 is, by either rule.
     queue.covers.iter_mut().filter(|cover| **cover == -128).for_each(|cover| *cover = -96);
     let fields =
         Fields { layer_id: 0, tile_x: 0, tile_y: 0, local_x: 3, local_y: 4, double_area_multiplier: 5, cover: 0 };
-    let with_segments = (0..n).filter(|&i| segments[i]);
+    let with_segments = (0..n).filter(|&i| flags[i]);
     let row = with_segments.map(|i| word(Fields { layer_id: list.ids[i], ..fields })).collect();
     let state = State { words: [0, 0, 1, 0, 0, 0], counts: [n, 0] };
     let tile = Work { tile: 0, row, queue, ..call.clone() };
@@ -174,7 +192,7 @@ fn shorten(random: &mut Random, memory: &mut Memory) {
     match random.below(4) {
         0 => memory.list.ids.truncate(entries),
         1 => memory.list.covers.truncate(16 * entries + 15),
-        2 => memory.segments.truncate(entries),
+        2 => memory.flags.truncate(2 * entries + 1),
         _ => memory.shown.truncate(entries),
     }
 }
@@ -192,7 +210,7 @@ fn around_256(kind: &mut Kind) {
     memory.list.ids = (0..lens[0] as u32).collect();
     memory.list.covers.resize(16 * lens[1], 16);
     let mut flags = |len| (0..len).map(|_| random.once_in(2)).collect();
-    memory.segments = flags(lens[2]);
+    memory.flags = flags(2 * lens[2]);
     memory.shown = flags(lens[3]);
     around_the_end(random, &mut call.table, &mut memory.list.ids);
     check(kind, &call, n, &memory, |tables| judged(&call, n, &memory, tables));

@@ -97,7 +97,8 @@ pub struct Memory {
     pub kept: [u8; 8],
     pub next: Queue,
     pub list: Queue,
-    pub segments: Vec<bool>,
+    /// At place i whether entry i has segments, at place 256 + i whether its layer is changed.
+    pub flags: Vec<bool>,
     pub shown: Vec<bool>,
     pub told: [usize; 4],
     /// The bits of the bottom colour.

@@ -20,7 +20,7 @@ use crate::{
     job_reader::{read, Job},
     judge::{self, Tile},
     layers::records,
-    models::{Models, Tables},
+    models::{Models, Tables, Why},
     tally::{caught, Kind, Tally},
     words::Segment,
 };
@@ -58,8 +58,8 @@ pub struct Answer {
     pub is_open: bool,
     /// How many tiles were worked.
     pub tiles: usize,
-    /// Of each tile that the second model judges in place of the Rust, whether the Rust's answer is another one.
-    pub left_out: Vec<bool>,
+    /// Of each tile that the second model judges in place of the Rust, why, and whether the Rust's answer is another one.
+    pub left_out: Vec<(Why, bool)>,
 }
 
 /// The answer to a text by the Rust, or the second model, and the scope's table; nothing where one of them panics.
@@ -87,7 +87,7 @@ fn answer_job(job: &Job) -> Answer {
             answer.text += &line(tile as usize, &judged.worked);
             answer.text += "\n";
             answer.tiles += 1;
-            answer.left_out.extend(judged.left_out.map(|left_out| left_out.is_other));
+            answer.left_out.extend(judged.left_out.map(|left_out| (left_out.why, left_out.is_other)));
         }
     }
     if answer.number != 0 {
@@ -175,7 +175,7 @@ pub fn check(kind: &mut Kind, text: &[u8]) {
         return;
     };
     note(kind, text, &answer);
-    answer.left_out.iter().for_each(|&is_other| kind.leave_out(is_other));
+    answer.left_out.iter().for_each(|&(why, is_other)| kind.leave_out(why, is_other));
     let (ours, ends_well) = printed("row", text);
     kind.case(ends_well && ours == answer.text.as_bytes(), || {
         let end = if ends_well { "" } else { ", and it fails" };

@@ -4,6 +4,7 @@ pub mod arrangements;
 pub mod bench;
 pub mod cached;
 pub mod calls;
+pub mod changed_clips;
 pub mod covers;
 pub mod curve;
 pub mod damages;

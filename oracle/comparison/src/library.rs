@@ -256,7 +256,7 @@ pub fn open_tile_row(
 /// The number of the refusal; the memory holds what the call left.
 pub fn work_tile(work: &Work, memory: &mut Memory) -> u32 {
     let Work { tile, row, table, is_kept, clear, previous, queue } = work;
-    let Memory { state, kept, next, list, segments, shown, told, bottom } = memory;
+    let Memory { state, kept, next, list, flags, shown, told, bottom } = memory;
     let mut color = bottom.map(f32::from_bits);
     let number = unsafe {
         exports::ffi_work_tile(
@@ -287,8 +287,8 @@ pub fn work_tile(work: &Work, memory: &mut Memory) -> u32 {
             list.ids.len(),
             list.covers.as_mut_ptr(),
             list.covers.len(),
-            segments.as_mut_ptr(),
-            segments.len(),
+            flags.as_mut_ptr(),
+            flags.len(),
             shown.as_mut_ptr(),
             shown.len(),
             told,

@@ -86,14 +86,16 @@ pub fn damaged_row(random: &mut Random, words: &[u64]) -> Vec<u64> {
 
 /// All that tile work may write.
 pub fn any_memory(random: &mut Random, state: State, cached: Cached) -> Memory {
-    let flags = |random: &mut Random| -> Vec<bool> { (0..256 + random.below(4)).map(|_| random.once_in(2)).collect() };
+    let flags = |random: &mut Random, least: usize| -> Vec<bool> {
+        (0..least + random.below(4)).map(|_| random.once_in(2)).collect()
+    };
     Memory {
         state,
         kept: cached.0,
         next: any_queue(random, false),
         list: any_queue(random, false),
-        segments: flags(random),
-        shown: flags(random),
+        flags: flags(random, 512),
+        shown: flags(random, 256),
         told: [(); 4].map(|()| random.word() as usize),
         bottom: [(); 4].map(|()| random.word() as u32),
     }
@@ -113,7 +115,8 @@ pub fn listed(before: &Memory, worked: &Worked) -> Memory {
     written(&mut after.next, worked.queue.iter().map(|carry| (carry.id, carry.cover)));
     written(&mut after.list, worked.list.iter().map(|entry| (entry.id, entry.cover)));
     for (i, entry) in worked.list.iter().enumerate() {
-        after.segments[i] = entry.has_segments;
+        after.flags[i] = entry.has_segments;
+        after.flags[256 + i] = entry.changed;
     }
     after.told[2] = worked.list.len();
     after
@@ -155,7 +158,7 @@ pub fn told(ours: &Memory, wanted: &Memory) -> String {
     for (name, same) in [
         ("queue", ours.next == wanted.next),
         ("list", ours.list == wanted.list),
-        ("segments", ours.segments == wanted.segments),
+        ("flags", ours.flags == wanted.flags),
         ("shown", ours.shown == wanted.shown),
     ] {
         if !same {

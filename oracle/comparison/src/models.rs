@@ -1,11 +1,12 @@
-//! A row in the Rust and in the second model, side by side. The second model is the Rust with one line changed
-//! (reference/build.rs): a NonZero cover is full where each row's absolute value is 16 or more (W-205).
-//! A tile is judged by the Rust; where W-205 leaves the Rust out, by the second model.
+//! A row in the Rust and in the second model, side by side. The second model is the Rust with two lines changed
+//! (reference/build.rs): a NonZero cover is full where each row's absolute value is 16 or more (W-205), and in the
+//! full-cover pass layers count as removed where a listed clip is changed (W-208).
+//! A tile is judged by the Rust; where W-205 or W-208 leaves the Rust out, by the second model.
 
 use reference::{
     cpu::Channel,
     painter::row::{Frame, Row},
-    plain::{Cached, Carry, Entry, Painted, Record, Worked},
+    plain::{Cached, Carry, Decision, Entry, Painted, Record, Worked},
     Table,
 };
 
@@ -32,8 +33,8 @@ pub struct Models<'t> {
     records: &'t [Record],
     rust: Row<'t>,
     second: second::painter::row::Row<'t>,
-    /// Whether the tile just worked is left out.
-    is_left_out: bool,
+    /// Why the tile just worked is left out.
+    why: Option<Why>,
 }
 
 /// What the library must answer for a tile.
@@ -43,8 +44,17 @@ pub struct Judged {
     pub left_out: Option<LeftOut>,
 }
 
+/// Why the Rust does not judge a tile: a listed NonZero layer has an incoming cover above 16 in absolute value (W-205);
+/// or else a listed clip is changed (W-208).
+#[derive(Clone, Copy, Debug, Eq, PartialEq)]
+pub enum Why {
+    Winding,
+    Clip,
+}
+
 /// What the Rust says of a tile in which it does not judge.
 pub struct LeftOut {
+    pub why: Why,
     /// The layers that it paints: their coverages are compared still.
     pub painted: Vec<Painted>,
     /// Whether its answer is another one.
@@ -55,7 +65,7 @@ impl<'t> Models<'t> {
     pub fn open(tile_y: usize, from: usize, to: usize, words: &[u64], tables: &'t Tables) -> Self {
         let rust = Row::open(tile_y, from, to, words, &tables.rust);
         let second = second::painter::row::Row::open(tile_y, from, to, words, &tables.second);
-        Self { records: &tables.records, rust, second, is_left_out: false }
+        Self { records: &tables.records, rust, second, why: None }
     }
 
     pub fn queue(&self) -> Vec<Carry> {
@@ -68,25 +78,29 @@ impl<'t> Models<'t> {
         self.second.take_queue(queue);
     }
 
-    /// The next tile. The two agree in all that W-205 does not touch, and in everything where the Rust judges.
+    /// The next tile. The two agree in all that W-205 and W-208 do not touch, and in everything where the Rust judges.
     pub fn work(&mut self, tile: usize, frame: &Frame, cached: Option<Cached>) -> Judged {
         let rust = self.rust.work(tile, frame, cached);
         let second = self.second.work(tile, &frame_of(frame), cached);
         let is_other = !rust.is_same(&second);
-        self.is_left_out = is_left_out(&rust.list, self.records);
-        if !self.is_left_out {
-            assert!(!is_other, "the second model differs where no NonZero carry is above 16");
+        self.why = why(&rust.list, self.records);
+        let Some(why) = self.why else {
+            assert!(!is_other, "the second model differs where no NonZero carry is above 16 and no clip is changed");
             return Judged { worked: rust, left_out: None };
-        }
+        };
         assert!(agree(&rust, &second), "the second model has another list, other carries or other coverages");
-        Judged { worked: second, left_out: Some(LeftOut { painted: rust.painted, is_other }) }
+        assert!(
+            why == Why::Winding || !is_other || is_kept_otherwise(&rust, &second),
+            "a changed clip takes more from the Rust than its none"
+        );
+        Judged { worked: second, left_out: Some(LeftOut { why, painted: rust.painted, is_other }) }
     }
 
     /// One layer of the tile just worked.
     pub fn paint(&mut self, id: u32) -> Painted {
         let (rust, second) = (self.rust.paint(id), self.second.paint(id));
         assert!(rust.has_same_plane(&second), "the second model has other coverages");
-        assert!(self.is_left_out || rust.is_same(&second), "the second model paints otherwise");
+        assert!(self.why == Some(Why::Winding) || rust.is_same(&second), "the second model paints otherwise");
         second
     }
 }
@@ -101,16 +115,27 @@ pub fn is_above_once(cover: &[i8; 16]) -> bool {
     cover.iter().any(|row| row.unsigned_abs() > ONCE)
 }
 
-/// Whether a listed NonZero layer has such an incoming cover: then only lists, carries and coverages are the Rust's.
-fn is_left_out(list: &[Entry], records: &[Record]) -> bool {
-    let is_non_zero = |id| records.iter().any(|record| record.id == id && record.rule == 0);
-    list.iter().any(|entry| is_above_once(&entry.cover) && is_non_zero(entry.id))
+/// Where a listed NonZero layer has such an incoming cover, only lists, carries and coverages are the Rust's; where a
+/// listed clip is changed, all but its none.
+fn why(list: &[Entry], records: &[Record]) -> Option<Why> {
+    let record = |entry: &Entry| records.iter().find(|record| record.id == entry.id);
+    let is_wound = |entry: &Entry| is_above_once(&entry.cover) && record(entry).is_some_and(|record| record.rule == 0);
+    let is_changed_clip = |entry: &Entry| entry.changed && record(entry).is_some_and(|record| record.func == 1);
+    let winding = list.iter().any(is_wound).then_some(Why::Winding);
+    winding.or(list.iter().any(is_changed_clip).then_some(Why::Clip))
+}
+
+/// Whether the Rust keeps the tile and the second model does not, with the same masks and skips.
+fn is_kept_otherwise(rust: &Worked, second: &Worked) -> bool {
+    matches!(rust.decision, Decision::None)
+        && !matches!(second.decision, Decision::None)
+        && (&rust.list, rust.skipped) == (&second.list, second.skipped)
 }
 
 /// Whether lists, carries and the coverages of layers that both paint are the same.
 fn agree(rust: &Worked, second: &Worked) -> bool {
     let listed = |worked: &Worked| -> Vec<_> {
-        worked.list.iter().map(|entry| (entry.id, entry.cover, entry.has_segments)).collect()
+        worked.list.iter().map(|entry| (entry.id, entry.cover, entry.has_segments, entry.changed)).collect()
     };
     let has_same_plane = |painted: &Painted| {
         rust.painted.iter().filter(|other| other.id == painted.id).all(|other| other.has_same_plane(painted))

@@ -47,7 +47,7 @@ pub fn paint_all(kind: &mut Kind, call: &Work, state: State, painted: &[Painted]
 /// marks are not.
 pub fn paint_left_out(kind: &mut Kind, call: &Work, state: State, judged: &Judged) {
     if let Some(left_out) = &judged.left_out {
-        kind.leave_out(left_out.is_other);
+        kind.leave_out(left_out.why, left_out.is_other);
         paint_each(kind, call, state, &left_out.painted, false);
     }
 }
@@ -102,7 +102,7 @@ fn any_layers(kind: &mut Kind) {
         return;
     };
     if let Some(left_out) = &judged.left_out {
-        kind.leave_out(left_out.is_other);
+        kind.leave_out(left_out.why, left_out.is_other);
     }
     let mut state = after.state;
     for _ in 0..1 + kind.random.below(5) {

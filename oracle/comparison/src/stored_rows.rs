@@ -1,6 +1,7 @@
 //! Whole rows among the stored answers: each frame of a row is a case, with the cached tiles that the frame before
 //! left. Besides them some of the arrangements of up to three layers in one tile, in which the passes have most to
-//! decide. Tiles with a NonZero carry above 16 are the second model's.
+//! decide, and the histories of a changed clip. Tiles with a NonZero carry above 16 or a changed clip are the second
+//! model's.
 
 use reference::{
     cpu::RGBA,
@@ -11,6 +12,7 @@ use reference::{
 
 use crate::{
     arrangements::{arrangement, count},
+    changed_clips::histories,
     given::LentTable,
     layers::lent,
     models::{Models, Tables},
@@ -39,7 +41,15 @@ pub fn rows(random: &mut Random) -> Vec<String> {
         }
     }
     rows.extend((0..ARRANGED).map(|_| arranged(random)));
+    for (scene, _) in histories() {
+        let mut cached = [Cached::default()];
+        rows.extend(scene.pictures.iter().map(|picture| row(random, &scene, picture, &mut cached, painted_layers)));
+    }
     rows
+}
+
+fn painted_layers(_: &mut Random, worked: &Worked, _: &Picture) -> Vec<u32> {
+    worked.painted.iter().map(|painted| painted.id).collect()
 }
 
 /// Some of the layers that are painted, and at times one that is not.
@@ -157,6 +167,7 @@ fn tile_answer(state: &[u64], before: Cached, worked: &Worked) -> Vec<u64> {
         list.iter().map(|entry| entry.id.into()).collect(),
         Line::covers(&covers).collect(),
         list.iter().map(|entry| entry.has_segments.into()).collect(),
+        list.iter().map(|entry| entry.changed.into()).collect(),
         list.iter().map(|entry| entry.shown.into()).collect(),
         queue(&worked.queue),
     ]

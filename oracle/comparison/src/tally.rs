@@ -10,10 +10,13 @@ use std::{
     },
 };
 
-use crate::random::Random;
+use crate::{models::Why, random::Random};
 
 /// How many differences of a kind are printed.
 const TOLD: u64 = 5;
+
+/// Why cases are left out, in the order of `Why`.
+const WHYS: [&str; 2] = ["a NonZero cover above 16", "a listed clip that is changed"];
 
 pub struct Tally {
     n: u64,
@@ -22,10 +25,11 @@ pub struct Tally {
     only: String,
     compared: u64,
     differ: u64,
-    left_out: LeftOut,
+    left_out: [LeftOut; 2],
 }
 
-/// How many cases the second model judges in place of the Rust (W-205), and in how many the Rust has another answer.
+/// How many cases the second model judges in place of the Rust, and in how many the Rust has another answer: by W-205,
+/// and by W-208.
 #[derive(Clone, Copy, Default)]
 struct LeftOut {
     cases: u64,
@@ -36,13 +40,13 @@ pub struct Kind {
     pub random: Random,
     compared: u64,
     differ: u64,
-    left_out: LeftOut,
+    left_out: [LeftOut; 2],
     outcomes: BTreeMap<&'static str, u64>,
 }
 
 impl Tally {
     pub fn new(n: u64, seed: u64, only: String) -> Self {
-        Self { n, seed, only, compared: 0, differ: 0, left_out: LeftOut::default() }
+        Self { n, seed, only, compared: 0, differ: 0, left_out: Default::default() }
     }
 
     /// N random cases of a kind, whose random numbers depend on its name and on the seed alone.
@@ -63,40 +67,45 @@ impl Tally {
         }
         let seed = name.bytes().fold(self.seed, |seed, byte| seed.wrapping_mul(0x100_0000_01B3) ^ u64::from(byte));
         let random = Random::new(seed);
-        let left_out = LeftOut::default();
+        let left_out = Default::default();
         let mut kind = Kind { random, compared: 0, differ: 0, left_out, outcomes: BTreeMap::new() };
         cases(&mut kind);
         println!("{name}: {} compared, {} differ{}", kind.compared, kind.differ, kind.told());
-        if kind.left_out.cases > 0 {
-            println!("{name}, left out of the comparison with the Rust: {}", kind.left_out.told());
+        for (left_out, why) in kind.left_out.iter().zip(WHYS) {
+            if left_out.cases > 0 {
+                println!("{name}, left out of the comparison with the Rust: {}", left_out.told(why));
+            }
         }
-        self.left_out.cases += kind.left_out.cases;
-        self.left_out.others += kind.left_out.others;
+        for (all, left_out) in self.left_out.iter_mut().zip(kind.left_out) {
+            all.cases += left_out.cases;
+            all.others += left_out.others;
+        }
         self.compared += kind.compared;
         self.differ += kind.differ;
     }
 
     pub fn end(self) -> ExitCode {
-        println!("left out of the comparison with the Rust: {}", self.left_out.told());
+        for (left_out, why) in self.left_out.iter().zip(WHYS) {
+            println!("left out of the comparison with the Rust: {}", left_out.told(why));
+        }
         println!("{} compared, {} differ", self.compared, self.differ);
         ExitCode::from(u8::from(self.differ != 0))
     }
 }
 
 impl LeftOut {
-    fn told(self) -> String {
+    fn told(self, why: &str) -> String {
         let Self { cases, others } = self;
-        format!(
-            "{cases} by a NonZero cover above 16, compared with the second model; {others} are otherwise in the Rust"
-        )
+        format!("{cases} by {why}, compared with the second model; {others} are otherwise in the Rust")
     }
 }
 
 impl Kind {
     /// Counts a case that the second model judges in place of the Rust, whose answer may be another one.
-    pub fn leave_out(&mut self, is_other: bool) {
-        self.left_out.cases += 1;
-        self.left_out.others += u64::from(is_other);
+    pub fn leave_out(&mut self, why: Why, is_other: bool) {
+        let left_out = &mut self.left_out[why as usize];
+        left_out.cases += 1;
+        left_out.others += u64::from(is_other);
     }
 
     /// Counts an outcome, so that the last lines show whether the cases meet all that they should.

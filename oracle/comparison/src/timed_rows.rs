@@ -35,11 +35,11 @@ impl Ours {
     fn new(row: &Row) -> Self {
         let queue = || Queue { ids: vec![0; 256], covers: vec![0; 4096] };
         let state = State { words: [0; 6], counts: [0; 2] };
-        let (segments, shown) = (vec![false; 256], vec![false; 256]);
+        let (flags, shown) = (vec![false; 512], vec![false; 256]);
         let (words, table) = (row.words.clone(), lent(&row.records));
         let work = Work { tile: 0, row: words, table, is_kept: false, clear: CLEAR, previous: None, queue: queue() };
         let (next, list) = (queue(), queue());
-        let memory = Memory { state, kept: [0; 8], next, list, segments, shown, told: [0; 4], bottom: [0; 4] };
+        let memory = Memory { state, kept: [0; 8], next, list, flags, shown, told: [0; 4], bottom: [0; 4] };
         Self { tiles: row.tiles, work, memory, canvas: Canvas { state, plane: vec![0.0; 256], mark: 0 } }
     }
 

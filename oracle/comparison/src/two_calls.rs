@@ -9,7 +9,7 @@ use crate::{
 /// The number of the refusal; the memory holds what the call left.
 pub fn list_tile(work: &Work, memory: &mut Memory) -> u32 {
     let Work { tile, row, table, queue, .. } = work;
-    let Memory { state, next, list, segments, told, .. } = memory;
+    let Memory { state, next, list, flags, told, .. } = memory;
     unsafe {
         exports::ffi_list_tile(
             &mut state.words,
@@ -34,8 +34,8 @@ pub fn list_tile(work: &Work, memory: &mut Memory) -> u32 {
             list.ids.len(),
             list.covers.as_mut_ptr(),
             list.covers.len(),
-            segments.as_mut_ptr(),
-            segments.len(),
+            flags.as_mut_ptr(),
+            flags.len(),
             &mut told[2],
         )
     }
@@ -45,7 +45,7 @@ pub fn list_tile(work: &Work, memory: &mut Memory) -> u32 {
 /// cached tile is given are read.
 pub fn decide_tile(work: &Work, n: usize, memory: &mut Memory) -> u32 {
     let Work { table, is_kept, clear, previous, .. } = work;
-    let Memory { kept, list, segments, shown, told, bottom, .. } = memory;
+    let Memory { kept, list, flags, shown, told, bottom, .. } = memory;
     let mut color = bottom.map(f32::from_bits);
     let mut numbers = [told[0], told[1], told[3]];
     let number = unsafe {
@@ -54,8 +54,8 @@ pub fn decide_tile(work: &Work, n: usize, memory: &mut Memory) -> u32 {
             list.ids.len(),
             list.covers.as_ptr(),
             list.covers.len(),
-            segments.as_ptr(),
-            segments.len(),
+            flags.as_ptr(),
+            flags.len(),
             n,
             table.layers.as_ptr(),
             table.layers.len(),

@@ -1,4 +1,4 @@
-//! The crate bindings/rust against the Rust, and the second model where it judges (W-205): random rows over several
+//! The crate bindings/rust against the Rust, and the second model where it judges (W-205, W-208): random rows over several
 //! frames, tile after tile.
 
 use comparison::{
@@ -9,7 +9,7 @@ use comparison::{
 use reference::plain::{self, Cached, Record, Worked};
 use tile_rows::{
     segment, settle, BlendMode, CachedTile, Color, Cover, Decision, Fill, FillRule, Frame, Func, Layer, LayerTable,
-    PixelSegment, Plane, Row, Settled, Style,
+    Listed, PixelSegment, Plane, Row, Settled, Style,
 };
 
 fn layer(record: &Record) -> Layer {
@@ -48,8 +48,9 @@ fn decided_by_rust(decision: &plain::Decision) -> (u32, [u32; 4], usize) {
 /// The list, what is passed over, the carries, and each painted layer, as the Rust has them.
 fn check_tile(row: &mut Row<'_>, decision: &Decision, rust: &Worked, scene: &Scene) {
     assert_eq!(decided(decision), decided_by_rust(&rust.decision), "{scene:?}");
-    let ours: Vec<_> = row.listed().map(|one| (one.id, one.cover, one.has_segments, !one.is_masked_off)).collect();
-    let wanted = rust.list.iter().map(|one| (one.id, Cover(one.cover), one.has_segments, one.shown));
+    let flags = |one: &Listed| [one.has_segments, one.is_changed, !one.is_masked_off];
+    let ours: Vec<_> = row.listed().map(|one| (one.id, one.cover, flags(&one))).collect();
+    let wanted = rust.list.iter().map(|one| (one.id, Cover(one.cover), [one.has_segments, one.changed, one.shown]));
     assert_eq!(ours, wanted.collect::<Vec<_>>(), "{scene:?}");
     assert_eq!(row.listed().filter(|one| one.is_passed_over).count(), rust.skipped, "{scene:?}");
     let carries: Vec<_> = row.carries().map(|carry| (carry.id, carry.cover)).collect();

@@ -34,6 +34,7 @@ pub struct Entry {
     pub id: u32,
     pub cover: [i8; 16],
     pub has_segments: bool,
+    pub changed: bool,
     /// Not masked off.
     pub shown: bool,
 }

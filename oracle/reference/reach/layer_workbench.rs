@@ -13,6 +13,7 @@ pub(crate) struct Listed {
     pub id: u32,
     pub cover: Option<Cover>,
     pub has_segments: bool,
+    pub changed: bool,
     pub mask: bool,
     pub skips_clipping: bool,
 }
@@ -22,7 +23,7 @@ pub(crate) fn passes<P: LayerProps>(queue: &[CoverCarry], context: &Context<'_, 
     let mut workbench = workbench_of(queue);
     workbench.populate_layers(context);
     let op = workbench.optimization_passes(context);
-    passed(&workbench, op)
+    passed(&workbench, context, op)
 }
 
 /// The list and the clips' pass alone: what a clipped draw needs where the first pass already kept the tile.
@@ -31,7 +32,7 @@ pub(crate) fn clips<P: LayerProps>(queue: &[CoverCarry], context: &Context<'_, P
     workbench.populate_layers(context);
     let LayerWorkbench { state, passes_shared_state } = &mut workbench;
     let op = passes::skip_trivial_clips_pass(state, passes_shared_state, context);
-    passed(&workbench, op)
+    passed(&workbench, context, op)
 }
 
 /// What a layer of the tile hands on, by `cover_carry`.
@@ -51,12 +52,17 @@ fn workbench_of(queue: &[CoverCarry]) -> LayerWorkbench {
     workbench
 }
 
-fn passed(workbench: &LayerWorkbench, op: ControlFlow<OptimizerTileWriteOp>) -> Passed {
+fn passed<P: LayerProps>(
+    workbench: &LayerWorkbench,
+    context: &Context<'_, P>,
+    op: ControlFlow<OptimizerTileWriteOp>,
+) -> Passed {
     let LayerWorkbench { state, passes_shared_state } = workbench;
     let listed = |cell: &MaskedCell<u32>| Listed {
         id: cell.val,
         cover: state.cover(cell.val).copied(),
         has_segments: state.segment_ranges.contains_key(&cell.val),
+        changed: !context.props.is_unchanged(cell.val),
         mask: cell.mask.get(),
         skips_clipping: passes_shared_state.skip_clipping.contains(&cell.val),
     };

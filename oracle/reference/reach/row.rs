@@ -238,7 +238,7 @@ fn carry_of(carry: &CoverCarry) -> Carry {
 
 fn entry_of(listed: &Listed) -> Entry {
     let cover = listed.cover.map_or([0; 16], bytes_of);
-    Entry { id: listed.id, cover, has_segments: listed.has_segments, shown: listed.mask }
+    Entry { id: listed.id, cover, has_segments: listed.has_segments, changed: listed.changed, shown: listed.mask }
 }
 
 /// The draws that need no clip. Where the first pass kept the tile, the second did not run and its set is empty: then

@@ -172,9 +172,10 @@ impl Scene<'_> {
         let (state, words) = state_of(listed);
         let color = self.color(listed.id);
         let has = if listed.has_segments { ", with segments" } else { "" };
+        let changed = if listed.is_changed { ", changed" } else { "" };
         let dot = if listed.has_segments { "<i></i>" } else { "" };
         format!(
-            "<span class=\"cell {state}\" style=\"--c:{color}\" title=\"layer {} is {words}{has}\">{dot}</span>",
+            "<span class=\"cell {state}\" style=\"--c:{color}\" title=\"layer {} is {words}{has}{changed}\">{dot}</span>",
             listed.id
         )
     }
@@ -227,9 +228,10 @@ impl Scene<'_> {
         let id = listed.id;
         let color = self.color(id);
         let (state, words) = state_of(listed);
+        let changed = if listed.is_changed { "changed" } else { "unchanged" };
         let part: Vec<PixelSegment> = self.part(tile.tile, id);
         format!(
-            "<tr class=\"{state}\"><td class=\"flow\">{}</td><th>{}<small>{}</small><b class=\"state\">{words}</b></th>\
+            "<tr class=\"{state}\"><td class=\"flow\">{}</td><th>{}<small>{}, {changed}</small><b class=\"state\">{words}</b></th>\
              <td>{}</td><td>{}</td><td>{}</td><td class=\"flow\">{}</td></tr>\n",
             self.carried(id, &tile.incoming),
             self.swatch(id),

@@ -6,7 +6,7 @@ use Rattle.tile_listing.proofs.write_tile.Tie as tie
 
 list-layers-requires : tie.Need-list-layers-requires
 list-layers-requires c κs =
-    let s = c .before .before .before .before .before .before .before .before .before .before .before in
+    let s = c .before .before .before .before .before .before .before .before .before .before in
     (s .pre .0, s .pre .1, s .pre .2, record { ids-long = omega (arith, s .pre .3, s .pre .5); covers-long = omega (arith, s .pre .3, s .pre .5); flags-long = omega (arith, s .pre .3, s .pre .5) }, s .pre .6)
 
 hand-on-requires : tie.Need-hand-on-requires
