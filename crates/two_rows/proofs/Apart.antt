@@ -38,7 +38,7 @@ use Rattle.two_rows.specs.Apart.{AgreeOn, presenceIn, carryIn, MadeCall,
 use Rattle.two_rows.proofs.Same.{same-layer}
 
 -- every call of a run is right
-made-right : {o : OpenRow} {p q : Past} {es : List Call} {e : Call} → AllRight o p es → MadeCall o p es q e → RightCall o q e
+pub made-right : {o : OpenRow} {p q : Past} {es : List Call} {e : Call} → AllRight o p es → MadeCall o p es q e → RightCall o q e
 made-right all MadeCall.here = all .0
 made-right all (MadeCall.later m) = made-right (all .1) m
 

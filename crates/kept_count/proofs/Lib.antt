@@ -1,0 +1,4 @@
+-- Laws that the proofs of this crate cite.
+pub mod Walks
+pub mod Members
+pub mod Verdicts

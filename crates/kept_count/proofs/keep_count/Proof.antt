@@ -1,0 +1,51 @@
+-- `keep_count` meets its contract. Assumes nothing.
+use mathlib.Core.Path.{_≡_, sym, ap, _∙_}
+use borrow.Author.Needs.{needs}
+use Rattle.refusals.specs.Refusal.{pass, judgementIn}
+use Rattle.kept_count.specs.Keeping.{LentMembers, lentMembers, keepVerdict}
+use Rattle.kept_count.proofs.Verdicts.{keep-passed, refused-by, done-by}
+use Rattle.kept_count.proofs.keep_count.Statement.{statement}
+use Rattle.kept_count.proofs.keep_count.Tie as tie
+
+-- the two lent lists
+abbrev lastOf : tie.Start → LentMembers
+lastOf s = lentMembers (s .args .last-ids .now) (s .args .last-kinds .now) (s .args .last)
+
+abbrev todayOf : tie.Start → LentMembers
+todayOf s = lentMembers (s .args .ids .now) (s .args .kinds .now) (s .args .n)
+
+passes : (c : tie.After-enum-told) → keepVerdict (lastOf (c .before .before .before .before .before .before .before)) (todayOf (c .before .before .before .before .before .before .before)) (c .before .before .before .before .before .before .before .args .kept) ≡ pass
+passes c = sym (c .before .before .judge-keeping .ensures) ∙ ap judgementIn (c .enum-told .given .1)
+
+judge-keeping-requires : tie.Need-judge-keeping-requires
+judge-keeping-requires c κs = search needs
+
+enum-known-refusal : tie.Need-enum-known-refusal
+enum-known-refusal c = search needs
+
+enum-told : tie.Need-enum-told
+enum-told c = search needs
+
+stay-requires : tie.Need-stay-requires
+stay-requires c κs = keep-passed _ _ _ (passes c)
+
+keep-or-drop-requires : tie.Need-keep-or-drop-requires
+keep-or-drop-requires c κs = search needs
+
+returns : tie.Need-returns
+returns c = refused-by _ (sym (c .before .before .before .judge-keeping .ensures) ∙ ap judgementIn (c .before .refusal .given .1))
+
+returns-2 : tie.Need-returns-2
+returns-2 c = done-by (c .before .before .before .before .before .before .before .before .before .args .kept) (passes (c .before .before)) (c .before .stay .ensures) (c .keep-or-drop .ensures)
+
+pub keep-count-spec : {M : Type 1} → statement M
+keep-count-spec =
+    tie.close
+    (tie.spec
+    judge-keeping-requires
+    enum-known-refusal
+    enum-told
+    stay-requires
+    keep-or-drop-requires
+    returns
+    returns-2)

@@ -1,0 +1,3 @@
+-- Whether a tile may keep its count.
+pub mod Keeping
+pub mod InnerKeeping

@@ -1,0 +1,34 @@
+-- The histories of specs/Wrong, computed. Assumes nothing.
+use mathlib.Core.Path.{refl}
+use mathlib.Core.Bool.{false≢true}
+use mathlib.Core.Logic.{inl, inr}
+use lib.Ieee.{ofBits, eq}
+use Rattle.styling.specs.Ascending.{strictlyAscendsFrom}
+use Rattle.pass_statements.specs.Clips.{clipsFrom, stepOf}
+use Rattle.pass_statements.specs.Covered.{coveredFrom}
+use Rattle.pass_statements.specs.Decide.{outcomeOf, shownFrom}
+use Rattle.pass_statements.specs.Rules.{latestClip}
+use Rattle.kept_frames.specs.Wrong.{WronglyKept}
+
+pub wrongly-kept : WronglyKept
+unfolding strictlyAscendsFrom outcomeOf clipsFrom stepOf coveredFrom shownFrom latestClip eq ofBits
+wrongly-kept =
+    record {
+      exchange = record { frames = record { up-before = refl; up-now = refl; told = ((λ e. absurd (false≢true e)), ((λ e. inl refl), tt)) }; kept = refl; shown = refl; fresh = refl };
+      hidden-change = record { frames = record { up-before = refl; up-now = refl; told = ((λ e. inl refl), ((λ e. absurd (false≢true e)), tt)) }; kept = refl; shown = refl; fresh = refl };
+      clip-turned =
+          record {
+            frames = record { up-before = refl; up-now = refl; told = ((λ e. absurd (false≢true e)), ((λ e. inr (inl refl)), ((λ e. inr (inr (inl refl))), tt))) };
+            kept = refl;
+            shown = refl;
+            fresh = refl;
+          };
+      clip-left =
+          record {
+            frames = record { up-before = refl; up-now = refl; told = ((λ e. absurd (false≢true e)), ((λ e. inl refl), ((λ e. inr (inr (inl refl))), tt))) };
+            kept = refl;
+            shown = refl;
+            fresh = refl;
+          };
+      since-last-frame = record { told = ((λ e. inl refl), ((λ e. inr (inl refl)), tt)); kept = refl; shown = refl; fresh = refl };
+    }

@@ -1,0 +1,7 @@
+-- A tile from frame to frame.
+pub mod Picture
+pub mod Told
+pub mod Stays
+pub mod Right
+pub mod Display
+pub mod Wrong
