@@ -20,7 +20,8 @@ use Rattle.row_statements.specs.TileWork.{TileAnswer, listVerdict, tileAnswer, 
 use Rattle.row_statements.specs.Due.{OpenRow, tableOn, layersOn, stateOn, WorkChoice, isNotDue, workDueVerdict, outcomeOn, saysOn}
 use Rattle.row_statements.specs.Claim.{RightWork}
 use Rattle.row_statements.specs.InnerHolding.{IsOpen}
-use Rattle.row_statements.proofs.Run.{accepted, is-open, run}
+use Rattle.row_statements.proofs.Run.{accepted, is-open}
+use Rattle.listing_runs.proofs.Run.{run}
 use Rattle.two_rows.proofs.Apart.{made-right}
 use Rattle.kept_rows.specs.Shown.{itemsFor}
 use Rattle.kept_rows.specs.History.{AcceptedWork, openOn, workedOf}
@@ -46,7 +47,7 @@ module _ (a : AcceptedWork) where
   row-open = is-open (a .call) (a .lent) (a .back) (a .state) (a .words) (accepted (a .call) (a .lent) (a .back) (a .state) (a .opens))
 
   right : RightWork (openOn a) (a .past) (a .choice) (a .result) (a .list)
-  right = made-right (run (a .call) (a .lent) (a .back) (a .state) (a .events) (a .held) (a .words) (a .opens) (a .run) .1) (a .made)
+  right = made-right (run (a .call) (a .lent) (a .back) (a .state) (a .calls) (a .held) (a .words) (a .opens) (a .run) .1) (a .made)
 
   pub record Said : Type 0 where
     pub decision : a .answer .decision ≡ outcomeOn (openOn a) (a .past .tiles) (a .choice .kept) (a .choice .clear) (a .choice .previous) .decision

@@ -4,7 +4,7 @@
 -- always what drawing it afresh at its last accepted work shows. A frame in which the tile is not worked, or turned down, leaves it as it is.
 use mathlib.Core.Path.{_≡_}
 use mathlib.Core.Bool.{true, cond}
-use mathlib.Core.List.{List}
+use mathlib.Core.List.{List, []}
 use Prim.Native.Nat.{ℕ, _+_}
 use Rattle.laws.specs.Answer.{given}
 use Rattle.segment_rows.specs.Rows.{Words}
@@ -20,10 +20,11 @@ use Rattle.row_statements.specs.Lent.{Columns}
 use Rattle.row_statements.specs.Opening.{OpenCall, openOf, OpensRow}
 use Rattle.row_statements.specs.TileWork.{WorkLent, TileAnswer, workAnswer}
 use Rattle.row_statements.specs.Due.{OpenRow, Past, atFirst, WorkChoice}
-use Rattle.row_statements.specs.Run.{openRow, Held, heldFirst, Event, Run}
+use Rattle.row_statements.specs.Run.{openRow, heldFirst, Event}
 use Rattle.row_statements.specs.declared.RowState.{RowState}
 use Rattle.row_statements.specs.declared.TileWorked.{TileWorked}
 use Rattle.row_statements.specs.declared.Opened.the-variants as opened
+use Rattle.listing_runs.specs.Run.{HeldAll, heldWith, Call, Calls}
 use Rattle.two_rows.specs.Apart.{MadeCall}
 use Rattle.kept_frames.specs.Display.{Display, ShowsBytes, displayed}
 use Rattle.kept_frames.specs.Stays.{listStays}
@@ -37,16 +38,16 @@ pub record AcceptedWork : Type 0 where
   pub lent : Columns
   pub back : Columns
   pub state : RowState
-  pub events : List Event
-  pub held : Held
+  pub calls : List Call
+  pub held : HeldAll
   pub words : Words (call .row)
   pub opens : OpensRow (openOf call lent) (opened.Row state) back
-  pub run : Run (openRow call) (heldFirst state back) events held
+  pub run : Calls (openRow call) (heldWith (heldFirst state back) []) calls held
   pub past : Past
   pub choice : WorkChoice
   pub result : TileWorked
   pub list : WorkLent
-  pub made : MadeCall (openRow call) atFirst events past (Event.work choice result list)
+  pub made : MadeCall (openRow call) atFirst calls past (Call.row (Event.work choice result list))
   pub answer : TileAnswer
   pub accepted : workAnswer (result .answer) ≡ given answer
 

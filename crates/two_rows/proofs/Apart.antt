@@ -34,7 +34,7 @@ use Rattle.listing_runs.specs.Due.{ListChoice, listDueVerdict}
 use Rattle.listing_runs.specs.Run.{Call}
 use Rattle.listing_runs.specs.Claim.{RightListing, RightCall, AllRight}
 use Rattle.listing_runs.proofs.Run.{run}
-use Rattle.two_rows.specs.Apart.{AgreeOn, presenceIn, carryIn, MadeCall, TileResult, ResultOf, SameTile, Apart, LayersApart}
+use Rattle.two_rows.specs.Apart.{AgreeOn, entryIn, carryIn, MadeCall, TileResult, ResultOf, SameTile, Apart, LayersApart}
 use Rattle.two_rows.proofs.Same.{same-layer}
 
 -- every call of a run is right
@@ -102,7 +102,7 @@ module _ {o o′ : OpenRow} (i : IsOpen o) (i′ : IsOpen o′) {id : ℕ} (agre
       let now = same-layer i i′ agree n in
       let next = same-layer i i′ agree (suc n) in
       record {
-        presence = ap (λ (l : List Entry). presenceIn l id) (w .entries) ∙ now .presence ∙ ap (λ (m : ℕ). presenceIn (map (entryOf (tableOn o′)) (layersOn o′ m)) id) e ∙ sym (ap (λ (l : List Entry). presenceIn l id) (w′ .entries));
+        entry = ap (λ (l : List Entry). entryIn l id) (w .entries) ∙ now .entry ∙ ap (λ (m : ℕ). entryIn (map (entryOf (tableOn o′)) (layersOn o′ m)) id) e ∙ sym (ap (λ (l : List Entry). entryIn l id) (w′ .entries));
         carry = ap (λ (q : List Carry). carryIn q id) (w .carries) ∙ next .carry ∙ ap (λ (m : ℕ). carryIn (queueOn o′ (suc m)) id) e ∙ sym (ap (λ (q : List Carry). carryIn q id) (w′ .carries));
       }
 

@@ -27,7 +27,7 @@ use Rattle.pass_statements.specs.Entry.{Entry}
 use Rattle.layer_workbench.specs.Work.{entryOf}
 use Rattle.row_carries.proofs.Merged.{ownIn, own-past, low-unlisted, head-held, head-own, unlisted-held, unlisted-own}
 use Rattle.row_carries.specs.Carries.{isUnlisted}
-use Rattle.two_rows.specs.Apart.{presenceIn, carryIn}
+use Rattle.two_rows.specs.Apart.{entryIn, carryIn}
 
 -- ---- lists of words
 
@@ -69,22 +69,22 @@ unlisted-not (l ∷ ls) id h = by (eqb (l .id) id) (isUnlisted ls id) h (unliste
     by true u e r = absurd (let z : _≡_ {A = ℕ} 0 1 = cc in omega arith)
     by false u e r = r e
 
-pub presence-in : (table : List Layer) (low : ℕ) (ls : List Listed) (id : ℕ) → strictlyAscendsFrom low (listedIds ls) ≡ true
-    → presenceIn (map (entryOf table) ls) id ≡ cond (isListed ls id) (some (record { cover = heldIn (incomingOf ls) id; segments = hasAny (ownIn ls id) })) none
-unfolding presenceIn heldIn ownIn
-presence-in table low [] id h = refl
-presence-in table low (l ∷ ls) id h = ⊎-elim (here id) (λ (n : l .id ≡ id → ⊥). past id n (presence-in table (suc (l .id)) ls id tail)) (eq-or-ne (l .id) id)
+pub entry-in : (table : List Layer) (low : ℕ) (ls : List Listed) (id : ℕ) → strictlyAscendsFrom low (listedIds ls) ≡ true
+    → entryIn (map (entryOf table) ls) id ≡ cond (isListed ls id) (some (record { id = id; cover = heldIn (incomingOf ls) id; segments = hasAny (ownIn ls id) })) none
+unfolding entryIn heldIn ownIn
+entry-in table low [] id h = refl
+entry-in table low (l ∷ ls) id h = ⊎-elim (here id) (λ (n : l .id ≡ id → ⊥). past id n (entry-in table (suc (l .id)) ls id tail)) (eq-or-ne (l .id) id)
   where
     tail : strictlyAscendsFrom (suc (l .id)) (listedIds ls) ≡ true
     tail = ascends-tail low (l .id) (listedIds ls) h
 
-    first : presenceIn (map (entryOf table) (l ∷ ls)) (l .id) ≡ cond (isListed (l ∷ ls) (l .id)) (some (record { cover = heldIn (incomingOf (l ∷ ls)) (l .id); segments = hasAny (ownIn (l ∷ ls) (l .id)) })) none
+    first : entryIn (map (entryOf table) (l ∷ ls)) (l .id) ≡ cond (isListed (l ∷ ls) (l .id)) (some (record { id = l .id; cover = heldIn (incomingOf (l ∷ ls)) (l .id); segments = hasAny (ownIn (l ∷ ls) (l .id)) })) none
     first = rw (head-held l ls, head-own low l ls h, eq-eqb (l .id) (l .id) refl)
 
-    here : (i : ℕ) → l .id ≡ i → presenceIn (map (entryOf table) (l ∷ ls)) i ≡ cond (isListed (l ∷ ls) i) (some (record { cover = heldIn (incomingOf (l ∷ ls)) i; segments = hasAny (ownIn (l ∷ ls) i) })) none
+    here : (i : ℕ) → l .id ≡ i → entryIn (map (entryOf table) (l ∷ ls)) i ≡ cond (isListed (l ∷ ls) i) (some (record { id = i; cover = heldIn (incomingOf (l ∷ ls)) i; segments = hasAny (ownIn (l ∷ ls) i) })) none
     here i e = rw (← e) first
 
-    past : (i : ℕ) → (l .id ≡ i → ⊥) → presenceIn (map (entryOf table) ls) i ≡ cond (isListed ls i) (some (record { cover = heldIn (incomingOf ls) i; segments = hasAny (ownIn ls i) })) none → presenceIn (map (entryOf table) (l ∷ ls)) i ≡ cond (isListed (l ∷ ls) i) (some (record { cover = heldIn (incomingOf (l ∷ ls)) i; segments = hasAny (ownIn (l ∷ ls) i) })) none
+    past : (i : ℕ) → (l .id ≡ i → ⊥) → entryIn (map (entryOf table) ls) i ≡ cond (isListed ls i) (some (record { id = i; cover = heldIn (incomingOf ls) i; segments = hasAny (ownIn ls i) })) none → entryIn (map (entryOf table) (l ∷ ls)) i ≡ cond (isListed (l ∷ ls) i) (some (record { id = i; cover = heldIn (incomingOf (l ∷ ls)) i; segments = hasAny (ownIn (l ∷ ls) i) })) none
     past i n r = rw (ne-eqb (l .id) i n) r
 
 -- ---- the carries that a list hands on

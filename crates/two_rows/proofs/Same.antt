@@ -39,9 +39,9 @@ use Rattle.row_carries.proofs.Merged.{ownIn, list-held, list-own}
 use Rattle.row_carries.proofs.Parts.{tile-layer, left-layer}
 use Rattle.row_statements.specs.Due.{OpenRow, tableOn, queueOn, layersOn, planeOn}
 use Rattle.row_statements.specs.InnerHolding.{IsOpen}
-use Rattle.two_rows.specs.Apart.{belowTileY, layerSegments, AgreeOn, presenceIn, carryIn, SameLayer}
+use Rattle.two_rows.specs.Apart.{belowTileY, layerSegments, AgreeOn, entryIn, carryIn, SameLayer}
 use Rattle.two_rows.proofs.Words.{tile-x-below, local-x-below, local-y-below, cover-below, area-below, layer-sum}
-use Rattle.two_rows.proofs.Layers.{long-same, any-filter, carry-in, presence-in, handed-has}
+use Rattle.two_rows.proofs.Layers.{long-same, any-filter, carry-in, entry-in, handed-has}
 
 -- ---- two rows with the same segments of a layer
 
@@ -159,9 +159,9 @@ module _ {o : OpenRow} (is-open : IsOpen o) (id : ℕ) where
       ∙ handed-has (tableOn o) 0 (layersOn o n) id (layers-ascend (is-open .in-order) (tableOn o) (o .from) n)
       ∙ rw (listed-is n, cover-is n, own-is n)
 
-  presence-is : (n : ℕ) → presenceIn (map (entryOf (tableOn o)) (layersOn o n)) id ≡ cond (hasCarry (queueOn o n) id || hasAny (part n)) (some (record { cover = heldIn (queueOn o n) id; segments = hasAny (part n) })) none
-  presence-is n =
-      presence-in (tableOn o) 0 (layersOn o n) id (layers-ascend (is-open .in-order) (tableOn o) (o .from) n)
+  entry-is : (n : ℕ) → entryIn (map (entryOf (tableOn o)) (layersOn o n)) id ≡ cond (hasCarry (queueOn o n) id || hasAny (part n)) (some (record { id = id; cover = heldIn (queueOn o n) id; segments = hasAny (part n) })) none
+  entry-is n =
+      entry-in (tableOn o) 0 (layersOn o n) id (layers-ascend (is-open .in-order) (tableOn o) (o .from) n)
       ∙ rw (listed-is n, cover-is n, own-is n)
 
 -- ---- both
@@ -206,9 +206,9 @@ module _ {o o′ : OpenRow} (is-open : IsOpen o) (is-open′ : IsOpen o′) {id 
   same-layer n =
       record {
         carry = carry-in (queueOn o n) id ∙ ap₂ (λ (t : Bool) (c : List ℤ). cond t (some (record { id = id; cover = c })) none) (has-same n) (held-same n) ∙ sym (carry-in (queueOn o′ n) id);
-        presence =
-            presence-is is-open id n
-            ∙ (λ i. cond (has-same n i || parts-any n i) (some (record { cover = held-same n i; segments = parts-any n i })) none)
-            ∙ sym (presence-is is-open′ id n);
+        entry =
+            entry-is is-open id n
+            ∙ (λ i. cond (has-same n i || parts-any n i) (some (record { id = id; cover = held-same n i; segments = parts-any n i })) none)
+            ∙ sym (entry-is is-open′ id n);
         plane = plane-same id (o .row) (o′ .row) (agree .segments) (ruleIn (tableOn o) id) (suc (o .from + n)) ∙ ap₂ (λ (rule : FillRule) (t : ℕ). rowPlane cpu 16 rule t id (o′ .row)) (agree .rule) (tile-is n);
       }

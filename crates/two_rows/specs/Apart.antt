@@ -51,14 +51,18 @@ pub record AgreeOn (id : ℕ) (o o′ : OpenRow) : Type 0 where
 
 -- ---- what a list and a queue say of a layer: nothing, or what is compared of it
 
--- of a list's entry: the incoming cover, and whether the layer has segments in the tile. Whether it is changed is its own table's word
+-- of a list's entry: whether the layer is changed is its own table's word, and no part of it
 pub record Presence : Type 0 where
+  pub id : ℕ
   pub cover : List ℤ
   pub segments : Bool
 
-unfoldable pub presenceIn : List Entry → ℕ → Option Presence
-presenceIn [] id = none
-presenceIn (e ∷ es) id = cond (eqb (e .id) id) (some (record { cover = e .cover; segments = e .segments })) (presenceIn es id)
+abbrev pub presenceOf : Entry → Presence
+presenceOf e = record { id = e .id; cover = e .cover; segments = e .segments }
+
+unfoldable pub entryIn : List Entry → ℕ → Option Presence
+entryIn [] id = none
+entryIn (e ∷ es) id = cond (eqb (e .id) id) (some (presenceOf e)) (entryIn es id)
 
 unfoldable pub carryIn : List Carry → ℕ → Option Carry
 carryIn [] id = none
@@ -67,7 +71,7 @@ carryIn (c ∷ q) id = cond (eqb (c .id) id) (some c) (carryIn q id)
 -- ---- tile from + n: the layer's carry before it, its entry in the list, its coverages
 pub record SameLayer (id : ℕ) (o o′ : OpenRow) (n : ℕ) : Type 0 where
   pub carry : carryIn (queueOn o n) id ≡ carryIn (queueOn o′ n) id
-  pub presence : presenceIn (map (entryOf (tableOn o)) (layersOn o n)) id ≡ presenceIn (map (entryOf (tableOn o′)) (layersOn o′ n)) id
+  pub entry : entryIn (map (entryOf (tableOn o)) (layersOn o n)) id ≡ entryIn (map (entryOf (tableOn o′)) (layersOn o′ n)) id
   pub plane : planeOn o n id ≡ planeOn o′ n id
 
 -- ---- along two runs of listings, decidings, works and paintings
@@ -94,7 +98,7 @@ pub data ResultOf : Call → TileResult → Type 0 where
 
 -- what two of them say of the layer: whether and how it is listed, and the carry handed on
 pub record SameTile (id : ℕ) (t t′ : TileResult) : Type 0 where
-  pub presence : presenceIn (t .entries) id ≡ presenceIn (t′ .entries) id
+  pub entry : entryIn (t .entries) id ≡ entryIn (t′ .entries) id
   pub carry : carryIn (t .carries) id ≡ carryIn (t′ .carries) id
 
 -- of two runs after accepted openings: the carry that each opens with; every tile that both work or list; and the 256 coverages of the layer wherever
