@@ -2,6 +2,8 @@
 // left.
 use crate::cached;
 use crate::changes;
+use crate::lent::Queue;
+use crate::lent::Table;
 use crate::painting;
 use crate::tile;
 use job_statements::Reading;
@@ -51,54 +53,29 @@ fn trace_tiles(
     n: u32,
     later: bool,
     row: &[u64],
-    layers: &[u32],
-    colors: &[f32],
-    count: usize,
-    opened_ids: [u32; 256],
-    opened_covers: [i8; 4096],
+    table: Table,
+    opened: Queue,
     kept: &mut [u8; 32760],
 ) {
-    let mut ids = opened_ids;
-    let mut covers = opened_covers;
+    let mut queue = opened;
     let mut at = state;
     let mut left = n;
     while 0 < left {
         left -= 1;
-        let mut next_ids = [0u32; 256];
-        let mut next_covers = [0i8; 4096];
-        let step = tile::trace_tile(
-            at,
-            later,
-            row,
-            layers,
-            colors,
-            count,
-            cached::tile_at(kept, at.next),
-            &ids,
-            &covers,
-            &mut next_ids,
-            &mut next_covers,
-        );
+        let step = tile::trace_tile(at, later, row, table, cached::tile_at(kept, at.next), queue);
         if !step.worked {
             return;
         }
         cached::store(kept, at.next, step.kept);
-        ids = next_ids;
-        covers = next_covers;
+        queue = step.queue;
         at = step.state;
     }
 }
 
 // Opens the row of a job and works its tiles.
-fn trace_row(
-    head: Head,
-    later: bool,
-    row: &[u64],
-    layers: &[u32; 512],
-    colors: &[f32],
-    count: usize,
-    kept: &mut [u8; 32760],
-) {
+fn trace_row(head: Head, later: bool, row: &[u64], table: Table, kept: &mut [u8; 32760]) {
+    let layers = table.layers;
+    let colors = table.colors;
     let mut ids = [0u32; 256];
     let mut covers = [0i8; 4096];
     match row_opening::open_tile_row(
@@ -106,71 +83,77 @@ fn trace_row(
         head.from,
         head.to,
         row,
-        layers,
-        colors,
-        count,
+        &layers,
+        &colors,
+        table.count,
         &mut ids,
         &mut covers,
     ) {
         Opened::Refused(refusal) => painting::print_refusal(refusals::number_of(refusal)),
-        Opened::Row(state) => trace_tiles(
-            state,
-            due_tiles(state.from, state.to, head.tiles),
-            later,
-            row,
-            layers,
-            colors,
-            count,
-            ids,
-            covers,
-            kept,
-        ),
+        Opened::Row(state) => {
+            let n = due_tiles(state.from, state.to, head.tiles);
+            let queue = Queue {
+                ids: ids,
+                covers: covers,
+            };
+            trace_tiles(state, n, later, row, table, queue, kept)
+        }
     }
 }
 
-// Reads a job and traces it as the frame after `before`. A layer whose record and segments are those of the frame before
-// counts as unchanged.
+// Traces a job that was read as the frame after `before`. A layer whose record and segments are those of the frame
+// before counts as unchanged.
+fn trace_job(
+    head: Head,
+    read: [u32; 512],
+    colors: [f32; 256],
+    count: usize,
+    row: [u64; 2048],
+    segments: usize,
+    before: Frame,
+) -> Frame {
+    let old_layers = before.layers;
+    let old_colors = before.colors;
+    let old_row = before.row;
+    let mut layers = read;
+    let mut kept = before.cached;
+    if before.given {
+        changes::mark_unchanged(
+            &old_layers,
+            &old_colors,
+            before.count,
+            front(&old_row, before.segments),
+            &mut layers,
+            &colors,
+            count,
+            front(&row, segments),
+        );
+    }
+    let table = Table {
+        layers: layers,
+        colors: colors,
+        count: count,
+    };
+    trace_row(head, before.given, front(&row, segments), table, &mut kept);
+    Frame {
+        given: true,
+        layers: layers,
+        colors: colors,
+        row: row,
+        count: count,
+        segments: segments,
+        cached: kept,
+    }
+}
+
+// Reads a job and traces it as the frame after `before`.
 pub fn trace_frame(text: &[u8], before: Frame) -> Frame {
     let mut layers = [0u32; 512];
     let mut colors = [0.0f32; 256];
     let mut row = [0u64; 2048];
     match job::read_job(text, &mut layers, &mut colors, &mut row) {
         Reading::Accepted(head, count, segments) => {
-            let old_layers = before.layers;
-            let old_colors = before.colors;
-            let old_row = before.row;
-            let mut kept = before.cached;
-            let words = front(&row, segments);
-            if before.given {
-                changes::mark_unchanged(
-                    &old_layers,
-                    &old_colors,
-                    before.count,
-                    front(&old_row, before.segments),
-                    &mut layers,
-                    &colors,
-                    count,
-                    words,
-                );
-            }
-            trace_row(
-                head,
-                before.given,
-                words,
-                &layers,
-                &colors,
-                count,
-                &mut kept,
-            );
-            Frame {
-                given: true,
-                layers: layers,
-                colors: colors,
-                row: row,
-                count: count,
-                segments: segments,
-                cached: kept,
-            }
+            trace_job(head, layers, colors, count, row, segments, before)
         }
         Reading::NoRoom => before,
         Reading::Malformed => {

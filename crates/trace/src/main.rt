@@ -5,6 +5,7 @@ pub mod cached;
 pub mod changes;
 pub mod deciding;
 pub mod frame;
+pub mod lent;
 pub mod painting;
 pub mod tile;
 

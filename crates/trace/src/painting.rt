@@ -1,11 +1,14 @@
 // The shown layers of a tile, counted and, where the tile is painted, painted and told one after the other.
+use crate::lent;
+use crate::lent::List;
+use crate::lent::Queue;
+use crate::lent::Table;
 use cover::Cover;
 use painter::Clip;
 use row_statements::PaintAnswer;
 use row_statements::RowState;
 use segment_rows::parts;
 use styling::FillRule;
-use trace_text::lists;
 use trace_text::planes;
 
 // The state after the paintings of a tile, how many layers were shown, and how many octets they used.
@@ -25,10 +28,18 @@ pub fn signed(n: u32) -> i32 {
     if n < 4096 { n as i32 } else { 0 }
 }
 
-// The doubled areas of a layer in a tile: a kept set of its segments, begun from the cover that comes in.
-fn write_areas(id: u32, tile: u32, tile_y: u32, cover: Cover, row: &[u64], areas: &mut [i16]) {
+// The fill rule of a layer.
+fn rule_of(table: Table, id: u32) -> FillRule {
+    let layers = table.layers;
+    let record = lent::record_in(&layers, table.count, id);
+    record.rule
+}
+
+// The doubled areas of a layer in a tile, of a kept set of its segments that is begun from the cover that comes in.
+fn print_areas(id: u32, tile: u32, tile_y: u32, cover: Cover, row: &[u64], rule: FillRule) {
     let part = parts::of_layer(parts::in_tile(row, small(tile)), id);
     let mut slots = [0u64; 2048];
+    let mut areas = [0i16; 256];
     segment_set::begin(
         id,
         small(tile),
@@ -36,8 +47,9 @@ fn write_areas(id: u32, tile: u32, tile_y: u32, cover: Cover, row: &[u64], areas
         cover,
         part,
         &mut slots,
-        areas,
+        &mut areas,
     );
+    planes::print_rows(&areas, rule);
 }
 
 fn print_clip(clip: Clip) {
@@ -86,34 +98,34 @@ fn paint_layer(
     tally: Tally,
     tile: u32,
     id: u32,
-    rule: FillRule,
-    areas: &[i16],
+    cover: Cover,
     row: &[u64],
-    layers: &[u32],
-    colors: &[f32],
-    count: usize,
-    ids: &[u32],
-    covers: &[i8],
+    table: Table,
+    queue: Queue,
 ) -> Tally {
-    let mut plane = [0.0f32; 256];
+    let layers = table.layers;
+    let colors = table.colors;
+    let ids = queue.ids;
+    let covers = queue.covers;
     let state = tally.state;
+    let mut plane = [0.0f32; 256];
     let painted = row_painting::paint_layer(
         state,
         signed(tile),
         id,
         row,
-        layers,
-        colors,
-        count,
-        ids,
-        covers,
+        &layers,
+        &colors,
+        table.count,
+        &ids,
+        &covers,
         &mut plane,
     );
     let answer = painted.answer;
     let after = painted.state;
     let clip = after.clip;
     let octets = tell_answer(id, answer, clip);
-    planes::print_rows(areas, rule);
+    print_areas(id, tile, after.tile_y, cover, row, rule_of(table, id));
     planes::print_plane(&plane);
     Tally {
         state: after,
@@ -141,11 +153,8 @@ fn tally_entry(
     id: u32,
     cover: Cover,
     row: &[u64],
-    layers: &[u32],
-    colors: &[f32],
-    count: usize,
-    ids: &[u32],
-    covers: &[i8],
+    table: Table,
+    queue: Queue,
 ) -> Tally {
     if !shown {
         return tally;
@@ -153,24 +162,7 @@ fn tally_entry(
     if !paints {
         return count_layer(tally);
     }
-    let mut areas = [0i16; 256];
-    let state = tally.state;
-    write_areas(id, tile, state.tile_y, cover, row, &mut areas);
-    let record = lists::record_of(layers, count, id);
-    let rule = record.rule;
-    paint_layer(
-        tally,
-        tile,
-        id,
-        rule,
-        &areas,
-        row,
-        layers,
-        colors,
-        count,
-        ids,
-        covers,
-    )
+    paint_layer(tally, tile, id, cover, row, table, queue)
 }
 
 // How many are left of `listed` past the first `skipped`.
@@ -188,17 +180,15 @@ pub fn tally_shown(
     paints: bool,
     tile: u32,
     row: &[u64],
-    layers: &[u32],
-    colors: &[f32],
-    count: usize,
-    ids: &[u32],
-    covers: &[i8],
-    list_ids: &[u32],
-    list_covers: &[i8],
-    list_unmasked: &[bool],
+    table: Table,
+    queue: Queue,
+    list: List,
     skipped: usize,
     listed: usize,
 ) -> Tally {
+    let ids = list.ids;
+    let covers = list.covers;
+    let unmasked = list.unmasked;
     let mut tally = Tally {
         state: state,
         shown: 0,
@@ -209,18 +199,15 @@ pub fn tally_shown(
     while 0 < left {
         left -= 1;
         tally = tally_entry(
-            trace_text::flag_at(list_unmasked, i),
+            lent::is_unmasked(&unmasked, i),
             paints,
             tally,
             tile,
-            trace_text::id_at(list_ids, i),
-            lists::entry_cover(list_covers, i),
+            lent::id_in(&ids, i),
+            lent::cover_in(&covers, i),
             row,
-            layers,
-            colors,
-            count,
-            ids,
-            covers,
+            table,
+            queue,
         );
         i = std::num::wrapping_add_usize(i, 1);
     }

@@ -1,11 +1,17 @@
 // One tile traced: its part and the queue that it takes in, its list and the decision, its cached tile, each layer that
 // is painted, the queue that it hands on, and last the line of the row program.
 use crate::deciding;
+use crate::lent;
+use crate::lent::LIST_FLAGS;
+use crate::lent::List;
+use crate::lent::Queue;
+use crate::lent::Table;
 use crate::painting;
 use cached_tile::kept::Kept;
 use layer_workbench::PreviousClear;
 use row_statements::RowState;
 use row_statements::TileDone;
+use row_statements::TileWorked;
 use row_statements::WorkAnswer;
 use segment_rows::parts;
 use styling::Color;
@@ -13,13 +19,11 @@ use trace_text::lists;
 use trace_text::queues;
 use trace_text::segments;
 
-// How many flags a list lends to say which of its layers have segments.
-const LIST_FLAGS: usize = 256;
-
-// The state after a tile, its cached tile, and whether it was worked.
+// The state after a tile, its cached tile, the queue that it hands on, and whether it was worked.
 pub struct Step {
     pub state: RowState,
     pub kept: Kept,
+    pub queue: Queue,
     pub worked: bool,
 }
 
@@ -43,40 +47,42 @@ fn previous_clear(later: bool) -> PreviousClear {
 }
 
 // The list, a line for each layer.
-fn print_list(
-    layers: &[u32],
-    count: usize,
-    list_ids: &[u32],
-    list_covers: &[i8],
-    list_segments: &[bool],
-    list_unmasked: &[bool],
-    skipped: usize,
-    listed: usize,
-) {
+fn print_list(table: Table, list: List, skipped: usize, listed: usize) {
+    let layers = table.layers;
+    let ids = list.ids;
+    let covers = list.covers;
+    let segments = list.segments;
+    let unmasked = list.unmasked;
     lists::print_names(listed);
     let mut i: usize = 0;
     while i < listed {
-        let id = trace_text::id_at(list_ids, i);
+        let id = lent::id_in(&ids, i);
         lists::print_entry(
             id,
-            lists::record_of(layers, count, id),
-            lists::entry_cover(list_covers, i),
-            trace_text::flag_at(list_segments, i),
-            trace_text::flag_at(list_unmasked, i),
+            lent::record_in(&layers, table.count, id),
+            lent::cover_in(&covers, i),
+            lent::has_segments(&segments, i),
+            lent::is_unmasked(&unmasked, i),
             i < skipped,
         );
         i += 1;
     }
 }
 
+// A queue of n carries, under a name.
+fn print_queue(name: &[u8], queue: Queue, n: usize) {
+    let ids = queue.ids;
+    let covers = queue.covers;
+    queues::print_queue(name, &ids, &covers, n);
+}
+
 // What the tile has and what comes to it.
-fn print_before(state: RowState, row: &[u64], ids: &[u32], covers: &[i8]) {
-    let tile = painting::small(state.next);
+fn print_before(state: RowState, row: &[u64], queue: Queue) {
     trace_text::print(b"tile ");
     trace_text::print_number(state.next as u64);
     trace_text::print(b"\n");
-    segments::print_part(parts::in_tile(row, tile));
-    queues::print_queue(b"  taken in: ", ids, covers, state.left);
+    segments::print_part(parts::in_tile(row, painting::small(state.next)));
+    print_queue(b"  taken in: ", queue, state.left);
 }
 
 // The line of the row program.
@@ -105,56 +111,41 @@ fn tell_decision(done: TileDone, before: Kept, after: Kept) -> Kept {
     kept
 }
 
-// An accepted work, told: list, decision, cached tile, paintings, line.
-fn tell_done(
-    tile: u32,
-    after: RowState,
-    done: TileDone,
-    row: &[u64],
-    layers: &[u32],
-    colors: &[f32],
-    count: usize,
-    ids: &[u32],
-    covers: &[i8],
-    list_ids: &[u32],
-    list_covers: &[i8],
-    list_unmasked: &[bool],
-) -> painting::Tally {
-    let decision = done.decision;
-    let skipped = done.skipped;
-    painting::tally_shown(
-        after,
-        deciding::is_paint(decision),
-        tile,
-        row,
-        layers,
-        colors,
-        count,
-        ids,
-        covers,
-        list_ids,
-        list_covers,
-        list_unmasked,
-        skipped.0,
-        done.listed,
-    )
+// What a work gives and leaves: its answer, the queue handed on and the list.
+struct TileLeft {
+    worked: TileWorked,
+    queue: Queue,
+    list: List,
 }
 
-// Works the next tile of a row from the queue that is left, and tells it.
-pub fn trace_tile(
+fn list_of(
+    ids: [u32; 256],
+    covers: [i8; 4096],
+    segments: [bool; LIST_FLAGS],
+    unmasked: [bool; 256],
+) -> List {
+    List {
+        ids: ids,
+        covers: covers,
+        segments: segments,
+        unmasked: unmasked,
+    }
+}
+
+// Works the next tile by lent arrays.
+fn work_lent(
     state: RowState,
     later: bool,
     row: &[u64],
-    layers: &[u32],
-    colors: &[f32],
+    layers: &[u32; 512],
+    colors: &[f32; 256],
     count: usize,
     kept: Kept,
     ids: &[u32; 256],
     covers: &[i8; 4096],
-    next_ids: &mut [u32; 256],
-    next_covers: &mut [i8; 4096],
-) -> Step {
-    print_before(state, row, ids, covers);
+) -> TileLeft {
+    let mut next_ids = [0u32; 256];
+    let mut next_covers = [0i8; 4096];
     let mut list_ids = [0u32; 256];
     let mut list_covers = [0i8; 4096];
     let mut list_segments = [false; LIST_FLAGS];
@@ -171,13 +162,104 @@ pub fn trace_tile(
         previous_clear(later),
         ids,
         covers,
-        next_ids,
-        next_covers,
+        &mut next_ids,
+        &mut next_covers,
         &mut list_ids,
         &mut list_covers,
         &mut list_segments,
         &mut list_unmasked,
     );
+    let next = Queue {
+        ids: next_ids,
+        covers: next_covers,
+    };
+    TileLeft {
+        worked: worked,
+        queue: next,
+        list: list_of(list_ids, list_covers, list_segments, list_unmasked),
+    }
+}
+
+// Works the next tile from the queue that is left.
+fn work_next(
+    state: RowState,
+    later: bool,
+    row: &[u64],
+    table: Table,
+    kept: Kept,
+    queue: Queue,
+) -> TileLeft {
+    let layers = table.layers;
+    let colors = table.colors;
+    let ids = queue.ids;
+    let covers = queue.covers;
+    work_lent(
+        state,
+        later,
+        row,
+        &layers,
+        &colors,
+        table.count,
+        kept,
+        &ids,
+        &covers,
+    )
+}
+
+// An accepted work told: list, decision, cached tile, paintings, the queue handed on, line.
+fn tell_done(
+    tile: u32,
+    after: RowState,
+    done: TileDone,
+    before: Kept,
+    kept: Kept,
+    row: &[u64],
+    table: Table,
+    queue: Queue,
+    list: List,
+    next: Queue,
+) -> Step {
+    let decision = done.decision;
+    let skipped = done.skipped;
+    let listed = done.listed;
+    print_list(table, list, skipped.0, listed);
+    let settled = tell_decision(done, before, kept);
+    let tally = painting::tally_shown(
+        after,
+        deciding::is_paint(decision),
+        tile,
+        row,
+        table,
+        queue,
+        list,
+        skipped.0,
+        listed,
+    );
+    print_queue(b"  handed on: ", next, after.left);
+    print_line(tile, done, tally, after.left);
+    let left = tally.state;
+    Step {
+        state: left,
+        kept: settled,
+        queue: next,
+        worked: true,
+    }
+}
+
+// Works the next tile of a row from the queue that is left, and tells it.
+pub fn trace_tile(
+    state: RowState,
+    later: bool,
+    row: &[u64],
+    table: Table,
+    kept: Kept,
+    queue: Queue,
+) -> Step {
+    print_before(state, row, queue);
+    let done = work_next(state, later, row, table, kept, queue);
+    let worked = done.worked;
+    let list = done.list;
+    let next = done.queue;
     let after = worked.state;
     let kept_after = worked.kept;
     let answer = worked.answer;
@@ -187,44 +269,21 @@ pub fn trace_tile(
             Step {
                 state: after,
                 kept: kept_after,
+                queue: next,
                 worked: false,
             }
         }
-        WorkAnswer::Done(done) => {
-            let skipped = done.skipped;
-            print_list(
-                layers,
-                count,
-                &list_ids,
-                &list_covers,
-                &list_segments,
-                &list_unmasked,
-                skipped.0,
-                done.listed,
-            );
-            let settled = tell_decision(done, kept, kept_after);
-            let tally = tell_done(
-                state.next,
-                after,
-                done,
-                row,
-                layers,
-                colors,
-                count,
-                ids,
-                covers,
-                &list_ids,
-                &list_covers,
-                &list_unmasked,
-            );
-            queues::print_queue(b"  handed on: ", next_ids, next_covers, after.left);
-            print_line(state.next, done, tally, after.left);
-            let left = tally.state;
-            Step {
-                state: left,
-                kept: settled,
-                worked: true,
-            }
-        }
+        WorkAnswer::Done(told) => tell_done(
+            state.next,
+            after,
+            told,
+            kept,
+            kept_after,
+            row,
+            table,
+            queue,
+            list,
+            next,
+        ),
     }
 }

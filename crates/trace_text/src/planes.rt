@@ -65,8 +65,8 @@ fn lower_digit(coverage: f32) -> u8 {
     }
 }
 
-// A point for 0, # for 1, and else the whole tenths. A coverage is a whole number of 512ths: of the tenths it meets only
-// 0.5.
+// A point for 0, # for 1, and else the whole tenths. Of the tenths only one half is a whole number of 512ths, and so a
+// coverage.
 fn character(coverage: f32) -> u8 {
     if coverage <= 0.0 {
         b'.'

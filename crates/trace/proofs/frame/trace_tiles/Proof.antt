@@ -6,10 +6,10 @@ use Rattle.trace.proofs.frame.trace_tiles.Statement.{statement}
 use Rattle.trace.proofs.frame.trace_tiles.Tie as tie
 
 abbrev Inv-loop : tie.InvT-loop
-Inv-loop n later row layers colors count kept₀ ids₀ covers₀ at₀ left₀ kept ids covers at left = Unit {0}
+Inv-loop n later row table kept₀ queue₀ at₀ left₀ kept queue at left = Unit {0}
 
 abbrev μ-loop : tie.MeasureT-loop
-μ-loop n later row layers colors count kept₀ ids₀ covers₀ at₀ left₀ kept ids covers at left = left
+μ-loop n later row table kept₀ queue₀ at₀ left₀ kept queue at left = left
 
 loop-holds : tie.Need-loop-holds Inv-loop μ-loop
 loop-holds c = tt

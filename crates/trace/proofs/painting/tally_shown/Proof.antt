@@ -6,10 +6,10 @@ use Rattle.trace.proofs.painting.tally_shown.Statement.{statement}
 use Rattle.trace.proofs.painting.tally_shown.Tie as tie
 
 abbrev Inv-loop : tie.InvT-loop
-Inv-loop paints tile row layers colors count ids covers list-ids list-covers list-unmasked skipped listed tally₀ i₀ left₀ tally i left = Unit {0}
+Inv-loop paints tile row table queue skipped listed ids covers unmasked tally₀ i₀ left₀ tally i left = Unit {0}
 
 abbrev μ-loop : tie.MeasureT-loop
-μ-loop paints tile row layers colors count ids covers list-ids list-covers list-unmasked skipped listed tally₀ i₀ left₀ tally i left = left
+μ-loop paints tile row table queue skipped listed ids covers unmasked tally₀ i₀ left₀ tally i left = left
 
 rest-of-requires : tie.Need-rest-of-requires Inv-loop μ-loop
 rest-of-requires c κs = search needs
@@ -20,14 +20,14 @@ loop-holds c = tt
 sub-left : tie.Need-sub-left Inv-loop μ-loop
 sub-left c = omega (arith, c .loop-test .taken)
 
-flag-at-requires : tie.Need-flag-at-requires Inv-loop μ-loop
-flag-at-requires c κs = search needs
+is-unmasked-requires : tie.Need-is-unmasked-requires Inv-loop μ-loop
+is-unmasked-requires c κs = search needs
 
-id-at-requires : tie.Need-id-at-requires Inv-loop μ-loop
-id-at-requires c κs = search needs
+id-in-requires : tie.Need-id-in-requires Inv-loop μ-loop
+id-in-requires c κs = search needs
 
-entry-cover-requires : tie.Need-entry-cover-requires Inv-loop μ-loop
-entry-cover-requires c κs = search needs
+cover-in-requires : tie.Need-cover-in-requires Inv-loop μ-loop
+cover-in-requires c κs = search needs
 
 tally-entry-requires : tie.Need-tally-entry-requires Inv-loop μ-loop
 tally-entry-requires c κs = search needs
@@ -53,9 +53,9 @@ tally-shown-spec =
     rest-of-requires
     loop-holds
     sub-left
-    flag-at-requires
-    id-at-requires
-    entry-cover-requires
+    is-unmasked-requires
+    id-in-requires
+    cover-in-requires
     tally-entry-requires
     wrapping-add-usize-requires
     loop-less

@@ -6,10 +6,10 @@ use Rattle.trace.proofs.tile.print_list.Statement.{statement}
 use Rattle.trace.proofs.tile.print_list.Tie as tie
 
 abbrev Inv-loop : tie.InvT-loop
-Inv-loop layers count list-ids list-covers list-segments list-unmasked skipped listed i₀ i = Unit {0}
+Inv-loop table skipped listed layers ids covers segments unmasked i₀ i = Unit {0}
 
 abbrev μ-loop : tie.MeasureT-loop
-μ-loop layers count list-ids list-covers list-segments list-unmasked skipped listed i₀ i = listed - i
+μ-loop table skipped listed layers ids covers segments unmasked i₀ i = listed - i
 
 print-names-requires : tie.Need-print-names-requires Inv-loop μ-loop
 print-names-requires c κs = search needs
@@ -17,20 +17,20 @@ print-names-requires c κs = search needs
 loop-holds : tie.Need-loop-holds Inv-loop μ-loop
 loop-holds c = tt
 
-id-at-requires : tie.Need-id-at-requires Inv-loop μ-loop
-id-at-requires c κs = search needs
+id-in-requires : tie.Need-id-in-requires Inv-loop μ-loop
+id-in-requires c κs = search needs
 
-record-of-requires : tie.Need-record-of-requires Inv-loop μ-loop
-record-of-requires c κs = search needs
+record-in-requires : tie.Need-record-in-requires Inv-loop μ-loop
+record-in-requires c κs = search needs
 
-entry-cover-requires : tie.Need-entry-cover-requires Inv-loop μ-loop
-entry-cover-requires c κs = search needs
+cover-in-requires : tie.Need-cover-in-requires Inv-loop μ-loop
+cover-in-requires c κs = search needs
 
-flag-at-requires : tie.Need-flag-at-requires Inv-loop μ-loop
-flag-at-requires c κs = search needs
+has-segments-requires : tie.Need-has-segments-requires Inv-loop μ-loop
+has-segments-requires c κs = search needs
 
-flag-at-requires-2 : tie.Need-flag-at-requires-2 Inv-loop μ-loop
-flag-at-requires-2 c κs = search needs
+is-unmasked-requires : tie.Need-is-unmasked-requires Inv-loop μ-loop
+is-unmasked-requires c κs = search needs
 
 print-entry-requires : tie.Need-print-entry-requires Inv-loop μ-loop
 print-entry-requires c κs = search needs
@@ -55,11 +55,11 @@ print-list-spec =
     μ-loop
     print-names-requires
     loop-holds
-    id-at-requires
-    record-of-requires
-    entry-cover-requires
-    flag-at-requires
-    flag-at-requires-2
+    id-in-requires
+    record-in-requires
+    cover-in-requires
+    has-segments-requires
+    is-unmasked-requires
     print-entry-requires
     add-i
     loop-less
