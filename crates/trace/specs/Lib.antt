@@ -1,0 +1,1 @@
+-- The trace program has no definitions of its own: its text is tested by stored outputs.

@@ -1,0 +1,215 @@
+// The shown layers of a tile, counted and, where the tile is painted, painted and told one after the other.
+use crate::lent;
+use crate::lent::List;
+use crate::lent::Queue;
+use crate::lent::Table;
+use cover::Cover;
+use painter::Clip;
+use row_statements::PaintAnswer;
+use row_statements::RowState;
+use segment_rows::parts;
+use styling::FillRule;
+use trace_text::planes;
+
+// The state after the paintings of a tile, how many layers were shown, and how many octets they used.
+pub struct Tally {
+    pub state: RowState,
+    pub shown: u32,
+    pub octets: u32,
+}
+
+// A tile or row number as words hold it.
+pub fn small(n: u32) -> i16 {
+    if n < 4096 { n as i16 } else { 0 }
+}
+
+// A tile number as the operations of a row take it.
+pub fn signed(n: u32) -> i32 {
+    if n < 4096 { n as i32 } else { 0 }
+}
+
+// The fill rule of a layer.
+fn rule_of(table: Table, id: u32) -> FillRule {
+    let layers = table.layers;
+    let record = lent::record_in(&layers, table.count, id);
+    record.rule
+}
+
+// The doubled areas of a layer in a tile, of a kept set of its segments that is begun from the cover that comes in.
+fn print_areas(id: u32, tile: u32, tile_y: u32, cover: Cover, row: &[u64], rule: FillRule) {
+    let part = parts::of_layer(parts::in_tile(row, small(tile)), id);
+    let mut slots = [0u64; 2048];
+    let mut areas = [0i16; 256];
+    segment_set::begin(
+        id,
+        small(tile),
+        small(tile_y),
+        cover,
+        part,
+        &mut slots,
+        &mut areas,
+    );
+    planes::print_rows(&areas, rule);
+}
+
+fn print_clip(clip: Clip) {
+    match clip {
+        Clip::Absent => trace_text::print(b", the painter has no clip after it\n"),
+        Clip::Until(last) => {
+            trace_text::print(b", the painter has a clip after it, up to layer ");
+            trace_text::print_number(last as u64);
+            trace_text::print(b"\n");
+        }
+    }
+}
+
+fn print_mark(id: u32, mark: u32, clip: Clip) {
+    trace_text::print(b"  painted layer ");
+    trace_text::print_number(id as u64);
+    trace_text::print(b": mark ");
+    trace_text::print_hex(mark as u64, 8);
+    trace_text::print(b", octets ");
+    trace_text::print_number(mark::octets(mark) as u64);
+    print_clip(clip);
+}
+
+pub fn print_refusal(number: u32) {
+    trace_text::print(b"refused ");
+    trace_text::print_number(number as u64);
+    trace_text::print(b"\n");
+}
+
+// The octets of an answer, which is told.
+fn tell_answer(id: u32, answer: PaintAnswer, clip: Clip) -> u32 {
+    match answer {
+        PaintAnswer::Mark(mark) => {
+            print_mark(id, mark, clip);
+            mark::octets(mark)
+        }
+        PaintAnswer::Refused(refusal) => {
+            print_refusal(refusals::number_of(refusal));
+            0
+        }
+    }
+}
+
+// Paints a layer, and tells it: mark, clip, doubled areas and weights, coverages.
+fn paint_layer(
+    tally: Tally,
+    tile: u32,
+    id: u32,
+    cover: Cover,
+    row: &[u64],
+    table: Table,
+    queue: Queue,
+) -> Tally {
+    let layers = table.layers;
+    let colors = table.colors;
+    let ids = queue.ids;
+    let covers = queue.covers;
+    let state = tally.state;
+    let mut plane = [0.0f32; 256];
+    let painted = row_painting::paint_layer(
+        state,
+        signed(tile),
+        id,
+        row,
+        &layers,
+        &colors,
+        table.count,
+        &ids,
+        &covers,
+        &mut plane,
+    );
+    let answer = painted.answer;
+    let after = painted.state;
+    let clip = after.clip;
+    let octets = tell_answer(id, answer, clip);
+    print_areas(id, tile, after.tile_y, cover, row, rule_of(table, id));
+    planes::print_plane(&plane);
+    Tally {
+        state: after,
+        shown: std::num::wrapping_add_u32(tally.shown, 1),
+        octets: std::num::wrapping_add_u32(tally.octets, octets),
+    }
+}
+
+// A shown layer of a tile that is not painted.
+fn count_layer(tally: Tally) -> Tally {
+    let state = tally.state;
+    Tally {
+        state: state,
+        shown: std::num::wrapping_add_u32(tally.shown, 1),
+        octets: tally.octets,
+    }
+}
+
+// An entry of the list: one that is not shown leaves the tally.
+fn tally_entry(
+    shown: bool,
+    paints: bool,
+    tally: Tally,
+    tile: u32,
+    id: u32,
+    cover: Cover,
+    row: &[u64],
+    table: Table,
+    queue: Queue,
+) -> Tally {
+    if !shown {
+        return tally;
+    }
+    if !paints {
+        return count_layer(tally);
+    }
+    paint_layer(tally, tile, id, cover, row, table, queue)
+}
+
+// How many are left of `listed` past the first `skipped`.
+fn rest_of(skipped: usize, listed: usize) -> usize {
+    if skipped < listed {
+        listed - skipped
+    } else {
+        0
+    }
+}
+
+// The shown layers of a list of `listed` layers, of which the first `skipped` are passed over.
+pub fn tally_shown(
+    state: RowState,
+    paints: bool,
+    tile: u32,
+    row: &[u64],
+    table: Table,
+    queue: Queue,
+    list: List,
+    skipped: usize,
+    listed: usize,
+) -> Tally {
+    let ids = list.ids;
+    let covers = list.covers;
+    let unmasked = list.unmasked;
+    let mut tally = Tally {
+        state: state,
+        shown: 0,
+        octets: 0,
+    };
+    let mut i = skipped;
+    let mut left = rest_of(skipped, listed);
+    while 0 < left {
+        left -= 1;
+        tally = tally_entry(
+            lent::is_unmasked(&unmasked, i),
+            paints,
+            tally,
+            tile,
+            lent::id_in(&ids, i),
+            lent::cover_in(&covers, i),
+            row,
+            table,
+            queue,
+        );
+        i = std::num::wrapping_add_usize(i, 1);
+    }
+    tally
+}

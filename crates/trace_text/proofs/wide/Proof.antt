@@ -1,0 +1,14 @@
+-- `wide` is safe and ends. Assumes nothing.
+use borrow.Author.Needs.{needs}
+use mir.Facts.{toZ-ofZ, sfits-widen}
+use Rattle.trace_text.proofs.wide.Statement.{statement}
+use Rattle.trace_text.proofs.wide.Tie as tie
+
+cast-result : tie.Need-cast-result
+cast-result c = rw (toZ-ofZ (c .fits .cover)) (sfits-widen tt (c .fits .cover))
+
+returns : tie.Need-returns
+returns c = search needs
+
+pub wide-spec : {M : Type 1} → statement M
+wide-spec = tie.close (tie.spec cast-result returns)

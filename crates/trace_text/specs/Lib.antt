@@ -1,0 +1,1 @@
+-- The texts of a trace have no definitions of their own: they are tested by stored outputs.

@@ -1,0 +1,31 @@
+// The words of a part by their seven fields.
+use pixel_segment::PixelSegment;
+
+fn print_word(word: u64) {
+    let segment = PixelSegment(word);
+    crate::print(b"    ");
+    crate::print_hex(word, 16);
+    crate::print_signed(segment.tile_y(), 7);
+    crate::print_signed(segment.tile_x(), 7);
+    crate::print_right(segment.layer_id() as u64, 8);
+    crate::print_right(segment.local_x() as u64, 4);
+    crate::print_right(segment.local_y() as u64, 4);
+    crate::print_right(segment.double_area_multiplier() as u64, 6);
+    crate::print_signed(crate::wide(segment.cover()), 6);
+    crate::print_signed(segment.double_area(), 6);
+    crate::print(b"\n");
+}
+
+pub fn print_part(part: &[u64]) {
+    crate::print(b"  segments: ");
+    crate::print_number(part.len() as u64);
+    crate::print(b"\n");
+    if 0 < part.len() {
+        crate::print(b"    word               tile_y tile_x   layer   x   y  mult cover  area\n");
+    }
+    let mut i: usize = 0;
+    while i < part.len() {
+        print_word(part[i]);
+        i += 1;
+    }
+}
