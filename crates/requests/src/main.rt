@@ -1,10 +1,10 @@
 // Worked examples of the requests, run: a line for each, with what it gave.
-mod sets;
-mod planes;
 mod backwards;
 mod bounds;
 mod four_high;
 mod languages;
+mod planes;
+mod sets;
 mod standing;
 
 fn main() {

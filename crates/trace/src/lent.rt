@@ -4,8 +4,8 @@ use cover::Cover;
 use trace_text::lists;
 use trace_text::lists::Record;
 
-// How many flags a list lends to say which of its layers have segments.
-pub const LIST_FLAGS: usize = 256;
+// How many flags a list lends: whether an entry has segments, at its place, and whether its layer is changed, 256 on.
+pub const LIST_FLAGS: usize = 512;
 
 // A layer table and how many records it has.
 pub struct Table {
@@ -38,6 +38,14 @@ pub fn is_unmasked(unmasked: &[bool; 256], i: usize) -> bool {
 
 pub fn has_segments(segments: &[bool; LIST_FLAGS], i: usize) -> bool {
     trace_text::flag_at(segments, i)
+}
+
+pub fn is_changed(segments: &[bool; LIST_FLAGS], i: usize) -> bool {
+    if i < 256 {
+        trace_text::flag_at(segments, 256 + i)
+    } else {
+        false
+    }
 }
 
 pub fn cover_in(covers: &[i8; 4096], i: usize) -> Cover {

@@ -62,6 +62,7 @@ fn print_list(table: Table, list: List, skipped: usize, listed: usize) {
             lent::record_in(&layers, table.count, id),
             lent::cover_in(&covers, i),
             lent::has_segments(&segments, i),
+            lent::is_changed(&segments, i),
             lent::is_unmasked(&unmasked, i),
             i < skipped,
         );

@@ -68,6 +68,7 @@ pub fn print_entry(
     record: Record,
     cover: Cover,
     segments: bool,
+    changed: bool,
     unmasked: bool,
     covered: bool,
 ) {
@@ -78,6 +79,7 @@ pub fn print_entry(
     print_kind(record.func, record.clipped);
     crate::print_answer(segments, 10);
     crate::print_answer(!segments & cover.is_full(rule), 6);
+    crate::print_answer(changed, 9);
     crate::print_answer(!unmasked, 12);
     crate::print_answer(covered, 13);
     crate::print_answer(unmasked & !covered, 0);
@@ -89,6 +91,8 @@ pub fn print_names(listed: usize) {
     crate::print_number(listed as u64);
     crate::print(b"\n");
     if 0 < listed {
-        crate::print(b"      layer  kind     segments  full  masked_off  passed_over  shown\n");
+        crate::print(
+            b"      layer  kind     segments  full  changed  masked_off  passed_over  shown\n",
+        );
     }
 }

@@ -9,7 +9,7 @@ fn place_of(column: usize, row: usize) -> usize {
     if 16 <= row {
         return 0;
     }
-    column * 16 + row
+    row * 16 + column
 }
 
 // Where it stands among the doubled areas of a kept set of segments.

@@ -29,6 +29,9 @@ cover-in-requires c κs = search needs
 has-segments-requires : tie.Need-has-segments-requires Inv-loop μ-loop
 has-segments-requires c κs = search needs
 
+is-changed-requires : tie.Need-is-changed-requires Inv-loop μ-loop
+is-changed-requires c κs = search needs
+
 is-unmasked-requires : tie.Need-is-unmasked-requires Inv-loop μ-loop
 is-unmasked-requires c κs = search needs
 
@@ -59,6 +62,7 @@ print-list-spec =
     record-in-requires
     cover-in-requires
     has-segments-requires
+    is-changed-requires
     is-unmasked-requires
     print-entry-requires
     add-i
