@@ -8,11 +8,11 @@ mod sets;
 mod standing;
 
 fn main() {
-    planes::print_cases();
-    standing::print_cases();
     sets::print_cases();
+    planes::print_cases();
     backwards::print_cases();
     bounds::print_cases();
+    standing::print_cases();
     four_high::print_cases();
     languages::print_cases();
 }
