@@ -14,7 +14,9 @@ pub fn print(only: String) {
         println!("Overflow checks are on: these times say nothing. The profile `timing` has none.");
     }
     println!("Nanoseconds: best / median of {ROUNDS} rounds, with both sides in turn.");
-    println!("Ratio, the second by the first: of the best / median of the rounds' own. README.md has what is comparable.");
+    println!(
+        "Ratio, the second by the first: of the best / median of the rounds' own. README.md has what is comparable."
+    );
     let bench = &mut Bench::new(only);
     bench.title("One layer in one tile, alone");
     timed_parts::print_alone(bench);

@@ -58,10 +58,10 @@ fn fresh(before: &KeptSet, cover: [i8; 16], held: &[u64]) -> KeptSet {
     let mut set = before.clone();
     set.slots[..held.len()].copy_from_slice(held);
     set.count = held.len();
-    for y in 0..16 {
+    for (y, &incoming) in cover.iter().enumerate() {
         let covers = |before: usize| -> i16 {
             let left = held.iter().filter(|&&word| local_y(word) == y && local_x(word) < before);
-            i16::from(cover[y]) + left.map(|&word| cover_of(word)).sum::<i16>()
+            i16::from(incoming) + left.map(|&word| cover_of(word)).sum::<i16>()
         };
         for column in 0..16 {
             let own = held.iter().filter(|&&word| (local_x(word), local_y(word)) == (column, y));
@@ -70,7 +70,7 @@ fn fresh(before: &KeptSet, cover: [i8; 16], held: &[u64]) -> KeptSet {
         set.carry[y] = covers(16) as i8;
         let load: u16 =
             held.iter().filter(|&&word| local_y(word) == y).map(|&word| cover_of(word).unsigned_abs()).sum();
-        set.loads[y] = u16::from(cover[y].unsigned_abs()) + load;
+        set.loads[y] = u16::from(incoming.unsigned_abs()) + load;
     }
     set
 }
