@@ -62,7 +62,8 @@ uint32_t ffi_mark_plane(const float *plane, size_t plane_len, uint32_t *mark);
 uint32_t ffi_octets(uint32_t mark);
 
 /* 0, the mask column, the cached tile and the answer, or the number of the refusal. The bytes of the cached tile are
-   stored where the call is accepted and a tile is given. */
+   stored where the call is accepted and a tile is given. Whether a layer is changed is told by the list's flags, from
+   place 256 on, and not by the table. */
 uint32_t ffi_decide_tile(
     const uint32_t *list_ids, size_t list_ids_len,
     const int8_t *list_covers, size_t list_covers_len,
@@ -96,7 +97,8 @@ bool ffi_is_short(const uint32_t *layers, size_t layers_len, const float *colors
 bool ffi_is_table(const uint32_t *layers, size_t layers_len, const float *colors, size_t colors_len, size_t count);
 
 /* 0, the list, the carries handed on, how many layers are listed and the state past the tile, or the number of the
-   refusal. */
+   refusal. Of the flags, that at place i says whether entry i has segments in the tile, that at place 256 + i whether
+   its layer is changed. */
 uint32_t ffi_list_tile(
     uint32_t words[6],
     size_t counts[2],
@@ -265,7 +267,8 @@ bool ffi_search_last_by_tile_x_at_least(
 bool ffi_search_last_by_tile_y_not_negative(const uint64_t *segments, size_t segments_len, bool wanted, size_t *place);
 
 /* 0, the list, the carries handed on, the cached tile, the answer and the state past the tile, or the number of the
-   refusal. The bytes of the cached tile are stored where the call is accepted and a tile is given. */
+   refusal. The bytes of the cached tile are stored where the call is accepted and a tile is given. Of the flags, that
+   at place i says whether entry i has segments in the tile, that at place 256 + i whether its layer is changed. */
 uint32_t ffi_work_tile(
     uint32_t words[6],
     size_t counts[2],

@@ -384,7 +384,8 @@ pub fn octets(mark: u32) -> u32 {
 }
 
 /// 0, the mask column, the cached tile and the answer, or the number of the refusal. The bytes of the cached tile are
-/// stored where the call is accepted and a tile is given.
+/// stored where the call is accepted and a tile is given. Whether a layer is changed is told by the list's flags, from
+/// place 256 on, and not by the table.
 #[allow(clippy::too_many_arguments)]
 #[inline]
 pub fn decide_tile(
@@ -474,7 +475,8 @@ pub fn is_table(layers: &[u32], colors: &[f32], count: usize) -> bool {
 }
 
 /// 0, the list, the carries handed on, how many layers are listed and the state past the tile, or the number of the
-/// refusal.
+/// refusal. Of the flags, that at place i says whether entry i has segments in the tile, that at place 256 + i whether
+/// its layer is changed.
 #[allow(clippy::too_many_arguments)]
 #[inline]
 pub fn list_tile(
@@ -914,7 +916,8 @@ pub fn search_last_by_tile_y_not_negative(segments: &[u64], wanted: bool, place:
 }
 
 /// 0, the list, the carries handed on, the cached tile, the answer and the state past the tile, or the number of the
-/// refusal. The bytes of the cached tile are stored where the call is accepted and a tile is given.
+/// refusal. The bytes of the cached tile are stored where the call is accepted and a tile is given. Of the flags, that
+/// at place i says whether entry i has segments in the tile, that at place 256 + i whether its layer is changed.
 #[allow(clippy::too_many_arguments)]
 #[inline]
 pub fn work_tile(
