@@ -185,7 +185,7 @@ pub fn judge_bounds(
     ) {
         return Verdict::Refuse(Refusal::Room);
     }
-    if !segment_set::judging::are_of(layer_id, tile_x, tile_y, part) {
+    if !segment_judging::are_of(layer_id, tile_x, tile_y, part) {
         return Verdict::Refuse(Refusal::Row);
     }
     if !(are_bounded(bounds, part.len()) & is_carry_bounded(low, high)) {
