@@ -5,3 +5,5 @@ pub mod Works
 pub mod Shown
 pub mod History
 pub mod Protocol
+pub mod Once
+pub mod Example

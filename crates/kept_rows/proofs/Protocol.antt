@@ -5,7 +5,7 @@ use mathlib.Core.List.{List}
 use Rattle.refusals.specs.Refusal.{Judgement, pass}
 use Rattle.cached_tile.specs.Tile.{dropCount}
 use Rattle.cached_tile.specs.declared.CachedTile.{CachedTile}
-use Rattle.kept_frames.specs.Stays.{Member, stays, listStays}
+use Rattle.kept_frames.specs.Stays.{Member, stays}
 use Rattle.kept_count.specs.Keeping.{membersIn, keepOut}
 use Rattle.kept_rows.specs.History.{lentTile}
 use Rattle.kept_rows.specs.Protocol.{OperationAllows}

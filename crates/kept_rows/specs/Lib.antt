@@ -3,3 +3,4 @@ pub mod Along
 pub mod Shown
 pub mod History
 pub mod Protocol
+pub mod Example

@@ -1,0 +1,144 @@
+-- The history of specs/Example, by the existence of runs. Assumes nothing.
+use mathlib.Core.Path.{_≡_, refl, sym, ap}
+use mathlib.Core.Bool.{Bool, true, false, cond}
+use mathlib.Core.List.{List, [], _∷_}
+use Prim.Native.Nat.{ℕ}
+use lib.Dec.{eqb}
+use lib.Ieee.{binary32, eq, odd, ofBits}
+use lib.IntN.{pos}
+use lib.ListN.{replicate}
+use Rattle.laws.specs.Answer.{given, refused}
+use Rattle.refusals.specs.Refusal.{pass}
+use Rattle.pixel_segment.specs.Field.{coverOf, tileOf}
+use Rattle.segment_rows.specs.Rows.{Words, ascendsFrom}
+use Rattle.segment_rows.specs.Search.{halved, searchOf, leftPart, tilePart, layerPart}
+use Rattle.styling.specs.Ascending.{strictlyAscendsFrom}
+use Rattle.styling.specs.declared.Color.{Color}
+use Rattle.styling.specs.declared.Layer.{Layer}
+use Rattle.layer_table.specs.Lookup.{lookup}
+use Rattle.layer_table.specs.Table.{isTableShort, isValid, isTable, layerAt, tableOf}
+use Rattle.cached_tile.specs.Tile.{emptyTile, keepColor}
+use Rattle.cached_tile.specs.Kept.{keepOrWrite, keepsSame}
+use Rattle.cached_tile.specs.declared.CachedTile.{CachedTile}
+use Rattle.cover_statements.specs.Carry.{isLight, carryOf}
+use Rattle.cover_statements.specs.Cover.{isEmpty, isFull}
+use Rattle.queue_statements.specs.Queue.{heldIn}
+use Rattle.queue_statements.specs.Opening.{addTo, addAll, openQueue, isLightOpening}
+use Rattle.tile_layers.specs.Groups.{groupsOf}
+use Rattle.tile_layers.specs.Listing.{listOf}
+use Rattle.layer_carrying.specs.Carrying.{ruleFrom, handedOn}
+use Rattle.pass_statements.specs.Clips.{stepOf, clipsFrom}
+use Rattle.pass_statements.specs.Covered.{coveredFrom}
+use Rattle.pass_statements.specs.Decide.{shownFrom, outcomeOf}
+use Rattle.layer_workbench.specs.Work.{outcomeByEntries}
+use Rattle.layer_workbench.specs.declared.PreviousClear.{PreviousClear}
+use Rattle.layer_workbench.specs.declared.PreviousClear.the-variants as previous
+use Rattle.row_carries.specs.Carries.{queueAfter}
+use Rattle.painter.specs.declared.Clip.the-variants.{Absent}
+use Rattle.row_statements.specs.Lent.{Columns, queueOver}
+use Rattle.row_statements.specs.Opening.{leftOf, openVerdict, openCount, openOf, OpensRow}
+use Rattle.row_statements.specs.TileWork.{listVerdict, workOut}
+use Rattle.row_statements.specs.Due.{WorkChoice, workDueVerdict}
+use Rattle.row_statements.specs.Run.{openRow, heldFirst}
+use Rattle.row_statements.specs.Example.{room, list, black}
+use Rattle.row_statements.specs.declared.RowState.{RowState}
+use Rattle.row_statements.specs.declared.Opened.the-variants as opened
+use Rattle.row_statements.proofs.Example.{small}
+use Rattle.row_statements.proofs.Runs.{heldWork}
+use Rattle.kept_frames.specs.Display.{Display, displayed}
+use Rattle.kept_rows.specs.Along.{propsBy, RowTold}
+use Rattle.kept_rows.specs.Shown.{WorkedTile, itemsFor}
+use Rattle.kept_rows.specs.History.{AcceptedWork, workedOf, Drawing, lentTile, allowedTile, Frame, History}
+use Rattle.kept_rows.specs.Example.{opaqueDraw, frameCall, KeptTile}
+use Rattle.kept_rows.proofs.Once.{once}
+
+in-words : Words (frameCall 0 .row)
+in-words = record { small = λ i. small i (frameCall 0 .row) refl }
+
+abbrev begun : RowState
+begun = record { «tile_y» = 0; from = 0; to = 1; next = 0; left = 1; taken = 0; clip = Absent }
+
+abbrev held : ℕ → Columns
+held u = queueOver (openQueue (leftOf (frameCall u))) (room 256)
+
+counted : (openCount (openVerdict (frameCall 0) (room 256)) (leftOf (frameCall 0)) ≡ given 1) × (openCount (openVerdict (frameCall 1) (room 256)) (leftOf (frameCall 1)) ≡ given 1)
+unfolding openVerdict isTableShort isValid isTable strictlyAscendsFrom ascendsFrom layerAt isLightOpening isLight addTo addAll coverOf leftPart searchOf halved tileOf
+counted = (refl, refl)
+
+opens-first : OpensRow (openOf (frameCall 0) (room 256)) (opened.Row begun) (held 0)
+unfolding openOf
+opens-first = rw (counted .0) (record { answer = refl; lent-is = refl })
+
+opens-second : OpensRow (openOf (frameCall 1) (room 256)) (opened.Row begun) (held 1)
+unfolding openOf
+opens-second = rw (counted .1) (record { answer = refl; lent-is = refl })
+
+abbrev chosen : CachedTile → PreviousClear → WorkChoice
+chosen k p = record { tile = pos 0; kept = lentTile k; clear = black; previous = p; queue = room 256; lent = record { queue = room 256; list = list } }
+
+first-passes : workDueVerdict (openRow (frameCall 0)) 0 (heldWork (heldFirst begun (held 0)) (chosen emptyTile previous.Absent)) ≡ pass
+unfolding listVerdict listOf groupsOf handedOn queueAfter addTo addAll leftPart tilePart layerPart searchOf halved lookup tableOf layerAt isLight carryOf isEmpty heldIn coverOf tileOf
+first-passes = refl
+
+abbrev firstWork : AcceptedWork
+firstWork = once (frameCall 0) (room 256) (held 0) begun in-words opens-first (chosen emptyTile previous.Absent) first-passes
+
+-- the tile after the first frame, its four bytes settled
+abbrev bytes : List ℕ
+bytes = 255 ∷ 255 ∷ 255 ∷ 255 ∷ []
+
+abbrev settledTile : CachedTile
+settledTile = keepColor (firstWork .result .kept .tile) bytes
+
+abbrev second : WorkedTile
+second = record { row = openRow (frameCall 1); place = 0; clear = black }
+
+abbrev keptTile : CachedTile
+keptTile = allowedTile (itemsFor (workedOf firstWork)) (itemsFor second) settledTile
+
+second-passes : workDueVerdict (openRow (frameCall 1)) 0 (heldWork (heldFirst begun (held 1)) (chosen keptTile (previous.Given black))) ≡ pass
+unfolding workOut outcomeByEntries outcomeOf clipsFrom stepOf coveredFrom shownFrom isFull eq ofBits odd listVerdict listOf groupsOf handedOn queueAfter addTo addAll leftPart tilePart layerPart searchOf halved lookup tableOf layerAt isLight carryOf isEmpty heldIn coverOf tileOf
+second-passes = refl
+
+abbrev secondWork : AcceptedWork
+secondWork = once (frameCall 1) (room 256) (held 1) begun in-words opens-second (chosen keptTile (previous.Given black)) second-passes
+
+-- whatever the id, both tables say the same but for the flag
+told : RowTold (openRow (frameCall 0)) (openRow (frameCall 1))
+unfolding lookup tableOf layerAt
+told id c = record { agree = record { first = refl; segments = λ v. refl; rule = rules (eqb 1 id) }; props = props (eqb 1 id) }
+  where
+    layer : ℕ → Layer
+    layer u = layerAt (opaqueDraw u) (replicate 4 (ofBits binary32 0x3F800000)) 0
+
+    rules : (t : Bool) → ruleFrom (cond t (given (layer 0)) (refused 8)) ≡ ruleFrom (cond t (given (layer 1)) (refused 8))
+    rules true = refl
+    rules false = refl
+
+    props : (t : Bool) → propsBy (cond t (given (layer 0)) (refused 8)) ≡ propsBy (cond t (given (layer 1)) (refused 8))
+    props true = refl
+    props false = refl
+
+clearIn : PreviousClear → Color
+clearIn previous.Absent = black
+clearIn (previous.Given c) = c
+
+told-clear : (c : Color) → previous.Given black ≡ previous.Given c → c ≡ black
+unfolding clearIn
+told-clear c e = sym (ap clearIn e)
+
+pub kept-tile : KeptTile
+unfolding workOut outcomeByEntries outcomeOf clipsFrom stepOf coveredFrom shownFrom isFull eq ofBits odd listOf groupsOf handedOn queueAfter addTo addAll leftPart tilePart layerPart searchOf halved lookup tableOf layerAt isLight carryOf isEmpty heldIn coverOf tileOf listVerdict
+kept-tile =
+    record {
+      first = firstWork;
+      second = secondWork;
+      calls = (refl, refl);
+      decided = refl;
+      tile = secondWork .result .kept .tile;
+      display = displayed (keepOrWrite (keepsSame (firstWork .result .kept .tile) bytes)) bytes Display.other;
+      history =
+          History.next
+          (History.next History.begins (Frame.first {d = Display.other} firstWork refl refl (Drawing.settles bytes)))
+          (Frame.again secondWork refl (record { flags = told; clear = told-clear }) refl Drawing.leaves);
+    }

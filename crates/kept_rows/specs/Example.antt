@@ -1,0 +1,40 @@
+-- The theorem over frames is not empty: two frames of one tile that meet its premises, in the second of which the tile is kept. One opaque layer comes in
+-- from tile -1 and fills the tile; in the second frame it is unchanged. proofs/Example has it.
+use mathlib.Core.Path.{_≡_}
+use mathlib.Core.List.{List, [], _∷_}
+use Prim.Native.Nat.{ℕ}
+use lib.Ieee.{binary32, ofBits}
+use lib.IntN.{pos, negsuc}
+use lib.ListN.{replicate}
+use Rattle.laws.specs.Lists.{tabulate}
+use Rattle.pixel_segment.specs.Field.{cpu}
+use Rattle.pixel_segment.specs.Pack.{wordOf}
+use Rattle.cached_tile.specs.declared.CachedTile.{CachedTile}
+use Rattle.pass_statements.specs.Decision.{none}
+use Rattle.row_statements.specs.Opening.{OpenCall}
+use Rattle.kept_frames.specs.Display.{Display}
+use Rattle.kept_rows.specs.History.{AcceptedWork, workedOf, Standing, History}
+
+-- the record of an opaque draw, with its flag
+abbrev pub opaqueDraw : ℕ → List ℕ
+opaqueDraw unchanged = 1 ∷ 0 ∷ 0 ∷ 0 ∷ 0 ∷ 0 ∷ 0 ∷ unchanged ∷ []
+
+abbrev pub frameCall : ℕ → OpenCall
+frameCall unchanged =
+    record {
+      tileY = pos 0;
+      from = pos 0;
+      to = pos 1;
+      row = tabulate 16 (λ y. wordOf cpu 1 (negsuc 0) (pos 0) 3 y 32 (pos 16));
+      table = record { words = opaqueDraw unchanged; floats = replicate 4 (ofBits binary32 0x3F800000); count = 1 };
+    }
+
+-- the tile shows what was drawn in the first frame, and its last accepted work is that of the second
+pub record KeptTile : Type 0 where
+  pub first : AcceptedWork
+  pub second : AcceptedWork
+  pub calls : (first .call ≡ frameCall 0) × (second .call ≡ frameCall 1)
+  pub decided : second .answer .decision ≡ none
+  pub tile : CachedTile
+  pub display : Display
+  pub history : History 0 (Standing.worked tile display (workedOf first) (workedOf second))
