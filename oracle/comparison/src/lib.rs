@@ -10,6 +10,7 @@ pub mod damages;
 pub mod deciding;
 pub mod drafts;
 mod exports;
+pub mod four_high;
 pub mod given;
 pub mod job_reader;
 pub mod jobs;
