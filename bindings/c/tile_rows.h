@@ -81,6 +81,63 @@ uint32_t ffi_decide_tile(
     size_t told[3],
     float bottom[4]);
 
+/* 0 and the word in `word`, or 11. */
+uint32_t ffi_gpu_pack(
+    uint32_t layer_id,
+    int16_t tile_x,
+    int16_t tile_y,
+    uint8_t local_x,
+    uint8_t local_y,
+    uint8_t double_area_multiplier,
+    int8_t cover,
+    uint64_t *word);
+
+/* `ffi_gpu_layer_id` of the library. */
+uint32_t ffi_gpu_layer_id(uint64_t word);
+
+/* `ffi_gpu_tile_x` of the library. */
+int16_t ffi_gpu_tile_x(uint64_t word);
+
+/* `ffi_gpu_tile_y` of the library. */
+int16_t ffi_gpu_tile_y(uint64_t word);
+
+/* `ffi_gpu_local_x` of the library. */
+uint8_t ffi_gpu_local_x(uint64_t word);
+
+/* `ffi_gpu_local_y` of the library. */
+uint8_t ffi_gpu_local_y(uint64_t word);
+
+/* `ffi_gpu_double_area_multiplier` of the library. */
+uint8_t ffi_gpu_double_area_multiplier(uint64_t word);
+
+/* `ffi_gpu_double_area` of the library. */
+int16_t ffi_gpu_double_area(uint64_t word);
+
+/* `ffi_gpu_cover` of the library. */
+int8_t ffi_gpu_cover(uint64_t word);
+
+/* How a segment compares with another: 0 less, 1 equal, 2 greater. */
+uint8_t ffi_gpu_cmp(uint64_t word, uint64_t other);
+
+/* `ffi_gpu_search_last_by_tile_y` of the library. */
+bool ffi_gpu_search_last_by_tile_y(const uint64_t *segments, size_t segments_len, int16_t tile_y, size_t *place);
+
+/* `ffi_gpu_search_last_by_tile_x` of the library. */
+bool ffi_gpu_search_last_by_tile_x(const uint64_t *segments, size_t segments_len, int16_t tile_x, size_t *place);
+
+/* `ffi_gpu_search_last_by_layer_id` of the library. */
+bool ffi_gpu_search_last_by_layer_id(const uint64_t *segments, size_t segments_len, uint32_t layer_id, size_t *place);
+
+/* 0 and the covers of the part added to those in `covers`, or 9. */
+uint32_t ffi_gpu_carry(const uint64_t *part, size_t part_len, int8_t covers[4]);
+
+/* 0 and the coverages in `plane`, or the number of the refusal. */
+uint32_t ffi_gpu_paint_part(
+    const uint64_t *part, size_t part_len,
+    const int8_t covers[4],
+    uint32_t rule,
+    float *plane, size_t plane_len);
+
 /* `ffi_color_eq` of the library. */
 bool ffi_color_eq(const float color[4], const float other[4]);
 

@@ -56,6 +56,52 @@ mod raw {
             told: *mut [usize; 3],
             bottom: *mut [f32; 4],
         ) -> u32;
+        pub fn ffi_gpu_pack(
+            layer_id: u32,
+            tile_x: i16,
+            tile_y: i16,
+            local_x: u8,
+            local_y: u8,
+            double_area_multiplier: u8,
+            cover: i8,
+            word: *mut u64,
+        ) -> u32;
+        pub fn ffi_gpu_layer_id(word: u64) -> u32;
+        pub fn ffi_gpu_tile_x(word: u64) -> i16;
+        pub fn ffi_gpu_tile_y(word: u64) -> i16;
+        pub fn ffi_gpu_local_x(word: u64) -> u8;
+        pub fn ffi_gpu_local_y(word: u64) -> u8;
+        pub fn ffi_gpu_double_area_multiplier(word: u64) -> u8;
+        pub fn ffi_gpu_double_area(word: u64) -> i16;
+        pub fn ffi_gpu_cover(word: u64) -> i8;
+        pub fn ffi_gpu_cmp(word: u64, other: u64) -> u8;
+        pub fn ffi_gpu_search_last_by_tile_y(
+            segments: *const u64,
+            segments_len: usize,
+            tile_y: i16,
+            place: *mut usize,
+        ) -> bool;
+        pub fn ffi_gpu_search_last_by_tile_x(
+            segments: *const u64,
+            segments_len: usize,
+            tile_x: i16,
+            place: *mut usize,
+        ) -> bool;
+        pub fn ffi_gpu_search_last_by_layer_id(
+            segments: *const u64,
+            segments_len: usize,
+            layer_id: u32,
+            place: *mut usize,
+        ) -> bool;
+        pub fn ffi_gpu_carry(part: *const u64, part_len: usize, covers: *mut [i8; 4]) -> u32;
+        pub fn ffi_gpu_paint_part(
+            part: *const u64,
+            part_len: usize,
+            covers: *const [i8; 4],
+            rule: u32,
+            plane: *mut f32,
+            plane_len: usize,
+        ) -> u32;
         pub fn ffi_color_eq(color: *const [f32; 4], other: *const [f32; 4]) -> bool;
         pub fn ffi_is_opaque(fill: u32, blend_mode: u32, color: *const [f32; 4]) -> bool;
         pub fn ffi_blend_mode(code: u32) -> u32;
@@ -432,6 +478,136 @@ pub fn decide_tile(
             bottom,
         )
     }
+}
+
+/// 0 and the word in `word`, or 11.
+#[allow(clippy::too_many_arguments)]
+#[inline]
+pub fn gpu_pack(
+    layer_id: u32,
+    tile_x: i16,
+    tile_y: i16,
+    local_x: u8,
+    local_y: u8,
+    double_area_multiplier: u8,
+    cover: i8,
+    word: &mut u64,
+) -> u32 {
+    // SAFETY: the references are those that the export takes, a slice with its own length; it is proved to keep
+    // to them for every value, and nothing of them is held after the call.
+    unsafe { raw::ffi_gpu_pack(layer_id, tile_x, tile_y, local_x, local_y, double_area_multiplier, cover, word) }
+}
+
+/// `ffi_gpu_layer_id` of the library.
+#[inline]
+pub fn gpu_layer_id(word: u64) -> u32 {
+    // SAFETY: the references are those that the export takes, a slice with its own length; it is proved to keep
+    // to them for every value, and nothing of them is held after the call.
+    unsafe { raw::ffi_gpu_layer_id(word) }
+}
+
+/// `ffi_gpu_tile_x` of the library.
+#[inline]
+pub fn gpu_tile_x(word: u64) -> i16 {
+    // SAFETY: the references are those that the export takes, a slice with its own length; it is proved to keep
+    // to them for every value, and nothing of them is held after the call.
+    unsafe { raw::ffi_gpu_tile_x(word) }
+}
+
+/// `ffi_gpu_tile_y` of the library.
+#[inline]
+pub fn gpu_tile_y(word: u64) -> i16 {
+    // SAFETY: the references are those that the export takes, a slice with its own length; it is proved to keep
+    // to them for every value, and nothing of them is held after the call.
+    unsafe { raw::ffi_gpu_tile_y(word) }
+}
+
+/// `ffi_gpu_local_x` of the library.
+#[inline]
+pub fn gpu_local_x(word: u64) -> u8 {
+    // SAFETY: the references are those that the export takes, a slice with its own length; it is proved to keep
+    // to them for every value, and nothing of them is held after the call.
+    unsafe { raw::ffi_gpu_local_x(word) }
+}
+
+/// `ffi_gpu_local_y` of the library.
+#[inline]
+pub fn gpu_local_y(word: u64) -> u8 {
+    // SAFETY: the references are those that the export takes, a slice with its own length; it is proved to keep
+    // to them for every value, and nothing of them is held after the call.
+    unsafe { raw::ffi_gpu_local_y(word) }
+}
+
+/// `ffi_gpu_double_area_multiplier` of the library.
+#[inline]
+pub fn gpu_double_area_multiplier(word: u64) -> u8 {
+    // SAFETY: the references are those that the export takes, a slice with its own length; it is proved to keep
+    // to them for every value, and nothing of them is held after the call.
+    unsafe { raw::ffi_gpu_double_area_multiplier(word) }
+}
+
+/// `ffi_gpu_double_area` of the library.
+#[inline]
+pub fn gpu_double_area(word: u64) -> i16 {
+    // SAFETY: the references are those that the export takes, a slice with its own length; it is proved to keep
+    // to them for every value, and nothing of them is held after the call.
+    unsafe { raw::ffi_gpu_double_area(word) }
+}
+
+/// `ffi_gpu_cover` of the library.
+#[inline]
+pub fn gpu_cover(word: u64) -> i8 {
+    // SAFETY: the references are those that the export takes, a slice with its own length; it is proved to keep
+    // to them for every value, and nothing of them is held after the call.
+    unsafe { raw::ffi_gpu_cover(word) }
+}
+
+/// How a segment compares with another: 0 less, 1 equal, 2 greater.
+#[inline]
+pub fn gpu_cmp(word: u64, other: u64) -> u8 {
+    // SAFETY: the references are those that the export takes, a slice with its own length; it is proved to keep
+    // to them for every value, and nothing of them is held after the call.
+    unsafe { raw::ffi_gpu_cmp(word, other) }
+}
+
+/// `ffi_gpu_search_last_by_tile_y` of the library.
+#[inline]
+pub fn gpu_search_last_by_tile_y(segments: &[u64], tile_y: i16, place: &mut usize) -> bool {
+    // SAFETY: the references are those that the export takes, a slice with its own length; it is proved to keep
+    // to them for every value, and nothing of them is held after the call.
+    unsafe { raw::ffi_gpu_search_last_by_tile_y(segments.as_ptr(), segments.len(), tile_y, place) }
+}
+
+/// `ffi_gpu_search_last_by_tile_x` of the library.
+#[inline]
+pub fn gpu_search_last_by_tile_x(segments: &[u64], tile_x: i16, place: &mut usize) -> bool {
+    // SAFETY: the references are those that the export takes, a slice with its own length; it is proved to keep
+    // to them for every value, and nothing of them is held after the call.
+    unsafe { raw::ffi_gpu_search_last_by_tile_x(segments.as_ptr(), segments.len(), tile_x, place) }
+}
+
+/// `ffi_gpu_search_last_by_layer_id` of the library.
+#[inline]
+pub fn gpu_search_last_by_layer_id(segments: &[u64], layer_id: u32, place: &mut usize) -> bool {
+    // SAFETY: the references are those that the export takes, a slice with its own length; it is proved to keep
+    // to them for every value, and nothing of them is held after the call.
+    unsafe { raw::ffi_gpu_search_last_by_layer_id(segments.as_ptr(), segments.len(), layer_id, place) }
+}
+
+/// 0 and the covers of the part added to those in `covers`, or 9.
+#[inline]
+pub fn gpu_carry(part: &[u64], covers: &mut [i8; 4]) -> u32 {
+    // SAFETY: the references are those that the export takes, a slice with its own length; it is proved to keep
+    // to them for every value, and nothing of them is held after the call.
+    unsafe { raw::ffi_gpu_carry(part.as_ptr(), part.len(), covers) }
+}
+
+/// 0 and the coverages in `plane`, or the number of the refusal.
+#[inline]
+pub fn gpu_paint_part(part: &[u64], covers: &[i8; 4], rule: u32, plane: &mut [f32]) -> u32 {
+    // SAFETY: the references are those that the export takes, a slice with its own length; it is proved to keep
+    // to them for every value, and nothing of them is held after the call.
+    unsafe { raw::ffi_gpu_paint_part(part.as_ptr(), part.len(), covers, rule, plane.as_mut_ptr(), plane.len()) }
 }
 
 /// `ffi_color_eq` of the library.

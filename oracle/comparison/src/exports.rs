@@ -39,6 +39,37 @@ extern "C" {
         wanted: bool,
         place: *mut usize,
     ) -> bool;
+    pub fn ffi_gpu_pack(
+        layer_id: u32,
+        tile_x: i16,
+        tile_y: i16,
+        local_x: u8,
+        local_y: u8,
+        double_area_multiplier: u8,
+        cover: i8,
+        word: *mut u64,
+    ) -> u32;
+    pub fn ffi_gpu_layer_id(word: u64) -> u32;
+    pub fn ffi_gpu_tile_x(word: u64) -> i16;
+    pub fn ffi_gpu_tile_y(word: u64) -> i16;
+    pub fn ffi_gpu_local_x(word: u64) -> u8;
+    pub fn ffi_gpu_local_y(word: u64) -> u8;
+    pub fn ffi_gpu_double_area_multiplier(word: u64) -> u8;
+    pub fn ffi_gpu_double_area(word: u64) -> i16;
+    pub fn ffi_gpu_cover(word: u64) -> i8;
+    pub fn ffi_gpu_cmp(word: u64, other: u64) -> u8;
+    pub fn ffi_gpu_search_last_by_tile_y(segments: *const u64, len: usize, tile_y: i16, place: *mut usize) -> bool;
+    pub fn ffi_gpu_search_last_by_tile_x(segments: *const u64, len: usize, tile_x: i16, place: *mut usize) -> bool;
+    pub fn ffi_gpu_search_last_by_layer_id(segments: *const u64, len: usize, layer_id: u32, place: *mut usize) -> bool;
+    pub fn ffi_gpu_carry(part: *const u64, len: usize, covers: *mut [i8; 4]) -> u32;
+    pub fn ffi_gpu_paint_part(
+        part: *const u64,
+        part_len: usize,
+        covers: *const [i8; 4],
+        rule: u32,
+        plane: *mut f32,
+        plane_len: usize,
+    ) -> u32;
     pub fn ffi_find_not_negative(segments: *const u64, len: usize) -> usize;
     pub fn ffi_find_row(segments: *const u64, len: usize, j: usize, end: *mut usize) -> usize;
     pub fn ffi_is_in_crop(is_given: bool, start: usize, end: usize, j: usize) -> bool;

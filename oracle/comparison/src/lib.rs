@@ -13,6 +13,7 @@ pub mod deciding;
 pub mod drafts;
 pub mod edited_sets;
 mod exports;
+pub mod four_high;
 pub mod given;
 pub mod job_reader;
 pub mod jobs;

@@ -79,6 +79,69 @@ pub fn search_last_by_key(segments: &[u64], key: Key) -> Result<usize, usize> {
     }
 }
 
+/// Tiles four pixels high: as `pack`.
+pub fn gpu_pack(fields: Fields) -> (u32, u64) {
+    let Fields { layer_id, tile_x, tile_y, local_x, local_y, double_area_multiplier, cover } = fields;
+    let mut word = UNTOUCHED;
+    let number = unsafe {
+        exports::ffi_gpu_pack(layer_id, tile_x, tile_y, local_x, local_y, double_area_multiplier, cover, &mut word)
+    };
+    (number, word)
+}
+
+/// As `fields`.
+pub fn gpu_fields(word: u64) -> [i64; 8] {
+    unsafe {
+        [
+            exports::ffi_gpu_layer_id(word).into(),
+            exports::ffi_gpu_tile_x(word).into(),
+            exports::ffi_gpu_tile_y(word).into(),
+            exports::ffi_gpu_local_x(word).into(),
+            exports::ffi_gpu_local_y(word).into(),
+            exports::ffi_gpu_double_area_multiplier(word).into(),
+            exports::ffi_gpu_double_area(word).into(),
+            exports::ffi_gpu_cover(word).into(),
+        ]
+    }
+}
+
+/// As `cmp`.
+pub fn gpu_cmp(word: u64, other: u64) -> u8 {
+    unsafe { exports::ffi_gpu_cmp(word, other) }
+}
+
+/// As `search_last_by_key`, by tile y, tile x or layer id.
+pub fn gpu_search_last_by_key(segments: &[u64], key: Key) -> Result<usize, usize> {
+    let (start, len) = (segments.as_ptr(), segments.len());
+    let mut place = 0;
+    let found = unsafe {
+        match key {
+            Key::TileY(tile_y) => exports::ffi_gpu_search_last_by_tile_y(start, len, tile_y, &mut place),
+            Key::TileX(tile_x) => exports::ffi_gpu_search_last_by_tile_x(start, len, tile_x, &mut place),
+            Key::LayerId(layer_id) => exports::ffi_gpu_search_last_by_layer_id(start, len, layer_id, &mut place),
+            Key::TileXAtLeast(..) | Key::TileYNotNegative(_) => panic!("a key that is not exported"),
+        }
+    };
+    if found {
+        Ok(place)
+    } else {
+        Err(place)
+    }
+}
+
+/// As `carry`.
+pub fn gpu_carry(part: &[u64], mut cover: [i8; 4]) -> (u32, [i8; 4]) {
+    let number = unsafe { exports::ffi_gpu_carry(part.as_ptr(), part.len(), &mut cover) };
+    (number, cover)
+}
+
+/// As `paint_part`, without a mark.
+pub fn gpu_paint_part(part: &[u64], cover: [i8; 4], rule: u32, plane: &mut [f32]) -> u32 {
+    unsafe {
+        exports::ffi_gpu_paint_part(part.as_ptr(), part.len(), &cover, rule, plane.as_mut_ptr(), plane.len())
+    }
+}
+
 /// Where the segments start that have no negative tile y.
 pub fn find_not_negative(segments: &[u64]) -> usize {
     unsafe { exports::ffi_find_not_negative(segments.as_ptr(), segments.len()) }

@@ -7,7 +7,7 @@
 use std::{env, process::ExitCode};
 
 use comparison::{
-    backwards, bench, cached, covers, curve, deciding, edited_sets, jobs, layers, listing, loads, openings, paintings, plates, rows, standing, stored, stored_jobs, succession, tally::Tally, tiles, two_rows, words,
+    backwards, bench, cached, covers, curve, deciding, edited_sets, four_high, jobs, layers, listing, loads, openings, paintings, plates, rows, standing, stored, stored_jobs, succession, tally::Tally, tiles, two_rows, words,
 };
 
 fn main() -> ExitCode {
@@ -30,6 +30,7 @@ fn main() -> ExitCode {
     let mut tally = Tally::new(n, seed, env::args().nth(3).unwrap_or_default());
     words::compare(&mut tally);
     covers::compare(&mut tally);
+    four_high::compare(&mut tally);
     cached::compare(&mut tally);
     layers::compare(&mut tally);
     plates::compare(&mut tally);
