@@ -8,12 +8,13 @@ use Rattle.row_statements.specs.Lent.{Columns}
 use Rattle.row_statements.specs.Opening.{OpenCall, openOf, OpensRow}
 use Rattle.row_statements.specs.TileWork.{tileAnswer, workOut, workAnswer}
 use Rattle.row_statements.specs.Due.{atFirst, WorkChoice, workDueVerdict, saysOn, stateOn, workDue}
-use Rattle.row_statements.specs.Run.{openRow, Held, heldFirst, Event, Step, Run}
+use Rattle.row_statements.specs.Run.{openRow, Held, heldFirst, Event, Step}
 use Rattle.row_statements.specs.InnerHolding.{IsOpen, Holds}
 use Rattle.row_statements.specs.declared.RowState.{RowState}
 use Rattle.row_statements.specs.declared.Opened.the-variants as opened
 use Rattle.row_statements.proofs.Run.{accepted, is-open, held-first}
 use Rattle.row_statements.proofs.Runs.{workResult, work-named, work-gives, as-held, heldWork, work-goes}
+use Rattle.listing_runs.specs.Run.{heldWith, Call, CallStep, Calls}
 use Rattle.two_rows.specs.Apart.{MadeCall}
 use Rattle.kept_rows.specs.History.{AcceptedWork}
 
@@ -38,11 +39,11 @@ module _ (call : OpenCall) (lent back : Columns) (s : RowState) (words : Words (
         lent = lent;
         back = back;
         state = s;
-        events = Event.work (heldWork held c) (workResult (workDue (openRow call) atFirst (heldWork held c))) (workDue (openRow call) atFirst (heldWork held c) .lent) ∷ [];
+        calls = Call.row (Event.work (heldWork held c) (workResult (workDue (openRow call) atFirst (heldWork held c))) (workDue (openRow call) atFirst (heldWork held c) .lent)) ∷ [];
         held = _;
         words = words;
         opens = opens;
-        run = Run.next (Step.work {c = heldWork held c} as-held (work-goes row-open holds c)) Run.none;
+        run = Calls.next (CallStep.row {h = heldWith held []} (Step.work {c = heldWork held c} as-held (work-goes row-open holds c))) Calls.none;
         past = atFirst;
         choice = heldWork held c;
         result = workResult (workDue (openRow call) atFirst (heldWork held c));
