@@ -1,5 +1,6 @@
 // W-214, one language leaves another's layers be: two rows share the segments of the French layer 5 and differ in their
-// German layers, 3 in one and 7 in the other. Each is opened and worked over tiles 0 and 1, and the French layer painted.
+// German layers, 3 in one and 7 in the other. Each is opened and worked over tiles 0 and 1, and the French layer
+// painted.
 use crate::standing;
 use cached_tile::CachedTile;
 use cached_tile::kept::Kept;
