@@ -84,8 +84,8 @@ impl<'t> Half<'t> {
         let number =
             if lists { two_calls::list_tile(&call, &mut memory) } else { library::work_tile(&call, &mut memory) };
         assert_eq!(number, 0, "a scene meets no condition");
-        let Memory { state, next, list, segments, told, .. } = memory;
-        let listed = cover_in(&list, told[2], id).map(|(at, cover)| (cover, segments[at]));
+        let Memory { state, next, list, flags, told, .. } = memory;
+        let listed = cover_in(&list, told[2], id).map(|(at, cover)| (cover, flags[at]));
         (self.state, self.queue) = (state, next);
         let rust = said_by_rust(&self.models.work(tile, &self.frame, None).worked, id);
         let mut canvas = Canvas { state, plane: vec![7.0; 256], mark: 0 };
