@@ -14,7 +14,7 @@ ghost use Rattle.cover_statements.specs.Carry.{isLight};
 ghost use Rattle.cover_statements.specs.Cover.{coverAt};
 ghost use Rattle.cover_bounds_statements.specs.Chosen.{chosen};
 ghost use Rattle.cover_bounds_statements.specs.Within.{boundAt};
-ghost use Rattle.cover_bounds_statements.specs.InnerPlanes.{Addable};
+ghost use Rattle.cover_bounds_statements.specs.InnerPlanes.{AddableSide};
 
 // Segment i's bound on a side, the lowest cover on side 0 and the highest on side 1.
 pub fn bound_at(bounds: &[i8], side: usize, i: usize) -> i8
@@ -39,7 +39,7 @@ fn add_bounds(
     areas: &mut [i16; 256],
     covers: &mut [i8; 256],
 )
-    requires { ⌜ Addable (now part) side (now bounds) × (now areas ≡ noCells 16) × (now covers ≡ noCells 16) ⌝ }
+    requires { ⌜ AddableSide (now part) side (now bounds) × (now areas ≡ noCells 16) × (now covers ≡ noCells 16) ⌝ }
     ensures { λ _. ⌜ Accumulated cpu 16 (chosen cpu (now (part .entry)) (boundAt side (now (bounds .entry))))
         (now (areas .exit)) (now (covers .exit)) ⌝ }
 {
@@ -56,7 +56,7 @@ fn add_bounds(
 
 // d of all pixels with every cover at the bound of a side, from the carry of that side.
 pub fn sum_bounds(part: &[u64], bounds: &[i8], side: usize, cover: Cover, areas: &mut [i16; 256])
-    requires { ⌜ Addable (now part) side (now bounds)
+    requires { ⌜ AddableSide (now part) side (now bounds)
         × (isLight cpu 16 (cover .covers) (chosen cpu (now part) (boundAt side (now bounds))) ≡ true)
         × (now areas ≡ noCells 16) ⌝ }
     ensures { λ _. ⌜ now (areas .exit) ≡ areasOf cpu 16 (coverAt (cover .covers))

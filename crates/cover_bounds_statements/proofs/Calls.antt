@@ -28,7 +28,7 @@ use Rattle.segment_set_statements.specs.Set.{isOf}
 use Rattle.cover_bounds_statements.specs.Chosen.{chosen, HeldCovers, heavier}
 use Rattle.cover_bounds_statements.specs.Within.{BoundsCall, BoundPlanes, boundAt, isBelow, lacksRoom, isCover, isBounded, areBounded, isCarryBounded, isCallLight, boundsVerdict, lowestAt, highestAt}
 use Rattle.cover_bounds_statements.specs.Sound.{Sound, ChosenIn}
-use Rattle.cover_bounds_statements.specs.InnerPlanes.{Addable, areaIn, Upward, Roomy}
+use Rattle.cover_bounds_statements.specs.InnerPlanes.{AddableSide, areaIn, Upward, Roomy}
 use Rattle.cover_bounds_statements.proofs.Choosing.{Ordered, area-most, heavier-is}
 use Rattle.cover_bounds_statements.proofs.Bounds.{low-itself, high-itself, inside, sound, exact-area, exact-least, exact-greatest, light-within}
 
@@ -204,11 +204,11 @@ module _ {call : BoundsCall} {old : BoundPlanes} (p : Passed call old) where
   pub high-light : isLight cpu 16 (call .high) (chosen cpu (call .part) (boundAt 1 (call .bounds))) ≡ true
   high-light = chosen-light (boundAt 1 (call .bounds)) (call .high) (record { covers = high-itself covers-up; carries = high-itself carries-up })
 
-  pub low-addable : Addable (call .part) 0 (call .bounds)
+  pub low-addable : AddableSide (call .part) 0 (call .bounds)
   low-addable =
       record { side-is = omega arith; pairs = omega (arith, p .pairs); held = lows; few = λ y h. omega (arith, light low-light .at y h) }
 
-  pub high-addable : Addable (call .part) 1 (call .bounds)
+  pub high-addable : AddableSide (call .part) 1 (call .bounds)
   high-addable =
       record { side-is = omega arith; pairs = omega (arith, p .pairs); held = highs; few = λ y h. omega (arith, light high-light .at y h) }
 

@@ -19,7 +19,7 @@ use Rattle.cover_bounds_statements.specs.Chosen.{chosen, HeldCovers}
 use Rattle.cover_bounds_statements.specs.Within.{BoundPlanes, boundAt}
 
 -- covers on one side of the bounds that can be summed up: there is one for each segment, a word holds it, and no row has too much of them
-pub record Addable (part : List ℕ) (side : ℕ) (bounds : List ℤ) : Type 0 where
+pub record AddableSide (part : List ℕ) (side : ℕ) (bounds : List ℤ) : Type 0 where
   pub side-is : side ≤ 1
   pub pairs : 2 * length part ≤ length bounds
   pub held : HeldCovers cpu (length part) (boundAt side bounds)

@@ -24,7 +24,7 @@ use Rattle.cover_statements.specs.Coverage.{areaCoverage}
 use Rattle.cover_statements.specs.Plane.{columnOf, rowOf, inPlaces, pixelOf}
 use Rattle.cover_statements.specs.WholeRow.{inTile, leftOfTile, partOf, leftCover, rowArea, rowPlane}
 use Rattle.cover_statements.proofs.Planes.{places-length, places-at}
-use Rattle.layer_row_gpu.specs.Apart.{Numbers, PackedRow}
+use Rattle.layer_row_gpu.specs.Apart.{SegmentNumbers, PackedRow}
 
 -- ---- two words of the same numbers
 
@@ -69,7 +69,7 @@ pub data Alike : List ℕ → List ℕ → Type 0 where
   none : Alike [] []
   next : {w v : ℕ} {ws vs : List ℕ} → SameFields w v → Alike ws vs → Alike (w ∷ ws) (v ∷ vs)
 
-pub alike : {ns : List Numbers} {row row′ : List ℕ} → PackedRow gpu ns row → PackedRow cpu ns row′ → Alike row row′
+pub alike : {ns : List SegmentNumbers} {row row′ : List ℕ} → PackedRow gpu ns row → PackedRow cpu ns row′ → Alike row row′
 alike PackedRow.none PackedRow.none = Alike.none
 alike (PackedRow.next {n = n} e p) (PackedRow.next f q) =
     Alike.next
@@ -128,5 +128,5 @@ module _ {row row′ : List ℕ} (a : Alike row row′) (tile layer : ℕ) where
       ∙ ap (areaCoverage rule) (area-alike (columnOf k) (rowOf k))
       ∙ sym (getD-take 64 (inPlaces 16 g) k nan h ∙ places-at 16 g nan k (omega arith)))
 
-pub rows-apart : (ns : List Numbers) (row row′ : List ℕ) → PackedRow gpu ns row → PackedRow cpu ns row′ → (rule : FillRule) (tile layer : ℕ) → rowPlane gpu 4 rule tile layer row ≡ take 64 (rowPlane cpu 16 rule tile layer row′)
+pub rows-apart : (ns : List SegmentNumbers) (row row′ : List ℕ) → PackedRow gpu ns row → PackedRow cpu ns row′ → (rule : FillRule) (tile layer : ℕ) → rowPlane gpu 4 rule tile layer row ≡ take 64 (rowPlane cpu 16 rule tile layer row′)
 rows-apart ns row row′ p q rule tile layer = planes-alike (alike p q) tile layer rule

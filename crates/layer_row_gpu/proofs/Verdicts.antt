@@ -21,7 +21,7 @@ use Rattle.pixel_segment.specs.Field.{gpu}
 use Rattle.segment_rows.specs.Rows.{isRow}
 use Rattle.cover_statements.specs.Carry.{isLight}
 use Rattle.cover_statements.specs.Cover.{noCover}
-use Rattle.layer_row_gpu.specs.InnerWorks.{Openable, Workable}
+use Rattle.layer_row_gpu.specs.InnerWorks.{Openable, WorkableLayer}
 use Rattle.layer_row_gpu.specs.LayerState.{LayerState, hasBadSpan, isAstray, isOtherTile, layerTile}
 use Rattle.layer_row_gpu.specs.OpenLayer.{LayerCall, layerLeft, openLayerVerdict, callVerdictOf}
 use Rattle.layer_row_gpu.specs.WorkLayer.{workLayerVerdict}
@@ -126,7 +126,7 @@ module _ (s : LayerState) (tile : ℤ) where
           light = not-false (isLight gpu 4 (s .covers) (layerTile s tile row)) (nine .0);
         }
 
-    pub workable : workLayerVerdict s tile row plane ≡ pass → Workable s row plane
+    pub workable : workLayerVerdict s tile row plane ≡ pass → WorkableLayer s row plane
     workable e =
         let p = work-passed e in
         record {

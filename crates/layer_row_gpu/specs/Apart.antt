@@ -7,7 +7,7 @@ use Rattle.laws.specs.Answer.{given}
 use Rattle.pixel_segment.specs.Pack.{packOf}
 
 -- the seven numbers of a segment
-pub record Numbers : Type 0 where
+pub record SegmentNumbers : Type 0 where
   pub layer : ℤ
   pub tileX : ℤ
   pub tileY : ℤ
@@ -17,7 +17,7 @@ pub record Numbers : Type 0 where
   pub cover : ℤ
 
 -- a row of words is those of the numbers, each packed by the table ws
-pub data PackedRow (ws : List ℕ) : List Numbers → List ℕ → Type 0 where
+pub data PackedRow (ws : List ℕ) : List SegmentNumbers → List ℕ → Type 0 where
   none : PackedRow ws [] []
-  next : {n : Numbers} {ns : List Numbers} {w : ℕ} {row : List ℕ}
+  next : {n : SegmentNumbers} {ns : List SegmentNumbers} {w : ℕ} {row : List ℕ}
       → packOf ws (n .layer) (n .tileX) (n .tileY) (n .x) (n .y) (n .multiplier) (n .cover) ≡ given w → PackedRow ws ns row → PackedRow ws (n ∷ ns) (w ∷ row)

@@ -23,7 +23,7 @@ pub record Openable (c : LayerCall) : Type 0 where
 abbrev pub dueTile : LayerState → List ℕ → List ℕ
 dueTile s row = partOf gpu (suc (s .next)) (s .layer) row
 
-pub record Workable (s : LayerState) (row : List ℕ) (plane : List Float) : Type 0 where
+pub record WorkableLayer (s : LayerState) (row : List ℕ) (plane : List Float) : Type 0 where
   pub room : 64 ≤ length plane
   pub next : s .next < 4096
   pub in-order : isRow gpu (suc (s .tileY)) row ≡ true

@@ -46,8 +46,8 @@ abbrev pub dropped : FillRule → List ℤ → List ℤ
 dropped rule covers = cond (isEmpty rule covers) (noCover 4) covers
 
 -- past a tile: the next one is due, and takes in the carry
-abbrev pub handedOn : LayerState → List ℤ → LayerState
-handedOn s carry =
+abbrev pub handedLayer : LayerState → List ℤ → LayerState
+handedLayer s carry =
     record {
       tileY = s .tileY;
       from = s .from;
@@ -59,7 +59,7 @@ handedOn s carry =
     }
 
 abbrev pub pastTile : LayerState → List ℕ → LayerState
-pastTile s part = handedOn s (carryOf gpu 4 (s .covers) part)
+pastTile s part = handedLayer s (carryOf gpu 4 (s .covers) part)
 
 -- ---- 2
 

@@ -16,10 +16,10 @@ ghost use Rattle.laws.specs.Lists.{over};
 ghost use Rattle.pixel_segment.specs.Field.{gpu};
 ghost use Rattle.cover_statements.specs.Cover.{coverAt};
 ghost use Rattle.cover_statements.specs.Plane.{planeOf};
-ghost use Rattle.layer_row_gpu.specs.LayerState.{layerStateIn, dropped, handedOn, pastTile};
+ghost use Rattle.layer_row_gpu.specs.LayerState.{layerStateIn, dropped, handedLayer, pastTile};
 ghost use Rattle.layer_row_gpu.specs.OpenLayer.{layerCall, firstState, noTiles, OpensLayer};
 ghost use Rattle.layer_row_gpu.specs.WorkLayer.{WorksLayer};
-ghost use Rattle.layer_row_gpu.specs.InnerWorks.{Openable, Workable, dueTile};
+ghost use Rattle.layer_row_gpu.specs.InnerWorks.{Openable, WorkableLayer, dueTile};
 
 // Where a caller stands in a layer's row: the cover is what the next tile takes in.
 pub struct LayerRow {
@@ -122,7 +122,7 @@ fn drop_empty(carried: GpuCover, rule: FillRule) -> GpuCover
 // The state past a tile.
 fn hand_on(state: LayerRow, carried: GpuCover) -> LayerRow
     requires { ⌜ state .next < 4096 ⌝ }
-    ensures { λ r. ⌜ layerStateIn r ≡ handedOn (layerStateIn state) (carried .covers) ⌝ }
+    ensures { λ r. ⌜ layerStateIn r ≡ handedLayer (layerStateIn state) (carried .covers) ⌝ }
 {
     let rule = state.rule;
     let cover = drop_empty(carried, rule);
@@ -139,7 +139,7 @@ fn hand_on(state: LayerRow, carried: GpuCover) -> LayerRow
 
 // The work on the next tile, where nothing refuses it.
 fn work(state: LayerRow, row: &[u64], plane: &mut [f32]) -> LayerRow
-    requires { ⌜ Workable (layerStateIn state) (now row) (now plane) ⌝ }
+    requires { ⌜ WorkableLayer (layerStateIn state) (now row) (now plane) ⌝ }
     ensures { λ r. ⌜ (layerStateIn r ≡ pastTile (layerStateIn state) (dueTile (layerStateIn state) (now (row .entry))))
         × (now (plane .exit) ≡ over (planeOf gpu 4 (state .rule) (coverAt (state .cover .covers))
         (dueTile (layerStateIn state) (now (row .entry)))) (now (plane .entry))) ⌝ }

@@ -68,7 +68,8 @@ pub fn write_coverages(weights: &[i16], plane: &mut [f32])
 
 // Row y of a plane, from weights that stand by columns.
 fn write_row(weights: &[i16], y: usize, plane: &mut [f32])
-    requires { ⌜ Weighed (now weights) × (256 ≤ length (now weights)) × (y < 16) × (y * 16 + 16 ≤ length (now plane)) ⌝ }
+    requires { ⌜ Weighed (now weights) × (256 ≤ length (now weights)) × (y < 16)
+        × (y * 16 + 16 ≤ length (now plane)) ⌝ }
     ensures { λ _. ⌜ now (plane .exit) ≡ putRow y (weightsRow 16 (now (weights .entry)) y) (now (plane .entry)) ⌝ }
 {
     let mut x = 0;

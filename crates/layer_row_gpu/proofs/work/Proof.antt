@@ -9,7 +9,7 @@ use Rattle.cover_statements.specs.Carry.{isLight, carryOf}
 use Rattle.cover_statements.specs.Cover.{coverAt}
 use Rattle.cover_statements.specs.Plane.{planeOf}
 use Rattle.layer_row_gpu.specs.InnerWorks.{dueTile}
-use Rattle.layer_row_gpu.specs.LayerState.{layerStateIn, handedOn}
+use Rattle.layer_row_gpu.specs.LayerState.{layerStateIn, handedLayer}
 use Rattle.layer_row_gpu.proofs.Parts.{part-is}
 use Rattle.layer_row_gpu.proofs.work.Statement.{statement}
 use Rattle.layer_row_gpu.proofs.work.Tie as tie
@@ -50,7 +50,7 @@ returns c =
     let p = q .before .before .before in
     let s = p .before .before .before in
     let covers = s .args .state .cover .covers in (
-      c .hand-on .ensures ∙ ap (handedOn (layerStateIn (s .args .state))) (a .add-segments .ensures ∙ ap (carryOf gpu 4 covers) (part-told p)),
+      c .hand-on .ensures ∙ ap (handedLayer (layerStateIn (s .args .state))) (a .add-segments .ensures ∙ ap (carryOf gpu 4 covers) (part-told p)),
       q .paint .ensures ∙ ap (λ (l : List ℕ). over (planeOf gpu 4 (s .args .state .rule) (coverAt covers) l) (s .args .plane .now)) (part-told p),
     )
 
