@@ -92,7 +92,7 @@ returns : tie.Need-returns Inv-loop μ-loop
 returns c =
     let s = c .before .before .before in
     let bounds = s .args .bounds .now in
-    load-end (c .before .loop .inv) (rw (chosen-length cpu (s .args .part .now) (λ j. heavier (boundAt 0 bounds j) (boundAt 1 bounds j))) (omega arith))
+    load-end cpu (c .before .loop .inv) (rw (chosen-length cpu (s .args .part .now) (λ j. heavier (boundAt 0 bounds j) (boundAt 1 bounds j))) (omega arith))
 
 pub add-heavier-spec : {M : Type 1} → statement M
 add-heavier-spec =
