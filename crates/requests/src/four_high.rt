@@ -2,7 +2,7 @@
 use crate::standing::print;
 use cover_gpu::GpuCover;
 use cover_gpu::carry;
-use cover_gpu::plane;
+use cover_gpu::plane as gpu_plane;
 use cover_gpu::plane::GpuPainted;
 use layer_row_gpu::LayerRow;
 use pixel_segment::order::Ordering;
@@ -100,7 +100,7 @@ fn painted(answer: GpuPainted) -> u32 {
 fn print_coverages() {
     let part = [0x0008018000161430u64];
     let mut places = [0.25f32; 64];
-    let answer = plane::paint_part(&part, cover_of(16, 16), FillRule::NonZero, &mut places);
+    let answer = gpu_plane::paint_part(&part, cover_of(16, 16), FillRule::NonZero, &mut places);
     let left = (places[0] == 1.0) & (places[16] == 1.0) & (places[23] == 1.0);
     let right = (places[24] == 0.5) & (places[25] == 0.0) & (places[31] == 0.0);
     let below = (places[32] == 1.0) & (places[63] == 1.0);
@@ -109,7 +109,7 @@ fn print_coverages() {
         (painted(answer) == 0) & left & right & below,
     );
     let mut few = [0.25f32; 63];
-    let refused = plane::paint_part(&part, cover_of(16, 16), FillRule::NonZero, &mut few);
+    let refused = gpu_plane::paint_part(&part, cover_of(16, 16), FillRule::NonZero, &mut few);
     print(
         b"a plane of 63, 1",
         (painted(refused) == 1) & (few[0] == 0.25),
