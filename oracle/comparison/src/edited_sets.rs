@@ -81,7 +81,7 @@ fn is_as_painted(set: &KeptSet, cover: [i8; 16]) -> bool {
     let by_rule = |rule: usize| {
         let rust = caught(|| recorder::paint(held, cover, RULES[rule]).plane);
         let ours = set.areas[..AREAS].iter().map(|&d| painter::coverage(d.into(), RULES[rule]).to_bits());
-        rust.is_some_and(|plane| ours.eq(plane.iter().map(|number| number.to_bits())))
+        rust.is_some_and(|plane| ours.eq((0..256).map(|k| plane[k % 16 * 16 + k / 16].to_bits())))
     };
     let (id, rule) = (set.layer_id, 0);
     let record = Record { id, rule, func: 0, span: 0, clipped: 0, fill: 0, mode: 0, unchanged: 0, color: [0.0; 4] };

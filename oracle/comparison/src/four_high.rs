@@ -223,8 +223,7 @@ fn paint(kind: &mut Kind) {
     let same = match (refusal, &rust) {
         (Some(refusal), _) => number == refusal && bits(&plane) == bits(&before),
         (None, Some(rust)) => {
-            let rows = (0..64).map(|place| rust.plane[place % 16 * 16 + place / 16].to_bits());
-            number == 0 && bits(&plane[..64]) == rows.collect::<Vec<_>>() && bits(&plane[64..]) == bits(&before[64..])
+            number == 0 && bits(&plane[..64]) == bits(&rust.plane[..64]) && bits(&plane[64..]) == bits(&before[64..])
         }
         (None, None) => false,
     };
