@@ -77,7 +77,10 @@ fn pack_edges(kind: &mut Kind) {
             for tile_x in [-2, -1, 0, 4094, 4095] {
                 for cover in [-33, -32, -1, 0, 31, 32] {
                     let (layer_id, local_x, double_area_multiplier) = (5, 3, 32);
-                    compare_pack(kind, Fields { layer_id, tile_x, tile_y, local_x, local_y, double_area_multiplier, cover });
+                    compare_pack(
+                        kind,
+                        Fields { layer_id, tile_x, tile_y, local_x, local_y, double_area_multiplier, cover },
+                    );
                 }
             }
         }

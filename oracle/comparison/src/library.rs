@@ -137,9 +137,7 @@ pub fn gpu_carry(part: &[u64], mut cover: [i8; 4]) -> (u32, [i8; 4]) {
 
 /// As `paint_part`, without a mark.
 pub fn gpu_paint_part(part: &[u64], cover: [i8; 4], rule: u32, plane: &mut [f32]) -> u32 {
-    unsafe {
-        exports::ffi_gpu_paint_part(part.as_ptr(), part.len(), &cover, rule, plane.as_mut_ptr(), plane.len())
-    }
+    unsafe { exports::ffi_gpu_paint_part(part.as_ptr(), part.len(), &cover, rule, plane.as_mut_ptr(), plane.len()) }
 }
 
 /// Where the segments start that have no negative tile y.
