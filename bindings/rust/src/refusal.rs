@@ -5,7 +5,7 @@ use std::{error::Error, fmt};
 /// Why a call is turned down: the conditions of the table of refusals, with their numbers. Of those that apply the
 /// lowest is answered. After a refusal everything that was lent to the call is as it was.
 ///
-/// Numbers 12 to 14 belong to operations that the library does not export yet.
+/// Numbers 12 and 13 belong to operations that the library does not export yet.
 #[derive(Clone, Copy, Debug, PartialEq, Eq, PartialOrd, Ord, Hash)]
 #[non_exhaustive]
 #[repr(u32)]

@@ -8,3 +8,4 @@ pub mod Deciding
 pub mod Painting
 pub mod Calls
 pub mod Revisions
+pub mod Bounds

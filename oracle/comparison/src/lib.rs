@@ -2,6 +2,7 @@
 
 pub mod arrangements;
 pub mod bench;
+pub mod bounds;
 pub mod cached;
 pub mod calls;
 pub mod covers;

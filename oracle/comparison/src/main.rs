@@ -7,8 +7,8 @@
 use std::{env, process::ExitCode};
 
 use comparison::{
-    bench, cached, covers, curve, deciding, jobs, layers, listing, loads, openings, paintings, plates, rows, standing,
-    stored, stored_jobs, succession, tally::Tally, tiles, words,
+    bench, bounds, cached, covers, curve, deciding, jobs, layers, listing, loads, openings, paintings, plates, rows,
+    standing, stored, stored_jobs, succession, tally::Tally, tiles, words,
 };
 
 fn main() -> ExitCode {
@@ -42,6 +42,7 @@ fn main() -> ExitCode {
     deciding::compare(&mut tally);
     succession::compare(&mut tally);
     standing::compare(&mut tally);
+    bounds::compare(&mut tally);
     jobs::compare(&mut tally);
     stored_jobs::compare(&mut tally);
     curve::compare(&mut tally);

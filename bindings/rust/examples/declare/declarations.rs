@@ -223,6 +223,7 @@ fn c_name(number: &str) -> &str {
         "i16" => "int16_t",
         "i32" => "int32_t",
         "u8" => "uint8_t",
+        "u16" => "uint16_t",
         "u32" => "uint32_t",
         "u64" => "uint64_t",
         "usize" => "size_t",
