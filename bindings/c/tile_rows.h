@@ -17,6 +17,23 @@
 extern "C" {
 #endif
 
+/* 0 and the six planes, or the number of the refusal. `bounds` has two bytes a segment, its lowest and its highest
+   cover. */
+uint32_t ffi_bound_part(
+    uint32_t layer_id,
+    int16_t tile_x,
+    int16_t tile_y,
+    const uint64_t *part, size_t part_len,
+    const int8_t *bounds, size_t bounds_len,
+    const int8_t low[16],
+    const int8_t high[16],
+    int16_t *lowest, size_t lowest_len,
+    int16_t *highest, size_t highest_len,
+    uint16_t *least_non_zero, size_t least_non_zero_len,
+    uint16_t *greatest_non_zero, size_t greatest_non_zero_len,
+    uint16_t *least_even_odd, size_t least_even_odd_len,
+    uint16_t *greatest_even_odd, size_t greatest_even_odd_len);
+
 /* Whether the tile keeps a layer count; where it does, the count in `count`. */
 bool ffi_layer_count(const uint8_t tile[8], uint32_t *count);
 

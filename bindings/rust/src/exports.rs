@@ -8,6 +8,29 @@
 
 mod raw {
     extern "C" {
+        pub fn ffi_bound_part(
+            layer_id: u32,
+            tile_x: i16,
+            tile_y: i16,
+            part: *const u64,
+            part_len: usize,
+            bounds: *const i8,
+            bounds_len: usize,
+            low: *const [i8; 16],
+            high: *const [i8; 16],
+            lowest: *mut i16,
+            lowest_len: usize,
+            highest: *mut i16,
+            highest_len: usize,
+            least_non_zero: *mut u16,
+            least_non_zero_len: usize,
+            greatest_non_zero: *mut u16,
+            greatest_non_zero_len: usize,
+            least_even_odd: *mut u16,
+            least_even_odd_len: usize,
+            greatest_even_odd: *mut u16,
+            greatest_even_odd_len: usize,
+        ) -> u32;
         pub fn ffi_layer_count(tile: *const [u8; 8], count: *mut u32) -> bool;
         pub fn ffi_solid_color(tile: *const [u8; 8], color: *mut [u8; 4]) -> bool;
         pub fn ffi_update_layer_count(tile: *mut [u8; 8], given: bool, count: u32, previous: *mut u32) -> bool;
@@ -327,6 +350,54 @@ mod raw {
             told: *mut [usize; 4],
             bottom: *mut [f32; 4],
         ) -> u32;
+    }
+}
+
+/// 0 and the six planes, or the number of the refusal. `bounds` has two bytes a segment, its lowest and its highest
+/// cover.
+#[allow(clippy::too_many_arguments)]
+#[inline]
+pub fn bound_part(
+    layer_id: u32,
+    tile_x: i16,
+    tile_y: i16,
+    part: &[u64],
+    bounds: &[i8],
+    low: &[i8; 16],
+    high: &[i8; 16],
+    lowest: &mut [i16],
+    highest: &mut [i16],
+    least_non_zero: &mut [u16],
+    greatest_non_zero: &mut [u16],
+    least_even_odd: &mut [u16],
+    greatest_even_odd: &mut [u16],
+) -> u32 {
+    // SAFETY: the references are those that the export takes, a slice with its own length; it is proved to keep
+    // to them for every value, and nothing of them is held after the call.
+    unsafe {
+        raw::ffi_bound_part(
+            layer_id,
+            tile_x,
+            tile_y,
+            part.as_ptr(),
+            part.len(),
+            bounds.as_ptr(),
+            bounds.len(),
+            low,
+            high,
+            lowest.as_mut_ptr(),
+            lowest.len(),
+            highest.as_mut_ptr(),
+            highest.len(),
+            least_non_zero.as_mut_ptr(),
+            least_non_zero.len(),
+            greatest_non_zero.as_mut_ptr(),
+            greatest_non_zero.len(),
+            least_even_odd.as_mut_ptr(),
+            least_even_odd.len(),
+            greatest_even_odd.as_mut_ptr(),
+            greatest_even_odd.len(),
+        )
     }
 }
 

@@ -3,6 +3,7 @@
 pub mod arrangements;
 pub mod backwards;
 pub mod bench;
+pub mod bounds;
 pub mod cached;
 pub mod calls;
 pub mod changed_clips;

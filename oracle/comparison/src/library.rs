@@ -217,6 +217,67 @@ pub fn judge_table(layers: &[u32], colors: &[f32], count: usize) -> (bool, bool)
     }
 }
 
+/// A part with two bytes a segment and the carry's bounds, and how long the six lent planes are.
+#[derive(Clone, Debug)]
+pub struct BoundsCall {
+    pub layer_id: u32,
+    pub tile_x: i16,
+    pub tile_y: i16,
+    pub part: Vec<u64>,
+    pub bounds: Vec<i8>,
+    pub low: [i8; 16],
+    pub high: [i8; 16],
+    pub lens: [usize; 6],
+}
+
+/// Lowest and highest d; least and greatest weight by NonZero, and by EvenOdd.
+#[derive(Clone, Debug, PartialEq, Eq)]
+pub struct Bounded {
+    pub areas: [Vec<i16>; 2],
+    pub weights: [Vec<u16>; 4],
+}
+
+impl Bounded {
+    /// What is lent to a call: no number twice in a plane.
+    pub fn untouched(lens: &[usize; 6]) -> Self {
+        let areas = std::array::from_fn(|i| (0..lens[i]).map(|k| -20_000 - k as i16).collect());
+        let weights = std::array::from_fn(|i| (0..lens[i + 2]).map(|k| 20_000 + k as u16).collect());
+        Self { areas, weights }
+    }
+}
+
+/// The refusal's number and what the planes then hold.
+pub fn bound_part(call: &BoundsCall) -> (u32, Bounded) {
+    let mut planes = Bounded::untouched(&call.lens);
+    let Bounded { areas: [lowest, highest], weights: [least_n, greatest_n, least_e, greatest_e] } = &mut planes;
+    let number = unsafe {
+        exports::ffi_bound_part(
+            call.layer_id,
+            call.tile_x,
+            call.tile_y,
+            call.part.as_ptr(),
+            call.part.len(),
+            call.bounds.as_ptr(),
+            call.bounds.len(),
+            &call.low,
+            &call.high,
+            lowest.as_mut_ptr(),
+            lowest.len(),
+            highest.as_mut_ptr(),
+            highest.len(),
+            least_n.as_mut_ptr(),
+            least_n.len(),
+            greatest_n.as_mut_ptr(),
+            greatest_n.len(),
+            least_e.as_mut_ptr(),
+            least_e.len(),
+            greatest_e.as_mut_ptr(),
+            greatest_e.len(),
+        )
+    };
+    (number, planes)
+}
+
 /// The number of the refusal; the table holds what the call left, and its count how many layers stand.
 pub fn stand(records: &[u32], record_colors: &[f32], count: usize, table: &mut LentTable) -> u32 {
     unsafe {

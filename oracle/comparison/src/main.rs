@@ -7,8 +7,7 @@
 use std::{env, process::ExitCode};
 
 use comparison::{
-    backwards, bench, cached, covers, curve, deciding, edited_sets, four_high, jobs, layers, listing, loads, openings,
-    paintings, plates, rows, standing, stored, stored_jobs, succession, tally::Tally, tiles, two_rows, words,
+    backwards, bench, bounds, cached, covers, curve, deciding, edited_sets, four_high, jobs, layers, listing, loads, openings, paintings, plates, rows, standing, stored, stored_jobs, succession, tally::Tally, tiles, two_rows, words,
 };
 
 fn main() -> ExitCode {
@@ -46,6 +45,7 @@ fn main() -> ExitCode {
     standing::compare(&mut tally);
     edited_sets::compare(&mut tally);
     two_rows::compare(&mut tally);
+    bounds::compare(&mut tally);
     jobs::compare(&mut tally);
     stored_jobs::compare(&mut tally);
     curve::compare(&mut tally);
