@@ -7,7 +7,8 @@
 use std::{env, process::ExitCode};
 
 use comparison::{
-    backwards, bench, bounds, cached, covers, curve, deciding, edited_sets, four_high, jobs, layers, listing, loads, openings, paintings, plates, rows, standing, stored, stored_jobs, succession, tally::Tally, tiles, two_rows, words,
+    backwards, bench, bounds, cached, covers, curve, deciding, edited_sets, four_high, jobs, layers, listing, loads,
+    openings, paintings, plates, rows, standing, stored, stored_jobs, succession, tally::Tally, tiles, two_rows, words,
 };
 
 fn main() -> ExitCode {
