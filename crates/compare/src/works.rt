@@ -12,17 +12,17 @@ ghost use Prim.Native.Nat.{_≤_};
 
 // What a tile is given: its number, whether a cached tile is given and its 8 bytes, the clear colour, whether one of
 // the frame before is given and it.
-struct Given {
-    at: usize,
-    tile: i32,
-    is_kept: bool,
-    kept: [u8; 8],
-    clear: [f32; 4],
-    is_previous: bool,
-    previous: [f32; 4],
+pub struct Given {
+    pub at: usize,
+    pub tile: i32,
+    pub is_kept: bool,
+    pub kept: [u8; 8],
+    pub clear: [f32; 4],
+    pub is_previous: bool,
+    pub previous: [f32; 4],
 }
 
-fn read_given(text: &[u8], at: usize) -> Given {
+pub fn read_given(text: &[u8], at: usize) -> Given {
     let mut head = [0u64; 2];
     let a1 = lists::fill(text, at, &mut head, 2);
     let mut kept = [0u8; 8];

@@ -1,3 +1,2 @@
--- What the proofs of several functions use, and the claim about calls of a row.
+-- What the proofs of several functions use.
 mod Told
-pub mod Calls

@@ -1,4 +1,4 @@
--- Answers as numbers: what the exported functions' contracts say, and the claim about any list of calls of a row.
+-- Answers as numbers: what the exported functions' contracts say.
 pub mod Covers
 pub mod Layers
 pub mod Plates
@@ -6,7 +6,6 @@ pub mod Work
 pub mod Listing
 pub mod Deciding
 pub mod Painting
-pub mod Calls
 pub mod Revisions
 pub mod Sets
 pub mod Bounds

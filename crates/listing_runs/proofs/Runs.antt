@@ -52,28 +52,28 @@ decidedOut (given t) = decided.Decided (decisionOut (t .decision)) (record { 0 =
 abbrev pub listResult : ListGiven → TileListed
 listResult g = record { state = stateOut (g .state); answer = listedOut (g .answer) }
 
-abbrev decideResult : DecideGiven → TileDecided
+abbrev pub decideResult : DecideGiven → TileDecided
 decideResult g = record { kept = g .kept; answer = decidedOut (g .answer) }
 
 -- every number that is due is one of the table
-list-named : (o : OpenRow) (n : ℕ) (c : ListChoice) → Named (listDueVerdict o n c)
+pub list-named : (o : OpenRow) (n : ℕ) (c : ListChoice) → Named (listDueVerdict o n c)
 list-named o n c =
     let below = listVerdict (tableOn o) (layersOn o n) in
     named (isQueueShort (c .lent .queue) || isTileListShort (c .lent .list)) 1 (unless (isNotDue o n (c .tile)) 2 below) refl
     (named (isNotDue o n (c .tile)) 2 below refl (listed-named (tableOn o) (layersOn o n)))
 
-decide-named : (c : DecideChoice) → Named (decideDueVerdict c)
+pub decide-named : (c : DecideChoice) → Named (decideDueVerdict c)
 decide-named c =
     named (ltb (length (c .unmasked)) 256) 1 (unless (tagOutOfRange (c .kept)) 6 pass) refl (named (tagOutOfRange (c .kept)) 6 pass refl tt)
 
 -- so there is an answer of the code that gives it
-list-gives : (v : Judgement) → Named v → (o : OpenRow) (p : Past) (c : ListChoice) → let g = listingOut v (tableOn o) (layersOn o (p .tiles)) (queueOn o (suc (p .tiles))) (stateOn o p) (c .lent) in ListsTile g (listResult g) (g .lent)
+pub list-gives : (v : Judgement) → Named v → (o : OpenRow) (p : Past) (c : ListChoice) → let g = listingOut v (tableOn o) (layersOn o (p .tiles)) (queueOn o (suc (p .tiles))) (stateOn o p) (c .lent) in ListsTile g (listResult g) (g .lent)
 unfolding listingOut
 list-gives (refuse n) named o p c = record { answer = ap refused named; state = state-back (stateOn o p); lent-is = refl }
 list-gives pass named o p c =
     record { answer = refl; state = state-back (listingOut pass (tableOn o) (layersOn o (p .tiles)) (queueOn o (suc (p .tiles))) (stateOn o p) (c .lent) .state); lent-is = refl }
 
-decide-gives : (v : Judgement) → Named v → (o : OpenRow) (c : DecideChoice) → let g = decidingOut v (outcomeDue o c) (length (layersOn o (nthOn o c))) (c .kept) (c .unmasked) in DecidesTile g (decideResult g) (g .unmasked)
+pub decide-gives : (v : Judgement) → Named v → (o : OpenRow) (c : DecideChoice) → let g = decidingOut v (outcomeDue o c) (length (layersOn o (nthOn o c))) (c .kept) (c .unmasked) in DecidesTile g (decideResult g) (g .unmasked)
 unfolding decidingOut
 decide-gives (refuse n) named o c = record { answer = ap refused named; kept = refl; unmasked-is = refl }
 decide-gives pass named o c =

@@ -1,4 +1,5 @@
 // Stored answers: their text, the numbers in it, and what a replay holds them to.
+pub mod entries;
 pub mod lists;
 pub mod numbers;
 pub mod rooms;

@@ -44,6 +44,13 @@ pub fn flags() -> [bool; 256]
     [false; 256]
 }
 
+// One entry too few.
+pub fn few_flags() -> [bool; 255]
+    ensures { λ r. ⌜ 255 ≡ length r ⌝ }
+{
+    [false; 255]
+}
+
 // Two for each of 256 entries.
 pub fn flag_pairs() -> [bool; 512]
     ensures { λ r. ⌜ 512 ≡ length r ⌝ }

@@ -71,7 +71,7 @@ fn otherwise_changed(random: &mut Random, table: &LentTable) -> LentTable {
 }
 
 /// The records as the list marks them, for the models, which ask the table whether a layer is changed.
-fn marked(records: &[Record], n: usize, memory: &Memory) -> Vec<Record> {
+pub fn marked(records: &[Record], n: usize, memory: &Memory) -> Vec<Record> {
     let Memory { list, flags, .. } = memory;
     let mark = |id| list.ids[..n].iter().position(|&listed| listed == id).map(|i| flags[256 + i]);
     let unchanged = |record: &Record| mark(record.id).map_or(record.unchanged, |changed| u32::from(!changed));
@@ -123,7 +123,7 @@ fn given(call: &Work, n: usize, memory: &Memory) -> String {
 
 /// What the models make of a tile whose list is the memory's: an incoming cover for each entry, and where it has
 /// segments, one of cover 0.
-fn judged(call: &Work, n: usize, memory: &Memory, tables: &Tables) -> Judged {
+pub fn judged(call: &Work, n: usize, memory: &Memory, tables: &Tables) -> Judged {
     let Memory { list, flags, .. } = memory;
     let mut queue = Queue { ids: list.ids[..n].to_vec(), covers: list.covers[..16 * n].to_vec() };
     // The absolute value of -128 overflows in the Rust; -96 is full or not where -128 is, by either rule.
@@ -138,7 +138,7 @@ fn judged(call: &Work, n: usize, memory: &Memory, tables: &Tables) -> Judged {
 }
 
 /// A list of layers of the table, with covers and flags of any kind.
-fn put_list(random: &mut Random, memory: &mut Memory, records: &[Record]) {
+pub fn put_list(random: &mut Random, memory: &mut Memory, records: &[Record]) {
     let is_wound = random.once_in(2);
     let mut entries: Vec<(u32, [i8; 16])> = Vec::new();
     for record in records {

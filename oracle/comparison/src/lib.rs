@@ -34,6 +34,7 @@ pub mod scene;
 pub mod set_calls;
 pub mod standing;
 pub mod stored;
+pub mod stored_calls;
 pub mod stored_jobs;
 pub mod stored_lines;
 pub mod stored_rows;

@@ -19,6 +19,7 @@ use crate::{
     layers::{damaged, lent},
     memory::damaged_row,
     random::Random,
+    stored_calls,
     stored_lines::{bytes, float, Line},
     stored_rows::{self, opened, row_given, small_scene},
     words::{any_fields, any_row, any_word, layer, near_range, rust_pack, segment, tile, Segment},
@@ -54,6 +55,7 @@ pub fn answers() -> String {
     for row in rows {
         writeln!(text, "{row}").unwrap();
     }
+    text += &stored_calls::blocks();
     text
 }
 

@@ -6,7 +6,7 @@
 use reference::{
     cpu::RGBA,
     painter::row::{Frame, Row},
-    plain::{Cached, Decision, Painted, Record, Worked},
+    plain::{Cached, Decision, Painted, Record, Rgba, Worked},
     Table,
 };
 
@@ -73,7 +73,7 @@ fn none_all_or_last(random: &mut Random, _: &Worked, picture: &Picture) -> Vec<u
 }
 
 /// An arrangement of two or three layers; half of them end with a clipped draw above a clip.
-fn any_arrangement(random: &mut Random) -> (Vec<u64>, Vec<Record>) {
+pub fn any_arrangement(random: &mut Random) -> (Vec<u64>, Vec<Record>) {
     let layers = 2 + random.below(2) as u32;
     let is_clipped = random.once_in(2);
     loop {
@@ -116,7 +116,7 @@ fn row(random: &mut Random, scene: &Scene, picture: &Picture, cached: &mut [Cach
         let [tile_y, from, to] = ends.map(|end| end as u64);
         let mut state = [tile_y, from, to, tile as u64 + 1, 0, 0, worked.queue.len() as u64, taken as u64];
         let line = Line {
-            given: tile_given(tile, scene.caches, before, picture),
+            given: tile_given(tile, scene.caches, before, picture.frame.clear, picture.frame.previous_clear),
             answer: tile_answer(&state, before, &worked),
         };
         text += &format!(" TILE {}", line.text());
@@ -136,13 +136,12 @@ fn row(random: &mut Random, scene: &Scene, picture: &Picture, cached: &mut [Cach
     text
 }
 
-fn tile_given(tile: usize, caches: bool, cached: Cached, picture: &Picture) -> Vec<u64> {
-    let previous = picture.frame.previous_clear;
+pub fn tile_given(tile: usize, caches: bool, cached: Cached, clear: Rgba, previous: Option<Rgba>) -> Vec<u64> {
     let floats = |color: [f32; 4]| color.map(float).to_vec();
     [
         vec![tile as u64, caches.into()],
         bytes(&cached.0),
-        floats(picture.frame.clear),
+        floats(clear),
         vec![previous.is_some().into()],
         floats(previous.unwrap_or([0.0; 4])),
     ]

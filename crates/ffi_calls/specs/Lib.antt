@@ -1,0 +1,4 @@
+-- Demand 3 by numbers: works and paintings, then listings and decidings too, and that such calls exist.
+pub mod Calls
+pub mod ListingCalls
+pub mod Example
