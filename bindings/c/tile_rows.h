@@ -133,6 +133,18 @@ int16_t ffi_gpu_double_area(uint64_t word);
 /* `ffi_gpu_cover` of the library. */
 int8_t ffi_gpu_cover(uint64_t word);
 
+/* All of them in one call. */
+void ffi_gpu_fields(
+    uint64_t word,
+    uint32_t *layer_id,
+    int16_t *tile_x,
+    int16_t *tile_y,
+    uint8_t *local_x,
+    uint8_t *local_y,
+    uint8_t *double_area_multiplier,
+    int16_t *double_area,
+    int8_t *cover);
+
 /* How a segment compares with another: 0 less, 1 equal, 2 greater. */
 uint8_t ffi_gpu_cmp(uint64_t word, uint64_t other);
 
@@ -145,6 +157,26 @@ bool ffi_gpu_search_last_by_tile_x(const uint64_t *segments, size_t segments_len
 /* `ffi_gpu_search_last_by_layer_id` of the library. */
 bool ffi_gpu_search_last_by_layer_id(const uint64_t *segments, size_t segments_len, uint32_t layer_id, size_t *place);
 
+/* `ffi_gpu_search_last_by_tile_x_at_least` of the library. */
+bool ffi_gpu_search_last_by_tile_x_at_least(
+    const uint64_t *segments, size_t segments_len,
+    int16_t start,
+    bool wanted,
+    size_t *place);
+
+/* `ffi_gpu_search_last_by_layer_id_at_least` of the library. */
+bool ffi_gpu_search_last_by_layer_id_at_least(
+    const uint64_t *segments, size_t segments_len,
+    uint32_t start,
+    bool wanted,
+    size_t *place);
+
+/* `ffi_gpu_search_last_by_tile_y_not_negative` of the library. */
+bool ffi_gpu_search_last_by_tile_y_not_negative(
+    const uint64_t *segments, size_t segments_len,
+    bool wanted,
+    size_t *place);
+
 /* 0 and the covers of the part added to those in `covers`, or 9. */
 uint32_t ffi_gpu_carry(const uint64_t *part, size_t part_len, int8_t covers[4]);
 
@@ -153,6 +185,25 @@ uint32_t ffi_gpu_paint_part(
     const uint64_t *part, size_t part_len,
     const int8_t covers[4],
     uint32_t rule,
+    float *plane, size_t plane_len);
+
+/* 0 and the state before the first tile in `words` and `covers`, or the number of the refusal. */
+uint32_t ffi_gpu_open_layer_row(
+    int32_t tile_y,
+    int32_t from,
+    int32_t to,
+    uint32_t layer_id,
+    uint32_t rule,
+    const uint64_t *row, size_t row_len,
+    uint32_t words[6],
+    int8_t covers[4]);
+
+/* 0, the tile's coverages in `plane` and the state past the tile, or the number of the refusal. */
+uint32_t ffi_gpu_work_tile(
+    uint32_t words[6],
+    int8_t covers[4],
+    int32_t tile,
+    const uint64_t *row, size_t row_len,
     float *plane, size_t plane_len);
 
 /* `ffi_color_eq` of the library. */

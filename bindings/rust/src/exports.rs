@@ -97,6 +97,17 @@ mod raw {
         pub fn ffi_gpu_double_area_multiplier(word: u64) -> u8;
         pub fn ffi_gpu_double_area(word: u64) -> i16;
         pub fn ffi_gpu_cover(word: u64) -> i8;
+        pub fn ffi_gpu_fields(
+            word: u64,
+            layer_id: *mut u32,
+            tile_x: *mut i16,
+            tile_y: *mut i16,
+            local_x: *mut u8,
+            local_y: *mut u8,
+            double_area_multiplier: *mut u8,
+            double_area: *mut i16,
+            cover: *mut i8,
+        );
         pub fn ffi_gpu_cmp(word: u64, other: u64) -> u8;
         pub fn ffi_gpu_search_last_by_tile_y(
             segments: *const u64,
@@ -116,12 +127,52 @@ mod raw {
             layer_id: u32,
             place: *mut usize,
         ) -> bool;
+        pub fn ffi_gpu_search_last_by_tile_x_at_least(
+            segments: *const u64,
+            segments_len: usize,
+            start: i16,
+            wanted: bool,
+            place: *mut usize,
+        ) -> bool;
+        pub fn ffi_gpu_search_last_by_layer_id_at_least(
+            segments: *const u64,
+            segments_len: usize,
+            start: u32,
+            wanted: bool,
+            place: *mut usize,
+        ) -> bool;
+        pub fn ffi_gpu_search_last_by_tile_y_not_negative(
+            segments: *const u64,
+            segments_len: usize,
+            wanted: bool,
+            place: *mut usize,
+        ) -> bool;
         pub fn ffi_gpu_carry(part: *const u64, part_len: usize, covers: *mut [i8; 4]) -> u32;
         pub fn ffi_gpu_paint_part(
             part: *const u64,
             part_len: usize,
             covers: *const [i8; 4],
             rule: u32,
+            plane: *mut f32,
+            plane_len: usize,
+        ) -> u32;
+        pub fn ffi_gpu_open_layer_row(
+            tile_y: i32,
+            from: i32,
+            to: i32,
+            layer_id: u32,
+            rule: u32,
+            row: *const u64,
+            row_len: usize,
+            words: *mut [u32; 6],
+            covers: *mut [i8; 4],
+        ) -> u32;
+        pub fn ffi_gpu_work_tile(
+            words: *mut [u32; 6],
+            covers: *mut [i8; 4],
+            tile: i32,
+            row: *const u64,
+            row_len: usize,
             plane: *mut f32,
             plane_len: usize,
         ) -> u32;
@@ -633,6 +684,37 @@ pub fn gpu_cover(word: u64) -> i8 {
     unsafe { raw::ffi_gpu_cover(word) }
 }
 
+/// All of them in one call.
+#[allow(clippy::too_many_arguments)]
+#[inline]
+pub fn gpu_fields(
+    word: u64,
+    layer_id: &mut u32,
+    tile_x: &mut i16,
+    tile_y: &mut i16,
+    local_x: &mut u8,
+    local_y: &mut u8,
+    double_area_multiplier: &mut u8,
+    double_area: &mut i16,
+    cover: &mut i8,
+) {
+    // SAFETY: the references are those that the export takes, a slice with its own length; it is proved to keep
+    // to them for every value, and nothing of them is held after the call.
+    unsafe {
+        raw::ffi_gpu_fields(
+            word,
+            layer_id,
+            tile_x,
+            tile_y,
+            local_x,
+            local_y,
+            double_area_multiplier,
+            double_area,
+            cover,
+        )
+    }
+}
+
 /// How a segment compares with another: 0 less, 1 equal, 2 greater.
 #[inline]
 pub fn gpu_cmp(word: u64, other: u64) -> u8 {
@@ -665,6 +747,30 @@ pub fn gpu_search_last_by_layer_id(segments: &[u64], layer_id: u32, place: &mut 
     unsafe { raw::ffi_gpu_search_last_by_layer_id(segments.as_ptr(), segments.len(), layer_id, place) }
 }
 
+/// `ffi_gpu_search_last_by_tile_x_at_least` of the library.
+#[inline]
+pub fn gpu_search_last_by_tile_x_at_least(segments: &[u64], start: i16, wanted: bool, place: &mut usize) -> bool {
+    // SAFETY: the references are those that the export takes, a slice with its own length; it is proved to keep
+    // to them for every value, and nothing of them is held after the call.
+    unsafe { raw::ffi_gpu_search_last_by_tile_x_at_least(segments.as_ptr(), segments.len(), start, wanted, place) }
+}
+
+/// `ffi_gpu_search_last_by_layer_id_at_least` of the library.
+#[inline]
+pub fn gpu_search_last_by_layer_id_at_least(segments: &[u64], start: u32, wanted: bool, place: &mut usize) -> bool {
+    // SAFETY: the references are those that the export takes, a slice with its own length; it is proved to keep
+    // to them for every value, and nothing of them is held after the call.
+    unsafe { raw::ffi_gpu_search_last_by_layer_id_at_least(segments.as_ptr(), segments.len(), start, wanted, place) }
+}
+
+/// `ffi_gpu_search_last_by_tile_y_not_negative` of the library.
+#[inline]
+pub fn gpu_search_last_by_tile_y_not_negative(segments: &[u64], wanted: bool, place: &mut usize) -> bool {
+    // SAFETY: the references are those that the export takes, a slice with its own length; it is proved to keep
+    // to them for every value, and nothing of them is held after the call.
+    unsafe { raw::ffi_gpu_search_last_by_tile_y_not_negative(segments.as_ptr(), segments.len(), wanted, place) }
+}
+
 /// 0 and the covers of the part added to those in `covers`, or 9.
 #[inline]
 pub fn gpu_carry(part: &[u64], covers: &mut [i8; 4]) -> u32 {
@@ -679,6 +785,32 @@ pub fn gpu_paint_part(part: &[u64], covers: &[i8; 4], rule: u32, plane: &mut [f3
     // SAFETY: the references are those that the export takes, a slice with its own length; it is proved to keep
     // to them for every value, and nothing of them is held after the call.
     unsafe { raw::ffi_gpu_paint_part(part.as_ptr(), part.len(), covers, rule, plane.as_mut_ptr(), plane.len()) }
+}
+
+/// 0 and the state before the first tile in `words` and `covers`, or the number of the refusal.
+#[allow(clippy::too_many_arguments)]
+#[inline]
+pub fn gpu_open_layer_row(
+    tile_y: i32,
+    from: i32,
+    to: i32,
+    layer_id: u32,
+    rule: u32,
+    row: &[u64],
+    words: &mut [u32; 6],
+    covers: &mut [i8; 4],
+) -> u32 {
+    // SAFETY: the references are those that the export takes, a slice with its own length; it is proved to keep
+    // to them for every value, and nothing of them is held after the call.
+    unsafe { raw::ffi_gpu_open_layer_row(tile_y, from, to, layer_id, rule, row.as_ptr(), row.len(), words, covers) }
+}
+
+/// 0, the tile's coverages in `plane` and the state past the tile, or the number of the refusal.
+#[inline]
+pub fn gpu_work_tile(words: &mut [u32; 6], covers: &mut [i8; 4], tile: i32, row: &[u64], plane: &mut [f32]) -> u32 {
+    // SAFETY: the references are those that the export takes, a slice with its own length; it is proved to keep
+    // to them for every value, and nothing of them is held after the call.
+    unsafe { raw::ffi_gpu_work_tile(words, covers, tile, row.as_ptr(), row.len(), plane.as_mut_ptr(), plane.len()) }
 }
 
 /// `ffi_color_eq` of the library.

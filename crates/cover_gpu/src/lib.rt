@@ -2,6 +2,7 @@
 // What is said of a row's cover, and the weights and coverages, are of cover and weight.
 pub mod area;
 pub mod carry;
+pub mod column;
 pub mod plane;
 
 use styling::FillRule;

@@ -1,6 +1,8 @@
 // The coverages of a part in a lent plane of a tile four pixels high, at row × 16 + column.
 use crate::GpuCover;
 use crate::area;
+use crate::carry;
+use crate::column;
 use styling::FillRule;
 use weight::tile;
 ghost use mathlib.Core.Path.{_≡_};
@@ -52,6 +54,13 @@ fn paint_judged(part: &[u64], cover: GpuCover, rule: FillRule, plane: &mut [f32]
     ensures { λ r. ⌜ GpuPainting rule (cover .covers) (now (part .entry)) (now (plane .entry)) r
         (now (plane .exit)) ⌝ }
 {
+    if part.len() == 0 {
+        if !carry::is_light(part, cover) {
+            return GpuPainted::CoverTooLarge;
+        }
+        column::paint(cover, rule, plane);
+        return GpuPainted::Done;
+    }
     let mut areas = [0i16; 64];
     if !area::judged_areas(part, cover, &mut areas) {
         return GpuPainted::CoverTooLarge;

@@ -9,3 +9,4 @@ pub mod Painting
 pub mod Revisions
 pub mod Sets
 pub mod Bounds
+pub mod FourHighRows

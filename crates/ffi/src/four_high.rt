@@ -123,6 +123,39 @@ pub extern "C" fn ffi_gpu_cover(word: u64) -> i8
     GpuSegment(word).cover()
 }
 
+// All of them in one call.
+#[no_mangle]
+pub extern "C" fn ffi_gpu_fields(
+    word: u64,
+    layer_id: &mut u32,
+    tile_x: &mut i16,
+    tile_y: &mut i16,
+    local_x: &mut u8,
+    local_y: &mut u8,
+    double_area_multiplier: &mut u8,
+    double_area: &mut i16,
+    cover: &mut i8,
+)
+    ensures { λ _. ⌜ now («layer_id» .exit) ≡ layerIdOf gpu word ⌝ }
+    ensures { λ _. ⌜ now («tile_x» .exit) ≡ tileOf (tileXOf gpu word) ⌝ }
+    ensures { λ _. ⌜ now («tile_y» .exit) ≡ tileOf (tileYOf gpu word) ⌝ }
+    ensures { λ _. ⌜ now («local_x» .exit) ≡ localXOf gpu word ⌝ }
+    ensures { λ _. ⌜ now («local_y» .exit) ≡ localYOf gpu word ⌝ }
+    ensures { λ _. ⌜ now («double_area_multiplier» .exit) ≡ multiplierOf gpu word ⌝ }
+    ensures { λ _. ⌜ now («double_area» .exit) ≡ doubleAreaOf gpu word ⌝ }
+    ensures { λ _. ⌜ now (cover .exit) ≡ coverOf gpu word ⌝ }
+{
+    let segment = GpuSegment(word);
+    *layer_id = segment.layer_id();
+    *tile_x = segment.tile_x();
+    *tile_y = segment.tile_y();
+    *local_x = segment.local_x();
+    *local_y = segment.local_y();
+    *double_area_multiplier = segment.double_area_multiplier();
+    *double_area = segment.double_area();
+    *cover = segment.cover();
+}
+
 // How a segment compares with another: 0 less, 1 equal, 2 greater.
 #[no_mangle]
 pub extern "C" fn ffi_gpu_cmp(word: u64, other: u64) -> u8
@@ -168,6 +201,59 @@ pub extern "C" fn ffi_gpu_search_last_by_layer_id(
         ≡ placeNumber (searchOf (orderAtIn gpu (Key.LayerId «layer_id»)) (now (segments .entry))) ⌝ }
 {
     words::put_found(search::search_last_by_layer_id(segments, layer_id), place)
+}
+
+#[no_mangle]
+pub extern "C" fn ffi_gpu_search_last_by_tile_x_at_least(
+    segments: &[u64],
+    start: i16,
+    wanted: bool,
+    place: &mut usize,
+) -> bool
+    ensures { λ r. ⌜ r
+        ≡ isFound (searchOf (orderAtIn gpu (Key.TileXAtLeast start wanted)) (now (segments .entry))) ⌝ }
+    ensures { λ _. ⌜ now (place .exit)
+        ≡ placeNumber (searchOf (orderAtIn gpu (Key.TileXAtLeast start wanted)) (now (segments .entry))) ⌝ }
+{
+    words::put_found(
+        search::search_last_by_tile_x_at_least(segments, start, wanted),
+        place,
+    )
+}
+
+#[no_mangle]
+pub extern "C" fn ffi_gpu_search_last_by_layer_id_at_least(
+    segments: &[u64],
+    start: u32,
+    wanted: bool,
+    place: &mut usize,
+) -> bool
+    ensures { λ r. ⌜ r
+        ≡ isFound (searchOf (orderAtIn gpu (Key.LayerIdAtLeast start wanted)) (now (segments .entry))) ⌝ }
+    ensures { λ _. ⌜ now (place .exit)
+        ≡ placeNumber (searchOf (orderAtIn gpu (Key.LayerIdAtLeast start wanted)) (now (segments .entry))) ⌝ }
+{
+    words::put_found(
+        search::search_last_by_layer_id_at_least(segments, start, wanted),
+        place,
+    )
+}
+
+#[no_mangle]
+pub extern "C" fn ffi_gpu_search_last_by_tile_y_not_negative(
+    segments: &[u64],
+    wanted: bool,
+    place: &mut usize,
+) -> bool
+    ensures { λ r. ⌜ r
+        ≡ isFound (searchOf (orderAtIn gpu (Key.TileYNotNegative wanted)) (now (segments .entry))) ⌝ }
+    ensures { λ _. ⌜ now (place .exit)
+        ≡ placeNumber (searchOf (orderAtIn gpu (Key.TileYNotNegative wanted)) (now (segments .entry))) ⌝ }
+{
+    words::put_found(
+        search::search_last_by_tile_y_not_negative(segments, wanted),
+        place,
+    )
 }
 
 // 0 and the covers of the part added to those in `covers`, or 9.

@@ -7,6 +7,7 @@ pub mod cached;
 pub mod covers;
 pub mod deciding;
 pub mod four_high;
+pub mod four_high_rows;
 pub mod layers;
 pub mod listing;
 pub mod painting;

@@ -3,4 +3,5 @@ pub mod Within
 pub mod Parts
 pub mod Verdicts
 pub mod Runs
+pub mod LayerExample
 pub mod Alike

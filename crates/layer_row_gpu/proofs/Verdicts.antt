@@ -89,24 +89,28 @@ pub record WorkPassed (s : LayerState) (tile : ℤ) (row : List ℕ) (plane : Li
   pub light : isLight gpu 4 (s .covers) (layerTile s tile row) ≡ true
 
 module _ (s : LayerState) (tile : ℤ) where
-  -- 2 does not apply
-  pub due : (isAstray s || isOtherTile s tile) ≡ false → (tile ≡ pos (s .next)) × (s .next < s .to) × (s .to ≤ 4095)
-  due e =
-      let astray = or-left (isAstray s) (isOtherTile s tile) e in
-      let other = or-right (isAstray s) (isOtherTile s tile) e in
-      let high = or-right (ltb 8190 (s .tileY)) (ltb 4095 (s .to))
-      (or-left (ltb 8190 (s .tileY) || ltb 4095 (s .to)) (ltb (s .next) (s .from))
-      (or-left (ltb 8190 (s .tileY) || ltb 4095 (s .to) || ltb (s .next) (s .from)) (ltb (s .to) (s .next)) astray)) in
+  -- the tile is the next one, and some is left
+  pub is-next : isOtherTile s tile ≡ false → (tile ≡ pos (s .next)) × (s .next < s .to)
+  is-next other =
       let ahead = or-left (leb (s .to) (s .next)) (ltZ tile (pos 0)) (or-left (leb (s .to) (s .next) || ltZ tile (pos 0)) (not (eqb (plus tile) (s .next))) other) in
       let low = lt-false tile (pos 0) (or-right (leb (s .to) (s .next)) (ltZ tile (pos 0)) (or-left (leb (s .to) (s .next) || ltZ tile (pos 0)) (not (eqb (plus tile) (s .next))) other)) in
       let same = eqb-true (plus tile) (s .next) (not-false (eqb (plus tile) (s .next)) (or-right (leb (s .to) (s .next) || ltZ tile (pos 0)) (not (eqb (plus tile) (s .next))) other)) in (
         equal tile (pos (s .next)) (omega (arith, whole tile, low, same)),
         not-at-most (s .to) (s .next) ahead,
-        not-below 4095 (s .to) high,
       )
     where
       not-at-most : (m n : ℕ) → leb m n ≡ false → n < m
       not-at-most m n h = ⊎-elim (λ (p : m ≤ n). absurd (clash (le-leb m n p) h)) (λ (p : n < m). p) (le-or-lt m n)
+
+  -- 2 does not apply
+  pub due : (isAstray s || isOtherTile s tile) ≡ false → (tile ≡ pos (s .next)) × (s .next < s .to) × (s .to ≤ 4095)
+  due e =
+      let astray = or-left (isAstray s) (isOtherTile s tile) e in
+      let high = or-right (ltb 8190 (s .tileY)) (ltb 4095 (s .to))
+      (or-left (ltb 8190 (s .tileY) || ltb 4095 (s .to)) (ltb (s .next) (s .from))
+      (or-left (ltb 8190 (s .tileY) || ltb 4095 (s .to) || ltb (s .next) (s .from)) (ltb (s .to) (s .next)) astray)) in
+      let t = is-next (or-right (isAstray s) (isOtherTile s tile) e) in
+      (t .0, t .1, not-below 4095 (s .to) high)
 
   module _ (row : List ℕ) (plane : List Float) where
     pub work-passed : workLayerVerdict s tile row plane ≡ pass → WorkPassed s tile row plane

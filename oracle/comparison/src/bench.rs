@@ -4,7 +4,7 @@ use std::hint::black_box;
 
 use crate::{
     tally::caught,
-    timed_crate, timed_parts, timed_rows, timed_sets, timed_tiles, timed_words,
+    timed_crate, timed_four_high, timed_parts, timed_rows, timed_sets, timed_tiles, timed_words,
     timing::{Bench, ROUNDS},
 };
 
@@ -22,6 +22,8 @@ pub fn print(only: String) {
     timed_parts::print_alone(bench);
     bench.title("One layer in one tile, of a table");
     timed_parts::print_of_table(bench);
+    bench.titled("One layer in one tile, 16 and 4 pixels high", ["256 pixels", "64 pixels"]);
+    timed_four_high::print(bench);
     bench.title("Searches");
     timed_words::print_searches(bench);
     bench.title("Packing, and the order of a row");

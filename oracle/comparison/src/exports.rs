@@ -57,16 +57,67 @@ extern "C" {
     pub fn ffi_gpu_double_area_multiplier(word: u64) -> u8;
     pub fn ffi_gpu_double_area(word: u64) -> i16;
     pub fn ffi_gpu_cover(word: u64) -> i8;
+    pub fn ffi_gpu_fields(
+        word: u64,
+        layer_id: *mut u32,
+        tile_x: *mut i16,
+        tile_y: *mut i16,
+        local_x: *mut u8,
+        local_y: *mut u8,
+        double_area_multiplier: *mut u8,
+        double_area: *mut i16,
+        cover: *mut i8,
+    );
     pub fn ffi_gpu_cmp(word: u64, other: u64) -> u8;
     pub fn ffi_gpu_search_last_by_tile_y(segments: *const u64, len: usize, tile_y: i16, place: *mut usize) -> bool;
     pub fn ffi_gpu_search_last_by_tile_x(segments: *const u64, len: usize, tile_x: i16, place: *mut usize) -> bool;
     pub fn ffi_gpu_search_last_by_layer_id(segments: *const u64, len: usize, layer_id: u32, place: *mut usize) -> bool;
+    pub fn ffi_gpu_search_last_by_tile_x_at_least(
+        segments: *const u64,
+        len: usize,
+        start: i16,
+        wanted: bool,
+        place: *mut usize,
+    ) -> bool;
+    pub fn ffi_gpu_search_last_by_layer_id_at_least(
+        segments: *const u64,
+        len: usize,
+        start: u32,
+        wanted: bool,
+        place: *mut usize,
+    ) -> bool;
+    pub fn ffi_gpu_search_last_by_tile_y_not_negative(
+        segments: *const u64,
+        len: usize,
+        wanted: bool,
+        place: *mut usize,
+    ) -> bool;
     pub fn ffi_gpu_carry(part: *const u64, len: usize, covers: *mut [i8; 4]) -> u32;
     pub fn ffi_gpu_paint_part(
         part: *const u64,
         part_len: usize,
         covers: *const [i8; 4],
         rule: u32,
+        plane: *mut f32,
+        plane_len: usize,
+    ) -> u32;
+    pub fn ffi_gpu_open_layer_row(
+        tile_y: i32,
+        from: i32,
+        to: i32,
+        layer_id: u32,
+        rule: u32,
+        row: *const u64,
+        row_len: usize,
+        words: *mut [u32; 6],
+        covers: *mut [i8; 4],
+    ) -> u32;
+    pub fn ffi_gpu_work_tile(
+        words: *mut [u32; 6],
+        covers: *mut [i8; 4],
+        tile: i32,
+        row: *const u64,
+        row_len: usize,
         plane: *mut f32,
         plane_len: usize,
     ) -> u32;

@@ -101,7 +101,10 @@ fn fields(kind: &mut Kind) {
         w.cover().into(),
     ];
     let ours = library::gpu_fields(word);
-    kind.case(ours == rust, || format!("{word:#x}: the Rust {rust:?}, the library {ours:?}"));
+    let at_once = library::gpu_fields_at_once(word);
+    kind.case(ours == rust && at_once == rust, || {
+        format!("{word:#x}: the Rust {rust:?}, the library {ours:?}, {at_once:?}")
+    });
 }
 
 /// Words that are equal in the upper 46 bits, that differ in one bit, and any.
@@ -124,7 +127,8 @@ fn search(kind: &mut Kind) {
     let near = segment(if words.is_empty() { random.word() } else { random.pick(&words) });
     let segments: Vec<Segment> = words.iter().map(|&word| segment(word)).collect();
     let beside = random.within(-1..=1) as i16;
-    let (key, rust) = match random.below(3) {
+    let wanted = random.once_in(2);
+    let (key, rust) = match random.below(6) {
         0 => {
             let tile_y = near.tile_y() + beside;
             (Key::TileY(tile_y), cpu::search_last_by_key(&segments, tile_y, |s| s.tile_y()))
@@ -133,6 +137,15 @@ fn search(kind: &mut Kind) {
             let tile_x = near.tile_x() + beside;
             (Key::TileX(tile_x), cpu::search_last_by_key(&segments, tile_x, |s| s.tile_x()))
         }
+        2 => {
+            let start = near.tile_x() + beside;
+            (Key::TileXAtLeast(start, wanted), cpu::search_last_by_key(&segments, wanted, |s| s.tile_x() >= start))
+        }
+        3 => {
+            let start = near.layer_id().saturating_add_signed(beside.into());
+            (Key::LayerIdAtLeast(start, wanted), cpu::search_last_by_key(&segments, wanted, |s| s.layer_id() >= start))
+        }
+        4 => (Key::TileYNotNegative(wanted), cpu::search_last_by_key(&segments, wanted, |s| s.tile_y() >= 0)),
         _ => {
             let layer_id = near.layer_id().saturating_add_signed(beside.into());
             (Key::LayerId(layer_id), cpu::search_last_by_key(&segments, layer_id, |s| s.layer_id()))

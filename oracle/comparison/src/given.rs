@@ -51,6 +51,8 @@ pub enum Key {
     LayerId(u32),
     TileXAtLeast(i16, bool),
     TileYNotNegative(bool),
+    /// At this height the painter has none: only tiles four pixels high have it.
+    LayerIdAtLeast(u32, bool),
 }
 
 /// A layer table as it is lent: eight words and four floats a record.

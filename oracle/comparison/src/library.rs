@@ -70,6 +70,7 @@ pub fn search_last_by_key(segments: &[u64], key: Key) -> Result<usize, usize> {
             Key::TileYNotNegative(wanted) => {
                 exports::ffi_search_last_by_tile_y_not_negative(start, len, wanted, &mut place)
             }
+            Key::LayerIdAtLeast(..) => panic!("a key that is not exported at 16"),
         }
     };
     if found {
@@ -105,12 +106,43 @@ pub fn gpu_fields(word: u64) -> [i64; 8] {
     }
 }
 
+/// The same in one call.
+pub fn gpu_fields_at_once(word: u64) -> [i64; 8] {
+    let (mut layer_id, mut tiles, mut locals, mut multiplier) = (7, [7; 2], [7; 2], 7);
+    let ([tile_x, tile_y], [local_x, local_y]) = (&mut tiles, &mut locals);
+    let (mut double_area, mut cover) = (7, 7);
+    unsafe {
+        exports::ffi_gpu_fields(
+            word,
+            &mut layer_id,
+            tile_x,
+            tile_y,
+            local_x,
+            local_y,
+            &mut multiplier,
+            &mut double_area,
+            &mut cover,
+        );
+    }
+    let ([tile_x, tile_y], [local_x, local_y]) = (tiles, locals);
+    [
+        layer_id.into(),
+        tile_x.into(),
+        tile_y.into(),
+        local_x.into(),
+        local_y.into(),
+        multiplier.into(),
+        double_area.into(),
+        cover.into(),
+    ]
+}
+
 /// As `cmp`.
 pub fn gpu_cmp(word: u64, other: u64) -> u8 {
     unsafe { exports::ffi_gpu_cmp(word, other) }
 }
 
-/// As `search_last_by_key`, by tile y, tile x or layer id.
+/// As `search_last_by_key`.
 pub fn gpu_search_last_by_key(segments: &[u64], key: Key) -> Result<usize, usize> {
     let (start, len) = (segments.as_ptr(), segments.len());
     let mut place = 0;
@@ -119,7 +151,15 @@ pub fn gpu_search_last_by_key(segments: &[u64], key: Key) -> Result<usize, usize
             Key::TileY(tile_y) => exports::ffi_gpu_search_last_by_tile_y(start, len, tile_y, &mut place),
             Key::TileX(tile_x) => exports::ffi_gpu_search_last_by_tile_x(start, len, tile_x, &mut place),
             Key::LayerId(layer_id) => exports::ffi_gpu_search_last_by_layer_id(start, len, layer_id, &mut place),
-            Key::TileXAtLeast(..) | Key::TileYNotNegative(_) => panic!("a key that is not exported"),
+            Key::TileXAtLeast(first, wanted) => {
+                exports::ffi_gpu_search_last_by_tile_x_at_least(start, len, first, wanted, &mut place)
+            }
+            Key::TileYNotNegative(wanted) => {
+                exports::ffi_gpu_search_last_by_tile_y_not_negative(start, len, wanted, &mut place)
+            }
+            Key::LayerIdAtLeast(first, wanted) => {
+                exports::ffi_gpu_search_last_by_layer_id_at_least(start, len, first, wanted, &mut place)
+            }
         }
     };
     if found {

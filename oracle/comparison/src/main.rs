@@ -7,8 +7,9 @@
 use std::{env, process::ExitCode};
 
 use comparison::{
-    backwards, bench, bounds, cached, covers, curve, deciding, edited_sets, four_high, jobs, layers, listing, loads,
-    openings, paintings, plates, rows, standing, stored, stored_jobs, succession, tally::Tally, tiles, two_rows, words,
+    backwards, bench, bounds, cached, covers, curve, deciding, edited_sets, four_high, four_high_rows, jobs, layers,
+    listing, loads, openings, paintings, plates, rows, standing, stored, stored_jobs, succession, tally::Tally, tiles,
+    two_rows, words,
 };
 
 fn main() -> ExitCode {
@@ -32,6 +33,7 @@ fn main() -> ExitCode {
     words::compare(&mut tally);
     covers::compare(&mut tally);
     four_high::compare(&mut tally);
+    four_high_rows::compare(&mut tally);
     cached::compare(&mut tally);
     layers::compare(&mut tally);
     plates::compare(&mut tally);

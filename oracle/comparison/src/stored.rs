@@ -130,6 +130,7 @@ fn search(random: &mut Random) -> Line {
         Key::TileYNotNegative(wanted) => {
             (cpu::search_last_by_key(&segments, wanted, |s| s.tile_y() >= 0), 4, 0, wanted)
         }
+        Key::LayerIdAtLeast(..) => unreachable!("no key of the painter at 16"),
     };
     let given = [vec![code, value, wanted.into(), words.len() as u64], words].concat();
     let place = found.unwrap_or_else(|place| place);

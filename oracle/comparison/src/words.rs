@@ -255,6 +255,7 @@ fn search(kind: &mut Kind, mut any_key: impl FnMut(&mut Random, Segment) -> Key)
         Key::LayerId(layer_id) => cpu::search_last_by_key(&segments, layer_id, |s| s.layer_id()),
         Key::TileXAtLeast(start, wanted) => cpu::search_last_by_key(&segments, wanted, |s| s.tile_x() >= start),
         Key::TileYNotNegative(wanted) => cpu::search_last_by_key(&segments, wanted, |s| s.tile_y() >= 0),
+        Key::LayerIdAtLeast(start, wanted) => cpu::search_last_by_key(&segments, wanted, |s| s.layer_id() >= start),
     };
     let ours = library::search_last_by_key(&words, key);
     let sorted = words.windows(2).all(|pair| segment(pair[0]) <= segment(pair[1]));

@@ -2,12 +2,12 @@
 
 use std::{fmt::Write, fs, path::PathBuf};
 
-/// A function marked `pub extern "C"`: its comment, its name, its parameters and its result.
+/// A function marked `pub extern "C"`: its comment, its name, its parameters and its result, which may be lacking.
 struct Export {
     comment: Vec<String>,
     name: String,
     parameters: Vec<(String, Kind)>,
-    result: String,
+    result: Option<String>,
 }
 
 /// How a parameter is passed: a number by itself, a number or an array of fixed length by a pointer, a slice by a
@@ -51,7 +51,7 @@ fn export(before: &str, rest: &str) -> Export {
         (name.to_string(), kind_of(kind))
     };
     let line = rest.lines().next().expect("the rest of its line");
-    let result = line.trim().strip_prefix("-> ").expect("each export has a result").to_string();
+    let result = line.trim().strip_prefix("-> ").map(str::to_string);
     let comment = before.lines().rev().map_while(|line| line.strip_prefix("// "));
     let mut comment: Vec<String> = comment.map(str::to_string).collect();
     comment.reverse();
@@ -115,6 +115,15 @@ impl Export {
         self.name.strip_prefix("ffi_").expect("exports are named ffi_..")
     }
 
+    /// Its result, as Rust writes it.
+    fn arrow(&self) -> String {
+        self.result.as_ref().map_or(String::new(), |result| format!(" -> {result}"))
+    }
+
+    fn c_result(&self) -> &str {
+        self.result.as_deref().map_or("void", c_name)
+    }
+
     fn told(&self) -> Vec<String> {
         match self.comment.is_empty() {
             true => vec![format!("`{}` of the library.", self.name)],
@@ -129,7 +138,7 @@ fn rust(exports: &[Export]) -> String {
     text += "mod raw {\n    extern \"C\" {\n";
     for export in exports {
         let parameters = export.parameters.iter().map(|(name, kind)| declared(name, kind)).collect::<Vec<_>>();
-        writeln!(text, "pub fn {}({}) -> {};", export.name, parameters.join(", "), export.result).unwrap();
+        writeln!(text, "pub fn {}({}){};", export.name, parameters.join(", "), export.arrow()).unwrap();
     }
     text += "}\n}\n";
     for export in exports {
@@ -140,8 +149,7 @@ fn rust(exports: &[Export]) -> String {
         }
         let parameters = export.parameters.iter().map(|(name, kind)| lent(name, kind)).collect::<Vec<_>>();
         let passed = export.parameters.iter().map(|(name, kind)| passed(name, kind)).collect::<Vec<_>>();
-        writeln!(text, "#[inline]\npub fn {}({}) -> {} {{", export.call(), parameters.join(", "), export.result)
-            .unwrap();
+        writeln!(text, "#[inline]\npub fn {}({}){} {{", export.call(), parameters.join(", "), export.arrow()).unwrap();
         text += SAFETY;
         writeln!(text, "    unsafe {{ raw::{}({}) }}\n}}", export.name, passed.join(", ")).unwrap();
     }
@@ -196,8 +204,8 @@ fn header(exports: &[Export]) -> String {
     for export in exports {
         let told = export.told().join("\n   ");
         let parameters = export.parameters.iter().map(|(name, kind)| in_c(name, kind)).collect::<Vec<_>>();
-        let line = format!("{} {}({});", c_name(&export.result), export.name, parameters.join(", "));
-        let long = || format!("{} {}(\n    {});", c_name(&export.result), export.name, parameters.join(",\n    "));
+        let line = format!("{} {}({});", export.c_result(), export.name, parameters.join(", "));
+        let long = || format!("{} {}(\n    {});", export.c_result(), export.name, parameters.join(",\n    "));
         let line = if line.len() > 120 { long() } else { line };
         write!(text, "\n/* {told} */\n{line}\n").unwrap();
     }

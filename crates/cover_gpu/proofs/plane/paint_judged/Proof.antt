@@ -1,7 +1,8 @@
 -- `plane::paint_judged` meets its contract. Assumes nothing.
 use mathlib.Core.Path.{_≡_, refl, sym, ap, _∙_}
 use mathlib.Core.Bool.{true}
-use mathlib.Core.List.{List}
+use mathlib.Core.List.{List, [], _∷_}
+use Prim.Native.Nat.{ℕ}
 use native.Mathlib.Omega.{arith}
 use borrow.Author.Tests.{not-true, not-false}
 use borrow.Author.Needs.{needs}
@@ -21,29 +22,56 @@ use Rattle.cover_gpu.proofs.Paintings.{gpu-heavy, gpu-done}
 use Rattle.cover_gpu.proofs.plane.paint_judged.Statement.{statement}
 use Rattle.cover_gpu.proofs.plane.paint_judged.Tie as tie
 
+is-light-requires : tie.Need-is-light-requires
+is-light-requires c κs = search needs
+
+returns : tie.Need-returns
+returns c = gpu-heavy (c .before .before .before .before .before .pre) (sym (c .before .is-light .ensures) ∙ not-true _ (c .if2 .taken))
+
+none : (l : List ℕ) → length l ≡ 0 → l ≡ []
+none [] e = refl
+none (x ∷ xs) e = absurd (omega arith)
+
+paint-requires : tie.Need-paint-requires
+paint-requires c κs =
+    let s = c .before .before .before .before .before .before in
+    (rw (none (s .args .part .now) (c .before .before .before .if1 .taken)) at (sym (c .before .before .is-light .ensures) ∙ not-false _ (c .before .if2 .left)), s .pre)
+
+same-length : tie.Need-same-length
+same-length c = search needs
+
+returns-2 : tie.Need-returns-2
+returns-2 c =
+    let p = c .before .before in
+    let t = p .before .before in
+    let s = t .before .before .before .before .before in
+    let e = sym (t .before .is-light .ensures) ∙ not-false _ (t .if2 .left) in
+    let n = none (s .args .part .now) (t .before .before .if1 .taken) in
+    rw n (gpu-done (s .pre) (rw n at e) (p .paint .ensures))
+
 judged-areas-requires : tie.Need-judged-areas-requires
 unfolding noCells
 judged-areas-requires c κs = refl
 
-returns : tie.Need-returns
-returns c = gpu-heavy (c .before .before .before .before .before .pre) (sym (c .before .judged-areas .ensures .light) ∙ not-true _ (c .if1 .taken))
+returns-3 : tie.Need-returns-3
+returns-3 c = gpu-heavy (c .before .before .before .before .before .before .pre) (sym (c .before .judged-areas .ensures .light) ∙ not-true _ (c .if3 .taken))
 
 -- a part that number 9 does not refuse, and its areas
-accepted : (c : tie.Else1) → isLight gpu 4 (c .before .before .before .before .before .args .cover .covers) (c .before .before .before .before .before .args .part .now) ≡ true
-accepted c = sym (c .before .judged-areas .ensures .light) ∙ not-false _ (c .if1 .left)
+accepted : (c : tie.Else3) → isLight gpu 4 (c .before .before .before .before .before .before .args .cover .covers) (c .before .before .before .before .before .before .args .part .now) ≡ true
+accepted c = sym (c .before .judged-areas .ensures .light) ∙ not-false _ (c .if3 .left)
 
-areas-are : (c : tie.Else1) → c .before .judged-areas .last .1 .1 .0 ≡ areasOf gpu 4 (coverAt (c .before .before .before .before .before .args .cover .covers)) (c .before .before .before .before .before .args .part .now)
-areas-are c = c .before .judged-areas .ensures .areas-are (not-false _ (c .if1 .left))
+areas-are : (c : tie.Else3) → c .before .judged-areas .last .1 .1 .0 ≡ areasOf gpu 4 (coverAt (c .before .before .before .before .before .before .args .cover .covers)) (c .before .before .before .before .before .before .args .part .now)
+areas-are c = c .before .judged-areas .ensures .areas-are (not-false _ (c .if3 .left))
 
-areas-long : (c : tie.Else1) → length (c .before .judged-areas .last .1 .1 .0) ≡ 64
-areas-long c = ap length (areas-are c) ∙ areas-length gpu 4 (coverAt (c .before .before .before .before .before .args .cover .covers)) (c .before .before .before .before .before .args .part .now)
+areas-long : (c : tie.Else3) → length (c .before .judged-areas .last .1 .1 .0) ≡ 64
+areas-long c = ap length (areas-are c) ∙ areas-length gpu 4 (coverAt (c .before .before .before .before .before .before .args .cover .covers)) (c .before .before .before .before .before .before .args .part .now)
 
 slice-aggregate-weigh : tie.Need-slice-aggregate-weigh
 slice-aggregate-weigh c = sym (areas-long (c .before))
 
 weigh-requires : tie.Need-weigh-requires
 weigh-requires c κs =
-    let s = c .before .before .before .before .before .before in
+    let s = c .before .before .before .before .before .before .before in
     areas-in-range gpu 4 (s .args .cover .covers) (s .args .part .now) refl (accepted (c .before)) (areas-are (c .before))
 
 slice-aggregate-write-plane : tie.Need-slice-aggregate-write-plane
@@ -52,16 +80,16 @@ slice-aggregate-write-plane c = search needs
 weights-long : (w : tie.After-weigh) → length (w .weigh .last .0) ≡ 64
 weights-long w =
     let t = w .before .before in
-    ap length (w .weigh .ensures) ∙ length-map (t .before .judged-areas .last .1 .1 .0) (weightIn (w .before .before .before .before .before .before .before .args .rule)) ∙ areas-long t
+    ap length (w .weigh .ensures) ∙ length-map (t .before .judged-areas .last .1 .1 .0) (weightIn (w .before .before .before .before .before .before .before .before .args .rule)) ∙ areas-long t
 
 weighed : (w : tie.After-weigh) → Weighed (w .weigh .last .0)
-weighed w = weights-are (w .before .before .before .before .before .before .before .args .rule) (w .before .before .before .judged-areas .last .1 .1 .0) (w .weigh .ensures)
+weighed w = weights-are (w .before .before .before .before .before .before .before .before .args .rule) (w .before .before .before .judged-areas .last .1 .1 .0) (w .weigh .ensures)
 
 -- the coverages of the weights are the plane
-plane-is : (w : tie.After-weigh) → weightsPlane 4 (w .weigh .last .0) ≡ planeOf gpu 4 (w .before .before .before .before .before .before .before .args .rule) (coverAt (w .before .before .before .before .before .before .before .args .cover .covers)) (w .before .before .before .before .before .before .before .args .part .now)
+plane-is : (w : tie.After-weigh) → weightsPlane 4 (w .weigh .last .0) ≡ planeOf gpu 4 (w .before .before .before .before .before .before .before .before .args .rule) (coverAt (w .before .before .before .before .before .before .before .before .args .cover .covers)) (w .before .before .before .before .before .before .before .before .args .part .now)
 plane-is w =
     let t = w .before .before in
-    let s = w .before .before .before .before .before .before .before in
+    let s = w .before .before .before .before .before .before .before .before in
     ap (exchange nan 4)
     (ap coveragesIn (w .weigh .ensures)
     ∙ coverages-are (s .args .rule) (t .before .judged-areas .last .1 .1 .0)
@@ -71,16 +99,16 @@ plane-is w =
 write-plane-requires : tie.Need-write-plane-requires
 write-plane-requires c κs =
     let w = c .before .before .before in
-    (weighed w, omega (arith, weights-long w), w .before .before .before .before .before .before .before .pre)
+    (weighed w, omega (arith, weights-long w), w .before .before .before .before .before .before .before .before .pre)
 
-same-length : tie.Need-same-length
-same-length c = search needs
+same-length-2 : tie.Need-same-length-2
+same-length-2 c = search needs
 
-returns-2 : tie.Need-returns-2
-returns-2 c =
+returns-4 : tie.Need-returns-4
+returns-4 c =
     let p = c .before .before in
     let w = p .before .before .before .before in
-    let s = w .before .before .before .before .before .before .before in
+    let s = w .before .before .before .before .before .before .before .before in
     gpu-done (s .pre) (accepted (w .before .before))
     (p .write-plane .ensures ∙ ap (λ (l : List Float). over l (s .args .plane .now)) (plane-is w))
 
@@ -88,11 +116,16 @@ pub paint-judged-spec : {M : Type 1} → statement M
 paint-judged-spec =
     tie.close
     (tie.spec
-    judged-areas-requires
+    is-light-requires
     returns
+    paint-requires
+    same-length
+    returns-2
+    judged-areas-requires
+    returns-3
     slice-aggregate-weigh
     weigh-requires
     slice-aggregate-write-plane
     write-plane-requires
-    same-length
-    returns-2)
+    same-length-2
+    returns-4)

@@ -1,0 +1,59 @@
+-- `column::repeat_column` meets its contract. Assumes nothing.
+use Prim.Native.Nat.{_-_}
+use native.Mathlib.Omega.{arith}
+use lib.Ieee.{nan}
+use lib.ListN.{getD}
+use Rattle.cover_statements.proofs.PlaneRows.{PlaneRows, rows-start, rows-room, rows-next, rows-end}
+use Rattle.cover_gpu.proofs.column.repeat_column.Statement.{statement}
+use Rattle.cover_gpu.proofs.column.repeat_column.Tie as tie
+
+abbrev Inv-loop : tie.InvT-loop
+Inv-loop column plane₀ y₀ plane y = PlaneRows 4 (λ x row. getD column row nan) plane₀ y plane
+
+abbrev μ-loop : tie.MeasureT-loop
+μ-loop column plane₀ y₀ plane y = 4 - y
+
+loop-holds : tie.Need-loop-holds Inv-loop μ-loop
+loop-holds c = rows-start (c .before .pre)
+
+mul-fill-row : tie.Need-mul-fill-row Inv-loop μ-loop
+mul-fill-row c = omega arith
+
+element-copy-out-fill-row : tie.Need-element-copy-out-fill-row Inv-loop μ-loop
+element-copy-out-fill-row c = omega arith
+
+fill-row-requires : tie.Need-fill-row-requires Inv-loop μ-loop
+fill-row-requires c κs = rows-room (c .before .before .before .loop .inv) (c .before .before .loop-test .taken)
+
+add-y : tie.Need-add-y Inv-loop μ-loop
+add-y c = omega arith
+
+loop-less : tie.Need-loop-less Inv-loop μ-loop
+loop-less c = omega arith
+
+loop-again : tie.Need-loop-again Inv-loop μ-loop
+loop-again c =
+    let t = c .before .before .before .before .before in
+    rows-next (t .before .loop .inv) (t .loop-test .taken) (c .before .before .fill-row .ensures)
+
+same-length : tie.Need-same-length Inv-loop μ-loop
+same-length c = c .before .loop .inv .long
+
+returns : tie.Need-returns Inv-loop μ-loop
+returns c = rows-end (c .before .loop .inv) (omega arith)
+
+pub repeat-column-spec : {M : Type 1} → statement M
+repeat-column-spec =
+    tie.close
+    (tie.spec
+    Inv-loop
+    μ-loop
+    loop-holds
+    mul-fill-row
+    element-copy-out-fill-row
+    fill-row-requires
+    add-y
+    loop-less
+    loop-again
+    same-length
+    returns)

@@ -1,0 +1,94 @@
+-- What is due of each call after an accepted opening of one layer's row, worked from the opening on: by the opening's call with its whole row, by how
+-- many tiles were due to be worked so far, and by the caller's own choices. No answer and no state that a call gave back is looked at. Stands for
+-- W-213, 'carry and coverage are held to the same working from the whole row as at 16', and for 'what it compares with is worked by this document
+-- from the opening on'.
+use mathlib.Core.Bool.{Bool, not, _||_}
+use mathlib.Core.List.{List}
+use Prim.Native.Nat.{ℕ, zero, suc, _+_}
+use lib.Dec.{ltb, leb, eqb}
+use lib.Ieee.{Float}
+use lib.IntN.{ℤ, pos}
+use lib.ListN.{length}
+use lib.Signed.{ltZ}
+use Rattle.laws.specs.Integer.{plus}
+use Rattle.laws.specs.Lists.{over}
+use Rattle.refusals.specs.Refusal.{Judgement, pass, refuse, unless}
+use Rattle.pixel_segment.specs.Field.{gpu}
+use Rattle.segment_rows.specs.Rows.{isRow}
+use Rattle.cover_statements.specs.Carry.{isLight, carryOf}
+use Rattle.cover_statements.specs.Cover.{noCover}
+use Rattle.cover_statements.specs.WholeRow.{partOf, rowPlane}
+use Rattle.layer_row_gpu.specs.LayerState.{LayerState, dropped}
+use Rattle.layer_row_gpu.specs.OpenLayer.{LayerCall, layerLeft}
+
+-- ---- the row after n tiles
+
+-- the tile from + n
+abbrev pub layerTileOn : LayerCall → ℕ → ℕ
+layerTileOn c n = plus (c .from) + n
+
+-- the layer's segments there. The stored number of a tile is its own plus 1
+abbrev pub layerPartOn : LayerCall → ℕ → List ℕ → List ℕ
+layerPartOn c n row = partOf gpu (suc (layerTileOn c n)) (c .layer) row
+
+-- the carry before that tile: the covers left of the first tile, then those of each tile, dropped where they are empty by the rule
+unfoldable pub coverOn : LayerCall → ℕ → List ℤ
+coverOn c zero = carryOf gpu 4 (noCover 4) (layerLeft (c .from) (c .layer) (c .row))
+coverOn c (suc n) = dropped (c .rule) (carryOf gpu 4 (coverOn c n) (layerPartOn c n (c .row)))
+
+abbrev pub layerStateOn : LayerCall → ℕ → LayerState
+layerStateOn c n =
+    record {
+      tileY = plus (c .tileY);
+      from = plus (c .from);
+      to = plus (c .to);
+      next = layerTileOn c n;
+      layer = c .layer;
+      rule = c .rule;
+      covers = coverOn c n;
+    }
+
+-- ---- a work
+
+-- what a caller chooses: the tile, and the row and the plane that it lends
+pub record LayerChoice : Type 0 where
+  pub tile : ℤ
+  pub row : List ℕ
+  pub plane : List Float
+
+-- 2: the tile is not the one after the n that are worked, or that one is past the end
+abbrev pub isTileNotDue : LayerCall → ℕ → ℤ → Bool
+isTileNotDue c n tile = leb (plus (c .to)) (layerTileOn c n) || ltZ tile (pos 0) || not (eqb (plus tile) (layerTileOn c n))
+
+-- the lowest refusal that applies; 3 and 9 are judged of the row that is lent
+unfoldable pub layerDueVerdict : LayerCall → ℕ → LayerChoice → Judgement
+layerDueVerdict c n choice =
+    unless (ltb (length (choice .plane)) 64) 1
+    (unless (isTileNotDue c n (choice .tile)) 2
+    (unless (not (isRow gpu (suc (plus (c .tileY))) (choice .row))) 3
+    (unless (not (isLight gpu 4 (coverOn c n) (layerPartOn c n (choice .row)))) 9
+    pass)))
+
+-- what a work gives: its answer, the state, and the lent plane at exit
+pub record LayerGiven : Type 0 where
+  pub answer : Judgement
+  pub state : LayerState
+  pub plane : List Float
+
+-- by the verdict: the tile's 64 coverages by working from the whole row stand over what the plane held; or all is as it was
+abbrev pub layerOut : Judgement → LayerCall → ℕ → List Float → LayerGiven
+layerOut (refuse number) c n plane = record { answer = refuse number; state = layerStateOn c n; plane = plane }
+layerOut pass c n plane =
+    record {
+      answer = pass;
+      state = layerStateOn c (suc n);
+      plane = over (rowPlane gpu 4 (c .rule) (suc (layerTileOn c n)) (c .layer) (c .row)) plane;
+    }
+
+abbrev pub workLayerDue : LayerCall → ℕ → LayerChoice → LayerGiven
+workLayerDue c n choice = layerOut (layerDueVerdict c n choice) c n (choice .plane)
+
+-- how many tiles are worked after a call, by the verdict that is due
+abbrev pub tilesAfter : Judgement → ℕ → ℕ
+tilesAfter pass n = suc n
+tilesAfter (refuse number) n = n
