@@ -38,10 +38,10 @@ afterSigned (Integer v next) = next
 afterSigned Malformed = 0
 
 -- the same in terms of the printer: v stands at the place as it is printed, and no digit comes after it; or no number does
-abbrev pub Stands : List ℕ → ℕ → Signed → Type 0
-Stands s at (Integer v next) = (next ≤ length s) × (drop at s ≡ decimalℤ v ++ drop next s) × Short v × Stops (drop next s)
-Stands s at Malformed = (v : ℤ) (t : List ℕ) → Short v → Stops t → drop at s ≡ decimalℤ v ++ t → ⊥
+abbrev pub StandsPrinted : List ℕ → ℕ → Signed → Type 0
+StandsPrinted s at (Integer v next) = (next ≤ length s) × (drop at s ≡ decimalℤ v ++ drop next s) × Short v × Stops (drop next s)
+StandsPrinted s at Malformed = (v : ℤ) (t : List ℕ) → Short v → Stops t → drop at s ≡ decimalℤ v ++ t → ⊥
 
 pub record SignedRead (s : List ℕ) (at : ℕ) (r : Signed) : Type 0 where
   pub answer : signedLeft s r ≡ parseℤ 10000000 (drop at s)
-  pub stands : Stands s at r
+  pub stands : StandsPrinted s at r

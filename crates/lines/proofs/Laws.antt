@@ -15,15 +15,15 @@ use Rattle.decimal.specs.Parse.{Parsed, parsed, failed, parseℤ}
 use Rattle.decimal.proofs.Digits.{decimal-one, decimal-more, by-digits}
 use Rattle.decimal.proofs.Steps.{cases, digit}
 use Rattle.decimal.proofs.Laws.{parseℤ-complete, parseℤ-sound}
-use Rattle.lines.specs.Text.{endOf, lineText, linesText, blockText, AllShort, Fields, AllFields}
+use Rattle.lines.specs.Text.{fieldEnd, lineText, linesText, blockText, AllShort, Fields, AllFields}
 use Rattle.lines.specs.Parse.{stripPrefix, ParsedLine, after, endAt, parseLine, startsNumber, ParsedLines, parseLines, afterNames, parseBlock}
 use Rattle.lines.proofs.Steps.{line-failed, line-end, line-other, line-next, lines-none, lines-broken, lines-next}
 
-pub ends : (vs : List ℤ) → endOf vs ≡ endAt (length vs)
+pub ends : (vs : List ℤ) → fieldEnd vs ≡ endAt (length vs)
 ends [] = refl
 ends (v ∷ vs) = refl
 
-stops : (vs : List ℤ) (t : List ℕ) → Stops (endOf vs ∷ t)
+stops : (vs : List ℤ) (t : List ℕ) → Stops (fieldEnd vs ∷ t)
 stops [] t = refl
 stops (v ∷ vs) t = refl
 
@@ -31,10 +31,10 @@ pub line-complete : (vs : List ℤ) (t : List ℕ) → AllShort vs → parseLine
 unfolding parseLine lineText
 line-complete [] t h = refl
 line-complete (v ∷ vs) t h =
-    let n : parseℤ 10000000 (decimalℤ v ++ (endOf vs ∷ (lineText vs ++ t))) ≡ parsed v (endOf vs ∷ (lineText vs ++ t))
-    = parseℤ-complete 10000000 v (endOf vs ∷ (lineText vs ++ t)) (h .0) (stops vs (lineText vs ++ t)) in
-    rw (append-assoc (decimalℤ v) (endOf vs ∷ lineText vs) t)
-    (line-next (length vs) (decimalℤ v ++ (endOf vs ∷ (lineText vs ++ t))) v (endOf vs) (lineText vs ++ t) n (ends vs)
+    let n : parseℤ 10000000 (decimalℤ v ++ (fieldEnd vs ∷ (lineText vs ++ t))) ≡ parsed v (fieldEnd vs ∷ (lineText vs ++ t))
+    = parseℤ-complete 10000000 v (fieldEnd vs ∷ (lineText vs ++ t)) (h .0) (stops vs (lineText vs ++ t)) in
+    rw (append-assoc (decimalℤ v) (fieldEnd vs ∷ lineText vs) t)
+    (line-next (length vs) (decimalℤ v ++ (fieldEnd vs ∷ (lineText vs ++ t))) v (fieldEnd vs) (lineText vs ++ t) n (ends vs)
     ∙ ap (after v) (line-complete vs t (h .1)))
 
 pub never : {P : Type 0} {r : (Option (List ℕ))} {t : List ℕ} → r ≡ none → r ≡ some t → P
@@ -50,13 +50,13 @@ line-after : (k : ℕ) (s : List ℕ) (v : ℤ) (b : ℕ) (u : List ℕ) (l : Pa
 unfolding lineText
 line-after k s v b u l t g e i =
     let q = parseℤ-sound 10000000 s v (b ∷ u) (omega arith) g in
-    let byte : b ≡ endOf (l .numbers) = e ∙ sym (ends (l .numbers) ∙ ap endAt (i .fields .count)) in
+    let byte : b ≡ fieldEnd (l .numbers) = e ∙ sym (ends (l .numbers) ∙ ap endAt (i .fields .count)) in
     record {
       text =
           q .text
           ∙ ap (λ (x : ℕ). decimalℤ v ++ (x ∷ u)) byte
-          ∙ ap (λ (x : List ℕ). decimalℤ v ++ (endOf (l .numbers) ∷ x)) (i .text)
-          ∙ sym (append-assoc (decimalℤ v) (endOf (l .numbers) ∷ lineText (l .numbers)) t);
+          ∙ ap (λ (x : List ℕ). decimalℤ v ++ (fieldEnd (l .numbers) ∷ x)) (i .text)
+          ∙ sym (append-assoc (decimalℤ v) (fieldEnd (l .numbers) ∷ lineText (l .numbers)) t);
       fields = record { count = ap suc (i .fields .count); short = (q .below, i .fields .short) };
     }
 
@@ -88,7 +88,7 @@ digits-starts (negsuc n) t = refl
 line-starts : (k : ℕ) (vs : List ℤ) (t : List ℕ) → length vs ≡ suc k → startsNumber (lineText vs ++ t) ≡ true
 unfolding lineText
 line-starts k [] t h = absurd (omega arith)
-line-starts k (v ∷ vs) t h = rw (append-assoc (decimalℤ v) (endOf vs ∷ lineText vs) t) (digits-starts v ((endOf vs ∷ lineText vs) ++ t))
+line-starts k (v ∷ vs) t h = rw (append-assoc (decimalℤ v) (fieldEnd vs ∷ lineText vs) t) (digits-starts v ((fieldEnd vs ∷ lineText vs) ++ t))
 
 pub lines-complete : (m k : ℕ) (ls : List (List ℤ)) (t : List ℕ) → length ls ≤ m → AllFields (suc k) ls → startsNumber t ≡ false
     → parseLines m (suc k) (linesText ls ++ t) ≡ record { lines = ls; rest = some t }

@@ -11,7 +11,7 @@ use lib.Seq.{sets, length-sets, drop-cons}
 use Rattle.decimal.specs.Decimal.{decimalℤ}
 use Rattle.decimal.specs.Print.{Printing}
 use Rattle.decimal.proofs.Print.{sets-append}
-use Rattle.lines.specs.Text.{endOf, lineText}
+use Rattle.lines.specs.Text.{fieldEnd, lineText}
 use Rattle.lines.specs.Parse.{endAt}
 use Rattle.lines.proofs.Laws.{ends}
 
@@ -33,22 +33,22 @@ module _ {vs : List ℤ} {out₀ : List ℕ} {at p j : ℕ} {out : List ℕ} (l 
   next-field {i} {out₁} h q b =
       let v = getD vs j (pos 0) in
       let after = drop (j + 1) vs in
-      let end : endAt (length vs - (j + 1)) ≡ endOf after = sym (ends after ∙ ap endAt (length-drop (j + 1) vs)) in
+      let end : endAt (length vs - (j + 1)) ≡ fieldEnd after = sym (ends after ∙ ap endAt (length-drop (j + 1) vs)) in
       let split : drop j vs ≡ v ∷ after = drop-cons vs j (pos 0) h ∙ ap (λ (n : ℕ). v ∷ drop n vs) (sym (add-one j)) in
-      let text : lineText (drop j vs) ≡ decimalℤ v ++ (endOf after ∷ lineText after) = ap lineText split in
+      let text : lineText (drop j vs) ≡ decimalℤ v ++ (fieldEnd after ∷ lineText after) = ap lineText split in
       let size : length out₁ ≡ length out = ap length (q .printed) ∙ length-sets out p (decimalℤ v) in
       record {
         within = omega arith;
         long = length-set out₁ i (endAt (length vs - (j + 1))) ∙ size ∙ l .long;
         room = simp length-set (omega (arith, l .room));
         few = omega (arith, l .few);
-        place = omega (arith, ap length text, length-append (decimalℤ v) (endOf after ∷ lineText after), q .answer, l .place);
+        place = omega (arith, ap length text, length-append (decimalℤ v) (fieldEnd after ∷ lineText after), q .answer, l .place);
         rest =
             ap (λ (n : ℕ). sets (set out₁ i (endAt (length vs - (j + 1)))) n (lineText after)) (add-one i)
             ∙ ap (λ (b : ℕ). sets (set out₁ i b) (suc i) (lineText after)) end
-            ∙ ap (λ (o : List ℕ). sets o i (endOf after ∷ lineText after)) (q .printed)
-            ∙ ap (λ (n : ℕ). sets (sets out p (decimalℤ v)) n (endOf after ∷ lineText after)) (q .answer)
-            ∙ sym (sets-append (decimalℤ v) (endOf after ∷ lineText after) out p)
+            ∙ ap (λ (o : List ℕ). sets o i (fieldEnd after ∷ lineText after)) (q .printed)
+            ∙ ap (λ (n : ℕ). sets (sets out p (decimalℤ v)) n (fieldEnd after ∷ lineText after)) (q .answer)
+            ∙ sym (sets-append (decimalℤ v) (fieldEnd after ∷ lineText after) out p)
             ∙ sym (ap (sets out p) text)
             ∙ l .rest;
       }

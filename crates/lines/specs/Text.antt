@@ -8,13 +8,13 @@ use lib.ListN.{length}
 use Rattle.decimal.specs.Decimal.{decimalℤ, Short}
 
 -- what ends a field, by the fields after it in its line
-abbrev pub endOf : List ℤ → ℕ
-endOf [] = 10
-endOf (v ∷ vs) = 32
+abbrev pub fieldEnd : List ℤ → ℕ
+fieldEnd [] = 10
+fieldEnd (v ∷ vs) = 32
 
 unfoldable pub lineText : List ℤ → List ℕ
 lineText [] = []
-lineText (v ∷ vs) = decimalℤ v ++ (endOf vs ∷ lineText vs)
+lineText (v ∷ vs) = decimalℤ v ++ (fieldEnd vs ∷ lineText vs)
 
 unfoldable pub linesText : List (List ℤ) → List ℕ
 linesText [] = []

@@ -28,7 +28,7 @@ use Rattle.row_statements.specs.declared.RowState.{RowState}
 use Rattle.row_statements.specs.declared.Opened.the-variants as opened
 use Rattle.row_statements.proofs.Run.{accepted, is-open, held-first}
 use Rattle.row_statements.proofs.Example as row
-use Rattle.listing_runs.specs.Example.{call, choices, choicesDue, Ran}
+use Rattle.listing_runs.specs.Example.{threeTiles, listingChoices, callChoicesDue, CallsRan}
 use Rattle.listing_runs.proofs.Runs.{exists}
 
 -- ---- the opening
@@ -37,28 +37,28 @@ first : RowState
 first = record { «tile_y» = 0; from = 0; to = 3; next = 0; left = 4; taken = 0; clip = Absent }
 
 held : Columns
-held = queueOver (openQueue (leftOf call)) (room 256)
+held = queueOver (openQueue (leftOf threeTiles)) (room 256)
 
-counted : openCount (openVerdict call (room 256)) (leftOf call) ≡ given 4
+counted : openCount (openVerdict threeTiles (room 256)) (leftOf threeTiles) ≡ given 4
 unfolding openVerdict isTableShort isValid isTable strictlyAscendsFrom ascendsFrom layerAt isLightOpening isLight addTo addAll coverOf leftPart searchOf halved tileOf
 counted = refl
 
-opens : OpensRow (openOf call (room 256)) (opened.Row first) held
+opens : OpensRow (openOf threeTiles (room 256)) (opened.Row first) held
 unfolding first held openOf
 opens = rw counted (record { answer = refl; lent-is = refl })
 
 -- ---- the calls
 
-due : choicesDue (openRow call) atFirst choices
+due : callChoicesDue (openRow threeTiles) atFirst listingChoices
     ≡ refuse 2 ∷ refuse 1 ∷ pass ∷ pass ∷ pass ∷ refuse 6 ∷ pass ∷ pass ∷ pass ∷ pass ∷ pass ∷ pass ∷ []
-unfolding choicesDue listVerdict listOf groupsOf handedOn queueAfter addTo addAll leftPart tilePart layerPart searchOf halved lookup tableOf layerAt isLight carryOf isEmpty heldIn coverOf tileOf
+unfolding callChoicesDue listVerdict listOf groupsOf handedOn queueAfter addTo addAll leftPart tilePart layerPart searchOf halved lookup tableOf layerAt isLight carryOf isEmpty heldIn coverOf tileOf
 due = refl
 
-pub ran : Ran
+pub ran : CallsRan
 ran =
     let words = row.ran .words in
-    let a = accepted call (room 256) held first opens in
-    let r = exists (is-open call (room 256) held first words a) (record { row = held-first call (room 256) held first words a; lists = tt }) choices in
+    let a = accepted threeTiles (room 256) held first opens in
+    let r = exists (is-open threeTiles (room 256) held first words a) (record { row = held-first threeTiles (room 256) held first words a; lists = tt }) listingChoices in
     record {
       back = held;
       state = first;

@@ -30,7 +30,7 @@ use Rattle.row_statements.proofs.Works.{is-next, list-passed}
 use Rattle.listing_statements.specs.Listing.{TileList, isTileListShort, listedOver}
 use Rattle.listing_statements.specs.InnerLists.{ListSays}
 use Rattle.listing_statements.proofs.Lists.{listed-ids, written}
-use Rattle.listing_runs.specs.Run.{HeldList, Among}
+use Rattle.listing_runs.specs.Run.{HeldList, AmongLists}
 use Rattle.listing_runs.specs.InnerHolding.{HoldsList, HoldsLists}
 
 -- a flag for each layer
@@ -62,7 +62,7 @@ pub record Found (o : OpenRow) (n : ℕ) (l : HeldList) : Type 0 where
   pub before : at < n
   pub holds : HoldsList o at l
 
-pub found : {o : OpenRow} (n : ℕ) (ls : List HeldList) {l : HeldList} → HoldsLists o n ls → Among l ls → Found o n l
+pub found : {o : OpenRow} (n : ℕ) (ls : List HeldList) {l : HeldList} → HoldsLists o n ls → AmongLists l ls → Found o n l
 found zero [] h a = absurd a
 found zero (m ∷ ls) h a = absurd h
 found (suc n) [] h a = absurd a
@@ -74,7 +74,7 @@ found {o} (suc n) (m ∷ ls) h (inr a) =
 -- the list of a tile that is past
 pub record PastList (o : OpenRow) (m : ℕ) (ls : List HeldList) : Type 0 where
   pub held : HeldList
-  pub among : Among held ls
+  pub among : AmongLists held ls
   pub holds : HoldsList o m held
 
 pub past-list : {o : OpenRow} (n : ℕ) (ls : List HeldList) (m : ℕ) → HoldsLists o n ls → m < n → PastList o m ls

@@ -12,7 +12,7 @@ use Rattle.row_statements.proofs.Run.{facts, step-right, still-holds, accepted,
 use Rattle.listing_statements.specs.Listing.{ListCall, ListLent, listedBy, listingOut, listingOf, ListsTile}
 use Rattle.listing_statements.specs.declared.TileListed.{TileListed}
 use Rattle.listing_runs.specs.Run.{HeldList, HeldAll, heldWith, Call, listsPast, CallStep, Calls}
-use Rattle.listing_runs.specs.Claim.{RightOtherListing, RightCall, pastCall, AllRight, Claim}
+use Rattle.listing_runs.specs.Claim.{RightOtherListing, RightCall, pastCall, AllCallsRight, ListingClaim}
 use Rattle.listing_runs.specs.InnerHolding.{HoldsAll}
 use Rattle.listing_runs.proofs.Lists.{found}
 use Rattle.listing_runs.proofs.Steps.{right-list, after-event, right-decide}
@@ -40,14 +40,14 @@ call-right is-open holds (CallStep.otherList {a = a} {lent = lent} {n = n} es e 
     (right, record { row = still-holds (holds .row) (right n e .state); lists = holds .lists })
 call-right is-open holds (CallStep.otherDecide g) = (g, holds)
 
-pub calls-right : {o : OpenRow} {p : Past} {h h′ : HeldAll} {es : List Call} → IsOpen o → HoldsAll o p h → Calls o h es h′ → AllRight o p es
+pub calls-right : {o : OpenRow} {p : Past} {h h′ : HeldAll} {es : List Call} → IsOpen o → HoldsAll o p h → Calls o h es h′ → AllCallsRight o p es
 calls-right is-open holds Calls.none = tt
 calls-right is-open holds (Calls.next s rest) =
     let u = call-right is-open holds s in
     (u .0, calls-right is-open (u .1) rest)
 
 -- demand 3, with listings and decidings
-pub run : Claim
+pub run : ListingClaim
 run c lent back s es h w g r =
     let a = accepted c lent back s g in
     let opened-row = is-open c lent back s w a in

@@ -33,7 +33,7 @@ use Rattle.listing_statements.specs.declared.DecideAnswer.the-variants as decid
 use Rattle.listing_statements.specs.declared.TileDecided.{TileDecided}
 use Rattle.listing_runs.specs.Due.{ListChoice, listDueVerdict, listDue, DecideChoice, outcomeDue, nthOn, decideDueVerdict, decideDue}
 use Rattle.listing_runs.specs.Run.{HeldList, HeldAll, SameEntries, Call, listOn, decideOn, CallStep, Calls}
-use Rattle.listing_runs.specs.Example.{Choice, isPast, choicesDue, duesOf}
+use Rattle.listing_runs.specs.Example.{CallChoice, isPast, callChoicesDue, callDuesOf}
 use Rattle.listing_runs.specs.InnerHolding.{HoldsAll}
 use Rattle.listing_runs.proofs.Lists.{past-list}
 use Rattle.listing_runs.proofs.Steps.{list-due, decide-due}
@@ -115,11 +115,11 @@ placed o n tile e =
 -- ---- for every list of choices there is a run, with the verdicts that are due
 
 module _ {o : OpenRow} (is-open : IsOpen o) where
-  pub record Goes (p : Past) (h : HeldAll) (cs : List Choice) : Type 0 where
+  pub record Goes (p : Past) (h : HeldAll) (cs : List CallChoice) : Type 0 where
     pub events : List Call
     pub after : HeldAll
     pub runs : Calls o h events after
-    pub dues : duesOf o p events ≡ choicesDue o p cs
+    pub dues : callDuesOf o p events ≡ callChoicesDue o p cs
 
   -- a deciding, where a list of the tile is held
   pub record Decides (h : HeldAll) (c : DecideChoice) : Type 0 where
@@ -140,8 +140,8 @@ module _ {o : OpenRow} (is-open : IsOpen o) where
       (decide-gives (decideDueVerdict held) (decide-named held) o held) in
       record { list = l; result = decideResult (decideDue o held); masks = decideDue o held .unmasked; step = CallStep.decide {l = l} {c = held} (f .among) tile (same-list l) g }
 
-  decide-first : {p : Past} {h : HeldAll} (c : DecideChoice) (cs : List Choice) (b : Bool) → isPast o (p .tiles) (c .tile) ≡ b → HoldsAll o p h → Goes p h cs → Goes p h (Choice.decide c ∷ cs)
-  unfolding duesOf choicesDue
+  decide-first : {p : Past} {h : HeldAll} (c : DecideChoice) (cs : List CallChoice) (b : Bool) → isPast o (p .tiles) (c .tile) ≡ b → HoldsAll o p h → Goes p h cs → Goes p h (CallChoice.decide c ∷ cs)
+  unfolding callDuesOf callChoicesDue
   decide-first c cs false e holds rest = record { events = rest .events; after = rest .after; runs = rest .runs; dues = rw e (rest .dues) }
   decide-first {p} {h} c cs true e holds rest =
       record {
@@ -158,19 +158,19 @@ module _ {o : OpenRow} (is-open : IsOpen o) where
       let held = heldListing (h .row) c in
       subst (λ (out : ListGiven). ListsTile out (listResult (listDue o p held)) (listDue o p held .lent)) (sym (list-due is-open (holds .row) held as-held)) (list-gives (listDueVerdict o (p .tiles) held) (list-named o (p .tiles) held) o p held)
 
-  pub exists : {p : Past} {h : HeldAll} → HoldsAll o p h → (cs : List Choice) → Goes p h cs
-  unfolding duesOf choicesDue
+  pub exists : {p : Past} {h : HeldAll} → HoldsAll o p h → (cs : List CallChoice) → Goes p h cs
+  unfolding callDuesOf callChoicesDue
   exists {p} {h} holds [] = record { events = []; after = h; runs = Calls.none; dues = refl }
-  exists {p} {h} holds (Choice.work c ∷ cs) =
+  exists {p} {h} holds (CallChoice.work c ∷ cs) =
       let step = CallStep.row {h = h} (Step.work {c = heldWork (h .row) c} as-held (work-goes is-open (holds .row) c)) in
       let rest = exists (call-right is-open holds step .1) cs in
       record { events = _ ∷ rest .events; after = rest .after; runs = Calls.next step (rest .runs); dues = ap (λ (vs : List Judgement). workDueVerdict o (p .tiles) c ∷ vs) (rest .dues) }
-  exists {p} {h} holds (Choice.paint c ∷ cs) =
+  exists {p} {h} holds (CallChoice.paint c ∷ cs) =
       let step = CallStep.row {h = h} (Step.paint {c = heldPaint (h .row) c} as-held (paint-goes is-open (holds .row) c)) in
       let rest = exists (call-right is-open holds step .1) cs in
       record { events = _ ∷ rest .events; after = rest .after; runs = Calls.next step (rest .runs); dues = ap (λ (vs : List Judgement). paintDueVerdict o (p .tiles) c ∷ vs) (rest .dues) }
-  exists {p} {h} holds (Choice.list c ∷ cs) =
+  exists {p} {h} holds (CallChoice.list c ∷ cs) =
       let step = CallStep.list {h = h} {c = heldListing (h .row) c} as-held (list-goes holds c) in
       let rest = exists (call-right is-open holds step .1) cs in
       record { events = _ ∷ rest .events; after = rest .after; runs = Calls.next step (rest .runs); dues = ap (λ (vs : List Judgement). listDueVerdict o (p .tiles) c ∷ vs) (rest .dues) }
-  exists {p} {h} holds (Choice.decide c ∷ cs) = decide-first c cs (isPast o (p .tiles) (c .tile)) refl holds (exists holds cs)
+  exists {p} {h} holds (CallChoice.decide c ∷ cs) = decide-first c cs (isPast o (p .tiles) (c .tile)) refl holds (exists holds cs)

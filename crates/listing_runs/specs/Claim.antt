@@ -66,16 +66,16 @@ pastCall o (Call.decide c r back) p = p
 pastCall o (Call.otherList a lent r back) p = p
 pastCall o (Call.otherDecide a unmasked r back) p = p
 
-abbrev pub AllRight : OpenRow → Past → List Call → Type 0
-AllRight o p [] = Unit {0}
-AllRight o p (e ∷ es) = RightCall o p e × AllRight o (pastCall o e p) es
+abbrev pub AllCallsRight : OpenRow → Past → List Call → Type 0
+AllCallsRight o p [] = Unit {0}
+AllCallsRight o p (e ∷ es) = RightCall o p e × AllCallsRight o (pastCall o e p) es
 
 -- ---- the claim: for every accepted opening of a row of 64-bit words, and every list of calls after it
 
-abbrev pub Claim : Type 0
-Claim =
+abbrev pub ListingClaim : Type 0
+ListingClaim =
     (c : OpenCall) (lent back : Columns) (s : RowState) (es : List Call) (h : HeldAll) →
     Words (c .row) →
     OpensRow (openOf c lent) (opened.Row s) back →
     Calls (openRow c) (heldWith (heldFirst s back) []) es h →
-    ((n : ℕ) → TileFacts (openRow c) n) × AllRight (openRow c) atFirst es
+    ((n : ℕ) → TileFacts (openRow c) n) × AllCallsRight (openRow c) atFirst es

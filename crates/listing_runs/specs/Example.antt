@@ -32,76 +32,76 @@ use Rattle.listing_runs.specs.Claim.{pastCall}
 -- ---- what is due of a list of calls
 
 -- a call that a caller chooses
-pub data Choice : Type 0 where
-  work : (c : WorkChoice) → Choice
-  paint : (c : PaintChoice) → Choice
-  list : (c : ListChoice) → Choice
-  decide : (c : DecideChoice) → Choice
+pub data CallChoice : Type 0 where
+  work : (c : WorkChoice) → CallChoice
+  paint : (c : PaintChoice) → CallChoice
+  list : (c : ListChoice) → CallChoice
+  decide : (c : DecideChoice) → CallChoice
 
 -- the tile is one of the first n of the row: one that a list is held of
 abbrev pub isPast : OpenRow → ℕ → ℤ → Bool
 isPast o n tile = not (ltZ tile (pos (o .from))) && ltb (plus tile) (o .from + n)
 
 -- a deciding of a tile that no list is held of is no call
-unfoldable pub choicesDue : OpenRow → Past → List Choice → List Judgement
-choicesDue o p [] = []
-choicesDue o p (Choice.work c ∷ cs) = workDueVerdict o (p .tiles) c ∷ choicesDue o (pastWork (workDueVerdict o (p .tiles) c) p) cs
-choicesDue o p (Choice.paint c ∷ cs) = paintDueVerdict o (p .tiles) c ∷ choicesDue o (pastPaint (paintDueVerdict o (p .tiles) c) o (c .layer) p) cs
-choicesDue o p (Choice.list c ∷ cs) = listDueVerdict o (p .tiles) c ∷ choicesDue o (pastWork (listDueVerdict o (p .tiles) c) p) cs
-choicesDue o p (Choice.decide c ∷ cs) = cond (isPast o (p .tiles) (c .tile)) (decideDueVerdict c ∷ choicesDue o p cs) (choicesDue o p cs)
+unfoldable pub callChoicesDue : OpenRow → Past → List CallChoice → List Judgement
+callChoicesDue o p [] = []
+callChoicesDue o p (CallChoice.work c ∷ cs) = workDueVerdict o (p .tiles) c ∷ callChoicesDue o (pastWork (workDueVerdict o (p .tiles) c) p) cs
+callChoicesDue o p (CallChoice.paint c ∷ cs) = paintDueVerdict o (p .tiles) c ∷ callChoicesDue o (pastPaint (paintDueVerdict o (p .tiles) c) o (c .layer) p) cs
+callChoicesDue o p (CallChoice.list c ∷ cs) = listDueVerdict o (p .tiles) c ∷ callChoicesDue o (pastWork (listDueVerdict o (p .tiles) c) p) cs
+callChoicesDue o p (CallChoice.decide c ∷ cs) = cond (isPast o (p .tiles) (c .tile)) (decideDueVerdict c ∷ callChoicesDue o p cs) (callChoicesDue o p cs)
 
 -- the verdicts that are due of the calls of a run
-unfoldable pub duesOf : OpenRow → Past → List Call → List Judgement
-duesOf o p [] = []
-duesOf o p (Call.row (Event.work c r back) ∷ es) = workDueVerdict o (p .tiles) c ∷ duesOf o (pastCall o (Call.row (Event.work c r back)) p) es
-duesOf o p (Call.row (Event.paint c r back) ∷ es) = paintDueVerdict o (p .tiles) c ∷ duesOf o (pastCall o (Call.row (Event.paint c r back)) p) es
-duesOf o p (Call.row (Event.otherWork a lent r back) ∷ es) = duesOf o p es
-duesOf o p (Call.row (Event.otherPaint a plane r back) ∷ es) = duesOf o p es
-duesOf o p (Call.list c r back ∷ es) = listDueVerdict o (p .tiles) c ∷ duesOf o (pastCall o (Call.list c r back) p) es
-duesOf o p (Call.decide c r back ∷ es) = decideDueVerdict c ∷ duesOf o p es
-duesOf o p (Call.otherList a lent r back ∷ es) = duesOf o p es
-duesOf o p (Call.otherDecide a unmasked r back ∷ es) = duesOf o p es
+unfoldable pub callDuesOf : OpenRow → Past → List Call → List Judgement
+callDuesOf o p [] = []
+callDuesOf o p (Call.row (Event.work c r back) ∷ es) = workDueVerdict o (p .tiles) c ∷ callDuesOf o (pastCall o (Call.row (Event.work c r back)) p) es
+callDuesOf o p (Call.row (Event.paint c r back) ∷ es) = paintDueVerdict o (p .tiles) c ∷ callDuesOf o (pastCall o (Call.row (Event.paint c r back)) p) es
+callDuesOf o p (Call.row (Event.otherWork a lent r back) ∷ es) = callDuesOf o p es
+callDuesOf o p (Call.row (Event.otherPaint a plane r back) ∷ es) = callDuesOf o p es
+callDuesOf o p (Call.list c r back ∷ es) = listDueVerdict o (p .tiles) c ∷ callDuesOf o (pastCall o (Call.list c r back) p) es
+callDuesOf o p (Call.decide c r back ∷ es) = decideDueVerdict c ∷ callDuesOf o p es
+callDuesOf o p (Call.otherList a lent r back ∷ es) = callDuesOf o p es
+callDuesOf o p (Call.otherDecide a unmasked r back ∷ es) = callDuesOf o p es
 
 -- ---- the row and the table of row_statements/specs/Example, over three tiles
 
-abbrev pub call : OpenCall
-call = record { tileY = pos 0; from = pos 0; to = pos 3; row = example.row; table = example.table }
+abbrev pub threeTiles : OpenCall
+threeTiles = record { tileY = pos 0; from = pos 0; to = pos 3; row = example.row; table = example.table }
 
 -- ---- the calls
 
-abbrev columns : TileList
-columns = tileList (example.list .ids) (example.list .covers) (example.list .flags)
+abbrev threeColumns : TileList
+threeColumns = tileList (example.list .ids) (example.list .covers) (example.list .flags)
 
-abbrev working : ℤ → Choice
-working tile =
-    Choice.work (record { tile = tile; kept = noTile; clear = black; previous = Absent; queue = room 256; lent = record { queue = room 256; list = example.list } })
+abbrev workOfTile : ℤ → CallChoice
+workOfTile tile =
+    CallChoice.work (record { tile = tile; kept = noTile; clear = black; previous = Absent; queue = room 256; lent = record { queue = room 256; list = example.list } })
 
-abbrev painting : ℤ → ℕ → Choice
-painting tile layer = Choice.paint (record { tile = tile; layer = layer; queue = room 256; plane = replicate 256 (ofBits binary32 0) })
+abbrev paintInTile : ℤ → ℕ → CallChoice
+paintInTile tile layer = CallChoice.paint (record { tile = tile; layer = layer; queue = room 256; plane = replicate 256 (ofBits binary32 0) })
 
-abbrev listing : ℤ → ℕ → Choice
-listing tile n = Choice.list (record { tile = tile; queue = room 256; lent = listLent (room n) columns })
+abbrev listing : ℤ → ℕ → CallChoice
+listing tile n = CallChoice.list (record { tile = tile; queue = room 256; lent = listLent (room n) threeColumns })
 
-abbrev deciding : ℤ → kept.Kept → Choice
+abbrev deciding : ℤ → kept.Kept → CallChoice
 deciding tile k =
-    Choice.decide (record { tile = tile; list = columns; kept = k; clear = black; previous = Absent; unmasked = example.list .unmasked })
+    CallChoice.decide (record { tile = tile; list = threeColumns; kept = k; clear = black; previous = Absent; unmasked = example.list .unmasked })
 
 -- a painting before the first listing; tile 0 listed with a queue of 255 entries, and then rightly; the clip painted at once; tile 1 listed; tile 0
 -- decided with tag 4, and then rightly; tile 1 decided; tile 2 worked; its list and tile 0's decided once more; the opaque layer of tile 2 painted
-abbrev pub choices : List Choice
-choices =
-    painting (pos 0) 2 ∷ listing (pos 0) 255 ∷ listing (pos 0) 256 ∷ painting (pos 0) 2 ∷ listing (pos 1) 256 ∷ deciding (pos 0) (tagged 4) ∷ deciding (pos 0) noTile
-    ∷ deciding (pos 1) (tagged 0) ∷ working (pos 2) ∷ deciding (pos 2) noTile ∷ deciding (pos 0) noTile ∷ painting (pos 2) 4 ∷ []
+abbrev pub listingChoices : List CallChoice
+listingChoices =
+    paintInTile (pos 0) 2 ∷ listing (pos 0) 255 ∷ listing (pos 0) 256 ∷ paintInTile (pos 0) 2 ∷ listing (pos 1) 256 ∷ deciding (pos 0) (tagged 4) ∷ deciding (pos 0) noTile
+    ∷ deciding (pos 1) (tagged 0) ∷ workOfTile (pos 2) ∷ deciding (pos 2) noTile ∷ deciding (pos 0) noTile ∷ paintInTile (pos 2) 4 ∷ []
 
-pub record Ran : Type 0 where
+pub record CallsRan : Type 0 where
   pub back : Columns
   pub state : RowState
   pub events : List Call
   pub after : HeldAll
   -- the claim's premises
-  pub words : Words (call .row)
-  pub opens : OpensRow (openOf call (room 256)) (opened.Row state) back
-  pub runs : Calls (openRow call) (heldWith (heldFirst state back) []) events after
+  pub words : Words (threeTiles .row)
+  pub opens : OpensRow (openOf threeTiles (room 256)) (opened.Row state) back
+  pub runs : Calls (openRow threeTiles) (heldWith (heldFirst state back) []) events after
   -- which calls are refused, and by which number
-  pub dues : duesOf (openRow call) atFirst events
+  pub dues : callDuesOf (openRow threeTiles) atFirst events
       ≡ refuse 2 ∷ refuse 1 ∷ pass ∷ pass ∷ pass ∷ refuse 6 ∷ pass ∷ pass ∷ pass ∷ pass ∷ pass ∷ pass ∷ []

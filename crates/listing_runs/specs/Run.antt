@@ -41,9 +41,9 @@ abbrev pub heldWith : Held → List HeldList → HeldAll
 heldWith row lists = record { row = row; lists = lists }
 
 -- one of the lists that are held
-abbrev pub Among : HeldList → List HeldList → Type 0
-Among l [] = ⊥
-Among l (m ∷ ls) = (l ≡ m) ⊎ Among l ls
+abbrev pub AmongLists : HeldList → List HeldList → Type 0
+AmongLists l [] = ⊥
+AmongLists l (m ∷ ls) = (l ≡ m) ⊎ AmongLists l ls
 
 -- memory that says the same n entries, and is judged alike by 1: a caller may keep a list in other columns
 pub record SameEntries (n : ℕ) (a b : TileList) : Type 0 where
@@ -99,7 +99,7 @@ pub data CallStep (o : OpenRow) : HeldAll → Call → HeldAll → Type 0 where
       CallStep o h (Call.list c r back)
       (heldWith (rowAfter (r .answer) (stateIn (r .state)) (h .row) (c .queue) back) (listsAfter (r .answer) (c .tile) (back .list) (h .lists)))
   decide : {h : HeldAll} {l : HeldList} {c : DecideChoice} {r : TileDecided} {back : List Bool} →
-      Among l (h .lists) → l .tile ≡ c .tile → SameEntries (l .count) (l .list) (c .list) →
+      AmongLists l (h .lists) → l .tile ≡ c .tile → SameEntries (l .count) (l .list) (c .list) →
       DecidesTile (decidingOf (decideOn o l c) (c .unmasked)) r back →
       CallStep o h (Call.decide c r back) h
   otherList : {h : HeldAll} {a : ListCall} {lent : ListLent} {n : ℕ} {r : TileListed} {back : ListLent} →

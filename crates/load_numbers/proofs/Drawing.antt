@@ -11,7 +11,7 @@ use mir.Val.{SFits, toZ, ofZ}
 use mir.ValLaws.{toZ-pos}
 use Rattle.laws.proofs.Machine.{sfits}
 use Rattle.job_text_statements.specs.Job.{segmentValues}
-use Rattle.load_statements.specs.Draw.{next, drawOf, stateAfter, drawAt}
+use Rattle.load_statements.specs.Draw.{next, drawOfState, stateAfter, drawAt}
 use Rattle.load_statements.specs.Load.{segmentFrom}
 use Rattle.load_statements.proofs.Fields.{cover-small}
 
@@ -24,10 +24,10 @@ cover-fits v =
 
 -- what a draw from the state s gives, and the state that it leaves
 pub record Draws (s v t : ℕ) : Type 0 where
-  pub value : v ≡ drawOf (next s)
+  pub value : v ≡ drawOfState (next s)
   pub state : t ≡ next s
 
-pub drawn : {s v t : ℕ} → (v ≡ drawOf (next s)) × (t ≡ next s) → Draws s v t
+pub drawn : {s v t : ℕ} → (v ≡ drawOfState (next s)) × (t ≡ next s) → Draws s v t
 drawn e = record { value = e .0; state = e .1 }
 
 module _ (s slot : ℕ) {v₁ v₂ v₃ v₄ s₁ s₂ s₃ s₄ : ℕ} (a : Draws s v₁ s₁) (b : Draws s₁ v₂ s₂) (c : Draws s₂ v₃ s₃) (d : Draws s₃ v₄ s₄) where
@@ -41,15 +41,15 @@ module _ (s slot : ℕ) {v₁ v₂ v₃ v₄ s₁ s₂ s₃ s₄ : ℕ} (a : Dra
 
   second : v₂ ≡ drawAt s 2
   unfolding stateAfter
-  second = b .value ∙ ap (λ (x : ℕ). drawOf (next x)) (a .state)
+  second = b .value ∙ ap (λ (x : ℕ). drawOfState (next x)) (a .state)
 
   third : v₃ ≡ drawAt s 3
   unfolding stateAfter
-  third = c .value ∙ ap (λ (x : ℕ). drawOf (next x)) (b .state ∙ ap next (a .state))
+  third = c .value ∙ ap (λ (x : ℕ). drawOfState (next x)) (b .state ∙ ap next (a .state))
 
   fourth : v₄ ≡ drawAt s 4
   unfolding stateAfter
-  fourth = d .value ∙ ap (λ (x : ℕ). drawOf (next x)) (c .state ∙ ap next (b .state ∙ ap next (a .state)))
+  fourth = d .value ∙ ap (λ (x : ℕ). drawOfState (next x)) (c .state ∙ ap next (b .state ∙ ap next (a .state)))
 
   pub line-is : slot < 32760
       → toZ w32 (slot / 8) ∷ toZ w32 (slot % 8) ∷ toZ w32 (v₁ % 16) ∷ toZ w32 (v₂ % 16) ∷ pos 1 ∷ toZ w32 (v₃ % 33) ∷ toZ w32 (ofZ w32 (toZ w32 (v₄ % 33) -ℤ pos 16)) ∷ []

@@ -1,6 +1,6 @@
 // The generator of loads.
 ghost use mathlib.Core.Path.{_≡_};
-ghost use Rattle.load_statements.specs.Draw.{next, drawOf};
+ghost use Rattle.load_statements.specs.Draw.{next, drawOfState};
 
 pub struct Generator {
     pub state: u32,
@@ -14,7 +14,7 @@ pub struct Drawn {
 
 impl Generator {
     pub fn draw(self) -> Drawn
-        ensures { λ r. ⌜ (r .value ≡ drawOf (next (self .state))) × (r .generator .state ≡ next (self .state)) ⌝ }
+        ensures { λ r. ⌜ (r .value ≡ drawOfState (next (self .state))) × (r .generator .state ≡ next (self .state)) ⌝ }
     {
         let state = ((1664525 * (self.state as u64) + 1013904223) % 4294967296) as u32;
         Drawn {

@@ -4,11 +4,11 @@ use mathlib.Core.Path.{_≡_, refl}
 use mathlib.Core.Bool.{true}
 use Prim.Native.Nat.{ℕ, _+_, _/_, _%_, _≤_, _<_}
 use native.Mathlib.Omega.{arith}
-use lib.IntN.{ℤ, pos, _-ℤ_}
-use lib.Signed.{leZ}
-use Rattle.laws.specs.Integer.{plus, minus, isWithin}
+use lib.IntN.{pos, _-ℤ_}
+use Rattle.laws.specs.Integer.{isWithin}
 use Rattle.laws.proofs.Bools.{both}
-use Rattle.laws.proofs.Parts.{taken, added, true-le}
+use Rattle.laws.proofs.Parts.{taken, added}
+use Rattle.laws.proofs.Ranges.{is-within}
 use Rattle.pixel_segment.specs.Field.{cpu}
 use Rattle.pixel_segment.specs.Pack.{isPackable}
 use Rattle.pixel_segment.proofs.Ranges.{cpu-layout, packable}
@@ -16,10 +16,6 @@ use Rattle.job_lines.specs.Rules.{layerRule, segmentRule}
 use Rattle.load_statements.specs.Draw.{drawAt}
 use Rattle.load_statements.specs.Load.{loadLayer, segmentFrom}
 use Rattle.load_statements.proofs.Fields.{cover-small}
-
-is-within : (low high v : ℤ) → plus low + minus v ≤ plus v + minus low → plus v + minus high ≤ plus high + minus v → isWithin low high v ≡ true
-unfolding isWithin
-is-within low high v h l = both (leZ low v) (leZ v high) (true-le low v h) (true-le v high l)
 
 pub layer-passes : (id : ℕ) → layerRule (loadLayer id) ≡ true
 unfolding layerRule isWithin loadLayer

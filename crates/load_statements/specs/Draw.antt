@@ -6,8 +6,8 @@ unfoldable pub next : ℕ → ℕ
 next s = (1664525 * s + 1013904223) % 2 ^ 32
 
 -- what a draw gives, of the state that it leaves
-abbrev pub drawOf : ℕ → ℕ
-drawOf s = s / 65536
+abbrev pub drawOfState : ℕ → ℕ
+drawOfState s = s / 65536
 
 -- the state after n draws, from the state s
 unfoldable pub stateAfter : ℕ → ℕ → ℕ
@@ -16,4 +16,4 @@ stateAfter s (suc n) = next (stateAfter s n)
 
 -- what the n-th draw gives, the first being number 1
 abbrev pub drawAt : ℕ → ℕ → ℕ
-drawAt s n = drawOf (stateAfter s n)
+drawAt s n = drawOfState (stateAfter s n)

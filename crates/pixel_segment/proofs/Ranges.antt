@@ -14,7 +14,7 @@ use Rattle.laws.specs.Integer.{plus, minus}
 use Rattle.laws.proofs.Bools.{both, left, right}
 use Rattle.laws.proofs.Parts.{whole, added, plus-neg, minus-neg, le-true, true-le, lt-true, true-lt}
 use Rattle.pixel_segment.specs.Field.{cpu, gpu, widthOf}
-use Rattle.pixel_segment.specs.Pack.{storedOf, isHeld, lowestTile, lowestSigned, isPackable, InRange}
+use Rattle.pixel_segment.specs.Pack.{storedOf, isHeld, lowestTile, lowestSigned, isPackable, FieldsInRange}
 
 -- a table of seven widths, whose last is a signed field's
 pub record Layout (ws : List ℕ) : Type 0 where
@@ -83,7 +83,7 @@ module _ (k : ℕ) (v : ℤ) where
 -- ---- the seven tests, the first innermost
 
 module _ (ws : List ℕ) (layout : Layout ws) (layer tx ty x y m c : ℤ) where
-  pub in-range : isPackable ws layer tx ty x y m c ≡ true → InRange ws layer tx ty x y m c
+  pub in-range : isPackable ws layer tx ty x y m c ≡ true → FieldsInRange ws layer tx ty x y m c
   unfolding isPackable
   in-range e =
       let a = isHeld lowestTile (widthOf ws 0) ty in
@@ -108,7 +108,7 @@ module _ (ws : List ℕ) (layout : Layout ws) (layer tx ty x y m c : ℤ) where
         cover = signed (widthOf ws 6) c (layout .signed) (right (a && b && d && f && g && h) i e);
       }
 
-  pub packable : InRange ws layer tx ty x y m c → isPackable ws layer tx ty x y m c ≡ true
+  pub packable : FieldsInRange ws layer tx ty x y m c → isPackable ws layer tx ty x y m c ≡ true
   unfolding isPackable
   packable r =
       let a = isHeld lowestTile (widthOf ws 0) ty in

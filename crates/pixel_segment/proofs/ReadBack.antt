@@ -15,7 +15,7 @@ use Rattle.laws.specs.Answer.{Answer, given, refused}
 use Rattle.laws.specs.Integer.{plus, minus, modℤ}
 use Rattle.laws.proofs.Parts.{difference, added, equal}
 use Rattle.pixel_segment.specs.Field.{sum, widthOf, fieldOf, tileXOf, tileYOf, layerIdOf, localXOf, localYOf, multiplierOf, tileOf, signedOf, coverOf}
-use Rattle.pixel_segment.specs.Pack.{join, storedOf, wordOf, isPackable, InRange, packedAnswer, packOf, ReadsBack, PacksTo, Packs}
+use Rattle.pixel_segment.specs.Pack.{join, storedOf, wordOf, isPackable, FieldsInRange, packedAnswer, packOf, ReadsBack, PacksTo, Packs}
 use Rattle.pixel_segment.specs.declared.Packed.{Packed}
 use Rattle.pixel_segment.proofs.Widths.{sum-step, sum-drop-le}
 use Rattle.pixel_segment.proofs.Ranges.{Layout, halves, in-range}
@@ -127,7 +127,7 @@ turned-down true v n e = absurd (let z : _≡_ {A = ℕ} 0 1 = cc in omega arith
 turned-down false v n e = refl
 
 module _ (ws : List ℕ) (layout : Layout ws) (layer tx ty x y m c : ℤ) where
-  pub reads-back : InRange ws layer tx ty x y m c → ReadsBack ws (wordOf ws (plus layer) tx ty (plus x) (plus y) (plus m) c) layer tx ty x y m c
+  pub reads-back : FieldsInRange ws layer tx ty x y m c → ReadsBack ws (wordOf ws (plus layer) tx ty (plus x) (plus y) (plus m) c) layer tx ty x y m c
   unfolding coverOf
   reads-back h =
       let w = wordOf ws (plus layer) tx ty (plus x) (plus y) (plus m) c in

@@ -59,7 +59,7 @@ isPackable ws layer tx ty x y m c =
     && isHeld (lowestSigned (widthOf ws 6)) (widthOf ws 6) c
 
 -- the same as facts: numbers within their fields
-pub record InRange (ws : List ℕ) (layer tx ty x y m c : ℤ) : Type 0 where
+pub record FieldsInRange (ws : List ℕ) (layer tx ty x y m c : ℤ) : Type 0 where
   pub layer-id : (minus layer ≡ 0) × (plus layer < 2 ^ widthOf ws 2)
   pub tile-x : (minus tx ≤ 1) × (storedOf tx < 2 ^ widthOf ws 1)
   pub tile-y : (minus ty ≤ 1) × (storedOf ty < 2 ^ widthOf ws 0)

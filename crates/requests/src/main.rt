@@ -1,18 +1,10 @@
 // Worked examples of the requests, run: a line for each, with what it gave.
-mod backwards;
-mod bounds;
-mod four_high;
-mod languages;
-mod planes;
-mod sets;
-mod standing;
-
 fn main() {
-    sets::print_cases();
-    planes::print_cases();
-    backwards::print_cases();
-    bounds::print_cases();
-    standing::print_cases();
-    four_high::print_cases();
-    languages::print_cases();
+    segment_set_examples::print_cases();
+    painting_examples::planes::print_cases();
+    row_examples::print_cases();
+    cover_bounds_examples::print_cases();
+    revision_examples::print_cases();
+    four_high_examples::print_cases();
+    painting_examples::languages::print_cases();
 }

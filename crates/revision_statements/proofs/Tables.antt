@@ -22,7 +22,7 @@ use Rattle.layer_table.specs.Table.{wordsAt, colorAt, layerAt, tableOf, tableRo
 use Rattle.revision_statements.specs.Sent.{Sent, hasProperties, isGood, sentAt, sentOf}
 use Rattle.revision_statements.specs.Standing.{standingOf}
 use Rattle.revision_statements.specs.Verdict.{standVerdict, wordsIn, floatsIn, Stands}
-use Rattle.revision_statements.specs.Laws.{Among, layerFrom, Begins}
+use Rattle.revision_statements.specs.Laws.{Among, sentLayer, Begins}
 use Rattle.revision_statements.proofs.Walking.{length-words, length-floats}
 use Rattle.revision_statements.proofs.Verdicts.{Passed, passes}
 use Rattle.revision_statements.proofs.Stood.{stood}
@@ -115,12 +115,12 @@ module _ (ss : List Sent) (d : Sent) (oldWords : List ℕ) (oldFloats : List Flo
       (is-tabulate (length ss) (wordsAt (over (wordsIn ss) oldWords)) (d .words) (map (λ s. s .words) ss) (length-map ss (λ s. s .words))
       (λ i h. List·getD-map (λ s. s .words) ss i d ∙ sym (entry-words ss oldWords oldFloats i d h)))
 
-  table-layers : tableOf (over (wordsIn ss) oldWords) (over (floatsIn ss) oldFloats) (length ss) ≡ map layerFrom ss
+  table-layers : tableOf (over (wordsIn ss) oldWords) (over (floatsIn ss) oldFloats) (length ss) ≡ map sentLayer ss
   unfolding tableOf layerAt
   table-layers =
       sym
-      (is-tabulate (length ss) (layerAt (over (wordsIn ss) oldWords) (over (floatsIn ss) oldFloats)) (layerFrom d) (map layerFrom ss) (length-map ss layerFrom)
-      (λ i h. List·getD-map layerFrom ss i d ∙ sym (ap₂ layerOf (entry-words ss oldWords oldFloats i d h) (entry-color ss oldWords oldFloats i d h))))
+      (is-tabulate (length ss) (layerAt (over (wordsIn ss) oldWords) (over (floatsIn ss) oldFloats)) (sentLayer d) (map sentLayer ss) (length-map ss sentLayer)
+      (λ i h. List·getD-map sentLayer ss i d ∙ sym (ap₂ layerOf (entry-words ss oldWords oldFloats i d h) (entry-color ss oldWords oldFloats i d h))))
 
 -- what is written holds every entry that stands
 long-enough : {records : List ℕ} {colors : List Float} {count : ℕ} {oldWords : List ℕ} {oldFloats : List Float} → Passed records colors count oldWords oldFloats → let ss = standingOf (sentOf records colors count) in isTableShort (over (wordsIn ss) oldWords) (over (floatsIn ss) oldFloats) (length ss) ≡ false

@@ -34,10 +34,10 @@ pub data Reordered : List Sent → List Sent → Type 0 where
   both : {ss ts us : List Sent} → Reordered ss ts → Reordered ts us → Reordered ss us
 
 -- the layer that a record's properties say
-abbrev pub layerFrom : Sent → Layer
-layerFrom s = layerOf (s .words) (s .color)
+abbrev pub sentLayer : Sent → Layer
+sentLayer s = layerOf (s .words) (s .color)
 
 -- rows can begin from a table: 1 and 4 don't apply to its n records, and its layers are those of the records that stand
 pub record Begins (ss : List Sent) (n : ℕ) (words : List ℕ) (floats : List Float) : Type 0 where
   pub table : isTable words floats n ≡ true
-  pub layers : tableOf words floats n ≡ map layerFrom (standingOf ss)
+  pub layers : tableOf words floats n ≡ map sentLayer (standingOf ss)

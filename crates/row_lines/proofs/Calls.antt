@@ -29,7 +29,7 @@ use Rattle.row_statements.specs.declared.TileWorked.{TileWorked}
 use Rattle.row_statements.specs.declared.Painted.{Painted}
 use Rattle.row_lines.specs.Shown.{shownIn}
 use Rattle.row_lines.specs.Lines.{isPaint, decidedOn, shownOn, octetsOn, lineOn, RowLines, linesBy, linesFrom}
-use Rattle.row_lines.specs.Calls.{WorksTile, PaintsShown, shownBy, paintedBy, lineBy, Paintings, Calls}
+use Rattle.row_lines.specs.Calls.{WorksTile, PaintsShown, shownBy, paintedBy, lineBy, Paintings, LineCalls}
 use Rattle.row_lines.specs.declared.Line.{Line}
 
 -- the verdict on the layers of the tile from + n
@@ -156,11 +156,11 @@ module _ (o : OpenRow) where
 
   -- ---- all tiles
 
-  pub lines-are : {k n : ℕ} (clip : Option ℕ) {es : List Event} {ls : RowLines} → o .from + n + k ≤ o .to → Calls o k n es ls → AllRight o (tilesPast n clip) es → ls ≡ linesFrom o k n
+  pub lines-are : {k n : ℕ} (clip : Option ℕ) {es : List Event} {ls : RowLines} → o .from + n + k ≤ o .to → LineCalls o k n es ls → AllRight o (tilesPast n clip) es → ls ≡ linesFrom o k n
   unfolding linesFrom
-  lines-are clip inside Calls.none all = refl
-  lines-are {n = n} clip inside (Calls.turned-down w a) all = rw (refused-told (omega (arith, inside)) w (all .0) a)
-  lines-are {k} {n} clip inside (Calls.next {k = m} {r = r} {back = back} {t = t} {ps = ps} {es = es} {octets = octets} {rest = rest} w a paintings calls) all =
+  lines-are clip inside LineCalls.none all = refl
+  lines-are {n = n} clip inside (LineCalls.turned-down w a) all = rw (refused-told (omega (arith, inside)) w (all .0) a)
+  lines-are {k} {n} clip inside (LineCalls.next {k = m} {r = r} {back = back} {t = t} {ps = ps} {es = es} {octets = octets} {rest = rest} w a paintings calls) all =
       let here : o .from + n < o .to = omega (arith, inside) in
       let told = work-told here w (all .0) a in
       let painted = painted-told option.none paintings (subst (λ (p : Past). AllRight o p (ps ++ es)) (past-told here w (all .0) told) (all .1)) in

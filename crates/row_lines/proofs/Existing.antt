@@ -24,23 +24,23 @@ use Rattle.painter.specs.Clip.{clipAfter}
 use Rattle.row_statements.specs.Lent.{Columns, ListColumns}
 use Rattle.row_statements.specs.State.{State, stateIn}
 use Rattle.row_statements.specs.Opening.{OpenCall, openOf, OpensRow}
-use Rattle.row_statements.specs.TileWork.{WorkLent, WorkGiven, TileAnswer, tileAnswer, workOut, workOf, GivesWork}
-use Rattle.row_statements.specs.Painting.{PaintGiven, paintOut, paintOf, layerVerdict, PaintsLayer}
+use Rattle.row_statements.specs.TileWork.{WorkLent, TileAnswer, tileAnswer, workOut, workOf, GivesWork}
+use Rattle.row_statements.specs.Painting.{paintOut, paintOf, layerVerdict, PaintsLayer}
 use Rattle.row_statements.specs.Due.{OpenRow, Past, WorkChoice, tableOn, queueOn, layersOn, stateOn, workDueVerdict, saysOn, workDue, PaintChoice, paintDueVerdict, paintOn, paintDue, markOn, pastPaint, funcOn}
-use Rattle.row_statements.specs.Run.{openRow, heldFirst, Held, SameCarries, workOn, heldAfter, paintOnto, Event, Step, Run}
+use Rattle.row_statements.specs.Run.{openRow, heldFirst, Held, workOn, heldAfter, paintOnto, Event, Step, Run}
 use Rattle.row_statements.specs.Claim.{RightWork}
 use Rattle.row_statements.specs.InnerHolding.{IsOpen, Holds}
 use Rattle.row_statements.specs.declared.RowState.{RowState}
 use Rattle.row_statements.specs.declared.Opened.the-variants as opened
 use Rattle.row_statements.specs.declared.TileWorked.{TileWorked}
 use Rattle.row_statements.proofs.Works.{list-passed}
-use Rattle.row_statements.proofs.WorkSteps.{work-due, right-work}
-use Rattle.row_statements.proofs.PaintSteps.{paint-due, right-paint}
+use Rattle.row_statements.proofs.WorkSteps.{right-work}
+use Rattle.row_statements.proofs.PaintSteps.{right-paint}
 use Rattle.row_statements.proofs.Run.{accepted, is-open, held-first, run}
-use Rattle.row_statements.proofs.Runs.{workResult, work-gives, work-named, paintResult, paint-gives, paint-named}
+use Rattle.row_statements.proofs.Runs.{workResult, work-gives, work-named, paintResult, paint-gives, paint-named, as-held, work-goes, paint-goes}
 use Rattle.row_lines.specs.Lines.{clearColor, isPaint, decidedOn, RowLines}
 use Rattle.row_lines.specs.Driven.{emptyQueue}
-use Rattle.row_lines.specs.Calls.{WorksTile, shownBy, paintedBy, lineBy, Paintings, Calls, TellLines, LinesTold}
+use Rattle.row_lines.specs.Calls.{WorksTile, shownBy, paintedBy, lineBy, Paintings, LineCalls, TellLines, LinesTold}
 use Rattle.row_lines.proofs.Accepted.{AllPass, shown-pass}
 use Rattle.row_lines.proofs.Calls.{tilesPast, verdictOn, WorkTold, verdict-is, work-told, past-told, lines-are}
 
@@ -83,12 +83,11 @@ module _ (o : OpenRow) (is-open : IsOpen o) where
       let c = choicePaint n id h in
       let p = tilesPast (suc n) clip in
       let v : paintDueVerdict o (suc n) c ≡ pass = paint-verdict n id h ∙ all .0 in
-      let same : SameCarries (h .state .taken) (h .taken) (h .taken) = record { reads = refl; room = refl; order = refl } in
       let r = paintResult (paintDue o p c) in
       let back = paintDue o p c .plane in
       let due : PaintsLayer (paintDue o p c) r back = paint-gives (paintDueVerdict o (suc n) c) (paint-named o (suc n) c) o p c in
-      let g : PaintsLayer (paintOf (paintOnto o h c) (c .plane)) r back = subst (λ (out : PaintGiven). PaintsLayer out r back) (sym (paint-due is-open holds c same)) due in
-      let next = right-paint is-open holds c same g .1 in
+      let g : PaintsLayer (paintOf (paintOnto o h c) (c .plane)) r back = paint-goes is-open holds c in
+      let next = right-paint is-open holds c as-held g .1 in
       let h′ : Held = record { state = stateIn (r .state); queue = h .queue; taken = h .taken } in
       let rest = paintings n (clipAfter (funcOn o id) id clip) h′ ids (subst (λ (j : Judgement). Holds o (pastPaint j o id p) h′) v next) (all .1) in
       record {
@@ -96,7 +95,7 @@ module _ (o : OpenRow) (is-open : IsOpen o) where
         octets = ones (markOn o (suc n - 1) id clip) + rest .octets;
         after = rest .after;
         clip = rest .clip;
-        runs = Run.next (Step.paint {c = c} same g) (rest .runs);
+        runs = Run.next (Step.paint {c = c} as-held g) (rest .runs);
         calls = Paintings.next (record { tile = refl; layer = refl; room = refl }) (due .answer ∙ accepted-mark n clip c v) (rest .calls);
         holds = rest .holds;
       }
@@ -138,10 +137,10 @@ module _ (o : OpenRow) (is-open : IsOpen o) where
     pub lines : RowLines
     pub after : Held
     pub runs : Run o h events after
-    pub calls : Calls o k n events lines
+    pub calls : LineCalls o k n events lines
 
   pub driven : (k n : ℕ) (clip : Option ℕ) (h : Held) → o .from + n + k ≤ o .to → Holds o (tilesPast n clip) h → Driving k n h
-  driven zero n clip h inside holds = record { events = []; lines = record { lines = []; end = pass }; after = h; runs = Run.none; calls = Calls.none }
+  driven zero n clip h inside holds = record { events = []; lines = record { lines = []; end = pass }; after = h; runs = Run.none; calls = LineCalls.none }
   driven (suc k) n clip h inside holds = by (λ clip′ h′ inside′ holds′. driven k (suc n) clip′ h′ inside′ holds′) (verdictOn o n) refl
     where
       c : WorkChoice
@@ -156,20 +155,17 @@ module _ (o : OpenRow) (is-open : IsOpen o) where
       back : WorkLent
       back = workDue o p c .lent
 
-      same : SameCarries (h .state .left) (h .queue) (h .queue)
-      same = record { reads = refl; room = refl; order = refl }
-
       due : GivesWork (workDue o p c) r back
       due = work-gives (workDueVerdict o n c) (work-named o n c) o p c
 
       g : GivesWork (workOf (workOn o h c) (c .lent)) r back
-      g = subst (λ (out : WorkGiven). GivesWork out r back) (sym (work-due is-open holds c same)) due
+      g = work-goes is-open holds c
 
       here : o .from + n < o .to
       here = omega (arith, inside)
 
       right : RightWork o p c r back
-      right = right-work is-open holds c same g .0
+      right = right-work is-open holds c as-held g .0
 
       by : ((clip′ : Option ℕ) (h′ : Held) → o .from + suc n + k ≤ o .to → Holds o (tilesPast (suc n) clip′) h′ → Driving k (suc n) h′) → (v : Judgement) → verdictOn o n ≡ v → Driving (suc k) n h
       by go (refuse m) e =
@@ -177,23 +173,23 @@ module _ (o : OpenRow) (is-open : IsOpen o) where
             events = Event.work c r back ∷ [];
             lines = record { lines = []; end = refuse m };
             after = heldAfter (r .answer) (stateIn (r .state)) h (c .queue) back;
-            runs = Run.next (Step.work {c = c} same g) Run.none;
-            calls = Calls.turned-down (works n h) (due .answer ∙ refused-answer m p c (verdict-is o here (works n h) right ∙ e));
+            runs = Run.next (Step.work {c = c} as-held g) Run.none;
+            calls = LineCalls.turned-down (works n h) (due .answer ∙ refused-answer m p c (verdict-is o here (works n h) right ∙ e));
           }
       by go pass e =
           let a = due .answer ∙ accepted-answer p c (verdict-is o here (works n h) right ∙ e) in
           let t = tileAnswer (saysOn o n c) in
           let told = work-told o here (works n h) right a in
           let h′ = heldAfter (r .answer) (stateIn (r .state)) h (c .queue) back in
-          let holds′ = subst (λ (q : Past). Holds o q h′) (past-told o here (works n h) right told) (right-work is-open holds c same g .1) in
+          let holds′ = subst (λ (q : Past). Holds o q h′) (past-told o here (works n h) right told) (right-work is-open holds c as-held g .1) in
           let painted = paintings n option.none h′ (paintedBy t back) holds′ (painted-pass n t (stateIn (r .state)) back told) in
           let rest = go (painted .clip) (painted .after) (omega (arith, inside)) (painted .holds) in
           record {
             events = Event.work c r back ∷ (painted .events ++ rest .events);
             lines = record { lines = lineBy t back (stateIn (r .state)) (painted .octets) ∷ rest .lines .lines; end = rest .lines .end };
             after = rest .after;
-            runs = Run.next (Step.work {c = c} same g) (run-append (painted .runs) (rest .runs));
-            calls = Calls.next (works n h) a (painted .calls) (rest .calls);
+            runs = Run.next (Step.work {c = c} as-held g) (run-append (painted .runs) (rest .runs));
+            calls = LineCalls.next (works n h) a (painted .calls) (rest .calls);
           }
 
 -- ---- after an accepted opening
@@ -206,4 +202,4 @@ lines-told c lent back s k w g inside =
     let a = accepted c lent back s g in
     let d = driven (openRow c) (is-open c lent back s w a) k 0 option.none (heldFirst s back) (omega (arith, inside)) (held-first c lent back s w a) in
     let told = tell-lines c lent back s k (d .events) (d .after) (d .lines) w g inside (d .runs) (d .calls) in
-    record { events = d .events; after = d .after; runs = d .runs; calls = subst (Calls (openRow c) k 0 (d .events)) told (d .calls) }
+    record { events = d .events; after = d .after; runs = d .runs; calls = subst (LineCalls (openRow c) k 0 (d .events)) told (d .calls) }

@@ -75,18 +75,18 @@ pub data Paintings (o : OpenRow) (n : ℕ) : List ℕ → List Event → ℕ →
       Paintings o n (id ∷ ids) (Event.paint c r back ∷ es) (ones mark + octets)
 
 -- the work on k tiles from the tile from + n on, with the paintings after each, up to the first that is refused; and the lines that they tell
-pub data Calls (o : OpenRow) : ℕ → ℕ → List Event → RowLines → Type 0 where
-  none : {n : ℕ} → Calls o zero n [] (record { lines = []; end = pass })
+pub data LineCalls (o : OpenRow) : ℕ → ℕ → List Event → RowLines → Type 0 where
+  none : {n : ℕ} → LineCalls o zero n [] (record { lines = []; end = pass })
   turned-down : {k n : ℕ} {c : WorkChoice} {r : TileWorked} {back : WorkLent} {number : ℕ} →
       WorksTile o n c →
       workAnswer (r .answer) ≡ refused number →
-      Calls o (suc k) n (Event.work c r back ∷ []) (record { lines = []; end = refuse number })
+      LineCalls o (suc k) n (Event.work c r back ∷ []) (record { lines = []; end = refuse number })
   next : {k n : ℕ} {c : WorkChoice} {r : TileWorked} {back : WorkLent} {t : TileAnswer} {ps es : List Event} {octets : ℕ} {rest : RowLines} →
       WorksTile o n c →
       workAnswer (r .answer) ≡ given t →
       Paintings o n (paintedBy t back) ps octets →
-      Calls o k (suc n) es rest →
-      Calls o (suc k) n (Event.work c r back ∷ (ps ++ es)) (record { lines = lineBy t back (stateIn (r .state)) octets ∷ rest .lines; end = rest .end })
+      LineCalls o k (suc n) es rest →
+      LineCalls o (suc k) n (Event.work c r back ∷ (ps ++ es)) (record { lines = lineBy t back (stateIn (r .state)) octets ∷ rest .lines; end = rest .end })
 
 -- ---- the claim, of the first k tiles of from..to after an accepted opening
 
@@ -98,7 +98,7 @@ TellLines =
     OpensRow (openOf c lent) (opened.Row s) back →
     plus (c .from) + k ≤ plus (c .to) →
     Run (openRow c) (heldFirst s back) es h →
-    Calls (openRow c) k 0 es ls →
+    LineCalls (openRow c) k 0 es ls →
     ls ≡ linesFrom (openRow c) k 0
 
 -- and there is one
@@ -106,4 +106,4 @@ pub record LinesTold (c : OpenCall) (s : RowState) (back : Columns) (k : ℕ) : 
   pub events : List Event
   pub after : Held
   pub runs : Run (openRow c) (heldFirst s back) events after
-  pub calls : Calls (openRow c) k 0 events (linesFrom (openRow c) k 0)
+  pub calls : LineCalls (openRow c) k 0 events (linesFrom (openRow c) k 0)

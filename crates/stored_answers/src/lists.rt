@@ -136,44 +136,31 @@ pub fn expect_covers(text: &[u8], cursor: Cursor, found: &[i8], n: usize, rest: 
     Cursor { at: at, same: same }
 }
 
-// Whether all 16 bytes of a cover are the stored ones.
-pub fn expect_cover(text: &[u8], cursor: Cursor, found: [i8; 16]) -> Cursor {
+// Whether all bytes are the stored ones.
+fn expect_bytes(text: &[u8], cursor: Cursor, found: &[u8]) -> Cursor {
     let mut at = cursor.at;
     let mut same = cursor.same;
     let mut i: usize = 0;
-    while i < 16 {
-        let held = text::expect_signed_8(text, Cursor { at: at, same: same }, found[i]);
+    while i < found.len() {
+        let held = text::expect_byte(text, Cursor { at: at, same: same }, found[i]);
         at = held.at;
         same = held.same;
         i += 1;
     }
     Cursor { at: at, same: same }
+}
+
+// Whether a cover, a cached tile or a colour is the stored one.
+pub fn expect_cover(text: &[u8], cursor: Cursor, found: [i8; 16]) -> Cursor {
+    expect_covers(text, cursor, &found, 16, 0)
 }
 
 pub fn expect_tile(text: &[u8], cursor: Cursor, found: [u8; 8]) -> Cursor {
-    let mut at = cursor.at;
-    let mut same = cursor.same;
-    let mut i: usize = 0;
-    while i < 8 {
-        let held = text::expect_byte(text, Cursor { at: at, same: same }, found[i]);
-        at = held.at;
-        same = held.same;
-        i += 1;
-    }
-    Cursor { at: at, same: same }
+    expect_bytes(text, cursor, &found)
 }
 
 pub fn expect_color(text: &[u8], cursor: Cursor, found: [u8; 4]) -> Cursor {
-    let mut at = cursor.at;
-    let mut same = cursor.same;
-    let mut i: usize = 0;
-    while i < 4 {
-        let held = text::expect_byte(text, Cursor { at: at, same: same }, found[i]);
-        at = held.at;
-        same = held.same;
-        i += 1;
-    }
-    Cursor { at: at, same: same }
+    expect_bytes(text, cursor, &found)
 }
 
 pub fn expect_floats(text: &[u8], cursor: Cursor, found: &[f32]) -> Cursor {

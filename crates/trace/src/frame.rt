@@ -1,15 +1,14 @@
 // A frame traced: a job read, and its row opened and worked tile by tile, with the cached tiles that the frame before
 // left.
-use crate::cached;
-use crate::changes;
-use crate::lent::Queue;
-use crate::lent::Table;
-use crate::painting;
-use crate::tile;
+use frame_changes::cached;
+use frame_changes::changes;
 use job_statements::Reading;
 use job_text_statements::Head;
 use row_statements::Opened;
 use row_statements::RowState;
+use tile_trace::lent::Queue;
+use tile_trace::lent::Table;
+use tile_trace::painting;
 
 // What a frame leaves for the next: its layer table and its row, and the cached tiles, eight bytes each.
 pub struct Frame {
@@ -62,7 +61,14 @@ fn trace_tiles(
     let mut left = n;
     while 0 < left {
         left -= 1;
-        let step = tile::trace_tile(at, later, row, table, cached::tile_at(kept, at.next), queue);
+        let step = tile_trace::trace_tile(
+            at,
+            later,
+            row,
+            table,
+            cached::tile_at(kept, at.next),
+            queue,
+        );
         if !step.worked {
             return;
         }

@@ -1,13 +1,7 @@
 // Traces jobs: what each tile has, takes in, lists, decides, paints and hands on. Without arguments it reads one job
 // from standard input, as the row program does. Else its arguments name job files, each a picture of its own; with the
 // word `then` before it a file is the next frame of the one before, and is worked with the cached tiles that it left.
-pub mod cached;
-pub mod changes;
-pub mod deciding;
 pub mod frame;
-pub mod lent;
-pub mod painting;
-pub mod tile;
 
 use frame::Frame;
 use libc::STDIN_FILENO;

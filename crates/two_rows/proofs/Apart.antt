@@ -32,13 +32,13 @@ use Rattle.listing_statements.specs.Listing.{ListLent, entriesFrom, listAnswer,
 use Rattle.listing_statements.specs.declared.TileListed.{TileListed}
 use Rattle.listing_runs.specs.Due.{ListChoice, listDueVerdict}
 use Rattle.listing_runs.specs.Run.{Call}
-use Rattle.listing_runs.specs.Claim.{RightListing, RightCall, AllRight}
+use Rattle.listing_runs.specs.Claim.{RightListing, RightCall, AllCallsRight}
 use Rattle.listing_runs.proofs.Run.{run}
 use Rattle.two_rows.specs.Apart.{AgreeOn, entryIn, carryIn, MadeCall, TileResult, ResultOf, SameTile, Apart, LayersApart}
 use Rattle.two_rows.proofs.Same.{same-layer}
 
 -- every call of a run is right
-pub made-right : {o : OpenRow} {p q : Past} {es : List Call} {e : Call} → AllRight o p es → MadeCall o p es q e → RightCall o q e
+pub made-right : {o : OpenRow} {p q : Past} {es : List Call} {e : Call} → AllCallsRight o p es → MadeCall o p es q e → RightCall o q e
 made-right all MadeCall.here = all .0
 made-right all (MadeCall.later m) = made-right (all .1) m
 
@@ -106,7 +106,7 @@ module _ {o o′ : OpenRow} (i : IsOpen o) (i′ : IsOpen o′) {id : ℕ} (agre
         carry = ap (λ (q : List Carry). carryIn q id) (w .carries) ∙ next .carry ∙ ap (λ (m : ℕ). carryIn (queueOn o′ (suc m)) id) e ∙ sym (ap (λ (q : List Carry). carryIn q id) (w′ .carries));
       }
 
-  module _ {es es′ : List Call} (all : AllRight o atFirst es) (all′ : AllRight o′ atFirst es′) where
+  module _ {es es′ : List Call} (all : AllCallsRight o atFirst es) (all′ : AllCallsRight o′ atFirst es′) where
     paint-same : {p p′ : Past} {c c′ : PaintChoice} {r r′ : Painted} {back back′ : List Float} {mark mark′ : ℕ}
         → MadeCall o atFirst es p (Call.row (Event.paint c r back)) → MadeCall o′ atFirst es′ p′ (Call.row (Event.paint c′ r′ back′)) → p .tiles ≡ p′ .tiles → c .layer ≡ id → c′ .layer ≡ id
         → paintAnswer (r .answer) ≡ given mark → paintAnswer (r′ .answer) ≡ given mark′ → take 256 back ≡ take 256 back′

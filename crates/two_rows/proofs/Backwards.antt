@@ -40,7 +40,7 @@ use Rattle.listing_statements.specs.declared.TileListed.{TileListed}
 use Rattle.listing_statements.specs.declared.TileDecided.{TileDecided}
 use Rattle.listing_runs.specs.Due.{ListChoice, listDueVerdict, DecideChoice, nthOn, decideDueVerdict, outcomeDue}
 use Rattle.listing_runs.specs.Run.{Call}
-use Rattle.listing_runs.specs.Claim.{RightListing, RightDeciding, RightCall, pastCall, AllRight}
+use Rattle.listing_runs.specs.Claim.{RightListing, RightDeciding, RightCall, pastCall, AllCallsRight}
 use Rattle.listing_runs.proofs.Run as calls
 use Rattle.two_rows.specs.Backwards.{oppositeCall, listRead, masksRead, carriesRead, entriesRead, decidedRead, planeRead, BackWork, BackPaint, BackList, BackDecide, BackCall, BackCalls, OpensBoth, Backwards}
 use Rattle.two_rows.specs.SameCalls.{AlikeWorks, AlikePaints, AlikeLists, AlikeDecides, AlikeCall, AlikeCalls}
@@ -235,11 +235,11 @@ module _ (o : OpenRow) (mild : areMild cpu (o .row) ≡ true) (p : Past) where
 
 -- ---- any list of them
 
-calls-back : (o : OpenRow) → areMild cpu (o .row) ≡ true → (p : Past) {es es′ : List Call} → AlikeCalls es es′ → AllRight o p es → AllRight (oppositeRow o) p es′ → BackCalls o es es′
+calls-back : (o : OpenRow) → areMild cpu (o .row) ≡ true → (p : Past) {es es′ : List Call} → AlikeCalls es es′ → AllCallsRight o p es → AllCallsRight (oppositeRow o) p es′ → BackCalls o es es′
 calls-back o mild p AlikeCalls.none all all′ = BackCalls.none
 calls-back o mild p (AlikeCalls.next {e = e} {e′ = e′} {es = es} {es′ = es′} a rest) all all′ =
     let u = call-back o mild p a (all .0) (all′ .0) in
-    BackCalls.next (u .0) (calls-back o mild (pastCall o e p) rest (all .1) (subst (λ (q : Past). AllRight (oppositeRow o) q es′) (u .1) (all′ .1)))
+    BackCalls.next (u .0) (calls-back o mild (pastCall o e p) rest (all .1) (subst (λ (q : Past). AllCallsRight (oppositeRow o) q es′) (u .1) (all′ .1)))
 
 -- ---- the opening
 

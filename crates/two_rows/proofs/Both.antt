@@ -17,7 +17,7 @@ use Rattle.row_statements.proofs.Runs.{as-held, heldWork, heldPaint, work-goes,
 use Rattle.listing_runs.specs.Due.{listDueVerdict, DecideChoice, decideDueVerdict}
 use Rattle.listing_runs.specs.Run.{HeldAll, Call, CallStep, Calls}
 use Rattle.listing_runs.specs.Claim.{pastCall}
-use Rattle.listing_runs.specs.Example.{Choice, isPast, choicesDue, duesOf}
+use Rattle.listing_runs.specs.Example.{CallChoice, isPast, callChoicesDue, callDuesOf}
 use Rattle.listing_runs.specs.InnerHolding.{HoldsAll}
 use Rattle.listing_runs.proofs.Run.{call-right}
 use Rattle.listing_runs.proofs.Runs.{heldListing, list-goes, decide-goes}
@@ -27,7 +27,7 @@ use Rattle.two_rows.proofs.Turned.{oppositeRow}
 use Rattle.two_rows.proofs.Backwards.{call-back, open-turned}
 
 module _ (o : OpenRow) (mild : areMild cpu (o .row) ≡ true) (one : IsOpen o) (other : IsOpen (oppositeRow o)) where
-  pub record Both (p : Past) (h h′ : HeldAll) (cs : List Choice) : Type 0 where
+  pub record Both (p : Past) (h h′ : HeldAll) (cs : List CallChoice) : Type 0 where
     pub events : List Call
     pub events′ : List Call
     pub after : HeldAll
@@ -35,12 +35,12 @@ module _ (o : OpenRow) (mild : areMild cpu (o .row) ≡ true) (one : IsOpen o) (
     pub runs : Calls o h events after
     pub runs′ : Calls (oppositeRow o) h′ events′ after′
     pub alike : AlikeCalls events events′
-    pub dues : duesOf o p events ≡ choicesDue o p cs
+    pub dues : callDuesOf o p events ≡ callChoicesDue o p cs
 
   -- one call more on both sides
-  onward : {p : Past} {h h′ k k′ : HeldAll} {e e′ : Call} (c : Choice) (cs : List Choice) (v : Judgement) → HoldsAll o p h → HoldsAll (oppositeRow o) p h′
+  onward : {p : Past} {h h′ k k′ : HeldAll} {e e′ : Call} (c : CallChoice) (cs : List CallChoice) (v : Judgement) → HoldsAll o p h → HoldsAll (oppositeRow o) p h′
       → CallStep o h e k → CallStep (oppositeRow o) h′ e′ k′ → AlikeCall e e′
-      → ((es : List Call) → duesOf o p (e ∷ es) ≡ v ∷ duesOf o (pastCall o e p) es) → choicesDue o p (c ∷ cs) ≡ v ∷ choicesDue o (pastCall o e p) cs
+      → ((es : List Call) → callDuesOf o p (e ∷ es) ≡ v ∷ callDuesOf o (pastCall o e p) es) → callChoicesDue o p (c ∷ cs) ≡ v ∷ callChoicesDue o (pastCall o e p) cs
       → (HoldsAll o (pastCall o e p) k → HoldsAll (oppositeRow o) (pastCall o e p) k′ → Both (pastCall o e p) k k′ cs) → Both p h h′ (c ∷ cs)
   onward {p} {h} {h′} {k} {k′} {e} {e′} c cs v holds holds′ step step′ a d q rest =
       let u = call-right one holds step in
@@ -59,38 +59,38 @@ module _ (o : OpenRow) (mild : areMild cpu (o .row) ≡ true) (one : IsOpen o) (
       }
 
   -- a deciding, where a list of the tile is held on both sides
-  decide-both : {p : Past} {h h′ : HeldAll} (c : DecideChoice) (cs : List Choice) (b : Bool) → isPast o (p .tiles) (c .tile) ≡ b → HoldsAll o p h → HoldsAll (oppositeRow o) p h′ → Both p h h′ cs
-      → Both p h h′ (Choice.decide c ∷ cs)
-  unfolding duesOf choicesDue
+  decide-both : {p : Past} {h h′ : HeldAll} (c : DecideChoice) (cs : List CallChoice) (b : Bool) → isPast o (p .tiles) (c .tile) ≡ b → HoldsAll o p h → HoldsAll (oppositeRow o) p h′ → Both p h h′ cs
+      → Both p h h′ (CallChoice.decide c ∷ cs)
+  unfolding callDuesOf callChoicesDue
   decide-both c cs false e holds holds′ rest =
       record { events = rest .events; events′ = rest .events′; after = rest .after; after′ = rest .after′; runs = rest .runs; runs′ = rest .runs′; alike = rest .alike; dues = rw e (rest .dues) }
   decide-both {p} {h} {h′} c cs true e holds holds′ rest =
-      onward (Choice.decide c) cs (decideDueVerdict c) holds holds′ (decide-goes one holds c e .step) (decide-goes other holds′ c e .step)
+      onward (CallChoice.decide c) cs (decideDueVerdict c) holds holds′ (decide-goes one holds c e .step) (decide-goes other holds′ c e .step)
       (AlikeCall.decide (record { tile = refl; kept = refl; clear = refl; previous = refl; room = refl }))
       (λ es. refl) (rw e) (λ x y. rest)
 
-  both : (p : Past) {h h′ : HeldAll} → HoldsAll o p h → HoldsAll (oppositeRow o) p h′ → (cs : List Choice) → Both p h h′ cs
-  unfolding duesOf choicesDue
+  both : (p : Past) {h h′ : HeldAll} → HoldsAll o p h → HoldsAll (oppositeRow o) p h′ → (cs : List CallChoice) → Both p h h′ cs
+  unfolding callDuesOf callChoicesDue
   both p {h} {h′} holds holds′ [] = record { events = []; events′ = []; after = h; after′ = h′; runs = Calls.none; runs′ = Calls.none; alike = AlikeCalls.none; dues = refl }
-  both p {h} {h′} holds holds′ (Choice.work c ∷ cs) =
-      onward (Choice.work c) cs (workDueVerdict o (p .tiles) c) holds holds′
+  both p {h} {h′} holds holds′ (CallChoice.work c ∷ cs) =
+      onward (CallChoice.work c) cs (workDueVerdict o (p .tiles) c) holds holds′
       (CallStep.row {h = h} (Step.work {c = heldWork (h .row) c} as-held (work-goes one (holds .row) c)))
       (CallStep.row {h = h′} (Step.work {c = heldWork (h′ .row) c} as-held (work-goes other (holds′ .row) c)))
       (AlikeCall.work (record { tile = refl; kept = refl; clear = refl; previous = refl; room = refl }))
       (λ es. refl) refl (λ x y. both _ x y cs)
-  both p {h} {h′} holds holds′ (Choice.paint c ∷ cs) =
-      onward (Choice.paint c) cs (paintDueVerdict o (p .tiles) c) holds holds′
+  both p {h} {h′} holds holds′ (CallChoice.paint c ∷ cs) =
+      onward (CallChoice.paint c) cs (paintDueVerdict o (p .tiles) c) holds holds′
       (CallStep.row {h = h} (Step.paint {c = heldPaint (h .row) c} as-held (paint-goes one (holds .row) c)))
       (CallStep.row {h = h′} (Step.paint {c = heldPaint (h′ .row) c} as-held (paint-goes other (holds′ .row) c)))
       (AlikeCall.paint (record { tile = refl; layer = refl; room = refl }))
       (λ es. refl) refl (λ x y. both _ x y cs)
-  both p {h} {h′} holds holds′ (Choice.list c ∷ cs) =
-      onward (Choice.list c) cs (listDueVerdict o (p .tiles) c) holds holds′
+  both p {h} {h′} holds holds′ (CallChoice.list c ∷ cs) =
+      onward (CallChoice.list c) cs (listDueVerdict o (p .tiles) c) holds holds′
       (CallStep.list {h = h} {c = heldListing (h .row) c} as-held (list-goes one holds c))
       (CallStep.list {h = h′} {c = heldListing (h′ .row) c} as-held (list-goes other holds′ c))
       (AlikeCall.list (record { tile = refl; room = refl }))
       (λ es. refl) refl (λ x y. both _ x y cs)
-  both p holds holds′ (Choice.decide c ∷ cs) = decide-both c cs (isPast o (p .tiles) (c .tile)) refl holds holds′ (both p holds holds′ cs)
+  both p holds holds′ (CallChoice.decide c ∷ cs) = decide-both c cs (isPast o (p .tiles) (c .tile)) refl holds holds′ (both p holds holds′ cs)
 
 pub runs-both : RunsBoth
 runs-both c lent lent′ back s cs w m room g =

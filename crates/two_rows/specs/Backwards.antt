@@ -34,7 +34,7 @@ use Rattle.listing_statements.specs.declared.TileListed.{TileListed}
 use Rattle.listing_statements.specs.declared.TileDecided.{TileDecided}
 use Rattle.listing_runs.specs.Due.{ListChoice, DecideChoice, nthOn}
 use Rattle.listing_runs.specs.Run.{HeldAll, heldWith, Call, Calls}
-use Rattle.listing_runs.specs.Example.{Choice, choicesDue, duesOf}
+use Rattle.listing_runs.specs.Example.{CallChoice, callChoicesDue, callDuesOf}
 use Rattle.two_rows.specs.SameCalls.{AlikeCalls}
 
 -- the same opening, of the opposite row
@@ -154,7 +154,7 @@ Backwards =
 -- ---- the claim is not empty: after every accepted opening of such a row, every list of choices is that of two runs whose calls are alike, each call
 -- with the verdict that is due of it
 
-pub record RanBoth (c : OpenCall) (lent′ back : Columns) (s : RowState) (cs : List Choice) : Type 0 where
+pub record RanBoth (c : OpenCall) (lent′ back : Columns) (s : RowState) (cs : List CallChoice) : Type 0 where
   pub back′ : Columns
   pub opens′ : OpensRow (openOf (oppositeCall c) lent′) (opened.Row s) back′
   pub events : List Call
@@ -164,11 +164,11 @@ pub record RanBoth (c : OpenCall) (lent′ back : Columns) (s : RowState) (cs : 
   pub runs : Calls (openRow c) (heldWith (heldFirst s back) []) events after
   pub runs′ : Calls (openRow (oppositeCall c)) (heldWith (heldFirst s back′) []) events′ after′
   pub alike : AlikeCalls events events′
-  pub dues : duesOf (openRow c) atFirst events ≡ choicesDue (openRow c) atFirst cs
+  pub dues : callDuesOf (openRow c) atFirst events ≡ callChoicesDue (openRow c) atFirst cs
 
 abbrev pub RunsBoth : Type 0
 RunsBoth =
-    (c : OpenCall) (lent lent′ back : Columns) (s : RowState) (cs : List Choice) →
+    (c : OpenCall) (lent lent′ back : Columns) (s : RowState) (cs : List CallChoice) →
     Words (c .row) →
     Mild cpu (c .row) →
     isQueueShort lent ≡ isQueueShort lent′ →

@@ -21,30 +21,30 @@ use Rattle.row_statements.specs.declared.RowState.{RowState}
 use Rattle.two_rows.specs.Backwards.{oppositeCall, BackOpening}
 
 -- a segment of layer 5 in tile -1, pixel row 0
-abbrev segment : ℤ → ℕ
-segment cover = wordOf cpu 5 (negsuc 0) (pos 0) 3 0 32 cover
+abbrev fifthSegment : ℤ → ℕ
+fifthSegment cover = wordOf cpu 5 (negsuc 0) (pos 0) 3 0 32 cover
 
 -- one cover of -32 and one of 31, left of the first tile; layer 5 is a NonZero draw
-abbrev pub call : OpenCall
-call =
+abbrev pub lowestCall : OpenCall
+lowestCall =
     record {
       tileY = pos 0;
       from = pos 0;
       to = pos 1;
-      row = segment (negsuc 31) ∷ segment (pos 31) ∷ [];
+      row = fifthSegment (negsuc 31) ∷ fifthSegment (pos 31) ∷ [];
       table = record { words = 5 ∷ 0 ∷ 0 ∷ 0 ∷ 0 ∷ 0 ∷ 0 ∷ 0 ∷ []; floats = replicate 4 (ofBits binary32 0x3F800000); count = 1 };
     }
 
 pub record Fails : Type 0 where
   -- the covers of the row, and of its opposite, which would need a 32
-  pub covers : (map (coverOf cpu) (call .row) ≡ negsuc 31 ∷ pos 31 ∷ []) × (map (coverOf cpu) (oppositeCall call .row) ≡ negsuc 31 ∷ negsuc 30 ∷ [])
+  pub covers : (map (coverOf cpu) (lowestCall .row) ≡ negsuc 31 ∷ pos 31 ∷ []) × (map (coverOf cpu) (oppositeCall lowestCall .row) ≡ negsuc 31 ∷ negsuc 30 ∷ [])
   -- the premises of the claim but mildness, for the run of no call
-  pub words : Words (call .row)
+  pub words : Words (lowestCall .row)
   pub state : RowState
   pub back : Columns
   pub back′ : Columns
-  pub opens : OpensRow (openOf call (room 256)) (opened.Row state) back
-  pub opens′ : OpensRow (openOf (oppositeCall call) (room 256)) (opened.Row state) back′
+  pub opens : OpensRow (openOf lowestCall (room 256)) (opened.Row state) back
+  pub opens′ : OpensRow (openOf (oppositeCall lowestCall) (room 256)) (opened.Row state) back′
   -- what the claim would say of the opening, and of a painting
   pub carries-differ : BackOpening (stateIn state) (stateIn state) back back′ → ⊥
-  pub planes-differ : (planeOn (openRow (oppositeCall call)) 0 5 ≡ planeOn (openRow call) 0 5) → ⊥
+  pub planes-differ : (planeOn (openRow (oppositeCall lowestCall)) 0 5 ≡ planeOn (openRow lowestCall) 0 5) → ⊥

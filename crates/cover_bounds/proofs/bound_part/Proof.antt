@@ -15,15 +15,6 @@ told c =
     let s = c .before .before .before .before .before .before .before .before .before .before .before .before in
     rw (toZ-ofZ (s .fits .tile-x), toZ-ofZ (s .fits .tile-y)) at (c .judge-bounds .ensures)
 
-judge-bounds-requires : tie.Need-judge-bounds-requires
-judge-bounds-requires c κs = search needs
-
-enum-known-refusal : tie.Need-enum-known-refusal
-enum-known-refusal c = search needs
-
-enum-told : tie.Need-enum-told
-enum-told c = search needs
-
 sum-bounds-requires : tie.Need-sum-bounds-requires
 unfolding noCells
 sum-bounds-requires c κs =
@@ -44,44 +35,8 @@ write-planes-requires c κs =
     let p = bounds-passed e in
     (areas-upward p (c .before .before .before .before .before .before .before .before .before .before .sum-bounds .ensures) (c .before .before .before .before .before .before .before .before .sum-bounds2 .ensures), p .roomy)
 
-same-length : tie.Need-same-length
-same-length c = search needs
-
-same-length-2 : tie.Need-same-length-2
-same-length-2 c = search needs
-
-same-length-3 : tie.Need-same-length-3
-same-length-3 c = search needs
-
-same-length-4 : tie.Need-same-length-4
-same-length-4 c = search needs
-
-same-length-5 : tie.Need-same-length-5
-same-length-5 c = search needs
-
-same-length-6 : tie.Need-same-length-6
-same-length-6 c = search needs
-
 returns : tie.Need-returns
 returns c = refused-part _ (sym (told (c .before .before .before)) ∙ ap judgementIn (c .before .refusal .given .1)) refl
-
-same-length-7 : tie.Need-same-length-7
-same-length-7 c = search needs
-
-same-length-8 : tie.Need-same-length-8
-same-length-8 c = search needs
-
-same-length-9 : tie.Need-same-length-9
-same-length-9 c = search needs
-
-same-length-10 : tie.Need-same-length-10
-same-length-10 c = search needs
-
-same-length-11 : tie.Need-same-length-11
-same-length-11 c = search needs
-
-same-length-12 : tie.Need-same-length-12
-same-length-12 c = search needs
 
 returns-2 : tie.Need-returns-2
 returns-2 c =
@@ -97,23 +52,13 @@ pub bound-part-spec : {M : Type 1} → statement M
 bound-part-spec =
     tie.close
     (tie.spec
-    judge-bounds-requires
-    enum-known-refusal
-    enum-told
+    (λ c κs. search needs) (λ c. search needs) (λ c. search needs)
     sum-bounds-requires
     sum-bounds-requires-2
     write-planes-requires
-    same-length
-    same-length-2
-    same-length-3
-    same-length-4
-    same-length-5
-    same-length-6
+    (λ c. search needs) (λ c. search needs) (λ c. search needs) (λ c. search needs) (λ c. search needs)
+    (λ c. search needs)
     returns
-    same-length-7
-    same-length-8
-    same-length-9
-    same-length-10
-    same-length-11
-    same-length-12
+    (λ c. search needs) (λ c. search needs) (λ c. search needs) (λ c. search needs) (λ c. search needs)
+    (λ c. search needs)
     returns-2)

@@ -7,21 +7,6 @@ use Rattle.report.proofs.Putting.{within}
 use Rattle.curve.proofs.main.Statement.{statement}
 use Rattle.curve.proofs.main.Tie as tie
 
-slice-aggregate-print-curve : tie.Need-slice-aggregate-print-curve
-slice-aggregate-print-curve c = search needs
-
-print-curve-requires : tie.Need-print-curve-requires
-print-curve-requires c κs = search needs
-
-enum-known-end : tie.Need-enum-known-end
-enum-known-end c = search needs
-
-enum-told : tie.Need-enum-told
-enum-told c = search needs
-
-returns : tie.Need-returns
-returns c = search needs
-
 array-share-prefix-out : tie.Need-array-share-prefix-out
 array-share-prefix-out c =
     let e = c .before in
@@ -31,22 +16,11 @@ array-share-prefix-out c =
 slice-aggregate-write-all : tie.Need-slice-aggregate-write-all
 slice-aggregate-write-all c = sym (length-take-le _ _ (array-share-prefix-out (c .before)))
 
-write-all-requires : tie.Need-write-all-requires
-write-all-requires c κs = search needs
-
-returns-2 : tie.Need-returns-2
-returns-2 c = search needs
-
 pub main-spec : {M : Type 1} → statement M
 main-spec =
     tie.close
     (tie.spec
-    slice-aggregate-print-curve
-    print-curve-requires
-    enum-known-end
-    enum-told
-    returns
+    (λ c. search needs) (λ c κs. search needs) (λ c. search needs) (λ c. search needs) (λ c. search needs)
     array-share-prefix-out
     slice-aggregate-write-all
-    write-all-requires
-    returns-2)
+    (λ c κs. search needs) (λ c. search needs))

@@ -13,18 +13,6 @@ use Rattle.curve_text.specs.Curve.{curveLine}
 use Rattle.curve_text.proofs.line_of.Statement.{statement}
 use Rattle.curve_text.proofs.line_of.Tie as tie
 
-cast-weight : tie.Need-cast-weight
-cast-weight c = search needs
-
-weight-requires : tie.Need-weight-requires
-weight-requires c κs = search needs
-
-cast-t5 : tie.Need-cast-t5
-cast-t5 c = search needs
-
-cast-t6 : tie.Need-cast-t6
-cast-t6 c = search needs
-
 returns : tie.Need-returns
 unfolding curveLine
 returns c =
@@ -33,4 +21,4 @@ returns c =
     rw (toZ-pos w32 rest (omega arith), toZ-pos w32 (c .weight .result) (omega (arith, weight-le EvenOdd (pos rest))), weight)
 
 pub line-of-spec : {M : Type 1} → statement M
-line-of-spec = tie.close (tie.spec cast-weight weight-requires cast-t5 cast-t6 returns)
+line-of-spec = tie.close (tie.spec (λ c. search needs) (λ c κs. search needs) (λ c. search needs) (λ c. search needs) returns)

@@ -10,12 +10,6 @@ use Rattle.decimal.proofs.SignedPrint.{wide, fits-opposite, kept-opposi
 use Rattle.decimal.proofs.print_signed.Statement.{statement}
 use Rattle.decimal.proofs.print_signed.Tie as tie
 
-slice-write-out : tie.Need-slice-write-out
-slice-write-out c = search needs
-
-add-print-decimal : tie.Need-add-print-decimal
-add-print-decimal c = search needs
-
 cast-print-decimal : tie.Need-cast-print-decimal
 cast-print-decimal c = let s = c .before .before .before in rw (toZ-ofZ (s .fits .v)) (wide (s .args .v) (s .fits .v))
 
@@ -53,9 +47,6 @@ print-decimal-requires-2 c κs =
     let h = cast-above (s .args .v) (s .fits .v) (c .before .if1 .left) in
     rw (toZ-ofZ (s .fits .v)) (omega (arith, ten _ (h .1)))
 
-same-length-2 : tie.Need-same-length-2
-same-length-2 c = search needs
-
 returns-2 : tie.Need-returns-2
 returns-2 c =
     let p = c .before .before in
@@ -66,8 +57,7 @@ pub print-signed-spec : {M : Type 1} → statement M
 print-signed-spec =
     tie.close
     (tie.spec
-    slice-write-out
-    add-print-decimal
+    (λ c. search needs) (λ c. search needs)
     cast-print-decimal
     sub-print-decimal
     cast-print-decimal-2
@@ -76,5 +66,5 @@ print-signed-spec =
     returns
     cast-print-decimal-3
     print-decimal-requires-2
-    same-length-2
+    (λ c. search needs)
     returns-2)

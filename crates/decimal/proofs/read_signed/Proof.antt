@@ -9,18 +9,6 @@ use Rattle.decimal.proofs.read_signed.Tie as tie
 returns : tie.Need-returns
 returns c = past (omega arith)
 
-shared-slice-read-if2 : tie.Need-shared-slice-read-if2
-shared-slice-read-if2 c = search needs
-
-add-read-unsigned : tie.Need-add-read-unsigned
-add-read-unsigned c = search needs
-
-read-unsigned-requires : tie.Need-read-unsigned-requires
-read-unsigned-requires c κs = search needs
-
-enum-known-m : tie.Need-enum-known-m
-enum-known-m c = search needs
-
 returns-2 : tie.Need-returns-2
 returns-2 c = negative-zero (omega arith) (c .before .before .before .before .before .if2 .taken) (rw (c .before .before .m .given .1) at (c .before .before .before .before .read-unsigned .ensures)) (c .if3 .taken)
 
@@ -30,20 +18,8 @@ cast-v c = fits _ ((rw (c .before .before .m .given .1) at (c .before .before .b
 sub-t17 : tie.Need-sub-t17
 sub-t17 c = fits-difference _ ((rw (c .before .before .m .given .1) at (c .before .before .before .before .read-unsigned .ensures)) .below)
 
-enum-told : tie.Need-enum-told
-enum-told c = search needs
-
-read-unsigned-requires-2 : tie.Need-read-unsigned-requires-2
-read-unsigned-requires-2 c κs = search needs
-
-enum-known-n : tie.Need-enum-known-n
-enum-known-n c = search needs
-
 cast-t20 : tie.Need-cast-t20
 cast-t20 c = fits _ ((rw (c .before .n .given .1) at (c .before .before .before .read-unsigned2 .ensures)) .below)
-
-enum-told-2 : tie.Need-enum-told-2
-enum-told-2 c = search needs
 
 returns-3 : tie.Need-returns-3
 returns-3 c = let w = (rw (c .before .before .m .given .1) at (c .before .before .before .before .read-unsigned .ensures)) in rw (as-negative _ (w .below)) (negative-value (omega arith) (c .before .before .before .before .before .if2 .taken) w (c .if3 .left))
@@ -62,18 +38,13 @@ read-signed-spec =
     tie.close
     (tie.spec
     returns
-    shared-slice-read-if2
-    add-read-unsigned
-    read-unsigned-requires
-    enum-known-m
+    (λ c. search needs) (λ c. search needs) (λ c κs. search needs) (λ c. search needs)
     returns-2
     cast-v
     sub-t17
-    enum-told
-    read-unsigned-requires-2
-    enum-known-n
+    (λ c. search needs) (λ c κs. search needs) (λ c. search needs)
     cast-t20
-    enum-told-2
+    (λ c. search needs)
     returns-3
     returns-4
     returns-5

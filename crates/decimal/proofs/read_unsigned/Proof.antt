@@ -18,12 +18,6 @@ abbrev μ-loop : tie.MeasureT-loop
 returns : tie.Need-returns Inv-loop μ-loop
 returns c = past (c .before .before .pre .0) (omega arith)
 
-shared-slice-read-first : tie.Need-shared-slice-read-first Inv-loop μ-loop
-shared-slice-read-first c = omega arith
-
-is-digit-requires : tie.Need-is-digit-requires Inv-loop μ-loop
-is-digit-requires c κs = search needs
-
 returns-2 : tie.Need-returns-2 Inv-loop μ-loop
 returns-2 c = none (c .before .before .before .before .before .pre .0) (omega arith) (is-false (c .before .is-digit .ensures) (c .if2 .taken))
 
@@ -33,26 +27,14 @@ sub-n c = omega (arith, digit-range (getD (c .before .before .before .before .be
 cast-n : tie.Need-cast-n Inv-loop μ-loop
 cast-n c = omega (arith, c .before .before .shared-slice-known2 .given (c .before .before .before .before .before .args .at))
 
-add-i : tie.Need-add-i Inv-loop μ-loop
-add-i c = omega arith
-
 loop-holds : tie.Need-loop-holds Inv-loop μ-loop
 loop-holds c = start (c .before .before .before .before .before .pre .0) (omega arith) (is-true (c .before .is-digit .ensures) (c .if2 .left))
-
-shared-slice-read-b : tie.Need-shared-slice-read-b Inv-loop μ-loop
-shared-slice-read-b c = omega arith
-
-is-digit-requires-2 : tie.Need-is-digit-requires-2 Inv-loop μ-loop
-is-digit-requires-2 c κs = search needs
 
 returns-3 : tie.Need-returns-3 Inv-loop μ-loop
 returns-3 c = stop (c .before .before .before .before .loop .inv) (omega arith) (is-false (c .before .is-digit2 .ensures) (c .if3 .taken))
 
 returns-4 : tie.Need-returns-4 Inv-loop μ-loop
 returns-4 c = after-zero (c .before .before .before .before .before .loop .inv) (omega arith) (is-true (c .before .before .is-digit2 .ensures) (c .before .if3 .left)) (omega arith)
-
-mul-longer : tie.Need-mul-longer Inv-loop μ-loop
-mul-longer c = omega arith
 
 sub-longer : tie.Need-sub-longer Inv-loop μ-loop
 sub-longer c = omega (arith, digit-range (getD (c .before .before .before .before .before .before .before .before .before .before .before .args .s .now) (c .before .before .before .before .before .loop .i) 0) (is-true (c .before .before .is-digit2 .ensures) (c .before .if3 .left)))
@@ -65,12 +47,6 @@ add-longer c = omega (arith, digit-range (getD (c .before .before .before .befor
 
 returns-5 : tie.Need-returns-5 Inv-loop μ-loop
 returns-5 c = too-large (c .before .before .before .before .before .before .loop .inv) (omega arith) (is-true (c .before .before .before .is-digit2 .ensures) (c .before .before .if3 .left)) (c .before .if4 .left) (omega arith)
-
-add-i-2 : tie.Need-add-i-2 Inv-loop μ-loop
-add-i-2 c = omega arith
-
-loop-less : tie.Need-loop-less Inv-loop μ-loop
-loop-less c = omega arith
 
 loop-again : tie.Need-loop-again Inv-loop μ-loop
 loop-again c = next (c .before .before .before .before .before .before .loop .inv) (omega arith) (is-true (c .before .before .before .is-digit2 .ensures) (c .before .before .if3 .left)) (c .before .if4 .left) (omega arith)
@@ -85,23 +61,20 @@ read-unsigned-spec =
     Inv-loop
     μ-loop
     returns
-    shared-slice-read-first
-    is-digit-requires
+    (λ c. omega arith) (λ c κs. search needs)
     returns-2
     sub-n
     cast-n
-    add-i
+    (λ c. omega arith)
     loop-holds
-    shared-slice-read-b
-    is-digit-requires-2
+    (λ c. omega arith) (λ c κs. search needs)
     returns-3
     returns-4
-    mul-longer
+    (λ c. omega arith)
     sub-longer
     cast-longer
     add-longer
     returns-5
-    add-i-2
-    loop-less
+    (λ c. omega arith) (λ c. omega arith)
     loop-again
     returns-6)

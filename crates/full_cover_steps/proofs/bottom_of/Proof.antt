@@ -4,15 +4,6 @@ use Rattle.pass_statements.proofs.Deciding.{bottom-kept, bottom-opaque, bottom-
 use Rattle.full_cover_steps.proofs.bottom_of.Statement.{statement}
 use Rattle.full_cover_steps.proofs.bottom_of.Tie as tie
 
-enum-known-first : tie.Need-enum-known-first
-enum-known-first c = search needs
-
-enum-told : tie.Need-enum-told
-enum-told c = search needs
-
-enum-told-2 : tie.Need-enum-told-2
-enum-told-2 c = search needs
-
 returns : tie.Need-returns
 returns c = bottom-kept _ (c .before .before .first .given .1) (c .if1 .taken)
 
@@ -28,4 +19,4 @@ returns-4 c = bottom-paint _ _ (c .enum-told2 .given .1)
 pub bottom-of-spec : {M : Type 1} → statement M
 bottom-of-spec =
     tie.close
-    (tie.spec enum-known-first enum-told enum-told-2 returns returns-2 returns-3 returns-4)
+    (tie.spec (λ c. search needs) (λ c. search needs) (λ c. search needs) returns returns-2 returns-3 returns-4)

@@ -3,11 +3,8 @@ use borrow.Author.Needs.{needs}
 use Rattle.full_cover_steps.proofs.is_partial.Statement.{statement}
 use Rattle.full_cover_steps.proofs.is_partial.Tie as tie
 
-is-clipped-requires : tie.Need-is-clipped-requires
-is-clipped-requires c κs = search needs
-
 returns : tie.Need-returns
 returns c = rw (c .before .is-clipped .ensures)
 
 pub is-partial-spec : {M : Type 1} → statement M
-is-partial-spec = tie.close (tie.spec is-clipped-requires returns)
+is-partial-spec = tie.close (tie.spec (λ c κs. search needs) returns)

@@ -4,18 +4,6 @@ use Rattle.pass_statements.proofs.Looks.{looked}
 use Rattle.full_cover_steps.proofs.look_at.Statement.{statement}
 use Rattle.full_cover_steps.proofs.look_at.Tie as tie
 
-tells-requires : tie.Need-tells-requires
-tells-requires c κs = search needs
-
-first-of-requires : tie.Need-first-of-requires
-first-of-requires c κs = search needs
-
-hides-requires : tie.Need-hides-requires
-hides-requires c κs = search needs
-
-skip-to-requires : tie.Need-skip-to-requires
-skip-to-requires c κs = search needs
-
 returns : tie.Need-returns
 returns c =
     let first = c .before .before .before .before in
@@ -25,4 +13,4 @@ returns c =
 
 pub look-at-spec : {M : Type 1} → statement M
 look-at-spec =
-    tie.close (tie.spec tells-requires first-of-requires hides-requires skip-to-requires returns)
+    tie.close (tie.spec (λ c κs. search needs) (λ c κs. search needs) (λ c κs. search needs) (λ c κs. search needs) returns)

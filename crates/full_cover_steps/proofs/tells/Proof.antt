@@ -4,20 +4,8 @@ use Rattle.pass_statements.proofs.Looks.{tells-partial, tells-opaque, tells-not
 use Rattle.full_cover_steps.proofs.tells.Statement.{statement}
 use Rattle.full_cover_steps.proofs.tells.Tie as tie
 
-is-partial-requires : tie.Need-is-partial-requires
-is-partial-requires c κs = search needs
-
 returns : tie.Need-returns
 returns c = let a = c .before .before .args in tells-partial (a .x) (a .unclipped) (c .before .is-partial .ensures) (c .if1 .taken)
-
-is-opaque-requires : tie.Need-is-opaque-requires
-is-opaque-requires c κs = search needs
-
-solid-color-requires : tie.Need-solid-color-requires
-solid-color-requires c κs = search needs
-
-to-opaque-requires : tie.Need-to-opaque-requires
-to-opaque-requires c κs = search needs
 
 returns-2 : tie.Need-returns-2
 returns-2 c =
@@ -37,10 +25,8 @@ pub tells-spec : {M : Type 1} → statement M
 tells-spec =
     tie.close
     (tie.spec
-    is-partial-requires
+    (λ c κs. search needs)
     returns
-    is-opaque-requires
-    solid-color-requires
-    to-opaque-requires
+    (λ c κs. search needs) (λ c κs. search needs) (λ c κs. search needs)
     returns-2
     returns-3)

@@ -7,17 +7,8 @@ use Rattle.pass_statements.specs.Covered.{opaqueOf}
 use Rattle.full_cover_steps.proofs.to_opaque.Statement.{statement}
 use Rattle.full_cover_steps.proofs.to_opaque.Tie as tie
 
-enum-known-paint : tie.Need-enum-known-paint
-enum-known-paint c = search needs
-
-enum-told : tie.Need-enum-told
-enum-told c = search needs
-
 returns : tie.Need-returns
 returns c = sym (ap (λ (p : Paint). opaqueOf (colorIn p)) (c .before .paint .given .1))
 
-returns-2 : tie.Need-returns-2
-returns-2 c = search needs
-
 pub to-opaque-spec : {M : Type 1} → statement M
-to-opaque-spec = tie.close (tie.spec enum-known-paint enum-told returns returns-2)
+to-opaque-spec = tie.close (tie.spec (λ c. search needs) (λ c. search needs) returns (λ c. search needs))

@@ -35,15 +35,6 @@ write-row-requires c κs =
     let r = room (a .head) (s .pre) (a .layers .now) (a .colors .now) (a .row .now) (not-false _ (c .before .before .before .before .before .before .before .before .before .before .if1 .left)) in
     (s .pre .segments-long, s .pre .segment-rules, omega (arith, r .2, s .pre .counted))
 
-same-length : tie.Need-same-length
-same-length c = search needs
-
-same-length-2 : tie.Need-same-length-2
-same-length-2 c = search needs
-
-same-length-3 : tie.Need-same-length-3
-same-length-3 c = search needs
-
 returns-2 : tie.Need-returns-2
 returns-2 c =
     let w = c .before .before in
@@ -62,7 +53,5 @@ write-job-spec =
     write-words-requires
     write-colors-requires
     write-row-requires
-    same-length
-    same-length-2
-    same-length-3
+    (λ c. search needs) (λ c. search needs) (λ c. search needs)
     returns-2)

@@ -11,15 +11,6 @@ use Rattle.job_row.proofs.pack.Tie as tie
 add-new : tie.Need-add-new
 add-new c = let s = c .before in omega (arith, down-in-tile (s .args .f) (s .args .tile-y) (s .args .i) (s .pre))
 
-new-requires : tie.Need-new-requires
-new-requires c κs = search needs
-
-enum-known-segment : tie.Need-enum-known-segment
-enum-known-segment c = search needs
-
-enum-told : tie.Need-enum-told
-enum-told c = search needs
-
 returns : tie.Need-returns
 returns c =
     let s = c .before .before .before .before .before .before .before in
@@ -36,4 +27,4 @@ returns-2 c =
 
 pub pack-spec : {M : Type 1} → statement M
 pack-spec =
-    tie.close (tie.spec add-new new-requires enum-known-segment enum-told returns returns-2)
+    tie.close (tie.spec add-new (λ c κs. search needs) (λ c. search needs) (λ c. search needs) returns returns-2)

@@ -25,18 +25,6 @@ judged c =
 cast-pack : tie.Need-cast-pack
 cast-pack c = rw (toZ-ofZ (c .fits .row)) (sfits-widen tt (c .fits .row))
 
-pack-requires : tie.Need-pack-requires
-pack-requires c κs = search needs
-
-enum-known-segment : tie.Need-enum-known-segment
-enum-known-segment c = search needs
-
-tile-y-requires : tie.Need-tile-y-requires
-tile-y-requires c κs = search needs
-
-enum-told : tie.Need-enum-told
-enum-told c = search needs
-
 returns : tie.Need-returns
 returns c =
     let p = c .before .before .before .before in
@@ -60,9 +48,6 @@ to-tile-y-spec =
     tie.close
     (tie.spec
     cast-pack
-    pack-requires
-    enum-known-segment
-    tile-y-requires
-    enum-told
+    (λ c κs. search needs) (λ c. search needs) (λ c κs. search needs) (λ c. search needs)
     returns
     returns-2)

@@ -18,14 +18,8 @@ Inv-loop numbers m number row₀ tile-y at₀ i₀ row at i = Writing (toZ w32 n
 abbrev μ-loop : tie.MeasureT-loop
 μ-loop numbers m number row₀ tile-y at₀ i₀ row at i = m - i
 
-to-tile-y-requires : tie.Need-to-tile-y-requires Inv-loop μ-loop
-to-tile-y-requires c κs = search needs
-
 loop-holds : tie.Need-loop-holds Inv-loop μ-loop
 loop-holds c = start (c .before .before .pre .2)
-
-segment-at-requires : tie.Need-segment-at-requires Inv-loop μ-loop
-segment-at-requires c κs = omega arith
 
 write-segment-requires : tie.Need-write-segment-requires Inv-loop μ-loop
 write-segment-requires c κs =
@@ -38,12 +32,6 @@ write-segment-requires c κs =
       rw (y, c .before .before .before .before .to-tile-y .ensures) (row-tile (toZ w32 (ofZ w32 (s .args .number)))),
       rw at (line-room (c .before .before .before .loop .inv) (c .before .before .loop-test .taken)),
     )
-
-add-i : tie.Need-add-i Inv-loop μ-loop
-add-i c = omega arith
-
-loop-less : tie.Need-loop-less Inv-loop μ-loop
-loop-less c = omega arith
 
 loop-again : tie.Need-loop-again Inv-loop μ-loop
 loop-again c =
@@ -66,12 +54,11 @@ write-row-spec =
     (tie.spec
     Inv-loop
     μ-loop
-    to-tile-y-requires
+    (λ c κs. search needs)
     loop-holds
-    segment-at-requires
+    (λ c κs. omega arith)
     write-segment-requires
-    add-i
-    loop-less
+    (λ c. omega arith) (λ c. omega arith)
     loop-again
     same-length
     returns)

@@ -42,9 +42,6 @@ slice-write-row c = let l = c .before .before .before in omega (arith, l .loop .
 add-i : tie.Need-add-i Inv-loop μ-loop
 add-i c = let s = c .before .before .before .before .before .before in omega (arith, few-rows (s .args .s) (c .before .before .before .before .to-fields .ensures) (s .pre .0))
 
-loop-less : tie.Need-loop-less Inv-loop μ-loop
-loop-less c = omega arith
-
 loop-again : tie.Need-loop-again Inv-loop μ-loop
 loop-again c = repeat (c .before .before .before .loop .inv) (c .before .if1 .taken) (c .pack .ensures)
 
@@ -76,7 +73,7 @@ write-segment-spec =
     mul-row
     slice-write-row
     add-i
-    loop-less
+    (λ c. omega arith)
     loop-again
     cast-result
     add-result

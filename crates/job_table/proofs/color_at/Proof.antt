@@ -9,21 +9,6 @@ use Rattle.job_statements.specs.Entries.{jobColorAt}
 use Rattle.job_table.proofs.color_at.Statement.{statement}
 use Rattle.job_table.proofs.color_at.Tie as tie
 
-mul-to-alpha : tie.Need-mul-to-alpha
-mul-to-alpha c = search needs
-
-add-to-alpha : tie.Need-add-to-alpha
-add-to-alpha c = search needs
-
-mul-to-alpha-2 : tie.Need-mul-to-alpha-2
-mul-to-alpha-2 c = search needs
-
-shared-slice-copy-out-to-alpha : tie.Need-shared-slice-copy-out-to-alpha
-shared-slice-copy-out-to-alpha c = search needs
-
-to-alpha-requires : tie.Need-to-alpha-requires
-to-alpha-requires c κs = search needs
-
 returns : tie.Need-returns
 unfolding jobColorAt
 returns c =
@@ -38,10 +23,6 @@ pub color-at-spec : {M : Type 1} → statement M
 color-at-spec =
     tie.close
     (tie.spec
-    mul-to-alpha
-    add-to-alpha
-    mul-to-alpha-2
-    shared-slice-copy-out-to-alpha
-    to-alpha-requires
+    (λ c. search needs) (λ c. search needs) (λ c. search needs) (λ c. search needs) (λ c κs. search needs)
     returns
     returns-2)

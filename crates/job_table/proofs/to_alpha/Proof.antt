@@ -15,9 +15,6 @@ use Rattle.job_table.proofs.to_alpha.Tie as tie
 cast-result : tie.Need-cast-result
 cast-result c = rw (toZ-ofZ (c .fits .v)) (unsigned w16 (c .args .v) (c .pre .0) (omega arith))
 
-int-to-float-result : tie.Need-int-to-float-result
-int-to-float-result c = search needs
-
 returns : tie.Need-returns
 returns c =
     let s = c .before in
@@ -26,4 +23,4 @@ returns c =
     rw (toZ-ofZ (s .fits .v), e) (alpha-product (plus v) (s .pre .1))
 
 pub to-alpha-spec : {M : Type 1} → statement M
-to-alpha-spec = tie.close (tie.spec cast-result int-to-float-result returns)
+to-alpha-spec = tie.close (tie.spec cast-result (λ c. search needs) returns)

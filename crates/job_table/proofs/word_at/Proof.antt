@@ -8,15 +8,6 @@ use Rattle.job_statements.specs.Entries.{wordAt}
 use Rattle.job_table.proofs.word_at.Statement.{statement}
 use Rattle.job_table.proofs.word_at.Tie as tie
 
-mul-to-word : tie.Need-mul-to-word
-mul-to-word c = search needs
-
-shared-slice-copy-out-to-word : tie.Need-shared-slice-copy-out-to-word
-shared-slice-copy-out-to-word c = search needs
-
-to-word-requires : tie.Need-to-word-requires
-to-word-requires c κs = search needs
-
 returns : tie.Need-returns
 unfolding wordAt
 returns c = rw (eq-eqb _ 7 (c .if1 .taken))
@@ -30,4 +21,4 @@ returns-2 c =
 pub word-at-spec : {M : Type 1} → statement M
 word-at-spec =
     tie.close
-    (tie.spec mul-to-word shared-slice-copy-out-to-word to-word-requires returns returns-2)
+    (tie.spec (λ c. search needs) (λ c. search needs) (λ c κs. search needs) returns returns-2)

@@ -20,26 +20,14 @@ abbrev μ-loop : tie.MeasureT-loop
 loop-holds : tie.Need-loop-holds Inv-loop μ-loop
 loop-holds c = start (4 * c .before .args .n) (jobColorAt (c .before .args .numbers .now)) (omega arith)
 
-mul-loop : tie.Need-mul-loop Inv-loop μ-loop
-mul-loop c = omega arith
-
 color-at-requires : tie.Need-color-at-requires Inv-loop μ-loop
 color-at-requires c κs =
     let s = c .before .before .before in
     let a = alpha-at (s .args .numbers .now) (s .args .n) (c .before .loop .k) (s .pre .2) (c .loop-test .taken) in
     (omega arith, a .0, a .1)
 
-mul-colors : tie.Need-mul-colors Inv-loop μ-loop
-mul-colors c = omega arith
-
 slice-write-colors : tie.Need-slice-write-colors Inv-loop μ-loop
 slice-write-colors c = let l = c .before .before in let s = l .before .before in omega (arith, long (4 * s .args .n) (jobColorAt (s .args .numbers .now)) (l .loop .inv), l .loop .inv .room)
-
-add-k : tie.Need-add-k Inv-loop μ-loop
-add-k c = omega arith
-
-loop-less : tie.Need-loop-less Inv-loop μ-loop
-loop-less c = omega arith
 
 loop-again : tie.Need-loop-again Inv-loop μ-loop
 loop-again c = let l = c .before .before in let s = l .before .before in next (4 * s .args .n) (jobColorAt (s .args .numbers .now)) (l .loop .inv) (c .before .loop-test .taken) (c .color-at .ensures)
@@ -61,12 +49,11 @@ write-colors-spec =
     Inv-loop
     μ-loop
     loop-holds
-    mul-loop
+    (λ c. omega arith)
     color-at-requires
-    mul-colors
+    (λ c. omega arith)
     slice-write-colors
-    add-k
-    loop-less
+    (λ c. omega arith) (λ c. omega arith)
     loop-again
     same-length
     returns)

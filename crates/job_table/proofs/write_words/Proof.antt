@@ -19,23 +19,8 @@ abbrev μ-loop : tie.MeasureT-loop
 loop-holds : tie.Need-loop-holds Inv-loop μ-loop
 loop-holds c = start (8 * c .before .args .n) (wordAt (c .before .args .numbers .now)) (omega arith)
 
-mul-loop : tie.Need-mul-loop Inv-loop μ-loop
-mul-loop c = omega arith
-
-word-at-requires : tie.Need-word-at-requires Inv-loop μ-loop
-word-at-requires c κs = omega arith
-
-mul-layers : tie.Need-mul-layers Inv-loop μ-loop
-mul-layers c = omega arith
-
 slice-write-layers : tie.Need-slice-write-layers Inv-loop μ-loop
 slice-write-layers c = let l = c .before .before in let s = l .before .before in omega (arith, long (8 * s .args .n) (wordAt (s .args .numbers .now)) (l .loop .inv), l .loop .inv .room)
-
-add-k : tie.Need-add-k Inv-loop μ-loop
-add-k c = omega arith
-
-loop-less : tie.Need-loop-less Inv-loop μ-loop
-loop-less c = omega arith
 
 loop-again : tie.Need-loop-again Inv-loop μ-loop
 loop-again c = let l = c .before .before in let s = l .before .before in next (8 * s .args .n) (wordAt (s .args .numbers .now)) (l .loop .inv) (c .before .loop-test .taken) (c .word-at .ensures)
@@ -57,12 +42,9 @@ write-words-spec =
     Inv-loop
     μ-loop
     loop-holds
-    mul-loop
-    word-at-requires
-    mul-layers
+    (λ c. omega arith) (λ c κs. omega arith) (λ c. omega arith)
     slice-write-layers
-    add-k
-    loop-less
+    (λ c. omega arith) (λ c. omega arith)
     loop-again
     same-length
     returns)

@@ -7,9 +7,6 @@ use lib.Seq.{length-sets, length-take-le}
 use Rattle.jobs.proofs.print_answer.Statement.{statement}
 use Rattle.jobs.proofs.print_answer.Tie as tie
 
-answer-requires : tie.Need-answer-requires
-answer-requires c κs = search needs
-
 array-share-prefix-out : tie.Need-array-share-prefix-out
 array-share-prefix-out c = let a = c .answer in omega (arith, a .ensures .answer, a .ensures .fits, simp length-sets at (ap length (a .ensures .written)))
 
@@ -18,18 +15,11 @@ slice-aggregate-write-all c =
     let a = c .before .answer in
     sym (length-take-le (a .result) (a .last .1 .0) (omega (arith, a .ensures .answer, a .ensures .fits, simp length-sets at (ap length (a .ensures .written)))))
 
-write-all-requires : tie.Need-write-all-requires
-write-all-requires c κs = search needs
-
-returns : tie.Need-returns
-returns c = search needs
-
 pub print-answer-spec : {M : Type 1} → statement M
 print-answer-spec =
     tie.close
     (tie.spec
-    answer-requires
+    (λ c κs. search needs)
     array-share-prefix-out
     slice-aggregate-write-all
-    write-all-requires
-    returns)
+    (λ c κs. search needs) (λ c. search needs))

@@ -10,23 +10,8 @@ use Rattle.layer_workbench.proofs.decide_tile.Tie as tie
 cast-update-layer-count : tie.Need-cast-update-layer-count
 cast-update-layer-count c = omega (arith, c .before .before .before .before .before .pre .0)
 
-update-layer-count-requires : tie.Need-update-layer-count-requires
-update-layer-count-requires c κs = search needs
-
-is-clear-unchanged-requires : tie.Need-is-clear-unchanged-requires
-is-clear-unchanged-requires c κs = search needs
-
-previous-count-requires : tie.Need-previous-count-requires
-previous-count-requires c κs = search needs
-
 decide-requires : tie.Need-decide-requires
 decide-requires c κs = c .before .before .before .before .before .before .before .before .before .before .pre
-
-kept-by-requires : tie.Need-kept-by-requires
-kept-by-requires c κs = search needs
-
-same-length : tie.Need-same-length
-same-length c = search needs
 
 returns : tie.Need-returns
 returns c =
@@ -39,10 +24,7 @@ decide-tile-spec =
     tie.close
     (tie.spec
     cast-update-layer-count
-    update-layer-count-requires
-    is-clear-unchanged-requires
-    previous-count-requires
+    (λ c κs. search needs) (λ c κs. search needs) (λ c κs. search needs)
     decide-requires
-    kept-by-requires
-    same-length
+    (λ c κs. search needs) (λ c. search needs)
     returns)

@@ -3,17 +3,8 @@ use borrow.Author.Needs.{needs}
 use Rattle.layer_workbench.proofs.previous_count.Statement.{statement}
 use Rattle.layer_workbench.proofs.previous_count.Tie as tie
 
-enum-known-count : tie.Need-enum-known-count
-enum-known-count c = search needs
-
-enum-told : tie.Need-enum-told
-enum-told c = search needs
-
 returns : tie.Need-returns
 returns c = rw (c .before .count .given .1)
 
-returns-2 : tie.Need-returns-2
-returns-2 c = search needs
-
 pub previous-count-spec : {M : Type 1} → statement M
-previous-count-spec = tie.close (tie.spec enum-known-count enum-told returns returns-2)
+previous-count-spec = tie.close (tie.spec (λ c. search needs) (λ c. search needs) returns (λ c. search needs))

@@ -17,31 +17,10 @@ list-layers-requires c κs =
     let s = c .before .before .before .before .before .before .before .before .before .before .before in
     (s .pre .0, s .pre .1, s .pre .2, record { ids-long = omega (arith, s .pre .3, s .pre .5, s .pre .6); covers-long = omega (arith, s .pre .3, s .pre .5, s .pre .6); flags-long = omega (arith, s .pre .3, s .pre .5, s .pre .6) }, s .pre .5)
 
-decide-tile-requires : tie.Need-decide-tile-requires
-decide-tile-requires c κs = search needs
-
 hand-on-requires : tie.Need-hand-on-requires
 hand-on-requires c κs =
     let s = c .before .before .before .before .before .before .before .before .before .before .before .before .before .before .before .before .before .before .before .before .before .before .before .before .before .before in
     (s .pre .0, s .pre .1, s .pre .2, s .pre .4, record { ids-long = omega (arith, s .pre .3, s .pre .5, s .pre .6); covers-long = omega (arith, s .pre .3, s .pre .5, s .pre .6) })
-
-same-length : tie.Need-same-length
-same-length c = search needs
-
-same-length-2 : tie.Need-same-length-2
-same-length-2 c = search needs
-
-same-length-3 : tie.Need-same-length-3
-same-length-3 c = search needs
-
-same-length-4 : tie.Need-same-length-4
-same-length-4 c = search needs
-
-same-length-5 : tie.Need-same-length-5
-same-length-5 c = search needs
-
-same-length-6 : tie.Need-same-length-6
-same-length-6 c = search needs
 
 returns : tie.Need-returns
 returns c =
@@ -58,12 +37,8 @@ work-spec =
     tie.close
     (tie.spec
     list-layers-requires
-    decide-tile-requires
+    (λ c κs. search needs)
     hand-on-requires
-    same-length
-    same-length-2
-    same-length-3
-    same-length-4
-    same-length-5
-    same-length-6
+    (λ c. search needs) (λ c. search needs) (λ c. search needs) (λ c. search needs) (λ c. search needs)
+    (λ c. search needs)
     returns)

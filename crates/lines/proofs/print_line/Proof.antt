@@ -19,32 +19,11 @@ abbrev μ-loop : tie.MeasureT-loop
 loop-holds : tie.Need-loop-holds Inv-loop μ-loop
 loop-holds c = start (c .before .pre)
 
-mul-print-signed : tie.Need-mul-print-signed Inv-loop μ-loop
-mul-print-signed c = omega arith
-
-shared-slice-copy-out-print-signed : tie.Need-shared-slice-copy-out-print-signed Inv-loop μ-loop
-shared-slice-copy-out-print-signed c = omega arith
-
-print-signed-requires : tie.Need-print-signed-requires Inv-loop μ-loop
-print-signed-requires c κs = omega arith
-
-add-j : tie.Need-add-j Inv-loop μ-loop
-add-j c = omega arith
-
-sub-end-at : tie.Need-sub-end-at Inv-loop μ-loop
-sub-end-at c = omega arith
-
-end-at-requires : tie.Need-end-at-requires Inv-loop μ-loop
-end-at-requires c κs = search needs
-
 slice-write-out : tie.Need-slice-write-out Inv-loop μ-loop
 slice-write-out c = let p = c .before .before .before in omega (arith, p .print-signed .ensures .1, p .print-signed .kept .0)
 
 add-p : tie.Need-add-p Inv-loop μ-loop
 add-p c = let p = c .before .before .before in omega (arith, p .print-signed .ensures .1)
-
-loop-less : tie.Need-loop-less Inv-loop μ-loop
-loop-less c = omega arith
 
 loop-again : tie.Need-loop-again Inv-loop μ-loop
 loop-again c =
@@ -66,15 +45,11 @@ print-line-spec =
     Inv-loop
     μ-loop
     loop-holds
-    mul-print-signed
-    shared-slice-copy-out-print-signed
-    print-signed-requires
-    add-j
-    sub-end-at
-    end-at-requires
+    (λ c. omega arith) (λ c. omega arith) (λ c κs. omega arith) (λ c. omega arith) (λ c. omega arith)
+    (λ c κs. search needs)
     slice-write-out
     add-p
-    loop-less
+    (λ c. omega arith)
     loop-again
     same-length
     returns)

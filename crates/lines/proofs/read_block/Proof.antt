@@ -5,23 +5,11 @@ use Rattle.lines.proofs.Blocks.{no-names, names-then}
 use Rattle.lines.proofs.read_block.Statement.{statement}
 use Rattle.lines.proofs.read_block.Tie as tie
 
-read-prefix-requires : tie.Need-read-prefix-requires
-read-prefix-requires c κs = search needs
-
-enum-known-first : tie.Need-enum-known-first
-enum-known-first c = search needs
-
-enum-told : tie.Need-enum-told
-enum-told c = search needs
-
 returns : tie.Need-returns
 returns c = no-names _ _ (rw (c .enum-told .given .1) at (c .before .before .read-prefix .ensures))
 
 read-lines-requires : tie.Need-read-lines-requires
 read-lines-requires c κs = let r = rw (c .before .before .first .given .1) at (c .before .before .before .before .read-prefix .ensures) in (r .within, c .before .before .before .before .before .before .before .pre .1)
-
-same-length : tie.Need-same-length
-same-length c = search needs
 
 returns-2 : tie.Need-returns-2
 returns-2 c = names-then _ _ (rw (c .before .before .before .before .first .given .1) at (c .before .before .before .before .before .before .read-prefix .ensures)) (c .before .read-lines .ensures)
@@ -30,10 +18,8 @@ pub read-block-spec : {M : Type 1} → statement M
 read-block-spec =
     tie.close
     (tie.spec
-    read-prefix-requires
-    enum-known-first
-    enum-told
+    (λ c κs. search needs) (λ c. search needs) (λ c. search needs)
     returns
     read-lines-requires
-    same-length
+    (λ c. search needs)
     returns-2)

@@ -17,15 +17,6 @@ abbrev μ-loop : tie.MeasureT-loop
 loop-holds : tie.Need-loop-holds Inv-loop μ-loop
 loop-holds c = start (c .before .pre .0) (c .before .pre .1)
 
-read-signed-requires : tie.Need-read-signed-requires Inv-loop μ-loop
-read-signed-requires c κs = search needs
-
-enum-known-v : tie.Need-enum-known-v Inv-loop μ-loop
-enum-known-v c = search needs
-
-enum-told : tie.Need-enum-told Inv-loop μ-loop
-enum-told c = search needs
-
 same-length : tie.Need-same-length Inv-loop μ-loop
 same-length c = c .before .before .before .before .loop .inv .long
 
@@ -38,35 +29,11 @@ same-length-2 c = c .before .before .before .before .before .before .loop .inv .
 returns-2 : tie.Need-returns-2 Inv-loop μ-loop
 returns-2 c = no-end (c .before .before .before .before .before .before .loop .inv) (omega arith) (rw (c .before .before .v .given .1) at (c .before .before .before .before .read-signed .ensures)) (omega arith)
 
-sub-left : tie.Need-sub-left Inv-loop μ-loop
-sub-left c = omega arith
-
-shared-slice-read-if2 : tie.Need-shared-slice-read-if2 Inv-loop μ-loop
-shared-slice-read-if2 c = omega arith
-
-end-at-requires : tie.Need-end-at-requires Inv-loop μ-loop
-end-at-requires c κs = search needs
-
 same-length-3 : tie.Need-same-length-3 Inv-loop μ-loop
 same-length-3 c = c .before .before .before .before .before .before .before .before .before .loop .inv .long
 
 returns-3 : tie.Need-returns-3 Inv-loop μ-loop
 returns-3 c = other-end (c .before .before .before .before .before .before .before .before .before .loop .inv) (omega arith) (rw (c .before .before .before .before .before .v .given .1) at (c .before .before .before .before .before .before .before .read-signed .ensures)) (omega arith) (λ e. c .if2 .taken (e ∙ sym (c .before .end-at .ensures)))
-
-mul-v : tie.Need-mul-v Inv-loop μ-loop
-mul-v c = omega arith
-
-slice-set-from-v : tie.Need-slice-set-from-v Inv-loop μ-loop
-slice-set-from-v c = omega arith
-
-add-p : tie.Need-add-p Inv-loop μ-loop
-add-p c = omega arith
-
-add-i : tie.Need-add-i Inv-loop μ-loop
-add-i c = omega arith
-
-loop-less : tie.Need-loop-less Inv-loop μ-loop
-loop-less c = omega arith
 
 loop-again : tie.Need-loop-again Inv-loop μ-loop
 loop-again c = let r = rw (c .before .before .before .before .before .v .given .1) at (c .before .before .before .before .before .before .before .read-signed .ensures) in rw (kept _ (r .stands .2)) (next-field (c .before .before .before .before .before .before .before .before .before .loop .inv) (omega arith) r (omega arith) (c .if2 .left ∙ c .before .end-at .ensures))
@@ -84,23 +51,15 @@ read-line-spec =
     Inv-loop
     μ-loop
     loop-holds
-    read-signed-requires
-    enum-known-v
-    enum-told
+    (λ c κs. search needs) (λ c. search needs) (λ c. search needs)
     same-length
     returns
     same-length-2
     returns-2
-    sub-left
-    shared-slice-read-if2
-    end-at-requires
+    (λ c. omega arith) (λ c. omega arith) (λ c κs. search needs)
     same-length-3
     returns-3
-    mul-v
-    slice-set-from-v
-    add-p
-    add-i
-    loop-less
+    (λ c. omega arith) (λ c. omega arith) (λ c. omega arith) (λ c. omega arith) (λ c. omega arith)
     loop-again
     same-length-4
     returns-4)

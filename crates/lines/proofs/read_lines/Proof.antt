@@ -17,12 +17,6 @@ abbrev μ-loop : tie.MeasureT-loop
 loop-holds : tie.Need-loop-holds Inv-loop μ-loop
 loop-holds c = start (c .before .pre .0) (c .before .pre .1)
 
-starts-number-requires : tie.Need-starts-number-requires Inv-loop μ-loop
-starts-number-requires c κs = search needs
-
-sub-t12 : tie.Need-sub-t12 Inv-loop μ-loop
-sub-t12 c = omega arith
-
 same-length : tie.Need-same-length Inv-loop μ-loop
 same-length c = c .before .before .before .loop .inv .long
 
@@ -31,12 +25,6 @@ returns c = no-number (c .before .before .before .loop .inv) (sym (c .before .st
 
 read-line-requires : tie.Need-read-line-requires Inv-loop μ-loop
 read-line-requires c κs = (omega arith, room-line (c .before .before .before .before .loop .inv) (omega arith))
-
-enum-known-next : tie.Need-enum-known-next Inv-loop μ-loop
-enum-known-next c = search needs
-
-enum-told : tie.Need-enum-told Inv-loop μ-loop
-enum-told c = search needs
 
 same-length-2 : tie.Need-same-length-2 Inv-loop μ-loop
 same-length-2 c = c .before .before .before .read-line .kept .1 .1 .1 .0 ∙ c .before .before .before .before .before .before .before .before .loop .inv .long
@@ -47,17 +35,8 @@ returns-2 c = cut (c .before .before .before .before .before .before .before .be
 add-p : tie.Need-add-p Inv-loop μ-loop
 add-p c = omega (arith, room-line (c .before .before .before .before .before .before .before .before .before .loop .inv) (omega arith))
 
-sub-left : tie.Need-sub-left Inv-loop μ-loop
-sub-left c = omega arith
-
-loop-less : tie.Need-loop-less Inv-loop μ-loop
-loop-less c = omega arith
-
 loop-again : tie.Need-loop-again Inv-loop μ-loop
 loop-again c = next-line (c .before .before .before .before .before .before .before .before .before .loop .inv) (omega arith) (sym (c .before .before .before .before .before .before .before .starts-number .ensures) ∙ not-false _ (c .before .before .before .before .before .before .if1 .left)) (rw (c .before .next .given .1) at (c .before .before .before .before .read-line .ensures))
-
-sub-t16 : tie.Need-sub-t16 Inv-loop μ-loop
-sub-t16 c = omega arith
 
 same-length-3 : tie.Need-same-length-3 Inv-loop μ-loop
 same-length-3 c = c .before .loop .inv .long
@@ -72,19 +51,16 @@ read-lines-spec =
     Inv-loop
     μ-loop
     loop-holds
-    starts-number-requires
-    sub-t12
+    (λ c κs. search needs) (λ c. omega arith)
     same-length
     returns
     read-line-requires
-    enum-known-next
-    enum-told
+    (λ c. search needs) (λ c. search needs)
     same-length-2
     returns-2
     add-p
-    sub-left
-    loop-less
+    (λ c. omega arith) (λ c. omega arith)
     loop-again
-    sub-t16
+    (λ c. omega arith)
     same-length-3
     returns-3)

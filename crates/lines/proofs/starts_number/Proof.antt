@@ -9,14 +9,8 @@ use Rattle.lines.proofs.starts_number.Tie as tie
 returns : tie.Need-returns
 returns c = past (c .before .before .args .s .now) (c .before .before .args .at) (omega arith)
 
-shared-slice-read-b : tie.Need-shared-slice-read-b
-shared-slice-read-b c = search needs
-
-is-digit-requires : tie.Need-is-digit-requires
-is-digit-requires c κs = search needs
-
 returns-2 : tie.Need-returns-2
 returns-2 c = first (c .before .before .before .before .args .s .now) (c .before .before .before .before .args .at) (omega arith) (c .is-digit .ensures)
 
 pub starts-number-spec : {M : Type 1} → statement M
-starts-number-spec = tie.close (tie.spec returns shared-slice-read-b is-digit-requires returns-2)
+starts-number-spec = tie.close (tie.spec returns (λ c. search needs) (λ c κs. search needs) returns-2)

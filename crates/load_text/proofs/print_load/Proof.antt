@@ -4,32 +4,14 @@ use Rattle.load_text.proofs.Printing.{in-range, answered}
 use Rattle.load_text.proofs.print_load.Statement.{statement}
 use Rattle.load_text.proofs.print_load.Tie as tie
 
-read-input-requires : tie.Need-read-input-requires
-read-input-requires c κs = search needs
-
-enum-known-seed : tie.Need-enum-known-seed
-enum-known-seed c = search needs
-
 put-load-requires : tie.Need-put-load-requires
 put-load-requires c κs = let s = c .before .before in in-range _ (rw (s .seed .given .1) at (s .before .before .read-input .ensures))
-
-enum-told : tie.Need-enum-told
-enum-told c = search needs
-
-print-refusal-requires : tie.Need-print-refusal-requires
-print-refusal-requires c κs = search needs
-
-same-length : tie.Need-same-length
-same-length c = search needs
 
 returns : tie.Need-returns
 returns c =
     let p = c .before .before in
     let s = p .before .before .before in
     answered (rw (s .seed .given .1) at (s .before .before .read-input .ensures)) (p .put-load .ensures)
-
-same-length-2 : tie.Need-same-length-2
-same-length-2 c = search needs
 
 returns-2 : tie.Need-returns-2
 returns-2 c =
@@ -41,12 +23,9 @@ pub print-load-spec : {M : Type 1} → statement M
 print-load-spec =
     tie.close
     (tie.spec
-    read-input-requires
-    enum-known-seed
+    (λ c κs. search needs) (λ c. search needs)
     put-load-requires
-    enum-told
-    print-refusal-requires
-    same-length
+    (λ c. search needs) (λ c κs. search needs) (λ c. search needs)
     returns
-    same-length-2
+    (λ c. search needs)
     returns-2)

@@ -7,23 +7,8 @@ use Rattle.report.proofs.Putting.{put-line}
 use Rattle.load_text.proofs.put_load.Statement.{statement}
 use Rattle.load_text.proofs.put_load.Tie as tie
 
-slice-aggregate-write-load : tie.Need-slice-aggregate-write-load
-slice-aggregate-write-load c = search needs
-
-write-load-requires : tie.Need-write-load-requires
-write-load-requires c κs = search needs
-
-array-share-prefix-text : tie.Need-array-share-prefix-text
-array-share-prefix-text c = search needs
-
 slice-aggregate-put : tie.Need-slice-aggregate-put
 slice-aggregate-put c = let w = c .before .before .before .write-load in sym (length-take-le (w .result) (w .last .0) (omega (arith, w .kept .0, w .ensures .answer, w .ensures .fits)))
-
-put-requires : tie.Need-put-requires
-put-requires c κs = search needs
-
-same-length : tie.Need-same-length
-same-length c = search needs
 
 returns : tie.Need-returns
 returns c = put-line (c .before .before .before .before .before .before .write-load .ensures) refl (c .before .before .put .ensures)
@@ -32,10 +17,7 @@ pub put-load-spec : {M : Type 1} → statement M
 put-load-spec =
     tie.close
     (tie.spec
-    slice-aggregate-write-load
-    write-load-requires
-    array-share-prefix-text
+    (λ c. search needs) (λ c κs. search needs) (λ c. search needs)
     slice-aggregate-put
-    put-requires
-    same-length
+    (λ c κs. search needs) (λ c. search needs)
     returns)

@@ -5,18 +5,6 @@ use Rattle.load_text.proofs.Printing.{text-printed}
 use Rattle.load_text.proofs.write_load.Statement.{statement}
 use Rattle.load_text.proofs.write_load.Tie as tie
 
-print-head-requires : tie.Need-print-head-requires
-print-head-requires c κs = search needs
-
-print-layers-requires : tie.Need-print-layers-requires
-print-layers-requires c κs = search needs
-
-print-segments-requires : tie.Need-print-segments-requires
-print-segments-requires c κs = search needs
-
-same-length : tie.Need-same-length
-same-length c = search needs
-
 returns : tie.Need-returns
 returns c =
     let s₃ = c .before .before in
@@ -30,8 +18,5 @@ pub write-load-spec : {M : Type 1} → statement M
 write-load-spec =
     tie.close
     (tie.spec
-    print-head-requires
-    print-layers-requires
-    print-segments-requires
-    same-length
+    (λ c κs. search needs) (λ c κs. search needs) (λ c κs. search needs) (λ c. search needs)
     returns)

@@ -34,9 +34,6 @@ cast-result-2 c =
     let h : SFits w16 (c .args .cover) = sfits-widen tt (c .fits .cover) in
     rw (toZ-ofZ (c .fits .cover), toZ-ofZ h, toZ-ofZ (raised c)) (unsigned w64 (c .args .cover +ℤ pos 256) (omega (arith, known c)) (omega (arith, known c)))
 
-size-requires : tie.Need-size-requires
-size-requires c κs = search needs
-
 rem-result : tie.Need-rem-result
 rem-result c = rw (c .size .ensures) (lit< tt)
 
@@ -47,4 +44,4 @@ returns c =
     rw (c .size .ensures, toZ-ofZ (s .fits .cover), toZ-ofZ h, toZ-ofZ (raised s)) (rw (lifted 64 (s .args .cover) 4 (lit< tt) (omega (arith, known s))) (ap (λ (n : ℕ). n % 64) (omega (arith, known s))))
 
 pub cover-bits-spec : {M : Type 1} → statement M
-cover-bits-spec = tie.close (tie.spec cast-result add-result cast-result-2 size-requires rem-result returns)
+cover-bits-spec = tie.close (tie.spec cast-result add-result cast-result-2 (λ c κs. search needs) rem-result returns)

@@ -22,12 +22,6 @@ in-16 n h = sfits w16 (subℕ n 32768) (omega (arith, difference n 32768))
 same : (j : ℕ) → (j % 65536 + 32768) % 65536 ≡ (j + 32768) % 65536
 same j = omega arith
 
-add-result : tie.Need-add-result
-add-result c = search needs
-
-cast-result : tie.Need-cast-result
-cast-result c = search needs
-
 sub-result : tie.Need-sub-result
 sub-result c =
     let n = (c .args .j % 65536 + 32768) % 65536 in
@@ -45,4 +39,4 @@ returns c =
     rw (toZ-pos w32 {n = n} (omega arith), toZ-ofZ (in-32 n (omega arith)), toZ-ofZ (in-16 n (omega arith))) (ap (λ (k : ℕ). subℕ k 32768) (same (c .args .j)))
 
 pub cast-spec : {M : Type 1} → statement M
-cast-spec = tie.close (tie.spec add-result cast-result sub-result cast-result-2 returns)
+cast-spec = tie.close (tie.spec (λ c. search needs) (λ c. search needs) sub-result cast-result-2 returns)

@@ -16,19 +16,10 @@ at-last : (c : tie.After-known-told) → searchOf (orderAt (TileYNotNegative fal
 at-last c =
     sym (c .before .before .before .search-last-by-tile-y-not-negative .ensures) ∙ ap placeIn (c .before .last .given .1)
 
-search-last-by-tile-y-not-negative-requires : tie.Need-search-last-by-tile-y-not-negative-requires
-search-last-by-tile-y-not-negative-requires c κs = search needs
-
-enum-known-last : tie.Need-enum-known-last
-enum-known-last c = search needs
-
 add-result : tie.Need-add-result
 add-result c =
     omega
     (arith, found-lt (orderAt (TileYNotNegative false)) (c .before .before .before .before .before .args .segments .now) (c .before .last .given .0 .0) (at-last c))
-
-enum-told : tie.Need-enum-told
-enum-told c = search needs
 
 returns : tie.Need-returns
 unfolding startOf
@@ -42,9 +33,8 @@ pub find-not-negative-spec : {M : Type 1} → statement M
 find-not-negative-spec =
     tie.close
     (tie.spec
-    search-last-by-tile-y-not-negative-requires
-    enum-known-last
+    (λ c κs. search needs) (λ c. search needs)
     add-result
-    enum-told
+    (λ c. search needs)
     returns
     returns-2)

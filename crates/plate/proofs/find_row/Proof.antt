@@ -31,15 +31,6 @@ above c =
     let s = c .before .before .before .before .before .before .before .args in
     above-fits (castOf (s .j)) (s .segments .now) (c .before .before .last .given .0 .0) (at-last c)
 
-cast-requires : tie.Need-cast-requires
-cast-requires c κs = search needs
-
-search-last-by-tile-y-requires : tie.Need-search-last-by-tile-y-requires
-search-last-by-tile-y-requires c κs = search needs
-
-enum-known-last : tie.Need-enum-known-last
-enum-known-last c = search needs
-
 slice-aggregate-search-last-by-tile-y : tie.Need-slice-aggregate-search-last-by-tile-y
 slice-aggregate-search-last-by-tile-y c =
     let s = c .before .before .before .before .before .before .before .args in
@@ -48,9 +39,6 @@ slice-aggregate-search-last-by-tile-y c =
 
 sub-search-last-by-tile-y : tie.Need-sub-search-last-by-tile-y
 sub-search-last-by-tile-y c = rw (tile-y (c .before .before .before .before .before)) (above c)
-
-search-last-by-tile-y-requires-2 : tie.Need-search-last-by-tile-y-requires-2
-search-last-by-tile-y-requires-2 c κs = search needs
 
 end-of-requires : tie.Need-end-of-requires
 end-of-requires c κs =
@@ -62,9 +50,6 @@ add-t12 : tie.Need-add-t12
 add-t12 c =
     let s = c .before .before .before .before .before .before .before .before .before .args in
     omega (arith, found-lt (orderAt (TileY (castOf (s .j)))) (s .segments .now) (c .before .before .before .before .last .given .0 .0) (at-last (c .before .before)))
-
-enum-told : tie.Need-enum-told
-enum-told c = search needs
 
 returns : tie.Need-returns
 returns c =
@@ -82,14 +67,12 @@ pub find-row-spec : {M : Type 1} → statement M
 find-row-spec =
     tie.close
     (tie.spec
-    cast-requires
-    search-last-by-tile-y-requires
-    enum-known-last
+    (λ c κs. search needs) (λ c κs. search needs) (λ c. search needs)
     slice-aggregate-search-last-by-tile-y
     sub-search-last-by-tile-y
-    search-last-by-tile-y-requires-2
+    (λ c κs. search needs)
     end-of-requires
     add-t12
-    enum-told
+    (λ c. search needs)
     returns
     returns-2)

@@ -8,9 +8,6 @@ use Rattle.plate.proofs.Finding.{place-inside}
 use Rattle.plate.proofs.in_row.Statement.{statement}
 use Rattle.plate.proofs.in_row.Tie as tie
 
-find-row-requires : tie.Need-find-row-requires
-find-row-requires c κs = search needs
-
 slice-of-requires : tie.Need-slice-of-requires
 slice-of-requires c κs =
     let s = c .before .before .args in
@@ -23,4 +20,4 @@ returns c =
     c .slice-of .ensures ∙ ap (λ (p : Part). between (p .start) (p .end) l) (c .before .find-row .ensures)
 
 pub in-row-spec : {M : Type 1} → statement M
-in-row-spec = tie.close (tie.spec find-row-requires slice-of-requires returns)
+in-row-spec = tie.close (tie.spec (λ c κs. search needs) slice-of-requires returns)

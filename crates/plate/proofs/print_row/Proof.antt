@@ -6,12 +6,6 @@ use Rattle.plate.specs.Print.{row}
 use Rattle.plate.proofs.print_row.Statement.{statement}
 use Rattle.plate.proofs.print_row.Tie as tie
 
-is-in-crop-requires : tie.Need-is-in-crop-requires
-is-in-crop-requires c κs = search needs
-
-find-row-requires : tie.Need-find-row-requires
-find-row-requires c κs = search needs
-
 returns : tie.Need-returns
 returns c = rw (sym (c .before .before .is-in-crop .ensures) ∙ c .before .if1 .taken) (ap (λ (p : Part). row (p .start) (p .end)) (c .find-row .ensures))
 
@@ -19,4 +13,4 @@ returns-2 : tie.Need-returns-2
 returns-2 c = rw (sym (c .before .is-in-crop .ensures) ∙ c .if1 .left)
 
 pub print-row-spec : {M : Type 1} → statement M
-print-row-spec = tie.close (tie.spec is-in-crop-requires find-row-requires returns returns-2)
+print-row-spec = tie.close (tie.spec (λ c κs. search needs) (λ c κs. search needs) returns returns-2)

@@ -10,9 +10,6 @@ use Rattle.plate.proofs.Finding.{start-le}
 use Rattle.plate.proofs.skip_negative.Statement.{statement}
 use Rattle.plate.proofs.skip_negative.Tie as tie
 
-find-not-negative-requires : tie.Need-find-not-negative-requires
-find-not-negative-requires c κs = search needs
-
 -- the first segment that is kept stands inside
 inside : (c : tie.After-find-not-negative) → c .find-not-negative .result ≤ length (c .before .before .args .segments .now)
 inside c = rw (c .find-not-negative .ensures) (start-le (c .before .before .args .segments .now))
@@ -26,9 +23,6 @@ sub-result c = omega (arith, inside c)
 part-result-start : tie.Need-part-result-start
 part-result-start c = omega (arith, inside c)
 
-part-result-end : tie.Need-part-result-end
-part-result-end c = search needs
-
 returns : tie.Need-returns
 unfolding notNegative
 returns c =
@@ -40,9 +34,9 @@ pub skip-negative-spec : {M : Type 1} → statement M
 skip-negative-spec =
     tie.close
     (tie.spec
-    find-not-negative-requires
+    (λ c κs. search needs)
     mul-result
     sub-result
     part-result-start
-    part-result-end
+    (λ c. search needs)
     returns)

@@ -9,12 +9,6 @@ use Rattle.queue_statements.proofs.Queues.{held-lent, missed-lent}
 use Rattle.queue.proofs.incoming.Statement.{statement}
 use Rattle.queue.proofs.incoming.Tie as tie
 
-rank-requires : tie.Need-rank-requires
-rank-requires c κs = search needs
-
-is-at-requires : tie.Need-is-at-requires
-is-at-requires c κs = search needs
-
 -- the id stands at its rank
 found : (c : tie.Then1) → Held (c .before .before .before .before .args .id) (c .before .before .rank .result) (take (c .before .before .before .before .args .n) (c .before .before .before .before .args .ids .now))
 found c = held (sym (c .before .is-at .ensures) ∙ c .if1 .taken)
@@ -32,4 +26,4 @@ returns-2 c = missed-lent (c .before .before .before .before .pre) _ (c .before 
 
 pub incoming-spec : {M : Type 1} → statement M
 incoming-spec =
-    tie.close (tie.spec rank-requires is-at-requires read-cover-requires returns returns-2)
+    tie.close (tie.spec (λ c κs. search needs) (λ c κs. search needs) read-cover-requires returns returns-2)

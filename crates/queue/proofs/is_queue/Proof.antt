@@ -15,29 +15,14 @@ abbrev μ-loop : tie.MeasureT-loop
 returns : tie.Need-returns Inv-loop μ-loop
 returns c = many _ _ (omega arith)
 
-lesser-requires : tie.Need-lesser-requires Inv-loop μ-loop
-lesser-requires c κs = search needs
-
 loop-holds : tie.Need-loop-holds Inv-loop μ-loop
 loop-holds c = begin _ _
-
-mul-id : tie.Need-mul-id Inv-loop μ-loop
-mul-id c = omega arith
-
-shared-slice-read-id : tie.Need-shared-slice-read-id Inv-loop μ-loop
-shared-slice-read-id c = omega arith
 
 cast-id : tie.Need-cast-id Inv-loop μ-loop
 cast-id c = omega (arith, c .shared-slice-known2 .given (c .before .before .loop .i))
 
 add-low : tie.Need-add-low Inv-loop μ-loop
 add-low c = omega (arith, c .shared-slice-known2 .given (c .before .before .loop .i))
-
-add-i : tie.Need-add-i Inv-loop μ-loop
-add-i c = omega arith
-
-loop-less : tie.Need-loop-less Inv-loop μ-loop
-loop-less c = omega arith
 
 loop-again : tie.Need-loop-again Inv-loop μ-loop
 loop-again c = next (c .before .before .loop .inv) (omega arith)
@@ -52,13 +37,11 @@ is-queue-spec =
     Inv-loop
     μ-loop
     returns
-    lesser-requires
+    (λ c κs. search needs)
     loop-holds
-    mul-id
-    shared-slice-read-id
+    (λ c. omega arith) (λ c. omega arith)
     cast-id
     add-low
-    add-i
-    loop-less
+    (λ c. omega arith) (λ c. omega arith)
     loop-again
     returns-2)

@@ -17,18 +17,6 @@ abbrev μ-loop : tie.MeasureT-loop
 loop-holds : tie.Need-loop-holds Inv-loop μ-loop
 loop-holds c = copy-start (c .pre .0) (c .pre .1)
 
-shared-slice-copy-out-to : tie.Need-shared-slice-copy-out-to Inv-loop μ-loop
-shared-slice-copy-out-to c = omega arith
-
-slice-set-from-to : tie.Need-slice-set-from-to Inv-loop μ-loop
-slice-set-from-to c = omega arith
-
-add-i : tie.Need-add-i Inv-loop μ-loop
-add-i c = omega arith
-
-loop-less : tie.Need-loop-less Inv-loop μ-loop
-loop-less c = omega arith
-
 loop-again : tie.Need-loop-again Inv-loop μ-loop
 loop-again c = copy-next (pos 0) (c .before .before .loop .inv) (c .before .loop-test .taken) (kept w8 _ (c .to .given))
 
@@ -45,10 +33,7 @@ copy-covers-spec =
     Inv-loop
     μ-loop
     loop-holds
-    shared-slice-copy-out-to
-    slice-set-from-to
-    add-i
-    loop-less
+    (λ c. omega arith) (λ c. omega arith) (λ c. omega arith) (λ c. omega arith)
     loop-again
     same-length
     returns)

@@ -7,23 +7,11 @@ use Rattle.report.proofs.Putting.{put-line}
 use Rattle.report.proofs.print_refusal.Statement.{statement}
 use Rattle.report.proofs.print_refusal.Tie as tie
 
-slice-aggregate-write-refusal : tie.Need-slice-aggregate-write-refusal
-slice-aggregate-write-refusal c = search needs
-
-write-refusal-requires : tie.Need-write-refusal-requires
-write-refusal-requires c κs = search needs
-
 array-share-prefix-text : tie.Need-array-share-prefix-text
 array-share-prefix-text c = let w = c .before .before .write-refusal in omega (arith, w .ensures .answer, w .ensures .fits)
 
 slice-aggregate-put : tie.Need-slice-aggregate-put
 slice-aggregate-put c = let w = c .before .before .before .write-refusal in sym (length-take-le (w .result) (w .last .0) (omega (arith, w .kept .0, w .ensures .answer, w .ensures .fits)))
-
-put-requires : tie.Need-put-requires
-put-requires c κs = search needs
-
-same-length : tie.Need-same-length
-same-length c = search needs
 
 returns : tie.Need-returns
 returns c = put-line (c .before .before .before .before .before .before .write-refusal .ensures) refl (c .before .before .put .ensures)
@@ -32,10 +20,8 @@ pub print-refusal-spec : {M : Type 1} → statement M
 print-refusal-spec =
     tie.close
     (tie.spec
-    slice-aggregate-write-refusal
-    write-refusal-requires
+    (λ c. search needs) (λ c κs. search needs)
     array-share-prefix-text
     slice-aggregate-put
-    put-requires
-    same-length
+    (λ c κs. search needs) (λ c. search needs)
     returns)

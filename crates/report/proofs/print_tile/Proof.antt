@@ -7,23 +7,11 @@ use Rattle.report.proofs.Putting.{put-line}
 use Rattle.report.proofs.print_tile.Statement.{statement}
 use Rattle.report.proofs.print_tile.Tie as tie
 
-slice-aggregate-write-tile : tie.Need-slice-aggregate-write-tile
-slice-aggregate-write-tile c = search needs
-
-write-tile-requires : tie.Need-write-tile-requires
-write-tile-requires c κs = search needs
-
 array-share-prefix-text : tie.Need-array-share-prefix-text
 array-share-prefix-text c = let w = c .before .before .write-tile in omega (arith, w .ensures .answer, w .ensures .fits)
 
 slice-aggregate-put : tie.Need-slice-aggregate-put
 slice-aggregate-put c = let w = c .before .before .before .write-tile in sym (length-take-le (w .result) (w .last .0) (omega (arith, w .kept .0, w .ensures .answer, w .ensures .fits)))
-
-put-requires : tie.Need-put-requires
-put-requires c κs = search needs
-
-same-length : tie.Need-same-length
-same-length c = search needs
 
 returns : tie.Need-returns
 returns c = put-line (c .before .before .before .before .before .before .write-tile .ensures) refl (c .before .before .put .ensures)
@@ -32,10 +20,8 @@ pub print-tile-spec : {M : Type 1} → statement M
 print-tile-spec =
     tie.close
     (tie.spec
-    slice-aggregate-write-tile
-    write-tile-requires
+    (λ c. search needs) (λ c κs. search needs)
     array-share-prefix-text
     slice-aggregate-put
-    put-requires
-    same-length
+    (λ c κs. search needs) (λ c. search needs)
     returns)

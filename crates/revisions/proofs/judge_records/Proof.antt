@@ -9,15 +9,6 @@ use Rattle.revision_statements.proofs.Verdicts.{says-4, says-15, says-1, says-p
 use Rattle.revisions.proofs.judge_records.Statement.{statement}
 use Rattle.revisions.proofs.judge_records.Tie as tie
 
-lesser-requires : tie.Need-lesser-requires
-lesser-requires c κs = search needs
-
-lesser-requires-2 : tie.Need-lesser-requires-2
-lesser-requires-2 c κs = search needs
-
-are-good-requires : tie.Need-are-good-requires
-are-good-requires c κs = search needs
-
 -- how many records are there
 there : (c : tie.After-lesser2) → c .lesser2 .result ≡ min (c .before .before .before .before .before .before .args .count) (sentRoom (c .before .before .before .before .before .before .args .records .now) (c .before .before .before .before .before .before .args .record-colors .now))
 there c = c .lesser2 .ensures ∙ ap (min _) (c .before .lesser .ensures)
@@ -25,17 +16,11 @@ there c = c .lesser2 .ensures ∙ ap (min _) (c .before .lesser .ensures)
 returns : tie.Need-returns
 returns c = says-4 _ _ _ _ (there (c .before .before)) _ _ (sym (c .before .are-good .ensures _) ∙ not-true _ (c .if1 .taken))
 
-has-twins-requires : tie.Need-has-twins-requires
-has-twins-requires c κs = search needs
-
 returns-2 : tie.Need-returns-2
 returns-2 c = says-15 _ _ _ _ (there (c .before .before .before .before)) _ _ (sym (c .before .before .before .are-good .ensures _) ∙ not-false _ (c .before .before .if1 .left)) (sym (c .before .has-twins .ensures _) ∙ c .if2 .taken)
 
 count-standing-requires : tie.Need-count-standing-requires
 count-standing-requires c κs = record { long = omega (arith, there (c .before .before .before .before)); good = λ floats. sym (c .before .before .before .are-good .ensures floats) ∙ not-false _ (c .before .before .if1 .left) }
-
-is-short-requires : tie.Need-is-short-requires
-is-short-requires c κs = search needs
 
 returns-3 : tie.Need-returns-3
 returns-3 c = says-1 _ _ _ _ (there (c .before .before .before .before .before .before .before)) _ _ (sym (c .before .before .before .before .before .before .are-good .ensures _) ∙ not-false _ (c .before .before .before .before .before .if1 .left)) (sym (c .before .before .before .before .has-twins .ensures _) ∙ c .before .before .before .if2 .left) (c .before .before .count-standing .ensures _) (rw (c .before .is-short .ensures) at (c .if3 .taken))
@@ -47,13 +32,11 @@ pub judge-records-spec : {M : Type 1} → statement M
 judge-records-spec =
     tie.close
     (tie.spec
-    lesser-requires
-    lesser-requires-2
-    are-good-requires
+    (λ c κs. search needs) (λ c κs. search needs) (λ c κs. search needs)
     returns
-    has-twins-requires
+    (λ c κs. search needs)
     returns-2
     count-standing-requires
-    is-short-requires
+    (λ c κs. search needs)
     returns-3
     returns-4)

@@ -23,41 +23,17 @@ ends-told c =
     let s = c .before .before .before .before .before .before .before .before in
     c .has-bad-ends .ensures ∙ rw (toZ-ofZ (s .fits .tile-y), toZ-ofZ (s .fits .from), toZ-ofZ (s .fits .to))
 
-is-short-requires : tie.Need-is-short-requires
-is-short-requires c κs = search needs
-
-is-short-requires-2 : tie.Need-is-short-requires-2
-is-short-requires-2 c κs = search needs
-
 returns : tie.Need-returns
 unfolding openVerdict
 returns c = rw (← c .before .before .is-short .ensures, ← c .before .is-short2 .ensures, c .if1 .taken)
-
-has-bad-ends-requires : tie.Need-has-bad-ends-requires
-has-bad-ends-requires c κs = search needs
 
 returns-2 : tie.Need-returns-2
 unfolding openVerdict
 returns-2 c = rw (← c .before .before .before .before .is-short .ensures, ← c .before .before .before .is-short2 .ensures, c .before .before .if1 .left, ← ends-told (c .before), c .if2 .taken)
 
-natural-requires : tie.Need-natural-requires
-natural-requires c κs = search needs
-
-cast-is-row : tie.Need-cast-is-row
-cast-is-row c = search needs
-
-add-is-row : tie.Need-add-is-row
-add-is-row c = search needs
-
-is-row-requires : tie.Need-is-row-requires
-is-row-requires c κs = search needs
-
 returns-3 : tie.Need-returns-3
 unfolding openVerdict
 returns-3 c = rw (← c .before .before .before .before .before .before .before .is-short .ensures, ← c .before .before .before .before .before .before .is-short2 .ensures, c .before .before .before .before .before .if1 .left, ← ends-told (c .before .before .before .before), c .before .before .before .if2 .left, ← row-told (c .before), c .if3 .taken)
-
-is-table-requires : tie.Need-is-table-requires
-is-table-requires c κs = search needs
 
 returns-4 : tie.Need-returns-4
 unfolding openVerdict
@@ -71,16 +47,12 @@ pub judge-opening-spec : {M : Type 1} → statement M
 judge-opening-spec =
     tie.close
     (tie.spec
-    is-short-requires
-    is-short-requires-2
+    (λ c κs. search needs) (λ c κs. search needs)
     returns
-    has-bad-ends-requires
+    (λ c κs. search needs)
     returns-2
-    natural-requires
-    cast-is-row
-    add-is-row
-    is-row-requires
+    (λ c κs. search needs) (λ c. search needs) (λ c. search needs) (λ c κs. search needs)
     returns-3
-    is-table-requires
+    (λ c κs. search needs)
     returns-4
     returns-5)

@@ -44,45 +44,18 @@ first-fits c =
     let e = (known c) .ends in
     sfits w16 z (omega (arith, e .first, e .last, whole z))
 
-judge-opening-requires : tie.Need-judge-opening-requires
-judge-opening-requires c κs = search needs
-
-enum-known-refusal : tie.Need-enum-known-refusal
-enum-known-refusal c = search needs
-
-enum-told : tie.Need-enum-told
-enum-told c = search needs
-
 cast-left-of-tile : tie.Need-cast-left-of-tile
 cast-left-of-tile c = rw (toZ-ofZ (c .before .before .before .before .before .before .before .before .before .fits .from)) (first-fits c)
-
-left-of-tile-requires : tie.Need-left-of-tile-requires
-left-of-tile-requires c κs = search needs
 
 open-queue-requires : tie.Need-open-queue-requires
 unfolding lentTo
 open-queue-requires c κs = room ((known (c .before .before .before)) .room)
-
-opened-requires : tie.Need-opened-requires
-opened-requires c κs = search needs
-
-same-length : tie.Need-same-length
-same-length c = search needs
-
-same-length-2 : tie.Need-same-length-2
-same-length-2 c = search needs
 
 returns : tie.Need-returns
 unfolding called lentTo
 returns c =
     let s = c .before .before .before .before .before .before .before .before .before .before in
     refused-row (called s) (lentTo s) (sym (told (c .before .before .before)) ∙ ap judgementIn (c .before .refusal .given .1))
-
-same-length-3 : tie.Need-same-length-3
-same-length-3 c = search needs
-
-same-length-4 : tie.Need-same-length-4
-same-length-4 c = search needs
 
 returns-2 : tie.Need-returns-2
 unfolding called lentTo
@@ -97,16 +70,11 @@ pub open-tile-row-spec : {M : Type 1} → statement M
 open-tile-row-spec =
     tie.close
     (tie.spec
-    judge-opening-requires
-    enum-known-refusal
-    enum-told
+    (λ c κs. search needs) (λ c. search needs) (λ c. search needs)
     cast-left-of-tile
-    left-of-tile-requires
+    (λ c κs. search needs)
     open-queue-requires
-    opened-requires
-    same-length
-    same-length-2
+    (λ c κs. search needs) (λ c. search needs) (λ c. search needs)
     returns
-    same-length-3
-    same-length-4
+    (λ c. search needs) (λ c. search needs)
     returns-2)

@@ -19,42 +19,21 @@ worked-told c = rw (toZ-ofZ (c .before .before .before .before .before .before .
 row-told : (c : tie.After-is-row) → c .is-row .result ≡ isRow cpu (suc (c .before .before .before .before .before .before .before .before .before .before .before .args .state .«tile_y»)) (c .before .before .before .before .before .before .before .before .before .before .before .args .row .now)
 row-told c = c .is-row .ensures ∙ ap (λ (n : ℕ). isRow cpu n (c .before .before .before .before .before .before .before .before .before .before .before .args .row .now)) (add-one (c .before .before .before .before .before .before .before .before .before .before .before .args .state .«tile_y»))
 
-is-paint-short-requires : tie.Need-is-paint-short-requires
-is-paint-short-requires c κs = search needs
-
 returns : tie.Need-returns
 unfolding callVerdict
 returns c = rw (← c .before .is-paint-short .ensures, c .if1 .taken)
-
-is-wrong-worked-requires : tie.Need-is-wrong-worked-requires
-is-wrong-worked-requires c κs = search needs
 
 returns-2 : tie.Need-returns-2
 unfolding callVerdict
 returns-2 c = rw (← c .before .before .before .is-paint-short .ensures, c .before .before .if1 .left, ← worked-told (c .before), c .if2 .taken)
 
-cast-is-row : tie.Need-cast-is-row
-cast-is-row c = search needs
-
-add-is-row : tie.Need-add-is-row
-add-is-row c = search needs
-
-is-row-requires : tie.Need-is-row-requires
-is-row-requires c κs = search needs
-
 returns-3 : tie.Need-returns-3
 unfolding callVerdict
 returns-3 c = rw (← c .before .before .before .before .before .before .is-paint-short .ensures, c .before .before .before .before .before .if1 .left, ← worked-told (c .before .before .before .before), c .before .before .before .if2 .left, ← row-told (c .before), c .if3 .taken)
 
-is-table-requires : tie.Need-is-table-requires
-is-table-requires c κs = search needs
-
 returns-4 : tie.Need-returns-4
 unfolding callVerdict
 returns-4 c = rw (← c .before .before .before .before .before .before .before .before .is-paint-short .ensures, c .before .before .before .before .before .before .before .if1 .left, ← worked-told (c .before .before .before .before .before .before), c .before .before .before .before .before .if2 .left, ← row-told (c .before .before .before), c .before .before .if3 .left, ← c .before .is-table .ensures, c .if4 .taken)
-
-is-queue-requires : tie.Need-is-queue-requires
-is-queue-requires c κs = search needs
 
 returns-5 : tie.Need-returns-5
 unfolding callVerdict
@@ -68,16 +47,14 @@ pub judge-call-spec : {M : Type 1} → statement M
 judge-call-spec =
     tie.close
     (tie.spec
-    is-paint-short-requires
+    (λ c κs. search needs)
     returns
-    is-wrong-worked-requires
+    (λ c κs. search needs)
     returns-2
-    cast-is-row
-    add-is-row
-    is-row-requires
+    (λ c. search needs) (λ c. search needs) (λ c κs. search needs)
     returns-3
-    is-table-requires
+    (λ c κs. search needs)
     returns-4
-    is-queue-requires
+    (λ c κs. search needs)
     returns-5
     returns-6)

@@ -4,24 +4,6 @@ use Rattle.layer_table.proofs.Looking.{at-place, at-none}
 use Rattle.row_painting.proofs.judge_layer.Statement.{statement}
 use Rattle.row_painting.proofs.judge_layer.Tie as tie
 
-find-requires : tie.Need-find-requires
-find-requires c κs = search needs
-
-enum-told : tie.Need-enum-told
-enum-told c = search needs
-
-enum-told-2 : tie.Need-enum-told-2
-enum-told-2 c = search needs
-
-of-layer-requires : tie.Need-of-layer-requires
-of-layer-requires c κs = search needs
-
-incoming-requires : tie.Need-incoming-requires
-incoming-requires c κs = search needs
-
-is-light-requires : tie.Need-is-light-requires
-is-light-requires c κs = search needs
-
 returns : tie.Need-returns
 returns c =
     let s = c .before .before .before .before .before .before .before in
@@ -45,12 +27,8 @@ pub judge-layer-spec : {M : Type 1} → statement M
 judge-layer-spec =
     tie.close
     (tie.spec
-    find-requires
-    enum-told
-    enum-told-2
-    of-layer-requires
-    incoming-requires
-    is-light-requires
+    (λ c κs. search needs) (λ c. search needs) (λ c. search needs) (λ c κs. search needs)
+    (λ c κs. search needs) (λ c κs. search needs)
     returns
     returns-2
     returns-3)

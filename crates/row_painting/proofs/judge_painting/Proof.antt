@@ -41,20 +41,8 @@ tile-fits c =
     let k = known c in
     sfits w16 z (omega (arith, k .worked, k .in-state, whole z))
 
-judge-call-requires : tie.Need-judge-call-requires
-judge-call-requires c κs = search needs
-
-enum-known-refusal : tie.Need-enum-known-refusal
-enum-known-refusal c = search needs
-
-enum-told : tie.Need-enum-told
-enum-told c = search needs
-
 cast-in-tile : tie.Need-cast-in-tile
 cast-in-tile c = rw (toZ-ofZ (c .before .before .before .before .before .before .before .before .fits .tile)) (tile-fits c)
-
-in-tile-requires : tie.Need-in-tile-requires
-in-tile-requires c κs = search needs
 
 judge-layer-requires : tie.Need-judge-layer-requires
 unfolding called
@@ -81,11 +69,9 @@ pub judge-painting-spec : {M : Type 1} → statement M
 judge-painting-spec =
     tie.close
     (tie.spec
-    judge-call-requires
-    enum-known-refusal
-    enum-told
+    (λ c κs. search needs) (λ c. search needs) (λ c. search needs)
     cast-in-tile
-    in-tile-requires
+    (λ c κs. search needs)
     judge-layer-requires
     returns
     returns-2)

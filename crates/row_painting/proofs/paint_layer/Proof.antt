@@ -45,20 +45,8 @@ tile-fits c =
     let k = known c .0 in
     sfits w16 z (omega (arith, k .worked, k .in-state, whole z))
 
-judge-painting-requires : tie.Need-judge-painting-requires
-judge-painting-requires c κs = search needs
-
-enum-known-refusal : tie.Need-enum-known-refusal
-enum-known-refusal c = search needs
-
-enum-told : tie.Need-enum-told
-enum-told c = search needs
-
 cast-in-tile : tie.Need-cast-in-tile
 cast-in-tile c = rw (toZ-ofZ (c .before .before .before .before .before .before .before .before .before .fits .tile)) (tile-fits c)
-
-in-tile-requires : tie.Need-in-tile-requires
-in-tile-requires c κs = search needs
 
 record-of-requires : tie.Need-record-of-requires
 unfolding called
@@ -72,21 +60,12 @@ paint-requires c κs =
     let part = rw (toZ-ofZ (s .fits .tile), toZ-ofZ (tile-fits (c .before .before .before))) at (c .before .before .in-tile .ensures) in
     rw (part, c .before .record-of .ensures) (ready (called s) (s .args .plane .now) (p .0) (record { small = λ i. c .before .before .before .before .before .before .before .before .before .before .before .shared-slice-known .given i .fits }), p .1 .found, p .1 .light)
 
-answered-requires : tie.Need-answered-requires
-answered-requires c κs = search needs
-
-same-length : tie.Need-same-length
-same-length c = search needs
-
 returns : tie.Need-returns
 unfolding called
 returns c =
     let s = c .before .before .before .before .before .before .before .before .before .before in
     let k = called s in
     paints-refused (paintSays (layersOf (k .table)) (takenFor k) (partFor k) (k .layer) (k .state .clip)) (s .args .state) (sym (told (c .before .before .before)) ∙ ap judgementIn (c .before .refusal .given .1)) refl
-
-same-length-2 : tie.Need-same-length-2
-same-length-2 c = search needs
 
 returns-2 : tie.Need-returns-2
 unfolding called
@@ -102,15 +81,12 @@ pub paint-layer-spec : {M : Type 1} → statement M
 paint-layer-spec =
     tie.close
     (tie.spec
-    judge-painting-requires
-    enum-known-refusal
-    enum-told
+    (λ c κs. search needs) (λ c. search needs) (λ c. search needs)
     cast-in-tile
-    in-tile-requires
+    (λ c κs. search needs)
     record-of-requires
     paint-requires
-    answered-requires
-    same-length
+    (λ c κs. search needs) (λ c. search needs)
     returns
-    same-length-2
+    (λ c. search needs)
     returns-2)

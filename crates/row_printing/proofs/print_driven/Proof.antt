@@ -7,27 +7,15 @@ use Rattle.row_printing.proofs.Lining.{asks, last-room, done, refused}
 use Rattle.row_printing.proofs.print_driven.Statement.{statement}
 use Rattle.row_printing.proofs.print_driven.Tie as tie
 
-print-names-requires : tie.Need-print-names-requires
-print-names-requires c κs = search needs
-
-enum-known-driven : tie.Need-enum-known-driven
-enum-known-driven c = search needs
-
 print-lines-requires : tie.Need-print-lines-requires
 print-lines-requires c κs =
     let p = c .before .before .before .before .before .before .print-names in
     asks (c .before .before .before .before .before .before .before .before .before .before .pre) (ap linesWritten (c .before .before .driven .given .1)) (p .ensures) (p .kept .0)
 
-enum-known-driven-2 : tie.Need-enum-known-driven-2
-enum-known-driven-2 c = search needs
-
 print-lines-requires-2 : tie.Need-print-lines-requires-2
 print-lines-requires-2 c κs =
     let p = c .before .before .before .before .before .before .print-names in
     asks (c .before .before .before .before .before .before .before .before .before .before .pre) (ap linesWritten (c .before .before .driven2 .given .1)) (p .ensures) (p .kept .0)
-
-number-of-requires : tie.Need-number-of-requires
-number-of-requires c κs = search needs
 
 print-refusal-requires : tie.Need-print-refusal-requires
 print-refusal-requires c κs =
@@ -35,9 +23,6 @@ print-refusal-requires c κs =
     let q = c .before .before .before .before .print-lines2 in
     let room = last-room (c .before .before .before .before .before .before .before .before .before .before .before .before .before .before .before .pre) (ap linesWritten (c .before .before .before .before .before .before .before .driven2 .given .1)) (p .ensures) in
     omega (arith, room, q .ensures .1, q .kept .1 .1 .1 .0, p .kept .0)
-
-same-length : tie.Need-same-length
-same-length c = search needs
 
 returns : tie.Need-returns
 returns c =
@@ -47,9 +32,6 @@ returns c =
     let q = c .before .before .print-lines .ensures in
     let room = last-room (s .pre) (ap linesWritten e) p in
     done (s .args .told .now) (s .args .first) e p (q .0) (omega (arith, room, q .1))
-
-same-length-2 : tie.Need-same-length-2
-same-length-2 c = search needs
 
 returns-2 : tie.Need-returns-2
 returns-2 c =
@@ -65,14 +47,13 @@ pub print-driven-spec : {M : Type 1} → statement M
 print-driven-spec =
     tie.close
     (tie.spec
-    print-names-requires
-    enum-known-driven
+    (λ c κs. search needs) (λ c. search needs)
     print-lines-requires
-    enum-known-driven-2
+    (λ c. search needs)
     print-lines-requires-2
-    number-of-requires
+    (λ c κs. search needs)
     print-refusal-requires
-    same-length
+    (λ c. search needs)
     returns
-    same-length-2
+    (λ c. search needs)
     returns-2)

@@ -8,15 +8,6 @@ use Rattle.row_printing.proofs.Placing.{placed}
 use Rattle.row_printing.proofs.print_names.Statement.{statement}
 use Rattle.row_printing.proofs.print_names.Tie as tie
 
-print-names-requires : tie.Need-print-names-requires
-print-names-requires c κs = search needs
-
-place-or-requires : tie.Need-place-or-requires
-place-or-requires c κs = search needs
-
-same-length : tie.Need-same-length
-same-length c = search needs
-
 returns : tie.Need-returns
 returns c =
     let s = c .before .before .before .before .before .before in
@@ -24,4 +15,4 @@ returns c =
     placed (c .before .before .before .print-names .ensures) (c .place-or .ensures) room
 
 pub print-names-spec : {M : Type 1} → statement M
-print-names-spec = tie.close (tie.spec print-names-requires place-or-requires same-length returns)
+print-names-spec = tie.close (tie.spec (λ c κs. search needs) (λ c κs. search needs) (λ c. search needs) returns)

@@ -4,15 +4,6 @@ use Rattle.row_printing.proofs.Placing.{refusal-long, placed-in}
 use Rattle.row_printing.proofs.print_refusal.Statement.{statement}
 use Rattle.row_printing.proofs.print_refusal.Tie as tie
 
-print-refusal-requires : tie.Need-print-refusal-requires
-print-refusal-requires c κs = search needs
-
-place-or-requires : tie.Need-place-or-requires
-place-or-requires c κs = search needs
-
-same-length : tie.Need-same-length
-same-length c = search needs
-
 returns : tie.Need-returns
 returns c =
     let s = c .before .before .before .before .before .before in
@@ -20,4 +11,4 @@ returns c =
 
 pub print-refusal-spec : {M : Type 1} → statement M
 print-refusal-spec =
-    tie.close (tie.spec print-refusal-requires place-or-requires same-length returns)
+    tie.close (tie.spec (λ c κs. search needs) (λ c κs. search needs) (λ c. search needs) returns)

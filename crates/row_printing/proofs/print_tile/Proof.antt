@@ -4,18 +4,6 @@ use Rattle.row_printing.proofs.Placing.{tile-placed}
 use Rattle.row_printing.proofs.print_tile.Statement.{statement}
 use Rattle.row_printing.proofs.print_tile.Tie as tie
 
-tile-in-requires : tie.Need-tile-in-requires
-tile-in-requires c κs = search needs
-
-print-tile-requires : tie.Need-print-tile-requires
-print-tile-requires c κs = search needs
-
-place-or-requires : tie.Need-place-or-requires
-place-or-requires c κs = search needs
-
-same-length : tie.Need-same-length
-same-length c = search needs
-
 returns : tie.Need-returns
 returns c =
     let s = c .before .before .before .before .before .before .before .before in
@@ -24,4 +12,4 @@ returns c =
 
 pub print-tile-spec : {M : Type 1} → statement M
 print-tile-spec =
-    tie.close (tie.spec tile-in-requires print-tile-requires place-or-requires same-length returns)
+    tie.close (tie.spec (λ c κs. search needs) (λ c κs. search needs) (λ c κs. search needs) (λ c. search needs) returns)

@@ -9,21 +9,6 @@ use Rattle.row_answer.proofs.Reading.{accepts, has-room, refuses, same-text}
 use Rattle.row_text.proofs.answer.Statement.{statement}
 use Rattle.row_text.proofs.answer.Tie as tie
 
-slice-aggregate-read-job : tie.Need-slice-aggregate-read-job
-slice-aggregate-read-job c = search needs
-
-slice-aggregate-read-job-2 : tie.Need-slice-aggregate-read-job-2
-slice-aggregate-read-job-2 c = search needs
-
-slice-aggregate-read-job-3 : tie.Need-slice-aggregate-read-job-3
-slice-aggregate-read-job-3 c = search needs
-
-read-job-requires : tie.Need-read-job-requires
-read-job-requires c κs = search needs
-
-enum-known-head : tie.Need-enum-known-head
-enum-known-head c = search needs
-
 mul-words : tie.Need-mul-words
 mul-words c =
     let j = c .before .before .before .before .before .before .read-job in
@@ -72,18 +57,6 @@ slice-aggregate-drive-3 c =
     let x = accepts (j .ensures) refl refl refl (c .before .before .before .before .head .given .1) in
     sym (length-take-le (c .before .before .before .before .head .given .0 .1 .0 * 4) (j .last .1 .1 .0) (omega (arith, x .colors-fit, j .kept .1 .1 .0)))
 
-drive-requires : tie.Need-drive-requires
-drive-requires c κs = search needs
-
-enum-told : tie.Need-enum-told
-enum-told c = search needs
-
-enum-told-2 : tie.Need-enum-told-2
-enum-told-2 c = search needs
-
-print-refusal-requires : tie.Need-print-refusal-requires
-print-refusal-requires c κs = search needs
-
 returns : tie.Need-returns
 returns c =
     let j = c .before .before .before .before .before .before .before .before .before .before .before .read-job in
@@ -102,11 +75,7 @@ pub answer-spec : {M : Type 1} → statement M
 answer-spec =
     tie.close
     (tie.spec
-    slice-aggregate-read-job
-    slice-aggregate-read-job-2
-    slice-aggregate-read-job-3
-    read-job-requires
-    enum-known-head
+    (λ c. search needs) (λ c. search needs) (λ c. search needs) (λ c κs. search needs) (λ c. search needs)
     mul-words
     mul-floats
     array-share-prefix-row
@@ -115,10 +84,7 @@ answer-spec =
     slice-aggregate-drive-2
     array-share-prefix-colors
     slice-aggregate-drive-3
-    drive-requires
-    enum-told
-    enum-told-2
-    print-refusal-requires
+    (λ c κs. search needs) (λ c. search needs) (λ c. search needs) (λ c κs. search needs)
     returns
     returns-2
     returns-3)

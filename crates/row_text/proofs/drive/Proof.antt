@@ -27,14 +27,8 @@ told-by c =
 first-is : (c : tie.After-natural) → c .natural .result ≡ plus (c .before .before .before .before .before .before .before .before .before .before .before .before .args .head .from)
 first-is c = rw (kept w32 (c .before .before .before .before .before .before .before .before .before .before .before .before .args .head .from) (c .before .before .before .before .before .before .before .struct-told .given .1 .1 .0 .1)) at (c .natural .ensures)
 
-drive-row-requires : tie.Need-drive-row-requires
-drive-row-requires c κs = search needs
-
 slice-aggregate-print-driven : tie.Need-slice-aggregate-print-driven
 slice-aggregate-print-driven c = sym (told-by (c .before) .long)
-
-natural-requires : tie.Need-natural-requires
-natural-requires c κs = search needs
 
 print-driven-requires : tie.Need-print-driven-requires
 print-driven-requires c κs =
@@ -42,9 +36,6 @@ print-driven-requires c κs =
     let low = machine.within w32 (a .head .from) (record { sfits = c .before .before .before .before .before .before .before .before .struct-told .given .1 .1 .0 .1 }) .above in
     all-told (a .head) (a .row .now) (a .layers .now) (a .colors .now) (a .count) (told-by (c .before .before .before)) (first-is (c .before))
     (told-by (c .before .before .before) .long) (omega (arith, low)) (c .before .before .before .before .before .before .before .before .before .before .before .before .before .pre)
-
-same-length : tie.Need-same-length
-same-length c = search needs
 
 returns : tie.Need-returns
 returns c =
@@ -56,9 +47,9 @@ pub drive-spec : {M : Type 1} → statement M
 drive-spec =
     tie.close
     (tie.spec
-    drive-row-requires
+    (λ c κs. search needs)
     slice-aggregate-print-driven
-    natural-requires
+    (λ c κs. search needs)
     print-driven-requires
-    same-length
+    (λ c. search needs)
     returns)

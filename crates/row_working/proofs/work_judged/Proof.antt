@@ -49,20 +49,8 @@ listable c = list-passed _ _ (sym (list-told (c .before .before) .verdict) ∙ a
 cast-in-tile : tie.Need-cast-in-tile
 cast-in-tile c = rw (toZ-ofZ (c .before .before .before .before .before .before .before .before .fits .tile)) (tile-fits (c .before .before .before .before .before .before .before .before))
 
-in-tile-requires : tie.Need-in-tile-requires
-in-tile-requires c κs = search needs
-
 judge-list-requires : tie.Need-judge-list-requires
 judge-list-requires c κs = rw (part-is c) (c .before .before .before .before .before .before .before .before .before .pre .walks, c .before .before .before .before .before .before .before .before .before .pre .covers-long, c .before .before .before .before .before .before .before .before .before .pre .in-table)
-
-enum-known-verdict : tie.Need-enum-known-verdict
-enum-known-verdict c = search needs
-
-refuse-requires : tie.Need-refuse-requires
-refuse-requires c κs = search needs
-
-enum-told : tie.Need-enum-told
-enum-told c = search needs
 
 work-requires : tie.Need-work-requires
 unfolding called
@@ -79,24 +67,6 @@ returns : tie.Need-returns
 unfolding called lentTo
 returns c = refused-by (called (c .before .before .before .before .before .before .before .before .before .before .before .before .before .before)) (lentTo (c .before .before .before .before .before .before .before .before .before .before .before .before .before .before)) (sym (list-told (c .before .before .before .before) .verdict) ∙ ap judgementIn (c .before .before .verdict .given .1)) refl (c .refuse .ensures)
 
-same-length : tie.Need-same-length
-same-length c = search needs
-
-same-length-2 : tie.Need-same-length-2
-same-length-2 c = search needs
-
-same-length-3 : tie.Need-same-length-3
-same-length-3 c = search needs
-
-same-length-4 : tie.Need-same-length-4
-same-length-4 c = search needs
-
-same-length-5 : tie.Need-same-length-5
-same-length-5 c = search needs
-
-same-length-6 : tie.Need-same-length-6
-same-length-6 c = search needs
-
 returns-2 : tie.Need-returns-2
 unfolding called lentTo
 returns-2 c =
@@ -109,18 +79,12 @@ work-judged-spec =
     tie.close
     (tie.spec
     cast-in-tile
-    in-tile-requires
+    (λ c κs. search needs)
     judge-list-requires
-    enum-known-verdict
-    refuse-requires
-    enum-told
+    (λ c. search needs) (λ c κs. search needs) (λ c. search needs)
     work-requires
     done-requires
     returns
-    same-length
-    same-length-2
-    same-length-3
-    same-length-4
-    same-length-5
-    same-length-6
+    (λ c. search needs) (λ c. search needs) (λ c. search needs) (λ c. search needs) (λ c. search needs)
+    (λ c. search needs)
     returns-2)

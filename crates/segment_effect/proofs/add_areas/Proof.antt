@@ -9,30 +9,6 @@ use Rattle.segment_set_statements.proofs.Spreading.{spread-is}
 use Rattle.segment_effect.proofs.add_areas.Statement.{statement}
 use Rattle.segment_effect.proofs.add_areas.Tie as tie
 
-local-x-requires : tie.Need-local-x-requires
-local-x-requires c κs = search needs
-
-cast-x : tie.Need-cast-x
-cast-x c = search needs
-
-local-y-requires : tie.Need-local-y-requires
-local-y-requires c κs = search needs
-
-cast-y : tie.Need-cast-y
-cast-y c = search needs
-
-double-area-requires : tie.Need-double-area-requires
-double-area-requires c κs = search needs
-
-past-cover-requires : tie.Need-past-cover-requires
-past-cover-requires c κs = search needs
-
-spread-requires : tie.Need-spread-requires
-spread-requires c κs = search needs
-
-same-length : tie.Need-same-length
-same-length c = search needs
-
 returns : tie.Need-returns
 returns c =
     let p = c .before .before in
@@ -54,12 +30,6 @@ pub add-areas-spec : {M : Type 1} → statement M
 add-areas-spec =
     tie.close
     (tie.spec
-    local-x-requires
-    cast-x
-    local-y-requires
-    cast-y
-    double-area-requires
-    past-cover-requires
-    spread-requires
-    same-length
+    (λ c κs. search needs) (λ c. search needs) (λ c κs. search needs) (λ c. search needs)
+    (λ c κs. search needs) (λ c κs. search needs) (λ c κs. search needs) (λ c. search needs)
     returns)

@@ -10,21 +10,6 @@ use Rattle.segment_set_statements.proofs.Changes.{changes}
 use Rattle.segment_effect.proofs.added.Statement.{statement}
 use Rattle.segment_effect.proofs.added.Tie as tie
 
-cover-requires : tie.Need-cover-requires
-cover-requires c κs = search needs
-
-local-y-requires : tie.Need-local-y-requires
-local-y-requires c κs = search needs
-
-cast-y : tie.Need-cast-y
-cast-y c = search needs
-
-carry-with-requires : tie.Need-carry-with-requires
-carry-with-requires c κs = search needs
-
-cover-magnitude-requires : tie.Need-cover-magnitude-requires
-cover-magnitude-requires c κs = search needs
-
 raise-requires : tie.Need-raise-requires
 raise-requires c κs =
     let y = c .before .before .before .before in
@@ -48,10 +33,7 @@ pub added-spec : {M : Type 1} → statement M
 added-spec =
     tie.close
     (tie.spec
-    cover-requires
-    local-y-requires
-    cast-y
-    carry-with-requires
-    cover-magnitude-requires
+    (λ c κs. search needs) (λ c κs. search needs) (λ c. search needs) (λ c κs. search needs)
+    (λ c κs. search needs)
     raise-requires
     returns)

@@ -9,15 +9,6 @@ use Rattle.laws.proofs.Machine.{kept}
 use Rattle.segment_effect.proofs.carry_with.Statement.{statement}
 use Rattle.segment_effect.proofs.carry_with.Tie as tie
 
-array-copy-out-add-cover : tie.Need-array-copy-out-add-cover
-array-copy-out-add-cover c = search needs
-
-add-cover-requires : tie.Need-add-cover-requires
-add-cover-requires c κs = search needs
-
-array-set-from-covers : tie.Need-array-set-from-covers
-array-set-from-covers c = search needs
-
 returns : tie.Need-returns
 returns c =
     let s = c .before .before .before in
@@ -27,4 +18,4 @@ returns c =
 
 pub carry-with-spec : {M : Type 1} → statement M
 carry-with-spec =
-    tie.close (tie.spec array-copy-out-add-cover add-cover-requires array-set-from-covers returns)
+    tie.close (tie.spec (λ c. search needs) (λ c κs. search needs) (λ c. search needs) returns)

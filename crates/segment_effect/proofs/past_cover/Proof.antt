@@ -12,9 +12,6 @@ use Rattle.pixel_segment.proofs.Widths.{in-cover, cover-fits}
 use Rattle.segment_effect.proofs.past_cover.Statement.{statement}
 use Rattle.segment_effect.proofs.past_cover.Tie as tie
 
-cover-requires : tie.Need-cover-requires
-cover-requires c κs = search needs
-
 wide : (c : tie.After-cover) → SFits w16 (coverOf cpu (c .before .args .segment .0))
 wide c = sfits-widen tt (cover-fits (c .before .args .segment .0))
 
@@ -33,4 +30,4 @@ returns : tie.Need-returns
 returns c = rw (kept w8 (c .cover .result) (c .cover .ok), c .cover .ensures, toZ-ofZ (wide c), toZ-ofZ (fits c))
 
 pub past-cover-spec : {M : Type 1} → statement M
-past-cover-spec = tie.close (tie.spec cover-requires cast-result mul-result returns)
+past-cover-spec = tie.close (tie.spec (λ c κs. search needs) cast-result mul-result returns)

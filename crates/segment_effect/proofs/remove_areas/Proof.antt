@@ -14,41 +14,17 @@ use Rattle.segment_set_statements.proofs.Wrapping.{opposite-fits}
 use Rattle.segment_effect.proofs.remove_areas.Statement.{statement}
 use Rattle.segment_effect.proofs.remove_areas.Tie as tie
 
-local-x-requires : tie.Need-local-x-requires
-local-x-requires c κs = search needs
-
-cast-x : tie.Need-cast-x
-cast-x c = search needs
-
-local-y-requires : tie.Need-local-y-requires
-local-y-requires c κs = search needs
-
-cast-y : tie.Need-cast-y
-cast-y c = search needs
-
-double-area-requires : tie.Need-double-area-requires
-double-area-requires c κs = search needs
-
 sub-spread : tie.Need-sub-spread
 sub-spread c =
     let w = c .before .before .before .before .args .word in
     rw (kept w16 (c .double-area .result) (c .double-area .ok), c .double-area .ensures)
     (opposite-fits w16 (doubleAreaOf cpu w) (omega (arith, area-le w)))
 
-past-cover-requires : tie.Need-past-cover-requires
-past-cover-requires c κs = search needs
-
 sub-spread-2 : tie.Need-sub-spread-2
 sub-spread-2 c =
     let w = c .before .before .before .before .before .args .word in
     rw (kept w16 (c .past-cover .result) (c .past-cover .ok), c .past-cover .ensures)
     (opposite-fits w16 (pos 32 *ℤ coverOf cpu w) (omega (arith, times 32 (coverOf cpu w), whole (pos 32 *ℤ coverOf cpu w), in-cover w)))
-
-spread-requires : tie.Need-spread-requires
-spread-requires c κs = search needs
-
-same-length : tie.Need-same-length
-same-length c = search needs
 
 returns : tie.Need-returns
 returns c =
@@ -75,14 +51,10 @@ pub remove-areas-spec : {M : Type 1} → statement M
 remove-areas-spec =
     tie.close
     (tie.spec
-    local-x-requires
-    cast-x
-    local-y-requires
-    cast-y
-    double-area-requires
+    (λ c κs. search needs) (λ c. search needs) (λ c κs. search needs) (λ c. search needs)
+    (λ c κs. search needs)
     sub-spread
-    past-cover-requires
+    (λ c κs. search needs)
     sub-spread-2
-    spread-requires
-    same-length
+    (λ c κs. search needs) (λ c. search needs)
     returns)

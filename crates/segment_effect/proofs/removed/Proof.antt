@@ -14,30 +14,12 @@ use Rattle.segment_set_statements.proofs.Wrapping.{opposite-fits}
 use Rattle.segment_effect.proofs.removed.Statement.{statement}
 use Rattle.segment_effect.proofs.removed.Tie as tie
 
-cover-requires : tie.Need-cover-requires
-cover-requires c κs = search needs
-
-local-y-requires : tie.Need-local-y-requires
-local-y-requires c κs = search needs
-
-cast-y : tie.Need-cast-y
-cast-y c = search needs
-
 sub-carry-with : tie.Need-sub-carry-with
 sub-carry-with c =
     let k = c .before .before .before in
     let w = k .before .args .word in
     rw (kept w8 (k .cover .result) (k .cover .ok), k .cover .ensures)
     (opposite-fits w8 (coverOf cpu w) (omega (arith, in-cover w)))
-
-carry-with-requires : tie.Need-carry-with-requires
-carry-with-requires c κs = search needs
-
-cover-magnitude-requires : tie.Need-cover-magnitude-requires
-cover-magnitude-requires c κs = search needs
-
-lower-requires : tie.Need-lower-requires
-lower-requires c κs = search needs
 
 returns : tie.Need-returns
 unfolding carryAfter loadsAfter
@@ -56,11 +38,7 @@ pub removed-spec : {M : Type 1} → statement M
 removed-spec =
     tie.close
     (tie.spec
-    cover-requires
-    local-y-requires
-    cast-y
+    (λ c κs. search needs) (λ c κs. search needs) (λ c. search needs)
     sub-carry-with
-    carry-with-requires
-    cover-magnitude-requires
-    lower-requires
+    (λ c κs. search needs) (λ c κs. search needs) (λ c κs. search needs)
     returns)

@@ -25,33 +25,6 @@ loop-holds : tie.Need-loop-holds Inv-loop μ-loop
 loop-holds c =
     (spread-start (omega arith) (omega arith) (omega arith), rw (eq-eqb (c .args .x) (c .args .x) refl))
 
-mul-k : tie.Need-mul-k Inv-loop μ-loop
-mul-k c = omega arith
-
-add-k : tie.Need-add-k Inv-loop μ-loop
-add-k c = omega arith
-
-mul-add-area : tie.Need-mul-add-area Inv-loop μ-loop
-mul-add-area c = omega arith
-
-slice-copy-out-add-area : tie.Need-slice-copy-out-add-area Inv-loop μ-loop
-slice-copy-out-add-area c = omega arith
-
-add-area-requires : tie.Need-add-area-requires Inv-loop μ-loop
-add-area-requires c κs = tt
-
-mul-t14 : tie.Need-mul-t14 Inv-loop μ-loop
-mul-t14 c = omega arith
-
-slice-set-from-areas : tie.Need-slice-set-from-areas Inv-loop μ-loop
-slice-set-from-areas c = omega arith
-
-add-column : tie.Need-add-column Inv-loop μ-loop
-add-column c = omega arith
-
-loop-less : tie.Need-loop-less Inv-loop μ-loop
-loop-less c = omega arith
-
 loop-again : tie.Need-loop-again Inv-loop μ-loop
 loop-again c =
     let a = c .before in
@@ -79,15 +52,8 @@ spread-spec =
     Inv-loop
     μ-loop
     loop-holds
-    mul-k
-    add-k
-    mul-add-area
-    slice-copy-out-add-area
-    add-area-requires
-    mul-t14
-    slice-set-from-areas
-    add-column
-    loop-less
+    (λ c. omega arith) (λ c. omega arith) (λ c. omega arith) (λ c. omega arith) (λ c κs. tt)
+    (λ c. omega arith) (λ c. omega arith) (λ c. omega arith) (λ c. omega arith)
     loop-again
     same-length
     returns)

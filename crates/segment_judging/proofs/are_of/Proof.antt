@@ -21,21 +21,6 @@ abbrev μ-loop : tie.MeasureT-loop
 loop-holds : tie.Need-loop-holds Inv-loop μ-loop
 loop-holds c = test-start refl
 
-mul-is-of : tie.Need-mul-is-of Inv-loop μ-loop
-mul-is-of c = omega arith
-
-shared-slice-read-is-of : tie.Need-shared-slice-read-is-of Inv-loop μ-loop
-shared-slice-read-is-of c = omega arith
-
-is-of-requires : tie.Need-is-of-requires Inv-loop μ-loop
-is-of-requires c κs = tt
-
-add-i : tie.Need-add-i Inv-loop μ-loop
-add-i c = omega arith
-
-loop-less : tie.Need-loop-less Inv-loop μ-loop
-loop-less c = omega arith
-
 loop-again : tie.Need-loop-again Inv-loop μ-loop
 loop-again c = test-next 0 (c .before .before .before .loop .inv) (omega arith) (c .is-of .ensures)
 
@@ -51,10 +36,6 @@ are-of-spec =
     Inv-loop
     μ-loop
     loop-holds
-    mul-is-of
-    shared-slice-read-is-of
-    is-of-requires
-    add-i
-    loop-less
+    (λ c. omega arith) (λ c. omega arith) (λ c κs. tt) (λ c. omega arith) (λ c. omega arith)
     loop-again
     returns)

@@ -5,9 +5,6 @@ use Rattle.laws.proofs.Machine.{kept}
 use Rattle.segment_judging.proofs.is_here.Statement.{statement}
 use Rattle.segment_judging.proofs.is_here.Tie as tie
 
-is-of-requires : tie.Need-is-of-requires
-is-of-requires c κs = search needs
-
 returns : tie.Need-returns
 returns c =
     let told = c .before .struct-told2 .given in
@@ -15,4 +12,4 @@ returns c =
     rw (kept w16 (s .args .set .«tile_x») (told .1 .0 .1), kept w16 (s .args .set .«tile_y») (told .1 .1 .0 .1)) at (c .is-of .ensures)
 
 pub is-here-spec : {M : Type 1} → statement M
-is-here-spec = tie.close (tie.spec is-of-requires returns)
+is-here-spec = tie.close (tie.spec (λ c κs. search needs) returns)

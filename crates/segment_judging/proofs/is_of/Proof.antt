@@ -7,21 +7,6 @@ use Rattle.laws.proofs.Machine.{kept}
 use Rattle.segment_judging.proofs.is_of.Statement.{statement}
 use Rattle.segment_judging.proofs.is_of.Tie as tie
 
-layer-id-requires : tie.Need-layer-id-requires
-layer-id-requires c κs = search needs
-
-tile-x-requires : tie.Need-tile-x-requires
-tile-x-requires c κs = search needs
-
-is-same-requires : tie.Need-is-same-requires
-is-same-requires c κs = search needs
-
-tile-y-requires : tie.Need-tile-y-requires
-tile-y-requires c κs = search needs
-
-is-same-requires-2 : tie.Need-is-same-requires-2
-is-same-requires-2 c κs = search needs
-
 returns : tie.Need-returns
 returns c =
     let y = c .before in
@@ -36,9 +21,6 @@ pub is-of-spec : {M : Type 1} → statement M
 is-of-spec =
     tie.close
     (tie.spec
-    layer-id-requires
-    tile-x-requires
-    is-same-requires
-    tile-y-requires
-    is-same-requires-2
+    (λ c κs. search needs) (λ c κs. search needs) (λ c κs. search needs) (λ c κs. search needs)
+    (λ c κs. search needs)
     returns)

@@ -17,18 +17,9 @@ returns : tie.Need-returns
 unfolding beginVerdict
 returns c = rw (lt-ltb _ _ (c .if1 .taken))
 
-are-of-requires : tie.Need-are-of-requires
-are-of-requires c κs = search needs
-
 returns-2 : tie.Need-returns-2
 unfolding beginVerdict
 returns-2 c = rw (le-ltb _ _ (c .before .before .if1 .left), ← are-told (c .before), c .if2 .taken)
-
-is-light-requires : tie.Need-is-light-requires
-is-light-requires c κs = search needs
-
-judge-load-requires : tie.Need-judge-load-requires
-judge-load-requires c κs = search needs
 
 returns-3 : tie.Need-returns-3
 unfolding beginVerdict
@@ -40,4 +31,4 @@ returns-3 c =
 pub judge-beginning-spec : {M : Type 1} → statement M
 judge-beginning-spec =
     tie.close
-    (tie.spec returns are-of-requires returns-2 is-light-requires judge-load-requires returns-3)
+    (tie.spec returns (λ c κs. search needs) returns-2 (λ c κs. search needs) (λ c κs. search needs) returns-3)

@@ -9,9 +9,6 @@ returns : tie.Need-returns
 unfolding letVerdictBy
 returns c = rw (lt-ltb _ _ (c .if1 .taken))
 
-is-here-requires : tie.Need-is-here-requires
-is-here-requires c κs = search needs
-
 returns-2 : tie.Need-returns-2
 unfolding letVerdictBy
 returns-2 c = rw (le-ltb _ _ (c .before .before .if1 .left), ← c .before .is-here .ensures, c .if2 .taken)
@@ -25,4 +22,4 @@ unfolding letVerdictBy
 returns-4 c = rw (le-ltb _ _ (c .before .before .before .if1 .left), ← c .before .before .is-here .ensures, c .before .if2 .left, c .if3 .left)
 
 pub judge-letting-spec : {M : Type 1} → statement M
-judge-letting-spec = tie.close (tie.spec returns is-here-requires returns-2 returns-3 returns-4)
+judge-letting-spec = tie.close (tie.spec returns (λ c κs. search needs) returns-2 returns-3 returns-4)

@@ -9,18 +9,9 @@ returns : tie.Need-returns
 unfolding takeVerdict
 returns c = rw (lt-ltb _ _ (c .if1 .taken))
 
-is-here-requires : tie.Need-is-here-requires
-is-here-requires c κs = search needs
-
 returns-2 : tie.Need-returns-2
 unfolding takeVerdict
 returns-2 c = rw (le-ltb _ _ (c .before .before .if1 .left), ← c .before .is-here .ensures, c .if2 .taken)
-
-load-with-requires : tie.Need-load-with-requires
-load-with-requires c κs = search needs
-
-judge-load-requires : tie.Need-judge-load-requires
-judge-load-requires c κs = search needs
 
 returns-3 : tie.Need-returns-3
 unfolding takeVerdict
@@ -32,4 +23,4 @@ returns-3 c =
 pub judge-taking-spec : {M : Type 1} → statement M
 judge-taking-spec =
     tie.close
-    (tie.spec returns is-here-requires returns-2 load-with-requires judge-load-requires returns-3)
+    (tie.spec returns (λ c κs. search needs) returns-2 (λ c κs. search needs) (λ c κs. search needs) returns-3)

@@ -17,30 +17,12 @@ told c =
     let s = c .before .before .before .before .before in
     rw (toZ-ofZ (s .fits .tile-x), toZ-ofZ (s .fits .tile-y)) at (c .judge-beginning .ensures)
 
-judge-beginning-requires : tie.Need-judge-beginning-requires
-judge-beginning-requires c κs = search needs
-
-enum-known-refusal : tie.Need-enum-known-refusal
-enum-known-refusal c = search needs
-
-empty-set-requires : tie.Need-empty-set-requires
-empty-set-requires c κs = search needs
-
-enum-told : tie.Need-enum-told
-enum-told c = search needs
-
 begin-with-requires : tie.Need-begin-with-requires
 unfolding called
 begin-with-requires c κs =
     let s = c .before .before .before .before .before .before .before .before .before in
     rw (toZ-ofZ (s .fits .tile-x), toZ-ofZ (s .fits .tile-y))
     (sym (told (c .before .before .before .before)) ∙ ap judgementIn (c .before .before .enum-told .given .1))
-
-same-length : tie.Need-same-length
-same-length c = search needs
-
-same-length-2 : tie.Need-same-length-2
-same-length-2 c = search needs
 
 returns : tie.Need-returns
 unfolding called
@@ -51,12 +33,6 @@ returns c =
       answer = sym e;
       leaves = ap (λ (r : SegmentSet). state r (s .args .slots .now) (s .args .areas .now)) (c .empty-set .ensures) ∙ sym (ap (λ (j : Judgement). settled j (freshState (called s) (s .args .slots .now) (s .args .areas .now)) (state nothing (s .args .slots .now) (s .args .areas .now))) e);
     }
-
-same-length-3 : tie.Need-same-length-3
-same-length-3 c = search needs
-
-same-length-4 : tie.Need-same-length-4
-same-length-4 c = search needs
 
 returns-2 : tie.Need-returns-2
 unfolding called
@@ -72,14 +48,9 @@ pub begin-spec : {M : Type 1} → statement M
 begin-spec =
     tie.close
     (tie.spec
-    judge-beginning-requires
-    enum-known-refusal
-    empty-set-requires
-    enum-told
+    (λ c κs. search needs) (λ c. search needs) (λ c κs. search needs) (λ c. search needs)
     begin-with-requires
-    same-length
-    same-length-2
+    (λ c. search needs) (λ c. search needs)
     returns
-    same-length-3
-    same-length-4
+    (λ c. search needs) (λ c. search needs)
     returns-2)

@@ -19,21 +19,6 @@ told c =
     c .judge-letting .ensures
     ∙ let-judged (s .args .set) (s .args .word) (s .args .slots .now) (s .args .areas .now) (h .held-count .ensures) (f .find .ensures)
 
-held-count-requires : tie.Need-held-count-requires
-held-count-requires c κs = search needs
-
-find-requires : tie.Need-find-requires
-find-requires c κs = search needs
-
-judge-letting-requires : tie.Need-judge-letting-requires
-judge-letting-requires c κs = search needs
-
-enum-known-refusal : tie.Need-enum-known-refusal
-enum-known-refusal c = search needs
-
-enum-told : tie.Need-enum-told
-enum-told c = search needs
-
 remove-requires : tie.Need-remove-requires
 unfolding called
 remove-requires c κs =
@@ -44,24 +29,12 @@ remove-requires c κs =
     let-ready (s .args .set) (s .args .word) (s .args .slots .now) (s .args .areas .now) (h .held-count .ensures) (f .find .ensures)
     (sym (told j) ∙ ap judgementIn (c .before .before .enum-told .given .1))
 
-same-length : tie.Need-same-length
-same-length c = search needs
-
-same-length-2 : tie.Need-same-length-2
-same-length-2 c = search needs
-
 returns : tie.Need-returns
 unfolding called
 returns c =
     let s = c .before .before .before .before .before .before .before .before .before .before in
     let e = sym (told (c .before .before .before)) ∙ ap judgementIn (c .before .refusal .given .1) in
     record { answer = sym e; leaves = sym (ap (λ (j : Judgement). settled j (letOut (called s) (s .args .word)) (called s)) e) }
-
-same-length-3 : tie.Need-same-length-3
-same-length-3 c = search needs
-
-same-length-4 : tie.Need-same-length-4
-same-length-4 c = search needs
 
 returns-2 : tie.Need-returns-2
 unfolding called
@@ -74,15 +47,10 @@ pub let-out-spec : {M : Type 1} → statement M
 let-out-spec =
     tie.close
     (tie.spec
-    held-count-requires
-    find-requires
-    judge-letting-requires
-    enum-known-refusal
-    enum-told
+    (λ c κs. search needs) (λ c κs. search needs) (λ c κs. search needs) (λ c. search needs)
+    (λ c. search needs)
     remove-requires
-    same-length
-    same-length-2
+    (λ c. search needs) (λ c. search needs)
     returns
-    same-length-3
-    same-length-4
+    (λ c. search needs) (λ c. search needs)
     returns-2)

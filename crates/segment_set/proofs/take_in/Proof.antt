@@ -14,15 +14,6 @@ told : (c : tie.After-judge-taking) → let s = c .before .before .before .befor
 unfolding called
 told c = c .judge-taking .ensures
 
-judge-taking-requires : tie.Need-judge-taking-requires
-judge-taking-requires c κs = search needs
-
-enum-known-refusal : tie.Need-enum-known-refusal
-enum-known-refusal c = search needs
-
-enum-told : tie.Need-enum-told
-enum-told c = search needs
-
 add-requires : tie.Need-add-requires
 unfolding called
 add-requires c κs =
@@ -30,24 +21,12 @@ add-requires c κs =
     let p = take-passed (called s) (s .args .word) (sym (told (c .before .before .before .before)) ∙ ap judgementIn (c .before .before .enum-told .given .1)) in
     record { room = p .room; free = p .free; small = p .small }
 
-same-length : tie.Need-same-length
-same-length c = search needs
-
-same-length-2 : tie.Need-same-length-2
-same-length-2 c = search needs
-
 returns : tie.Need-returns
 unfolding called
 returns c =
     let s = c .before .before .before .before .before .before .before in
     let e = sym (told (c .before .before .before)) ∙ ap judgementIn (c .before .refusal .given .1) in
     record { answer = sym e; leaves = sym (ap (λ (j : Judgement). settled j (takenIn (called s) (s .args .word)) (called s)) e) }
-
-same-length-3 : tie.Need-same-length-3
-same-length-3 c = search needs
-
-same-length-4 : tie.Need-same-length-4
-same-length-4 c = search needs
 
 returns-2 : tie.Need-returns-2
 unfolding called
@@ -60,13 +39,9 @@ pub take-in-spec : {M : Type 1} → statement M
 take-in-spec =
     tie.close
     (tie.spec
-    judge-taking-requires
-    enum-known-refusal
-    enum-told
+    (λ c κs. search needs) (λ c. search needs) (λ c. search needs)
     add-requires
-    same-length
-    same-length-2
+    (λ c. search needs) (λ c. search needs)
     returns
-    same-length-3
-    same-length-4
+    (λ c. search needs) (λ c. search needs)
     returns-2)

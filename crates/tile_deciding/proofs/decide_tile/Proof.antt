@@ -28,24 +28,9 @@ told c = rw (c .before .before .is-list-short .ensures, c .before .is-short .ens
 passes : (c : tie.After-enum-told) → decidingVerdict (called (c .before .before .before .before .before .before .before .before .before .before .before)) (masks (c .before .before .before .before .before .before .before .before .before .before .before)) ≡ pass
 passes c = sym (told (c .before .before)) ∙ ap judgementIn (c .enum-told .given .1)
 
-is-list-short-requires : tie.Need-is-list-short-requires
-is-list-short-requires c κs = search needs
-
-is-short-requires : tie.Need-is-short-requires
-is-short-requires c κs = search needs
-
 judge-deciding-requires : tie.Need-judge-deciding-requires
 unfolding called masks
 judge-deciding-requires c κs = λ e. ids-room (called (c .before .before .before .before .before .before .before .before)) (masks (c .before .before .before .before .before .before .before .before)) (rw (c .before .is-list-short .ensures, c .is-short .ensures) at e)
-
-enum-known-refusal : tie.Need-enum-known-refusal
-enum-known-refusal c = search needs
-
-refuse-requires : tie.Need-refuse-requires
-refuse-requires c κs = search needs
-
-enum-told : tie.Need-enum-told
-enum-told c = search needs
 
 decide-tile-requires : tie.Need-decide-tile-requires
 unfolding called masks
@@ -53,18 +38,9 @@ decide-tile-requires c κs =
     let p = deciding-passed (called (c .before .before .before .before .before .before .before .before .before .before .before .before)) (masks (c .before .before .before .before .before .before .before .before .before .before .before .before)) (passes (c .before)) in
     (p .columns, p .in-table, p .masks)
 
-done-requires : tie.Need-done-requires
-done-requires c κs = search needs
-
-same-length : tie.Need-same-length
-same-length c = search needs
-
 returns : tie.Need-returns
 unfolding called masks
 returns c = refused-by (called (c .before .before .before .before .before .before .before .before .before .before .before .before .before)) (masks (c .before .before .before .before .before .before .before .before .before .before .before .before .before)) (sym (told (c .before .before .before .before)) ∙ ap judgementIn (c .before .before .refusal .given .1)) (c .refuse .ensures)
-
-same-length-2 : tie.Need-same-length-2
-same-length-2 c = search needs
 
 returns-2 : tie.Need-returns-2
 unfolding called masks
@@ -74,15 +50,11 @@ pub decide-tile-spec : {M : Type 1} → statement M
 decide-tile-spec =
     tie.close
     (tie.spec
-    is-list-short-requires
-    is-short-requires
+    (λ c κs. search needs) (λ c κs. search needs)
     judge-deciding-requires
-    enum-known-refusal
-    refuse-requires
-    enum-told
+    (λ c. search needs) (λ c κs. search needs) (λ c. search needs)
     decide-tile-requires
-    done-requires
-    same-length
+    (λ c κs. search needs) (λ c. search needs)
     returns
-    same-length-2
+    (λ c. search needs)
     returns-2)

@@ -29,12 +29,6 @@ item-at-requires c κs =
     let a = c .before .before .before .before .before .before in
     (a .pre .0, a .pre .1, c .loop-test .taken)
 
-add-i : tie.Need-add-i Inv-loop μ-loop
-add-i c = omega arith
-
-loop-less : tie.Need-loop-less Inv-loop μ-loop
-loop-less c = omega arith
-
 loop-again : tie.Need-loop-again Inv-loop μ-loop
 loop-again c =
     let read = c .before in
@@ -49,4 +43,4 @@ returns c = test-end (c .before .loop .inv) (c .loop-test .left)
 pub are-unchanged-spec : {M : Type 1} → statement M
 are-unchanged-spec =
     tie.close
-    (tie.spec Inv-loop μ-loop loop-holds item-at-requires add-i loop-less loop-again returns)
+    (tie.spec Inv-loop μ-loop loop-holds item-at-requires (λ c. omega arith) (λ c. omega arith) loop-again returns)

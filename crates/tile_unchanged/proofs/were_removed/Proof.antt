@@ -6,21 +6,9 @@ use Rattle.pass_statements.specs.Unchanged.{wereRemoved}
 use Rattle.tile_unchanged.proofs.were_removed.Statement.{statement}
 use Rattle.tile_unchanged.proofs.were_removed.Tie as tie
 
-enum-told : tie.Need-enum-told
-enum-told c = search needs
-
-enum-known-previous : tie.Need-enum-known-previous
-enum-known-previous c = search needs
-
-cast-result : tie.Need-cast-result
-cast-result c = search needs
-
-returns : tie.Need-returns
-returns c = search needs
-
 returns-2 : tie.Need-returns-2
 returns-2 c = sym (ap (λ (p : PreviousCount). wereRemoved p (c .before .before .before .args .n)) (c .before .previous .given .1))
 
 pub were-removed-spec : {M : Type 1} → statement M
 were-removed-spec =
-    tie.close (tie.spec enum-told enum-known-previous cast-result returns returns-2)
+    tie.close (tie.spec (λ c. search needs) (λ c. search needs) (λ c. search needs) (λ c. search needs) returns-2)

@@ -4,12 +4,6 @@ use Rattle.pass_statements.proofs.Steps.{stays-none, ends, goes-on}
 use Rattle.trivial_clip_steps.proofs.close_clip.Statement.{statement}
 use Rattle.trivial_clip_steps.proofs.close_clip.Tie as tie
 
-enum-told : tie.Need-enum-told
-enum-told c = search needs
-
-enum-known-cur : tie.Need-enum-known-cur
-enum-known-cur c = search needs
-
 returns : tie.Need-returns
 returns c = ends (c .before .before .before .before .before .cur .given .1) (c .before .before .if1 .taken)
 
@@ -20,4 +14,4 @@ returns-3 : tie.Need-returns-3
 returns-3 c = goes-on (c .before .before .before .cur .given .1) (c .if1 .left)
 
 pub close-clip-spec : {M : Type 1} → statement M
-close-clip-spec = tie.close (tie.spec enum-told enum-known-cur returns returns-2 returns-3)
+close-clip-spec = tie.close (tie.spec (λ c. search needs) (λ c. search needs) returns returns-2 returns-3)

@@ -4,9 +4,6 @@ use Rattle.pass_statements.proofs.Steps.{draws-clipped, draws-unclipped}
 use Rattle.trivial_clip_steps.proofs.draw.Statement.{statement}
 use Rattle.trivial_clip_steps.proofs.draw.Tie as tie
 
-draw-clipped-requires : tie.Need-draw-clipped-requires
-draw-clipped-requires c κs = search needs
-
 returns : tie.Need-returns
 returns c = let a = c .before .before .args in draws-clipped (a .cur) (a .id) (c .before .if1 .taken) (c .draw-clipped .ensures)
 
@@ -14,4 +11,4 @@ returns-2 : tie.Need-returns-2
 returns-2 c = draws-unclipped _ _ (c .if1 .left)
 
 pub draw-spec : {M : Type 1} → statement M
-draw-spec = tie.close (tie.spec draw-clipped-requires returns returns-2)
+draw-spec = tie.close (tie.spec (λ c κs. search needs) returns returns-2)

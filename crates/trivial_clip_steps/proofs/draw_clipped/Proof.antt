@@ -4,12 +4,6 @@ use Rattle.pass_statements.proofs.Steps.{no-clip, outside, inside}
 use Rattle.trivial_clip_steps.proofs.draw_clipped.Statement.{statement}
 use Rattle.trivial_clip_steps.proofs.draw_clipped.Tie as tie
 
-enum-told : tie.Need-enum-told
-enum-told c = search needs
-
-enum-known-cur : tie.Need-enum-known-cur
-enum-known-cur c = search needs
-
 returns : tie.Need-returns
 returns c = outside (c .before .before .before .cur .given .1) (c .if1 .taken)
 
@@ -20,4 +14,4 @@ returns-3 : tie.Need-returns-3
 returns-3 c = inside (c .before .before .before .before .before .before .cur .given .1) (c .before .before .before .if1 .left)
 
 pub draw-clipped-spec : {M : Type 1} → statement M
-draw-clipped-spec = tie.close (tie.spec enum-told enum-known-cur returns returns-2 returns-3)
+draw-clipped-spec = tie.close (tie.spec (λ c. search needs) (λ c. search needs) returns returns-2 returns-3)

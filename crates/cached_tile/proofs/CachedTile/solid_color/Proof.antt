@@ -5,11 +5,8 @@ use borrow.Author.Needs.{needs}
 use Rattle.cached_tile.proofs.CachedTile.solid_color.Statement.{statement}
 use Rattle.cached_tile.proofs.CachedTile.solid_color.Tie as tie
 
-keeps-color-requires : tie.Need-keeps-color-requires
-keeps-color-requires c κs = search needs
-
 returns : tie.Need-returns
 returns c = rw (c .keeps-color .ensures) refl
 
 pub solid-color-spec : {M : Type 1} → statement M
-solid-color-spec = tie.close (tie.spec keeps-color-requires returns)
+solid-color-spec = tie.close (tie.spec (λ c κs. search needs) returns)

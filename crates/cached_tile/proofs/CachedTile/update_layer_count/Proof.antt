@@ -7,21 +7,6 @@ use Rattle.cached_tile.specs.Tile.{countIn, updateCount}
 use Rattle.cached_tile.proofs.CachedTile.update_layer_count.Statement.{statement}
 use Rattle.cached_tile.proofs.CachedTile.update_layer_count.Tie as tie
 
-layer-count-requires : tie.Need-layer-count-requires
-layer-count-requires c κs = search needs
-
-enum-known-layer-count : tie.Need-enum-known-layer-count
-enum-known-layer-count c = search needs
-
-keep-layer-count-requires : tie.Need-keep-layer-count-requires
-keep-layer-count-requires c κs = search needs
-
-enum-told : tie.Need-enum-told
-enum-told c = search needs
-
-drop-layer-count-requires : tie.Need-drop-layer-count-requires
-drop-layer-count-requires c κs = search needs
-
 returns : tie.Need-returns
 returns c =
     record {
@@ -40,10 +25,7 @@ pub update-layer-count-spec : {M : Type 1} → statement M
 update-layer-count-spec =
     tie.close
     (tie.spec
-    layer-count-requires
-    enum-known-layer-count
-    keep-layer-count-requires
-    enum-told
-    drop-layer-count-requires
+    (λ c κs. search needs) (λ c. search needs) (λ c κs. search needs) (λ c. search needs)
+    (λ c κs. search needs)
     returns
     returns-2)

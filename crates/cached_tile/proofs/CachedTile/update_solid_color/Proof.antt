@@ -4,15 +4,6 @@ use borrow.Author.Needs.{needs}
 use Rattle.cached_tile.proofs.CachedTile.update_solid_color.Statement.{statement}
 use Rattle.cached_tile.proofs.CachedTile.update_solid_color.Tie as tie
 
-solid-color-requires : tie.Need-solid-color-requires
-solid-color-requires c κs = search needs
-
-keep-solid-color-requires : tie.Need-keep-solid-color-requires
-keep-solid-color-requires c κs = search needs
-
-drop-solid-color-requires : tie.Need-drop-solid-color-requires
-drop-solid-color-requires c κs = search needs
-
 returns : tie.Need-returns
 returns c =
     record {
@@ -31,8 +22,6 @@ pub update-solid-color-spec : {M : Type 1} → statement M
 update-solid-color-spec =
     tie.close
     (tie.spec
-    solid-color-requires
-    keep-solid-color-requires
-    drop-solid-color-requires
+    (λ c κs. search needs) (λ c κs. search needs) (λ c κs. search needs)
     returns
     returns-2)

@@ -5,16 +5,10 @@ use borrow.Author.Needs.{needs}
 use Rattle.cached_tile.proofs.kept.settle.Statement.{statement}
 use Rattle.cached_tile.proofs.kept.settle.Tie as tie
 
-is-tag-out-of-range-requires : tie.Need-is-tag-out-of-range-requires
-is-tag-out-of-range-requires c κs = search needs
-
 returns : tie.Need-returns
 returns c =
     let out = sym (c .before .is-tag-out-of-range .ensures) ∙ c .if1 .taken in
     record { settlement = rw out refl; kept = rw out refl }
-
-settle-tile-requires : tie.Need-settle-tile-requires
-settle-tile-requires c κs = search needs
 
 returns-2 : tie.Need-returns-2
 returns-2 c =
@@ -34,4 +28,4 @@ returns-3 c =
 pub settle-spec : {M : Type 1} → statement M
 settle-spec =
     tie.close
-    (tie.spec is-tag-out-of-range-requires returns settle-tile-requires returns-2 returns-3)
+    (tie.spec (λ c κs. search needs) returns (λ c κs. search needs) returns-2 returns-3)

@@ -5,15 +5,6 @@ use borrow.Author.Needs.{needs}
 use Rattle.cached_tile.proofs.kept.settle_tile.Statement.{statement}
 use Rattle.cached_tile.proofs.kept.settle_tile.Tie as tie
 
-update-solid-color-requires : tie.Need-update-solid-color-requires
-update-solid-color-requires c κs = search needs
-
-same-bytes-requires : tie.Need-same-bytes-requires
-same-bytes-requires c κs = search needs
-
-keep-or-write-requires : tie.Need-keep-or-write-requires
-keep-or-write-requires c κs = search needs
-
 returns : tie.Need-returns
 returns c =
     let wrote = c .before in
@@ -27,4 +18,4 @@ returns c =
 pub settle-tile-spec : {M : Type 1} → statement M
 settle-tile-spec =
     tie.close
-    (tie.spec update-solid-color-requires same-bytes-requires keep-or-write-requires returns)
+    (tie.spec (λ c κs. search needs) (λ c κs. search needs) (λ c κs. search needs) returns)

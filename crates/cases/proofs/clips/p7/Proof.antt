@@ -5,20 +5,11 @@ use Rattle.cases.proofs.Tile.{first-known, second-known, draw-known, fi
 use Rattle.cases.proofs.clips.p7.Statement.{statement}
 use Rattle.cases.proofs.clips.p7.Tie as tie
 
-layer-of-requires : tie.Need-layer-of-requires
-layer-of-requires c κs = search needs
-
 paint-anew-requires : tie.Need-paint-anew-requires
 paint-anew-requires c κs = first-known (c .layer-of .ensures)
 
-layer-of-requires-2 : tie.Need-layer-of-requires-2
-layer-of-requires-2 c κs = search needs
-
 paint-anew-requires-2 : tie.Need-paint-anew-requires-2
 paint-anew-requires-2 c κs = second-known (c .layer-of2 .ensures)
-
-clipped-draw-requires : tie.Need-clipped-draw-requires
-clipped-draw-requires c κs = search needs
 
 paint-anew-requires-3 : tie.Need-paint-anew-requires-3
 paint-anew-requires-3 c κs = draw-known (c .clipped-draw .ensures)
@@ -37,10 +28,10 @@ pub p7-spec : {M : Type 1} → statement M
 p7-spec =
     tie.close
     (tie.spec
-    layer-of-requires
+    (λ c κs. search needs)
     paint-anew-requires
-    layer-of-requires-2
+    (λ c κs. search needs)
     paint-anew-requires-2
-    clipped-draw-requires
+    (λ c κs. search needs)
     paint-anew-requires-3
     returns)

@@ -6,17 +6,8 @@ use Rattle.cases.specs.Answers.{isHalf}
 use Rattle.cases.proofs.clips.paint_anew.Statement.{statement}
 use Rattle.cases.proofs.clips.paint_anew.Tie as tie
 
-slice-aggregate-paint : tie.Need-slice-aggregate-paint
-slice-aggregate-paint c = search needs
-
 paint-requires : tie.Need-paint-requires
 paint-requires c κs = (search needs, c .before .pre)
-
-slice-aggregate-is-half : tie.Need-slice-aggregate-is-half
-slice-aggregate-is-half c = search needs
-
-is-half-requires : tie.Need-is-half-requires
-is-half-requires c κs = search needs
 
 returns : tie.Need-returns
 returns c =
@@ -30,4 +21,4 @@ returns c =
 pub paint-anew-spec : {M : Type 1} → statement M
 paint-anew-spec =
     tie.close
-    (tie.spec slice-aggregate-paint paint-requires slice-aggregate-is-half is-half-requires returns)
+    (tie.spec (λ c. search needs) paint-requires (λ c. search needs) (λ c κs. search needs) returns)

@@ -6,15 +6,6 @@ use Rattle.cases.proofs.Table.{cases}
 use Rattle.cases.proofs.covers.p10.Statement.{statement}
 use Rattle.cases.proofs.covers.p10.Tie as tie
 
-doubled-area-to-coverage-requires : tie.Need-doubled-area-to-coverage-requires
-doubled-area-to-coverage-requires c κs = search needs
-
-doubled-area-to-coverage-requires-2 : tie.Need-doubled-area-to-coverage-requires-2
-doubled-area-to-coverage-requires-2 c κs = search needs
-
-doubled-area-to-coverage-requires-3 : tie.Need-doubled-area-to-coverage-requires-3
-doubled-area-to-coverage-requires-3 c κs = search needs
-
 returns : tie.Need-returns
 unfolding eq ofBits
 returns c = rw (
@@ -27,7 +18,5 @@ pub p10-spec : {M : Type 1} → statement M
 p10-spec =
     tie.close
     (tie.spec
-    doubled-area-to-coverage-requires
-    doubled-area-to-coverage-requires-2
-    doubled-area-to-coverage-requires-3
+    (λ c κs. search needs) (λ c κs. search needs) (λ c κs. search needs)
     returns)

@@ -9,15 +9,9 @@ use Rattle.cases.proofs.Table.{cases}
 use Rattle.cases.proofs.covers.p11_carried.Statement.{statement}
 use Rattle.cases.proofs.covers.p11_carried.Tie as tie
 
-slice-aggregate-carry : tie.Need-slice-aggregate-carry
-slice-aggregate-carry c = search needs
-
-carry-requires : tie.Need-carry-requires
-carry-requires c κs = search needs
-
 returns : tie.Need-returns
 unfolding isLight carryOf coverOf
 returns c = (accepted-is (c .carry .ensures) ∙ ap isGiven (cases .p11), rw (c .carry .ensures .covers-are))
 
 pub p11-carried-spec : {M : Type 1} → statement M
-p11-carried-spec = tie.close (tie.spec slice-aggregate-carry carry-requires returns)
+p11-carried-spec = tie.close (tie.spec (λ c. search needs) (λ c κs. search needs) returns)

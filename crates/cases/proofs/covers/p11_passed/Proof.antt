@@ -7,14 +7,8 @@ use Rattle.cases.proofs.Table.{edges}
 use Rattle.cases.proofs.covers.p11_passed.Statement.{statement}
 use Rattle.cases.proofs.covers.p11_passed.Tie as tie
 
-slice-aggregate-carry : tie.Need-slice-aggregate-carry
-slice-aggregate-carry c = search needs
-
-carry-requires : tie.Need-carry-requires
-carry-requires c κs = search needs
-
 returns : tie.Need-returns
 returns c = accepted-is (c .carry .ensures) ∙ ap isGiven (edges .load-passes)
 
 pub p11-passed-spec : {M : Type 1} → statement M
-p11-passed-spec = tie.close (tie.spec slice-aggregate-carry carry-requires returns)
+p11-passed-spec = tie.close (tie.spec (λ c. search needs) (λ c κs. search needs) returns)

@@ -8,14 +8,8 @@ use Rattle.cases.proofs.Table.{edges}
 use Rattle.cases.proofs.covers.p11_refused.Statement.{statement}
 use Rattle.cases.proofs.covers.p11_refused.Tie as tie
 
-slice-aggregate-carry : tie.Need-slice-aggregate-carry
-slice-aggregate-carry c = search needs
-
-carry-requires : tie.Need-carry-requires
-carry-requires c κs = search needs
-
 returns : tie.Need-returns
 returns c = ap not (accepted-is (c .before .carry .ensures) ∙ ap isGiven (edges .load-refused))
 
 pub p11-refused-spec : {M : Type 1} → statement M
-p11-refused-spec = tie.close (tie.spec slice-aggregate-carry carry-requires returns)
+p11-refused-spec = tie.close (tie.spec (λ c. search needs) (λ c κs. search needs) returns)

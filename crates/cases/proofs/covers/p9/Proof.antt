@@ -6,12 +6,6 @@ use Rattle.cases.proofs.Table.{cases}
 use Rattle.cases.proofs.covers.p9.Statement.{statement}
 use Rattle.cases.proofs.covers.p9.Tie as tie
 
-doubled-area-to-coverage-requires : tie.Need-doubled-area-to-coverage-requires
-doubled-area-to-coverage-requires c κs = search needs
-
-doubled-area-to-coverage-requires-2 : tie.Need-doubled-area-to-coverage-requires-2
-doubled-area-to-coverage-requires-2 c κs = search needs
-
 returns : tie.Need-returns
 unfolding eq ofBits
 returns c = rw (c .before .doubled-area-to-coverage .ensures ∙ cases .p9-half, c .doubled-area-to-coverage2 .ensures ∙ cases .p9-whole)
@@ -19,4 +13,4 @@ returns c = rw (c .before .doubled-area-to-coverage .ensures ∙ cases .p9-half,
 pub p9-spec : {M : Type 1} → statement M
 p9-spec =
     tie.close
-    (tie.spec doubled-area-to-coverage-requires doubled-area-to-coverage-requires-2 returns)
+    (tie.spec (λ c κs. search needs) (λ c κs. search needs) returns)

@@ -5,14 +5,8 @@ use Rattle.cases.proofs.Table.{cases}
 use Rattle.cases.proofs.words.p1.Statement.{statement}
 use Rattle.cases.proofs.words.p1.Tie as tie
 
-new-requires : tie.Need-new-requires
-new-requires c κs = search needs
-
-is-word-requires : tie.Need-is-word-requires
-is-word-requires c κs = search needs
-
 returns : tie.Need-returns
 returns c = rw (c .is-word .ensures, c .before .new .ensures .answer ∙ cases .p1)
 
 pub p1-spec : {M : Type 1} → statement M
-p1-spec = tie.close (tie.spec new-requires is-word-requires returns)
+p1-spec = tie.close (tie.spec (λ c κs. search needs) (λ c κs. search needs) returns)

@@ -6,18 +6,6 @@ use Rattle.cases.proofs.Table.{cases}
 use Rattle.cases.proofs.words.p3.Statement.{statement}
 use Rattle.cases.proofs.words.p3.Tie as tie
 
-new-requires : tie.Need-new-requires
-new-requires c κs = search needs
-
-is-refused-requires : tie.Need-is-refused-requires
-is-refused-requires c κs = search needs
-
-new-requires-2 : tie.Need-new-requires-2
-new-requires-2 c κs = search needs
-
-is-word-requires : tie.Need-is-word-requires
-is-word-requires c κs = search needs
-
 returns : tie.Need-returns
 returns c = rw (
   c .is-word .ensures,
@@ -28,4 +16,4 @@ returns c = rw (
 
 pub p3-spec : {M : Type 1} → statement M
 p3-spec =
-    tie.close (tie.spec new-requires is-refused-requires new-requires-2 is-word-requires returns)
+    tie.close (tie.spec (λ c κs. search needs) (λ c κs. search needs) (λ c κs. search needs) (λ c κs. search needs) returns)

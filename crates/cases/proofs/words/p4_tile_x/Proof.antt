@@ -7,21 +7,6 @@ use Rattle.cases.proofs.Table.{cases}
 use Rattle.cases.proofs.words.p4_tile_x.Statement.{statement}
 use Rattle.cases.proofs.words.p4_tile_x.Tie as tie
 
-new-requires : tie.Need-new-requires
-new-requires c κs = search needs
-
-is-word-requires : tie.Need-is-word-requires
-is-word-requires c κs = search needs
-
-new-requires-2 : tie.Need-new-requires-2
-new-requires-2 c κs = search needs
-
-is-refused-requires : tie.Need-is-refused-requires
-is-refused-requires c κs = search needs
-
-tile-x-requires : tie.Need-tile-x-requires
-tile-x-requires c κs = search needs
-
 returns : tie.Need-returns
 unfolding tileOf
 returns c = rw (
@@ -36,9 +21,6 @@ pub p4-tile-x-spec : {M : Type 1} → statement M
 p4-tile-x-spec =
     tie.close
     (tie.spec
-    new-requires
-    is-word-requires
-    new-requires-2
-    is-refused-requires
-    tile-x-requires
+    (λ c κs. search needs) (λ c κs. search needs) (λ c κs. search needs) (λ c κs. search needs)
+    (λ c κs. search needs)
     returns)

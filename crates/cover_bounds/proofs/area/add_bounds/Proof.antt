@@ -26,26 +26,8 @@ abbrev μ-loop : tie.MeasureT-loop
 loop-holds : tie.Need-loop-holds Inv-loop μ-loop
 loop-holds c = (omega arith, add-start (c .before .pre .1) (c .before .pre .2))
 
-mul-t10 : tie.Need-mul-t10 Inv-loop μ-loop
-mul-t10 c = omega arith
-
-shared-slice-read-t13 : tie.Need-shared-slice-read-t13 Inv-loop μ-loop
-shared-slice-read-t13 c = omega arith
-
 bound-at-requires : tie.Need-bound-at-requires Inv-loop μ-loop
 bound-at-requires c κs = omega (arith, c .before .before .before .before .pre .0 .side-is, c .before .before .before .before .pre .0 .pairs)
-
-cell-requires : tie.Need-cell-requires Inv-loop μ-loop
-cell-requires c κs = tt
-
-mul-areas : tie.Need-mul-areas Inv-loop μ-loop
-mul-areas c = omega arith
-
-element-copy-out-areas : tie.Need-element-copy-out-areas Inv-loop μ-loop
-element-copy-out-areas c = omega arith
-
-double-area-requires : tie.Need-double-area-requires Inv-loop μ-loop
-double-area-requires c κs = tt
 
 -- the word where the loop stands, with its bound for its cover
 low : (d : tie.After-double-area Inv-loop μ-loop) → d .before .before .before .before .before .before .loop .i < length (d .before .before .before .before .before .before .before .before .args .part .now)
@@ -81,15 +63,6 @@ add-areas c =
     )
     (small w16 _ (omega (arith, area-fits (c .before .before .before .before .before .before .before .before .pre .0 .few) (l .loop .inv .1) (here c) (cell-is c))))
 
-mul-t19 : tie.Need-mul-t19 Inv-loop μ-loop
-mul-t19 c = omega arith
-
-element-set-from-areas : tie.Need-element-set-from-areas Inv-loop μ-loop
-element-set-from-areas c = omega arith
-
-element-copy-out-covers : tie.Need-element-copy-out-covers Inv-loop μ-loop
-element-copy-out-covers c = omega arith
-
 add-covers : tie.Need-add-covers Inv-loop μ-loop
 add-covers c =
     let d = c .before in
@@ -101,15 +74,6 @@ add-covers c =
       cover-is d,
     )
     (small w8 _ (omega (arith, cover-fits (d .before .before .before .before .before .before .before .before .pre .0 .few) (l .loop .inv .1) (here d) (cell-is d))))
-
-element-set-from-covers : tie.Need-element-set-from-covers Inv-loop μ-loop
-element-set-from-covers c = omega arith
-
-add-i : tie.Need-add-i Inv-loop μ-loop
-add-i c = omega arith
-
-loop-less : tie.Need-loop-less Inv-loop μ-loop
-loop-less c = omega arith
 
 loop-again : tie.Need-loop-again Inv-loop μ-loop
 loop-again c =
@@ -144,20 +108,12 @@ add-bounds-spec =
     Inv-loop
     μ-loop
     loop-holds
-    mul-t10
-    shared-slice-read-t13
+    (λ c. omega arith) (λ c. omega arith)
     bound-at-requires
-    cell-requires
-    mul-areas
-    element-copy-out-areas
-    double-area-requires
+    (λ c κs. tt) (λ c. omega arith) (λ c. omega arith) (λ c κs. tt)
     add-areas
-    mul-t19
-    element-set-from-areas
-    element-copy-out-covers
+    (λ c. omega arith) (λ c. omega arith) (λ c. omega arith)
     add-covers
-    element-set-from-covers
-    add-i
-    loop-less
+    (λ c. omega arith) (λ c. omega arith) (λ c. omega arith)
     loop-again
     returns)

@@ -25,12 +25,6 @@ product s =
     let k : m ≤ 63 = omega arith in
     small w16 (pos m *ℤ v) (omega (arith, abs-times (pos m) v, mul-le-mul {n₁ = m} {m₁ = natAbs v} {n₂ = 63} {m₂ = 128} k h))
 
-double-area-multiplier-requires : tie.Need-double-area-multiplier-requires
-double-area-multiplier-requires c κs = search needs
-
-cast-result : tie.Need-cast-result
-cast-result c = search needs
-
 cast-result-2 : tie.Need-cast-result-2
 cast-result-2 c = rw (toZ-ofZ (c .before .fits .cover)) (wide (c .before))
 
@@ -46,4 +40,4 @@ returns c =
     ∙ rw (c .double-area-multiplier .ensures, toZ-pos w16 {n = multiplierOf cpu (s .args .segment .0)} (omega arith), toZ-ofZ (s .fits .cover), toZ-ofZ (wide s))
 
 pub double-area-spec : {M : Type 1} → statement M
-double-area-spec = tie.close (tie.spec double-area-multiplier-requires cast-result cast-result-2 mul-result returns)
+double-area-spec = tie.close (tie.spec (λ c κs. search needs) (λ c. search needs) cast-result-2 mul-result returns)

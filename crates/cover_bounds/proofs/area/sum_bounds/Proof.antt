@@ -9,11 +9,8 @@ add-bounds-requires : tie.Need-add-bounds-requires
 unfolding noCells
 add-bounds-requires c κs = let s = c .before .before .before .before in (s .pre .0, s .pre .2, refl)
 
-sum-columns-requires : tie.Need-sum-columns-requires
-sum-columns-requires c κs = search needs
-
 returns : tie.Need-returns
 returns c = c .sum-columns .ensures .areas-are _ (c .before .before .before .add-bounds .ensures)
 
 pub sum-bounds-spec : {M : Type 1} → statement M
-sum-bounds-spec = tie.close (tie.spec add-bounds-requires sum-columns-requires returns)
+sum-bounds-spec = tie.close (tie.spec add-bounds-requires (λ c κs. search needs) returns)

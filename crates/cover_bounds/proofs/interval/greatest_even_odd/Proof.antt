@@ -7,18 +7,6 @@ use Rattle.cover_bounds_statements.proofs.Ends.{greatest-found, greatest-of-end
 use Rattle.cover_bounds.proofs.interval.greatest_even_odd.Statement.{statement}
 use Rattle.cover_bounds.proofs.interval.greatest_even_odd.Tie as tie
 
-has-multiple-requires : tie.Need-has-multiple-requires
-has-multiple-requires c κs = search needs
-
-even-odd-in-requires : tie.Need-even-odd-in-requires
-even-odd-in-requires c κs = search needs
-
-even-odd-in-requires-2 : tie.Need-even-odd-in-requires-2
-even-odd-in-requires-2 c κs = search needs
-
-greater-requires : tie.Need-greater-requires
-greater-requires c κs = search needs
-
 returns : tie.Need-returns
 returns c =
     let s = c .before .before in
@@ -37,9 +25,6 @@ pub greatest-even-odd-spec : {M : Type 1} → statement M
 greatest-even-odd-spec =
     tie.close
     (tie.spec
-    has-multiple-requires
-    even-odd-in-requires
-    even-odd-in-requires-2
-    greater-requires
+    (λ c κs. search needs) (λ c κs. search needs) (λ c κs. search needs) (λ c κs. search needs)
     returns
     returns-2)

@@ -7,15 +7,6 @@ use Rattle.cover_bounds_statements.proofs.Ends.{greatest-of-both}
 use Rattle.cover_bounds.proofs.interval.greatest_non_zero.Statement.{statement}
 use Rattle.cover_bounds.proofs.interval.greatest_non_zero.Tie as tie
 
-non-zero-requires : tie.Need-non-zero-requires
-non-zero-requires c κs = search needs
-
-non-zero-requires-2 : tie.Need-non-zero-requires-2
-non-zero-requires-2 c κs = search needs
-
-greater-requires : tie.Need-greater-requires
-greater-requires c κs = search needs
-
 returns : tie.Need-returns
 returns c =
     let second = c .before in
@@ -26,4 +17,4 @@ returns c =
 
 pub greatest-non-zero-spec : {M : Type 1} → statement M
 greatest-non-zero-spec =
-    tie.close (tie.spec non-zero-requires non-zero-requires-2 greater-requires returns)
+    tie.close (tie.spec (λ c κs. search needs) (λ c κs. search needs) (λ c κs. search needs) returns)

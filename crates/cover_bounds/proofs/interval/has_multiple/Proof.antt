@@ -6,12 +6,6 @@ use Rattle.cover_bounds_statements.specs.InnerEnds.{hasMultiple}
 use Rattle.cover_bounds.proofs.interval.has_multiple.Statement.{statement}
 use Rattle.cover_bounds.proofs.interval.has_multiple.Tie as tie
 
-rest-of-requires : tie.Need-rest-of-requires
-rest-of-requires c κs = search needs
-
-distance-requires : tie.Need-distance-requires
-distance-requires c κs = search needs
-
 add-result : tie.Need-add-result
 add-result c = omega (arith, c .before .rest-of .ensures .1, c .distance .ensures .1)
 
@@ -22,4 +16,4 @@ returns c =
     rw (rw (toZ-ofZ (s .fits .a)) at (c .before .rest-of .ensures .0), rw (toZ-ofZ (s .fits .a), toZ-ofZ (s .fits .b)) at (c .distance .ensures .0))
 
 pub has-multiple-spec : {M : Type 1} → statement M
-has-multiple-spec = tie.close (tie.spec rest-of-requires distance-requires add-result returns)
+has-multiple-spec = tie.close (tie.spec (λ c κs. search needs) (λ c κs. search needs) add-result returns)

@@ -8,18 +8,6 @@ use Rattle.cover_bounds_statements.proofs.Ends.{least-found, least-of-ends}
 use Rattle.cover_bounds.proofs.interval.least_even_odd.Statement.{statement}
 use Rattle.cover_bounds.proofs.interval.least_even_odd.Tie as tie
 
-has-multiple-requires : tie.Need-has-multiple-requires
-has-multiple-requires c κs = search needs
-
-even-odd-in-requires : tie.Need-even-odd-in-requires
-even-odd-in-requires c κs = search needs
-
-even-odd-in-requires-2 : tie.Need-even-odd-in-requires-2
-even-odd-in-requires-2 c κs = search needs
-
-lesser-requires : tie.Need-lesser-requires
-lesser-requires c κs = search needs
-
 returns : tie.Need-returns
 returns c =
     let s = c .before .before in
@@ -38,9 +26,6 @@ pub least-even-odd-spec : {M : Type 1} → statement M
 least-even-odd-spec =
     tie.close
     (tie.spec
-    has-multiple-requires
-    even-odd-in-requires
-    even-odd-in-requires-2
-    lesser-requires
+    (λ c κs. search needs) (λ c κs. search needs) (λ c κs. search needs) (λ c κs. search needs)
     returns
     returns-2)

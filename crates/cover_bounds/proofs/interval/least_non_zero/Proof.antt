@@ -8,18 +8,6 @@ use Rattle.cover_bounds_statements.proofs.Ends.{least-found, least-of-ends}
 use Rattle.cover_bounds.proofs.interval.least_non_zero.Statement.{statement}
 use Rattle.cover_bounds.proofs.interval.least_non_zero.Tie as tie
 
-has-zero-requires : tie.Need-has-zero-requires
-has-zero-requires c κs = search needs
-
-non-zero-requires : tie.Need-non-zero-requires
-non-zero-requires c κs = search needs
-
-non-zero-requires-2 : tie.Need-non-zero-requires-2
-non-zero-requires-2 c κs = search needs
-
-lesser-requires : tie.Need-lesser-requires
-lesser-requires c κs = search needs
-
 returns : tie.Need-returns
 returns c =
     let s = c .before .before in
@@ -38,9 +26,6 @@ pub least-non-zero-spec : {M : Type 1} → statement M
 least-non-zero-spec =
     tie.close
     (tie.spec
-    has-zero-requires
-    non-zero-requires
-    non-zero-requires-2
-    lesser-requires
+    (λ c κs. search needs) (λ c κs. search needs) (λ c κs. search needs) (λ c κs. search needs)
     returns
     returns-2)

@@ -44,9 +44,6 @@ not-negative s =
 cast-result : tie.Need-cast-result
 cast-result c = rw (toZ-ofZ (c .fits .d)) (wide c)
 
-cast-result-2 : tie.Need-cast-result-2
-cast-result-2 c = search needs
-
 add-result : tie.Need-add-result
 add-result c = rw (toZ-ofZ (c .fits .d), toZ-ofZ (wide c), shift-is c) (sum-fits c)
 
@@ -65,4 +62,4 @@ returns c =
     (ap (λ (v : ℕ). v % 1024) (omega (arith, added d n, added (d +ℤ n) (pos 32768), low)), omega arith)
 
 pub rest-of-spec : {M : Type 1} → statement M
-rest-of-spec = tie.close (tie.spec cast-result cast-result-2 add-result add-result-2 cast-result-3 returns)
+rest-of-spec = tie.close (tie.spec cast-result (λ c. search needs) add-result add-result-2 cast-result-3 returns)

@@ -26,47 +26,8 @@ abbrev μ-loop : tie.MeasureT-loop
 loop-holds : tie.Need-loop-holds Inv-loop μ-loop
 loop-holds c = load-start (search needs) (c .before .pre .0)
 
-mul-t9 : tie.Need-mul-t9 Inv-loop μ-loop
-mul-t9 c = omega arith
-
-shared-slice-read-t13 : tie.Need-shared-slice-read-t13 Inv-loop μ-loop
-shared-slice-read-t13 c = omega arith
-
-local-y-requires : tie.Need-local-y-requires Inv-loop μ-loop
-local-y-requires c κs = tt
-
-cast-y : tie.Need-cast-y Inv-loop μ-loop
-cast-y c = omega arith
-
-bound-at-requires : tie.Need-bound-at-requires Inv-loop μ-loop
-bound-at-requires c κs = omega arith
-
-bound-at-requires-2 : tie.Need-bound-at-requires-2 Inv-loop μ-loop
-bound-at-requires-2 c κs = omega arith
-
-heavier-requires : tie.Need-heavier-requires Inv-loop μ-loop
-heavier-requires c κs = tt
-
-mul-raised : tie.Need-mul-raised Inv-loop μ-loop
-mul-raised c = omega arith
-
-array-read-raised : tie.Need-array-read-raised Inv-loop μ-loop
-array-read-raised c = omega arith
-
 raised-requires : tie.Need-raised-requires Inv-loop μ-loop
 raised-requires c κs = c .before .before .before .before .before .before .loop .inv .capped .at (c .before .before .before .local-y .result)
-
-mul-loads : tie.Need-mul-loads Inv-loop μ-loop
-mul-loads c = omega arith
-
-array-write-loads : tie.Need-array-write-loads Inv-loop μ-loop
-array-write-loads c = omega arith
-
-add-i : tie.Need-add-i Inv-loop μ-loop
-add-i c = omega arith
-
-loop-less : tie.Need-loop-less Inv-loop μ-loop
-loop-less c = omega arith
 
 loop-again : tie.Need-loop-again Inv-loop μ-loop
 loop-again c =
@@ -101,19 +62,9 @@ add-heavier-spec =
     Inv-loop
     μ-loop
     loop-holds
-    mul-t9
-    shared-slice-read-t13
-    local-y-requires
-    cast-y
-    bound-at-requires
-    bound-at-requires-2
-    heavier-requires
-    mul-raised
-    array-read-raised
+    (λ c. omega arith) (λ c. omega arith) (λ c κs. tt) (λ c. omega arith) (λ c κs. omega arith)
+    (λ c κs. omega arith) (λ c κs. tt) (λ c. omega arith) (λ c. omega arith)
     raised-requires
-    mul-loads
-    array-write-loads
-    add-i
-    loop-less
+    (λ c. omega arith) (λ c. omega arith) (λ c. omega arith) (λ c. omega arith)
     loop-again
     returns)

@@ -8,12 +8,6 @@ use mir.Facts.{toZ-ofZ}
 use Rattle.cover_bounds.proofs.judging.heavier.Statement.{statement}
 use Rattle.cover_bounds.proofs.judging.heavier.Tie as tie
 
-cover-magnitude-requires : tie.Need-cover-magnitude-requires
-cover-magnitude-requires c κs = search needs
-
-cover-magnitude-requires-2 : tie.Need-cover-magnitude-requires-2
-cover-magnitude-requires-2 c κs = search needs
-
 returns : tie.Need-returns
 returns c =
     let m = c .before in
@@ -34,4 +28,4 @@ returns-2 c =
 
 pub heavier-spec : {M : Type 1} → statement M
 heavier-spec =
-    tie.close (tie.spec cover-magnitude-requires cover-magnitude-requires-2 returns returns-2)
+    tie.close (tie.spec (λ c κs. search needs) (λ c κs. search needs) returns returns-2)

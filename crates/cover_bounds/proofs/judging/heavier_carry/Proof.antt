@@ -21,24 +21,6 @@ abbrev μ-loop : tie.MeasureT-loop
 loop-holds : tie.Need-loop-holds Inv-loop μ-loop
 loop-holds c = place-start (omega arith)
 
-array-copy-out-heavier : tie.Need-array-copy-out-heavier Inv-loop μ-loop
-array-copy-out-heavier c = omega arith
-
-array-copy-out-heavier-2 : tie.Need-array-copy-out-heavier-2 Inv-loop μ-loop
-array-copy-out-heavier-2 c = omega arith
-
-heavier-requires : tie.Need-heavier-requires Inv-loop μ-loop
-heavier-requires c κs = tt
-
-array-set-from-covers : tie.Need-array-set-from-covers Inv-loop μ-loop
-array-set-from-covers c = omega arith
-
-add-y : tie.Need-add-y Inv-loop μ-loop
-add-y c = omega arith
-
-loop-less : tie.Need-loop-less Inv-loop μ-loop
-loop-less c = omega arith
-
 loop-again : tie.Need-loop-again Inv-loop μ-loop
 loop-again c =
     let second = c .before in
@@ -57,11 +39,7 @@ heavier-carry-spec =
     Inv-loop
     μ-loop
     loop-holds
-    array-copy-out-heavier
-    array-copy-out-heavier-2
-    heavier-requires
-    array-set-from-covers
-    add-y
-    loop-less
+    (λ c. omega arith) (λ c. omega arith) (λ c κs. tt) (λ c. omega arith) (λ c. omega arith)
+    (λ c. omega arith)
     loop-again
     returns)

@@ -19,21 +19,6 @@ abbrev μ-loop : tie.MeasureT-loop
 loop-holds : tie.Need-loop-holds Inv-loop μ-loop
 loop-holds c = pass-start
 
-array-copy-out-is-at-most : tie.Need-array-copy-out-is-at-most Inv-loop μ-loop
-array-copy-out-is-at-most c = omega arith
-
-array-copy-out-is-at-most-2 : tie.Need-array-copy-out-is-at-most-2 Inv-loop μ-loop
-array-copy-out-is-at-most-2 c = omega arith
-
-is-at-most-requires : tie.Need-is-at-most-requires Inv-loop μ-loop
-is-at-most-requires c κs = tt
-
-add-y : tie.Need-add-y Inv-loop μ-loop
-add-y c = omega arith
-
-loop-less : tie.Need-loop-less Inv-loop μ-loop
-loop-less c = omega arith
-
 loop-again : tie.Need-loop-again Inv-loop μ-loop
 loop-again c =
     let m = c .before in
@@ -51,10 +36,6 @@ is-carry-bounded-spec =
     Inv-loop
     μ-loop
     loop-holds
-    array-copy-out-is-at-most
-    array-copy-out-is-at-most-2
-    is-at-most-requires
-    add-y
-    loop-less
+    (λ c. omega arith) (λ c. omega arith) (λ c κs. tt) (λ c. omega arith) (λ c. omega arith)
     loop-again
     returns)

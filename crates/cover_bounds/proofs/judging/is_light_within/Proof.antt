@@ -14,18 +14,6 @@ use Rattle.cover_bounds_statements.specs.Within.{boundAt}
 use Rattle.cover_bounds.proofs.judging.is_light_within.Statement.{statement}
 use Rattle.cover_bounds.proofs.judging.is_light_within.Tie as tie
 
-heavier-carry-requires : tie.Need-heavier-carry-requires
-heavier-carry-requires c κs = search needs
-
-magnitudes-requires : tie.Need-magnitudes-requires
-magnitudes-requires c κs = search needs
-
-add-heavier-requires : tie.Need-add-heavier-requires
-add-heavier-requires c κs = search needs
-
-are-light-requires : tie.Need-are-light-requires
-are-light-requires c κs = search needs
-
 returns : tie.Need-returns
 unfolding isLightWithin
 returns c =
@@ -45,8 +33,5 @@ pub is-light-within-spec : {M : Type 1} → statement M
 is-light-within-spec =
     tie.close
     (tie.spec
-    heavier-carry-requires
-    magnitudes-requires
-    add-heavier-requires
-    are-light-requires
+    (λ c κs. search needs) (λ c κs. search needs) (λ c κs. search needs) (λ c κs. search needs)
     returns)

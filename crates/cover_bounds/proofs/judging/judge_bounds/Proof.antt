@@ -21,15 +21,9 @@ are-told c =
     let s = c .before .before .before .before .before .before .before .before in
     rw (toZ-ofZ (s .fits .tile-x), toZ-ofZ (s .fits .tile-y)) at (c .are-of .ensures)
 
-lacks-room-requires : tie.Need-lacks-room-requires
-lacks-room-requires c κs = search needs
-
 returns : tie.Need-returns
 unfolding boundsVerdict
 returns c = rw (← room-told (c .before), c .if1 .taken)
-
-are-of-requires : tie.Need-are-of-requires
-are-of-requires c κs = search needs
 
 returns-2 : tie.Need-returns-2
 unfolding boundsVerdict
@@ -42,9 +36,6 @@ are-bounded-requires c κs =
     let e = c .before .before in
     let s = c .before .before .before .before .before .before .before .before .before in
     pairs-there (boundsCall (s .args .layer-id) (s .args .tile-x) (s .args .tile-y) (s .args .part .now) (s .args .bounds .now) (s .args .low .covers) (s .args .high .covers)) (boundPlanes (s .args .lowest .now) (s .args .highest .now) (s .args .least-non-zero .now) (s .args .greatest-non-zero .now) (s .args .least-even-odd .now) (s .args .greatest-even-odd .now)) (sym (room-told (e .before)) ∙ e .if1 .left)
-
-is-carry-bounded-requires : tie.Need-is-carry-bounded-requires
-is-carry-bounded-requires c κs = search needs
 
 returns-3 : tie.Need-returns-3
 unfolding boundsVerdict
@@ -106,12 +97,12 @@ pub judge-bounds-spec : {M : Type 1} → statement M
 judge-bounds-spec =
     tie.close
     (tie.spec
-    lacks-room-requires
+    (λ c κs. search needs)
     returns
-    are-of-requires
+    (λ c κs. search needs)
     returns-2
     are-bounded-requires
-    is-carry-bounded-requires
+    (λ c κs. search needs)
     returns-3
     is-light-within-requires
     returns-4

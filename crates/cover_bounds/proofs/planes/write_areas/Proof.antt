@@ -20,27 +20,6 @@ abbrev μ-loop : tie.MeasureT-loop
 loop-holds : tie.Need-loop-holds Inv-loop μ-loop
 loop-holds c = place-start (c .pre)
 
-cell-requires : tie.Need-cell-requires Inv-loop μ-loop
-cell-requires c κs = omega arith
-
-mul-plane : tie.Need-mul-plane Inv-loop μ-loop
-mul-plane c = omega arith
-
-element-copy-out-plane : tie.Need-element-copy-out-plane Inv-loop μ-loop
-element-copy-out-plane c = omega arith
-
-mul-t10 : tie.Need-mul-t10 Inv-loop μ-loop
-mul-t10 c = omega arith
-
-slice-set-from-plane : tie.Need-slice-set-from-plane Inv-loop μ-loop
-slice-set-from-plane c = omega arith
-
-add-place : tie.Need-add-place Inv-loop μ-loop
-add-place c = omega arith
-
-loop-less : tie.Need-loop-less Inv-loop μ-loop
-loop-less c = omega arith
-
 loop-again : tie.Need-loop-again Inv-loop μ-loop
 loop-again c =
     let k = c .before in
@@ -63,13 +42,8 @@ write-areas-spec =
     Inv-loop
     μ-loop
     loop-holds
-    cell-requires
-    mul-plane
-    element-copy-out-plane
-    mul-t10
-    slice-set-from-plane
-    add-place
-    loop-less
+    (λ c κs. omega arith) (λ c. omega arith) (λ c. omega arith) (λ c. omega arith) (λ c. omega arith)
+    (λ c. omega arith) (λ c. omega arith)
     loop-again
     same-length
     returns)

@@ -24,21 +24,6 @@ loop-holds c =
     let s = c .before .before in
     (place-start (s .pre .2), place-start (s .pre .3))
 
-cell-requires : tie.Need-cell-requires Inv-loop μ-loop
-cell-requires c κs = omega arith
-
-mul-least-even-odd : tie.Need-mul-least-even-odd Inv-loop μ-loop
-mul-least-even-odd c = omega arith
-
-element-copy-out-least-even-odd : tie.Need-element-copy-out-least-even-odd Inv-loop μ-loop
-element-copy-out-least-even-odd c = omega arith
-
-mul-least-even-odd-2 : tie.Need-mul-least-even-odd-2 Inv-loop μ-loop
-mul-least-even-odd-2 c = omega arith
-
-element-copy-out-least-even-odd-2 : tie.Need-element-copy-out-least-even-odd-2 Inv-loop μ-loop
-element-copy-out-least-even-odd-2 c = omega arith
-
 least-even-odd-requires : tie.Need-least-even-odd-requires Inv-loop μ-loop
 least-even-odd-requires c κs =
     let first = c .before in
@@ -50,25 +35,6 @@ least-even-odd-requires c κs =
     rw (kept w16 (coverAt lows z) (first .least-even-odd-arg .given), kept w16 (coverAt highs z) (c .least-even-odd-arg2 .given))
     (s .pre .0, s .pre .1 .at z (omega arith))
 
-mul-least : tie.Need-mul-least Inv-loop μ-loop
-mul-least c = omega arith
-
-slice-write-least : tie.Need-slice-write-least Inv-loop μ-loop
-slice-write-least c = omega arith
-
-mul-greatest-even-odd : tie.Need-mul-greatest-even-odd Inv-loop μ-loop
-mul-greatest-even-odd c = omega arith
-
-element-copy-out-greatest-even-odd : tie.Need-element-copy-out-greatest-even-odd Inv-loop μ-loop
-element-copy-out-greatest-even-odd c = omega arith
-
-mul-greatest-even-odd-2 : tie.Need-mul-greatest-even-odd-2 Inv-loop μ-loop
-mul-greatest-even-odd-2 c = omega arith
-
-element-copy-out-greatest-even-odd-2 :
-    tie.Need-element-copy-out-greatest-even-odd-2 Inv-loop μ-loop
-element-copy-out-greatest-even-odd-2 c = omega arith
-
 greatest-even-odd-requires : tie.Need-greatest-even-odd-requires Inv-loop μ-loop
 greatest-even-odd-requires c κs =
     let first = c .before in
@@ -79,18 +45,6 @@ greatest-even-odd-requires c κs =
     let z = k .before .before .before .cell .result in
     rw (kept w16 (coverAt lows z) (first .greatest-even-odd-arg .given), kept w16 (coverAt highs z) (c .greatest-even-odd-arg2 .given))
     (s .pre .0, s .pre .1 .at z (omega arith))
-
-mul-greatest : tie.Need-mul-greatest Inv-loop μ-loop
-mul-greatest c = omega arith
-
-slice-write-greatest : tie.Need-slice-write-greatest Inv-loop μ-loop
-slice-write-greatest c = omega arith
-
-add-place : tie.Need-add-place Inv-loop μ-loop
-add-place c = omega arith
-
-loop-less : tie.Need-loop-less Inv-loop μ-loop
-loop-less c = omega arith
 
 loop-again : tie.Need-loop-again Inv-loop μ-loop
 loop-again c =
@@ -132,23 +86,12 @@ write-even-odd-spec =
     Inv-loop
     μ-loop
     loop-holds
-    cell-requires
-    mul-least-even-odd
-    element-copy-out-least-even-odd
-    mul-least-even-odd-2
-    element-copy-out-least-even-odd-2
+    (λ c κs. omega arith) (λ c. omega arith) (λ c. omega arith) (λ c. omega arith) (λ c. omega arith)
     least-even-odd-requires
-    mul-least
-    slice-write-least
-    mul-greatest-even-odd
-    element-copy-out-greatest-even-odd
-    mul-greatest-even-odd-2
-    element-copy-out-greatest-even-odd-2
+    (λ c. omega arith) (λ c. omega arith) (λ c. omega arith) (λ c. omega arith) (λ c. omega arith)
+    (λ c. omega arith)
     greatest-even-odd-requires
-    mul-greatest
-    slice-write-greatest
-    add-place
-    loop-less
+    (λ c. omega arith) (λ c. omega arith) (λ c. omega arith) (λ c. omega arith)
     loop-again
     same-length
     same-length-2

@@ -24,21 +24,6 @@ loop-holds c =
     let s = c .before .before in
     (place-start (s .pre .1), place-start (s .pre .2))
 
-cell-requires : tie.Need-cell-requires Inv-loop μ-loop
-cell-requires c κs = omega arith
-
-mul-least-non-zero : tie.Need-mul-least-non-zero Inv-loop μ-loop
-mul-least-non-zero c = omega arith
-
-element-copy-out-least-non-zero : tie.Need-element-copy-out-least-non-zero Inv-loop μ-loop
-element-copy-out-least-non-zero c = omega arith
-
-mul-least-non-zero-2 : tie.Need-mul-least-non-zero-2 Inv-loop μ-loop
-mul-least-non-zero-2 c = omega arith
-
-element-copy-out-least-non-zero-2 : tie.Need-element-copy-out-least-non-zero-2 Inv-loop μ-loop
-element-copy-out-least-non-zero-2 c = omega arith
-
 least-non-zero-requires : tie.Need-least-non-zero-requires Inv-loop μ-loop
 least-non-zero-requires c κs =
     let first = c .before in
@@ -50,25 +35,6 @@ least-non-zero-requires c κs =
     rw (kept w16 (coverAt lows z) (first .least-non-zero-arg .given), kept w16 (coverAt highs z) (c .least-non-zero-arg2 .given))
     (s .pre .0 .at z (omega arith))
 
-mul-least : tie.Need-mul-least Inv-loop μ-loop
-mul-least c = omega arith
-
-slice-write-least : tie.Need-slice-write-least Inv-loop μ-loop
-slice-write-least c = omega arith
-
-mul-greatest-non-zero : tie.Need-mul-greatest-non-zero Inv-loop μ-loop
-mul-greatest-non-zero c = omega arith
-
-element-copy-out-greatest-non-zero : tie.Need-element-copy-out-greatest-non-zero Inv-loop μ-loop
-element-copy-out-greatest-non-zero c = omega arith
-
-mul-greatest-non-zero-2 : tie.Need-mul-greatest-non-zero-2 Inv-loop μ-loop
-mul-greatest-non-zero-2 c = omega arith
-
-element-copy-out-greatest-non-zero-2 :
-    tie.Need-element-copy-out-greatest-non-zero-2 Inv-loop μ-loop
-element-copy-out-greatest-non-zero-2 c = omega arith
-
 greatest-non-zero-requires : tie.Need-greatest-non-zero-requires Inv-loop μ-loop
 greatest-non-zero-requires c κs =
     let first = c .before in
@@ -79,18 +45,6 @@ greatest-non-zero-requires c κs =
     let z = k .before .before .before .cell .result in
     rw (kept w16 (coverAt lows z) (first .greatest-non-zero-arg .given), kept w16 (coverAt highs z) (c .greatest-non-zero-arg2 .given))
     (s .pre .0 .at z (omega arith))
-
-mul-greatest : tie.Need-mul-greatest Inv-loop μ-loop
-mul-greatest c = omega arith
-
-slice-write-greatest : tie.Need-slice-write-greatest Inv-loop μ-loop
-slice-write-greatest c = omega arith
-
-add-place : tie.Need-add-place Inv-loop μ-loop
-add-place c = omega arith
-
-loop-less : tie.Need-loop-less Inv-loop μ-loop
-loop-less c = omega arith
 
 loop-again : tie.Need-loop-again Inv-loop μ-loop
 loop-again c =
@@ -132,23 +86,12 @@ write-non-zero-spec =
     Inv-loop
     μ-loop
     loop-holds
-    cell-requires
-    mul-least-non-zero
-    element-copy-out-least-non-zero
-    mul-least-non-zero-2
-    element-copy-out-least-non-zero-2
+    (λ c κs. omega arith) (λ c. omega arith) (λ c. omega arith) (λ c. omega arith) (λ c. omega arith)
     least-non-zero-requires
-    mul-least
-    slice-write-least
-    mul-greatest-non-zero
-    element-copy-out-greatest-non-zero
-    mul-greatest-non-zero-2
-    element-copy-out-greatest-non-zero-2
+    (λ c. omega arith) (λ c. omega arith) (λ c. omega arith) (λ c. omega arith) (λ c. omega arith)
+    (λ c. omega arith)
     greatest-non-zero-requires
-    mul-greatest
-    slice-write-greatest
-    add-place
-    loop-less
+    (λ c. omega arith) (λ c. omega arith) (λ c. omega arith) (λ c. omega arith)
     loop-again
     same-length
     same-length-2

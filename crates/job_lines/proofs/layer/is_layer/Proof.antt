@@ -6,30 +6,6 @@ use Rattle.job_lines.specs.Rules.{layerRule}
 use Rattle.job_lines.proofs.layer.is_layer.Statement.{statement}
 use Rattle.job_lines.proofs.layer.is_layer.Tie as tie
 
-is-within-requires : tie.Need-is-within-requires
-is-within-requires c κs = search needs
-
-is-within-requires-2 : tie.Need-is-within-requires-2
-is-within-requires-2 c κs = search needs
-
-is-within-requires-3 : tie.Need-is-within-requires-3
-is-within-requires-3 c κs = search needs
-
-is-within-requires-4 : tie.Need-is-within-requires-4
-is-within-requires-4 c κs = search needs
-
-is-within-requires-5 : tie.Need-is-within-requires-5
-is-within-requires-5 c κs = search needs
-
-is-within-requires-6 : tie.Need-is-within-requires-6
-is-within-requires-6 c κs = search needs
-
-is-within-requires-7 : tie.Need-is-within-requires-7
-is-within-requires-7 c κs = search needs
-
-is-within-requires-8 : tie.Need-is-within-requires-8
-is-within-requires-8 c κs = search needs
-
 returns : tie.Need-returns
 unfolding layerRule
 returns c =
@@ -41,12 +17,6 @@ pub is-layer-spec : {M : Type 1} → statement M
 is-layer-spec =
     tie.close
     (tie.spec
-    is-within-requires
-    is-within-requires-2
-    is-within-requires-3
-    is-within-requires-4
-    is-within-requires-5
-    is-within-requires-6
-    is-within-requires-7
-    is-within-requires-8
+    (λ c κs. search needs) (λ c κs. search needs) (λ c κs. search needs) (λ c κs. search needs)
+    (λ c κs. search needs) (λ c κs. search needs) (λ c κs. search needs) (λ c κs. search needs)
     returns)

@@ -77,22 +77,10 @@ cast-pack-5 c = widened (c .before .before .before .before .before .before .befo
 cast-pack-6 : tie.Need-cast-pack-6
 cast-pack-6 c = widened (c .before .before .before .before .before .before .before .before .before .before .before .before .args .s .cover) (c .struct-told6 .given .1 .1 .1 .1 .1 .1 .0 .1)
 
-pack-requires : tie.Need-pack-requires
-pack-requires c κs = search needs
-
-enum-told : tie.Need-enum-told
-enum-told c = search needs
-
 sub-is-within : tie.Need-sub-is-within
 sub-is-within c =
     let y = c .before .before .before .before .before .before .before .before .before .before .before .before .before .before .before .before .before .args .s .y in
     rw (kept w32 y (c .struct-told7 .given .1 .1 .1 .0 .1)) (fits-below y (below (c .before .before)))
-
-is-within-requires : tie.Need-is-within-requires
-is-within-requires c κs = search needs
-
-enum-told-2 : tie.Need-enum-told-2
-enum-told-2 c = search needs
 
 returns : tie.Need-returns
 unfolding segmentRule
@@ -125,10 +113,8 @@ is-segment-spec =
     cast-pack-4
     cast-pack-5
     cast-pack-6
-    pack-requires
-    enum-told
+    (λ c κs. search needs) (λ c. search needs)
     sub-is-within
-    is-within-requires
-    enum-told-2
+    (λ c κs. search needs) (λ c. search needs)
     returns
     returns-2)

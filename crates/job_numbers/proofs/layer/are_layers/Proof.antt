@@ -18,18 +18,6 @@ abbrev μ-loop : tie.MeasureT-loop
 loop-holds : tie.Need-loop-holds Inv-loop μ-loop
 loop-holds c = start layerRule (layerLineAt (c .args .numbers .now)) (c .args .n)
 
-layer-at-requires : tie.Need-layer-at-requires Inv-loop μ-loop
-layer-at-requires c κs = omega arith
-
-is-layer-requires : tie.Need-is-layer-requires Inv-loop μ-loop
-is-layer-requires c κs = search needs
-
-add-i : tie.Need-add-i Inv-loop μ-loop
-add-i c = omega arith
-
-loop-less : tie.Need-loop-less Inv-loop μ-loop
-loop-less c = omega arith
-
 loop-again : tie.Need-loop-again Inv-loop μ-loop
 loop-again c = next layerRule (layerLineAt (c .before .before .before .before .args .numbers .now)) (c .before .before .before .loop .inv) (c .before .before .loop-test .taken) (c .is-layer .ensures ∙ ap layerRule (c .before .layer-at .ensures))
 
@@ -43,9 +31,6 @@ are-layers-spec =
     Inv-loop
     μ-loop
     loop-holds
-    layer-at-requires
-    is-layer-requires
-    add-i
-    loop-less
+    (λ c κs. omega arith) (λ c κs. search needs) (λ c. omega arith) (λ c. omega arith)
     loop-again
     returns)

@@ -18,18 +18,6 @@ abbrev μ-loop : tie.MeasureT-loop
 loop-holds : tie.Need-loop-holds Inv-loop μ-loop
 loop-holds c = start segmentRule (segmentAt (c .args .numbers .now)) (c .args .m)
 
-segment-at-requires : tie.Need-segment-at-requires Inv-loop μ-loop
-segment-at-requires c κs = omega arith
-
-is-segment-requires : tie.Need-is-segment-requires Inv-loop μ-loop
-is-segment-requires c κs = search needs
-
-add-i : tie.Need-add-i Inv-loop μ-loop
-add-i c = omega arith
-
-loop-less : tie.Need-loop-less Inv-loop μ-loop
-loop-less c = omega arith
-
 loop-again : tie.Need-loop-again Inv-loop μ-loop
 loop-again c = next segmentRule (segmentAt (c .before .before .before .before .args .numbers .now)) (c .before .before .before .loop .inv) (c .before .before .loop-test .taken) (c .is-segment .ensures ∙ ap segmentRule (c .before .segment-at .ensures))
 
@@ -43,9 +31,6 @@ are-segments-spec =
     Inv-loop
     μ-loop
     loop-holds
-    segment-at-requires
-    is-segment-requires
-    add-i
-    loop-less
+    (λ c κs. omega arith) (λ c κs. search needs) (λ c. omega arith) (λ c. omega arith)
     loop-again
     returns)

@@ -17,9 +17,6 @@ abbrev μ-loop : tie.MeasureT-loop
 loop-holds : tie.Need-loop-holds Inv-loop μ-loop
 loop-holds c = start (c .args .numbers .now) (c .args .m)
 
-segment-at-requires : tie.Need-segment-at-requires Inv-loop μ-loop
-segment-at-requires c κs = omega arith
-
 repeats-requires : tie.Need-repeats-requires Inv-loop μ-loop
 repeats-requires c κs =
     let s = c .before .before .before in
@@ -27,12 +24,6 @@ repeats-requires c κs =
 
 add-count : tie.Need-add-count Inv-loop μ-loop
 add-count c = omega (arith, c .before .before .before .loop .inv .low, c .repeats .ensures .1)
-
-add-i : tie.Need-add-i Inv-loop μ-loop
-add-i c = omega arith
-
-loop-less : tie.Need-loop-less Inv-loop μ-loop
-loop-less c = omega arith
 
 loop-again : tie.Need-loop-again Inv-loop μ-loop
 loop-again c =
@@ -50,10 +41,9 @@ count-segments-spec =
     Inv-loop
     μ-loop
     loop-holds
-    segment-at-requires
+    (λ c κs. omega arith)
     repeats-requires
     add-count
-    add-i
-    loop-less
+    (λ c. omega arith) (λ c. omega arith)
     loop-again
     returns)

@@ -5,23 +5,11 @@ use Rattle.load_numbers.proofs.Reading.{missing, no-end, other-end, num
 use Rattle.load_numbers.proofs.input.read_field.Statement.{statement}
 use Rattle.load_numbers.proofs.input.read_field.Tie as tie
 
-read-unsigned-requires : tie.Need-read-unsigned-requires
-read-unsigned-requires c κs = search needs
-
-enum-known-n : tie.Need-enum-known-n
-enum-known-n c = search needs
-
-enum-told : tie.Need-enum-told
-enum-told c = search needs
-
 returns : tie.Need-returns
 returns c = missing _ (rw (c .enum-told .given .1) at (c .before .before .read-unsigned .ensures))
 
 returns-2 : tie.Need-returns-2
 returns-2 c = let n = c .before .before in no-end _ (rw (n .n .given .1) at (n .before .before .read-unsigned .ensures)) (omega arith)
-
-shared-slice-read-if2 : tie.Need-shared-slice-read-if2
-shared-slice-read-if2 c = search needs
 
 returns-3 : tie.Need-returns-3
 returns-3 c = let n = c .before .before .before .before in other-end _ (rw (n .n .given .1) at (n .before .before .read-unsigned .ensures)) (omega arith) (c .if2 .taken)
@@ -32,9 +20,6 @@ cast-t12 c =
     let u = rw (n .n .given .1) at (n .before .before .read-unsigned .ensures) in
     omega (arith, u .below, n .before .before .before .before .pre)
 
-add-t8 : tie.Need-add-t8
-add-t8 c = search needs
-
 returns-4 : tie.Need-returns-4
 returns-4 c = let n = c .before .before .before .before in number _ (rw (n .n .given .1) at (n .before .before .read-unsigned .ensures)) (omega arith) (c .if2 .left)
 
@@ -42,13 +27,11 @@ pub read-field-spec : {M : Type 1} → statement M
 read-field-spec =
     tie.close
     (tie.spec
-    read-unsigned-requires
-    enum-known-n
-    enum-told
+    (λ c κs. search needs) (λ c. search needs) (λ c. search needs)
     returns
     returns-2
-    shared-slice-read-if2
+    (λ c. search needs)
     returns-3
     cast-t12
-    add-t8
+    (λ c. search needs)
     returns-4)

@@ -4,36 +4,6 @@ use Rattle.load_numbers.proofs.Drawing.{cover-fits, drawn, line-is, sta
 use Rattle.load_numbers.proofs.segment.draw_segment.Statement.{statement}
 use Rattle.load_numbers.proofs.segment.draw_segment.Tie as tie
 
-draw-requires : tie.Need-draw-requires
-draw-requires c κs = search needs
-
-draw-requires-2 : tie.Need-draw-requires-2
-draw-requires-2 c κs = search needs
-
-draw-requires-3 : tie.Need-draw-requires-3
-draw-requires-3 c κs = search needs
-
-draw-requires-4 : tie.Need-draw-requires-4
-draw-requires-4 c κs = search needs
-
-cast-tile : tie.Need-cast-tile
-cast-tile c = search needs
-
-cast-layer : tie.Need-cast-layer
-cast-layer c = search needs
-
-cast-x : tie.Need-cast-x
-cast-x c = search needs
-
-cast-y : tie.Need-cast-y
-cast-y c = search needs
-
-cast-mult : tie.Need-cast-mult
-cast-mult c = search needs
-
-cast-cover : tie.Need-cast-cover
-cast-cover c = search needs
-
 sub-cover : tie.Need-sub-cover
 sub-cover c = cover-fits (c .before .before .before .before .draw4 .result .value)
 
@@ -54,15 +24,8 @@ pub draw-segment-spec : {M : Type 1} → statement M
 draw-segment-spec =
     tie.close
     (tie.spec
-    draw-requires
-    draw-requires-2
-    draw-requires-3
-    draw-requires-4
-    cast-tile
-    cast-layer
-    cast-x
-    cast-y
-    cast-mult
-    cast-cover
+    (λ c κs. search needs) (λ c κs. search needs) (λ c κs. search needs) (λ c κs. search needs)
+    (λ c. search needs) (λ c. search needs) (λ c. search needs) (λ c. search needs) (λ c. search needs)
+    (λ c. search needs)
     sub-cover
     returns)

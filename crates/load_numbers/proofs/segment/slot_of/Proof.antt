@@ -7,18 +7,12 @@ use Rattle.load_statements.specs.Load.{slotOf}
 use Rattle.load_numbers.proofs.segment.slot_of.Statement.{statement}
 use Rattle.load_numbers.proofs.segment.slot_of.Tie as tie
 
-mul-result : tie.Need-mul-result
-mul-result c = search needs
-
 mul-result-2 : tie.Need-mul-result-2
 mul-result-2 c = let p = mul-le-mul {n₁ = c .args .k * 8} {m₁ = c .args .tiles} {n₂ = 4088} {m₂ = 4095} (omega arith) (omega arith) in omega arith
-
-div-result : tie.Need-div-result
-div-result c = search needs
 
 returns : tie.Need-returns
 unfolding slotOf
 returns c = search needs
 
 pub slot-of-spec : {M : Type 1} → statement M
-slot-of-spec = tie.close (tie.spec mul-result mul-result-2 div-result returns)
+slot-of-spec = tie.close (tie.spec (λ c. search needs) mul-result-2 (λ c. search needs) returns)

@@ -6,11 +6,8 @@ use mir.ValLaws.{toZ-pos}
 use Rattle.load_text.proofs.blocks.head_line.Statement.{statement}
 use Rattle.load_text.proofs.blocks.head_line.Tie as tie
 
-cast-to : tie.Need-cast-to
-cast-to c = search needs
-
 returns : tie.Need-returns
 returns c = rw (toZ-pos w32 (c .args .tiles) (omega arith))
 
 pub head-line-spec : {M : Type 1} → statement M
-head-line-spec = tie.close (tie.spec cast-to returns)
+head-line-spec = tie.close (tie.spec (λ c. search needs) returns)

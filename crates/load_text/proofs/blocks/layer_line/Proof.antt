@@ -7,12 +7,9 @@ use Rattle.load_statements.specs.Load.{loadLayer}
 use Rattle.load_text.proofs.blocks.layer_line.Statement.{statement}
 use Rattle.load_text.proofs.blocks.layer_line.Tie as tie
 
-cast-t2 : tie.Need-cast-t2
-cast-t2 c = search needs
-
 returns : tie.Need-returns
 unfolding loadLayer
 returns c = rw (toZ-pos w32 (c .args .id) (omega arith))
 
 pub layer-line-spec : {M : Type 1} → statement M
-layer-line-spec = tie.close (tie.spec cast-t2 returns)
+layer-line-spec = tie.close (tie.spec (λ c. search needs) returns)

@@ -4,24 +4,6 @@ use Rattle.load_text.proofs.Printing.{head-printed}
 use Rattle.load_text.proofs.blocks.print_head.Statement.{statement}
 use Rattle.load_text.proofs.blocks.print_head.Tie as tie
 
-slice-aggregate-print-bytes : tie.Need-slice-aggregate-print-bytes
-slice-aggregate-print-bytes c = search needs
-
-print-bytes-requires : tie.Need-print-bytes-requires
-print-bytes-requires c κs = search needs
-
-head-line-requires : tie.Need-head-line-requires
-head-line-requires c κs = search needs
-
-slice-aggregate-print-line : tie.Need-slice-aggregate-print-line
-slice-aggregate-print-line c = search needs
-
-print-line-requires : tie.Need-print-line-requires
-print-line-requires c κs = search needs
-
-same-length : tie.Need-same-length
-same-length c = search needs
-
 returns : tie.Need-returns
 returns c =
     let p = c .before .before in
@@ -34,10 +16,6 @@ pub print-head-spec : {M : Type 1} → statement M
 print-head-spec =
     tie.close
     (tie.spec
-    slice-aggregate-print-bytes
-    print-bytes-requires
-    head-line-requires
-    slice-aggregate-print-line
-    print-line-requires
-    same-length
+    (λ c. search needs) (λ c κs. search needs) (λ c κs. search needs) (λ c. search needs)
+    (λ c κs. search needs) (λ c. search needs)
     returns)

@@ -18,32 +18,14 @@ Inv-loop out₀ at end₀ id₀ out end id = LinesPrinting (λ i. layerValues (l
 abbrev μ-loop : tie.MeasureT-loop
 μ-loop out₀ at end₀ id₀ out end id = 8 - id
 
-slice-aggregate-print-bytes : tie.Need-slice-aggregate-print-bytes Inv-loop μ-loop
-slice-aggregate-print-bytes c = search needs
-
-print-bytes-requires : tie.Need-print-bytes-requires Inv-loop μ-loop
-print-bytes-requires c κs = omega arith
-
 loop-holds : tie.Need-loop-holds Inv-loop μ-loop
 loop-holds c = start
-
-layer-line-requires : tie.Need-layer-line-requires Inv-loop μ-loop
-layer-line-requires c κs = omega arith
-
-slice-aggregate-print-line : tie.Need-slice-aggregate-print-line Inv-loop μ-loop
-slice-aggregate-print-line c = search needs
 
 print-line-requires : tie.Need-print-line-requires Inv-loop μ-loop
 print-line-requires c κs =
     let l = c .before .before in
     let p = l .before .before .before .before .before in
     rw (eight _ (l .layer-line .ensures)) (line-room (l .before .before .loop .inv) 96 (omega (arith, p .print-bytes .ensures .answer, p .print-bytes .kept .0)))
-
-add-id : tie.Need-add-id Inv-loop μ-loop
-add-id c = omega arith
-
-loop-less : tie.Need-loop-less Inv-loop μ-loop
-loop-less c = omega arith
 
 loop-again : tie.Need-loop-again Inv-loop μ-loop
 loop-again c =
@@ -63,14 +45,11 @@ print-layers-spec =
     (tie.spec
     Inv-loop
     μ-loop
-    slice-aggregate-print-bytes
-    print-bytes-requires
+    (λ c. search needs) (λ c κs. omega arith)
     loop-holds
-    layer-line-requires
-    slice-aggregate-print-line
+    (λ c κs. omega arith) (λ c. search needs)
     print-line-requires
-    add-id
-    loop-less
+    (λ c. omega arith) (λ c. omega arith)
     loop-again
     same-length
     returns)

@@ -18,12 +18,6 @@ Inv-loop out₀ at seed tiles count end₀ generator₀ k₀ out end generator k
 abbrev μ-loop : tie.MeasureT-loop
 μ-loop out₀ at seed tiles count end₀ generator₀ k₀ out end generator k = count - k
 
-slice-aggregate-print-bytes : tie.Need-slice-aggregate-print-bytes Inv-loop μ-loop
-slice-aggregate-print-bytes c = search needs
-
-print-bytes-requires : tie.Need-print-bytes-requires Inv-loop μ-loop
-print-bytes-requires c κs = omega arith
-
 loop-holds : tie.Need-loop-holds Inv-loop μ-loop
 loop-holds c = make _
 
@@ -35,20 +29,11 @@ draw-segment-requires c κs =
     let s = c .before .before .before .before .before .before .before .before .before in
     rw (c .slot-of .ensures) (slot-small _ (s .pre .0) _ (omega arith))
 
-slice-aggregate-print-line : tie.Need-slice-aggregate-print-line Inv-loop μ-loop
-slice-aggregate-print-line c = search needs
-
 print-line-requires : tie.Need-print-line-requires Inv-loop μ-loop
 print-line-requires c κs =
     let d = c .before .before .before in
     let p = d .before .before .before .before .before .before in
     rw (seven _ _ (d .draw-segment .ensures .0)) (line-room (d .before .before .before .loop .inv .lines) 84 (omega (arith, p .print-bytes .ensures .answer, p .print-bytes .kept .0)))
-
-add-k : tie.Need-add-k Inv-loop μ-loop
-add-k c = omega arith
-
-loop-less : tie.Need-loop-less Inv-loop μ-loop
-loop-less c = omega arith
 
 loop-again : tie.Need-loop-again Inv-loop μ-loop
 loop-again c =
@@ -70,15 +55,13 @@ print-segments-spec =
     (tie.spec
     Inv-loop
     μ-loop
-    slice-aggregate-print-bytes
-    print-bytes-requires
+    (λ c. search needs) (λ c κs. omega arith)
     loop-holds
     slot-of-requires
     draw-segment-requires
-    slice-aggregate-print-line
+    (λ c. search needs)
     print-line-requires
-    add-k
-    loop-less
+    (λ c. omega arith) (λ c. omega arith)
     loop-again
     same-length
     returns)

@@ -17,12 +17,6 @@ loop-holds c = column-start
 slice-write-column : tie.Need-slice-write-column Inv-loop μ-loop
 slice-write-column c = omega (arith, column-long (c .before .loop .inv) (c .before .before .pre))
 
-add-i : tie.Need-add-i Inv-loop μ-loop
-add-i c = omega arith
-
-loop-less : tie.Need-loop-less Inv-loop μ-loop
-loop-less c = omega arith
-
 loop-again : tie.Need-loop-again Inv-loop μ-loop
 loop-again c = column-next (c .before .loop .inv) (c .before .before .pre) (c .loop-test .taken)
 
@@ -40,8 +34,7 @@ fill-spec =
     μ-loop
     loop-holds
     slice-write-column
-    add-i
-    loop-less
+    (λ c. omega arith) (λ c. omega arith)
     loop-again
     same-length
     returns)

@@ -31,9 +31,6 @@ item-at-requires c κs =
     let a = c .before .before .before .before .before .before .before .before .before .before .before .before .before .before .before .before in
     (a .pre .0, a .pre .1, c .loop-test .taken)
 
-clip-step-requires : tie.Need-clip-step-requires Inv-loop μ-loop
-clip-step-requires c κs = tt
-
 mark-requires : tie.Need-mark-requires Inv-loop μ-loop
 mark-requires c κs =
     let l = c .before .before .before .before .before in
@@ -62,9 +59,6 @@ loop-again c =
     (step .clip-step .ensures)
     (mark .mark .ensures)
 
-mask-last-requires : tie.Need-mask-last-requires Inv-loop μ-loop
-mask-last-requires c κs = tt
-
 same-length : tie.Need-same-length Inv-loop μ-loop
 same-length c = c .before .before .mask-last .kept .0 ∙ c .before .before .before .before .before .loop .inv .unmasked-same ∙ c .before .before .before .before .before .before .before .before .before .before .before .before .fill .kept .0
 
@@ -88,12 +82,12 @@ skip-trivial-clips-pass-spec =
     fill-requires-2
     loop-holds
     item-at-requires
-    clip-step-requires
+    (λ c κs. tt)
     mark-requires
     add-i
     loop-less
     loop-again
-    mask-last-requires
+    (λ c κs. tt)
     same-length
     same-length-2
     returns)

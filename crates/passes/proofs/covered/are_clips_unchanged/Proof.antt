@@ -25,12 +25,6 @@ is-clip-unchanged-requires c κs =
     let a = c .before .before .before .before .before .before in
     (a .pre .0, a .pre .1, c .loop-test .taken)
 
-add-i : tie.Need-add-i Inv-loop μ-loop
-add-i c = omega arith
-
-loop-less : tie.Need-loop-less Inv-loop μ-loop
-loop-less c = omega arith
-
 loop-again : tie.Need-loop-again Inv-loop μ-loop
 loop-again c =
     let turn = c .before in
@@ -50,7 +44,6 @@ are-clips-unchanged-spec =
     μ-loop
     loop-holds
     is-clip-unchanged-requires
-    add-i
-    loop-less
+    (λ c. omega arith) (λ c. omega arith)
     loop-again
     returns)

@@ -9,18 +9,6 @@ use Rattle.pass_statements.proofs.Repainting.{unmarked, marked-draws}
 use Rattle.passes.proofs.covered.is_clip_unchanged.Statement.{statement}
 use Rattle.passes.proofs.covered.is_clip_unchanged.Tie as tie
 
-add-if1 : tie.Need-add-if1
-add-if1 c = search needs
-
-shared-slice-read-if1 : tie.Need-shared-slice-read-if1
-shared-slice-read-if1 c = search needs
-
-item-at-requires : tie.Need-item-at-requires
-item-at-requires c κs = search needs
-
-is-clip-requires : tie.Need-is-clip-requires
-is-clip-requires c κs = search needs
-
 returns : tie.Need-returns
 returns c =
     let a = c .before .before .before .before .before .before .before .before .args in
@@ -36,4 +24,4 @@ returns-2 c =
 pub is-clip-unchanged-spec : {M : Type 1} → statement M
 is-clip-unchanged-spec =
     tie.close
-    (tie.spec add-if1 shared-slice-read-if1 item-at-requires is-clip-requires returns returns-2)
+    (tie.spec (λ c. search needs) (λ c. search needs) (λ c κs. search needs) (λ c κs. search needs) returns returns-2)

@@ -17,14 +17,8 @@ Inv-loop ids covers flags n layers colors count unmasked unclipped removed found
 abbrev μ-loop : tie.MeasureT-loop
 μ-loop ids covers flags n layers colors count unmasked unclipped removed found₀ i₀ found i = i
 
-start-requires : tie.Need-start-requires Inv-loop μ-loop
-start-requires c κs = search needs
-
 loop-holds : tie.Need-loop-holds Inv-loop μ-loop
 loop-holds c = look-start (length-items _ _ _ _ _) (c .start .ensures)
-
-sub-i : tie.Need-sub-i Inv-loop μ-loop
-sub-i c = omega arith
 
 shared-slice-read-if1 : tie.Need-shared-slice-read-if1 Inv-loop μ-loop
 shared-slice-read-if1 c = omega (arith, c .before .before .before .before .before .before .before .before .before .before .pre .2)
@@ -39,16 +33,10 @@ shared-slice-read-look-at c =
     let turn = c .before .before .before .before in
     omega (arith, turn .before .loop .inv .reached, turn .loop-test .taken, turn .before .before .before .before .before .before .before .before .before .pre .3)
 
-look-at-requires : tie.Need-look-at-requires Inv-loop μ-loop
-look-at-requires c κs = tt
-
 shared-slice-read-hides : tie.Need-shared-slice-read-hides Inv-loop μ-loop
 shared-slice-read-hides c =
     let turn = c .before .before .before .before .before .before in
     omega (arith, turn .before .loop .inv .reached, turn .loop-test .taken, turn .before .before .before .before .before .before .before .before .before .pre .3)
-
-hides-requires : tie.Need-hides-requires Inv-loop μ-loop
-hides-requires c κs = tt
 
 returns : tie.Need-returns Inv-loop μ-loop
 returns c =
@@ -96,15 +84,15 @@ skip-fully-covered-layers-pass-spec =
     (tie.spec
     Inv-loop
     μ-loop
-    start-requires
+    (λ c κs. search needs)
     loop-holds
-    sub-i
+    (λ c. omega arith)
     shared-slice-read-if1
     item-at-requires
     shared-slice-read-look-at
-    look-at-requires
+    (λ c κs. tt)
     shared-slice-read-hides
-    hides-requires
+    (λ c κs. tt)
     returns
     loop-less
     loop-again

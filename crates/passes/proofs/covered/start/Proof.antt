@@ -3,9 +3,6 @@ use borrow.Author.Needs.{needs}
 use Rattle.passes.proofs.covered.start.Statement.{statement}
 use Rattle.passes.proofs.covered.start.Tie as tie
 
-are-clips-unchanged-requires : tie.Need-are-clips-unchanged-requires
-are-clips-unchanged-requires c κs = search needs
-
 returns : tie.Need-returns
 returns c = rw (c .if1 .taken)
 
@@ -13,4 +10,4 @@ returns-2 : tie.Need-returns-2
 returns-2 c = rw (c .before .if1 .left, c .are-clips-unchanged .ensures)
 
 pub start-spec : {M : Type 1} → statement M
-start-spec = tie.close (tie.spec are-clips-unchanged-requires returns returns-2)
+start-spec = tie.close (tie.spec (λ c κs. search needs) returns returns-2)

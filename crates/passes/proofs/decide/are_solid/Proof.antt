@@ -34,12 +34,6 @@ item-at-requires c κs =
     let a = c .before .before .before .before .before .before .before .before .before .before in
     (a .pre .0, a .pre .1, c .before .before .before .loop-test .taken)
 
-solid-color-requires : tie.Need-solid-color-requires Inv-loop μ-loop
-solid-color-requires c κs = tt
-
-is-color-requires : tie.Need-is-color-requires Inv-loop μ-loop
-is-color-requires c κs = tt
-
 loop-less : tie.Need-loop-less Inv-loop μ-loop
 loop-less c = omega (arith, c .before .before .before .before .before .before .loop-test .taken)
 
@@ -90,8 +84,7 @@ are-solid-spec =
     add-i
     shared-slice-read-if1
     item-at-requires
-    solid-color-requires
-    is-color-requires
+    (λ c κs. tt) (λ c κs. tt)
     loop-less
     loop-again
     sub-left

@@ -8,15 +8,6 @@ use Rattle.pass_statements.proofs.Listing.{length-items}
 use Rattle.passes.proofs.decide.decide.Statement.{statement}
 use Rattle.passes.proofs.decide.decide.Tie as tie
 
-is-kept-requires : tie.Need-is-kept-requires
-is-kept-requires c κs = search needs
-
-fill-requires : tie.Need-fill-requires
-fill-requires c κs = search needs
-
-same-length : tie.Need-same-length
-same-length c = search needs
-
 returns : tie.Need-returns
 returns c =
     let kept = c .before .before .before .before .before in
@@ -25,15 +16,6 @@ returns c =
     (kept .is-kept .ensures)
     (c .before .before .before .before .if1 .taken)
     (c .before .before .fill .ensures)
-
-were-removed-requires : tie.Need-were-removed-requires
-were-removed-requires c κs = search needs
-
-run-passes-requires : tie.Need-run-passes-requires
-run-passes-requires c κs = search needs
-
-same-length-2 : tie.Need-same-length-2
-same-length-2 c = search needs
 
 returns-2 : tie.Need-returns-2
 returns-2 c =
@@ -50,11 +32,7 @@ pub decide-spec : {M : Type 1} → statement M
 decide-spec =
     tie.close
     (tie.spec
-    is-kept-requires
-    fill-requires
-    same-length
+    (λ c κs. search needs) (λ c κs. search needs) (λ c. search needs)
     returns
-    were-removed-requires
-    run-passes-requires
-    same-length-2
+    (λ c κs. search needs) (λ c κs. search needs) (λ c. search needs)
     returns-2)

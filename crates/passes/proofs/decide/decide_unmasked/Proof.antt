@@ -8,15 +8,6 @@ use Rattle.pass_statements.proofs.Deciding.{decided}
 use Rattle.passes.proofs.decide.decide_unmasked.Statement.{statement}
 use Rattle.passes.proofs.decide.decide_unmasked.Tie as tie
 
-skip-fully-covered-layers-pass-requires : tie.Need-skip-fully-covered-layers-pass-requires
-skip-fully-covered-layers-pass-requires c κs = search needs
-
-bottom-of-requires : tie.Need-bottom-of-requires
-bottom-of-requires c κs = search needs
-
-mix-requires : tie.Need-mix-requires
-mix-requires c κs = search needs
-
 returns : tie.Need-returns
 returns c =
     let pass = c .before .before .before in
@@ -30,4 +21,4 @@ returns c =
 pub decide-unmasked-spec : {M : Type 1} → statement M
 decide-unmasked-spec =
     tie.close
-    (tie.spec skip-fully-covered-layers-pass-requires bottom-of-requires mix-requires returns)
+    (tie.spec (λ c κs. search needs) (λ c κs. search needs) (λ c κs. search needs) returns)

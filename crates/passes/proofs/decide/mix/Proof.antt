@@ -8,15 +8,6 @@ use Rattle.pass_statements.proofs.Deciding.{mixed-settled, mixed-solid, mixed-p
 use Rattle.passes.proofs.decide.mix.Statement.{statement}
 use Rattle.passes.proofs.decide.mix.Tie as tie
 
-enum-known-bottom : tie.Need-enum-known-bottom
-enum-known-bottom c = search needs
-
-enum-known-bottom-2 : tie.Need-enum-known-bottom-2
-enum-known-bottom-2 c = search needs
-
-are-solid-requires : tie.Need-are-solid-requires
-are-solid-requires c κs = search needs
-
 returns : tie.Need-returns
 returns c = mixed-settled _ (c .before .bottom .given .1)
 
@@ -39,4 +30,4 @@ returns-3 c =
 pub mix-spec : {M : Type 1} → statement M
 mix-spec =
     tie.close
-    (tie.spec enum-known-bottom enum-known-bottom-2 are-solid-requires returns returns-2 returns-3)
+    (tie.spec (λ c. search needs) (λ c. search needs) (λ c κs. search needs) returns returns-2 returns-3)

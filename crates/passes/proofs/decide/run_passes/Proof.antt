@@ -7,21 +7,6 @@ use Rattle.pass_statements.proofs.Deciding.{decided-passed}
 use Rattle.passes.proofs.decide.run_passes.Statement.{statement}
 use Rattle.passes.proofs.decide.run_passes.Tie as tie
 
-slice-aggregate-skip-trivial-clips-pass : tie.Need-slice-aggregate-skip-trivial-clips-pass
-slice-aggregate-skip-trivial-clips-pass c = search needs
-
-skip-trivial-clips-pass-requires : tie.Need-skip-trivial-clips-pass-requires
-skip-trivial-clips-pass-requires c κs = search needs
-
-slice-aggregate-decide-unmasked : tie.Need-slice-aggregate-decide-unmasked
-slice-aggregate-decide-unmasked c = search needs
-
-decide-unmasked-requires : tie.Need-decide-unmasked-requires
-decide-unmasked-requires c κs = search needs
-
-same-length : tie.Need-same-length
-same-length c = search needs
-
 returns : tie.Need-returns
 returns c =
     let a = c .before .before .before .before .before .before .before .before .before .before .before .before .before .before .args in
@@ -33,9 +18,5 @@ pub run-passes-spec : {M : Type 1} → statement M
 run-passes-spec =
     tie.close
     (tie.spec
-    slice-aggregate-skip-trivial-clips-pass
-    skip-trivial-clips-pass-requires
-    slice-aggregate-decide-unmasked
-    decide-unmasked-requires
-    same-length
+    (λ c. search needs) (λ c κs. search needs) (λ c. search needs) (λ c κs. search needs) (λ c. search needs)
     returns)

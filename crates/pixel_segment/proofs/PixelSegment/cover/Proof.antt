@@ -13,23 +13,8 @@ use Rattle.pixel_segment.specs.Field.{coverOf}
 use Rattle.pixel_segment.proofs.PixelSegment.cover.Statement.{statement}
 use Rattle.pixel_segment.proofs.PixelSegment.cover.Tie as tie
 
-size-requires : tie.Need-size-requires
-size-requires c κs = search needs
-
-extract-requires : tie.Need-extract-requires
-extract-requires c κs = search needs
-
-add-result : tie.Need-add-result
-add-result c = search needs
-
-rem-result : tie.Need-rem-result
-rem-result c = search needs
-
 cast-result : tie.Need-cast-result
 cast-result c = rw (c .before .size .ensures) (omega arith)
-
-cast-result-2 : tie.Need-cast-result-2
-cast-result-2 c = search needs
 
 sub-result : tie.Need-sub-result
 sub-result c =
@@ -47,11 +32,8 @@ pub cover-spec : {M : Type 1} → statement M
 cover-spec =
     tie.close
     (tie.spec
-    size-requires
-    extract-requires
-    add-result
-    rem-result
+    (λ c κs. search needs) (λ c κs. search needs) (λ c. search needs) (λ c. search needs)
     cast-result
-    cast-result-2
+    (λ c. search needs)
     sub-result
     returns)

@@ -11,15 +11,6 @@ use Rattle.pixel_segment.proofs.Widths.{cover-fits, area-fits}
 use Rattle.pixel_segment.proofs.PixelSegment.double_area.Statement.{statement}
 use Rattle.pixel_segment.proofs.PixelSegment.double_area.Tie as tie
 
-double-area-multiplier-requires : tie.Need-double-area-multiplier-requires
-double-area-multiplier-requires c κs = search needs
-
-cast-result : tie.Need-cast-result
-cast-result c = search needs
-
-cover-requires : tie.Need-cover-requires
-cover-requires c κs = search needs
-
 cast-result-2 : tie.Need-cast-result-2
 cast-result-2 c =
     let w = c .before .before .args .self .0 in
@@ -45,9 +36,7 @@ pub double-area-spec : {M : Type 1} → statement M
 double-area-spec =
     tie.close
     (tie.spec
-    double-area-multiplier-requires
-    cast-result
-    cover-requires
+    (λ c κs. search needs) (λ c. search needs) (λ c κs. search needs)
     cast-result-2
     mul-result
     returns)

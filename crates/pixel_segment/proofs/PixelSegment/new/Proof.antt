@@ -7,29 +7,14 @@ use mir.Facts.{toZ-ofZ, toZ-pos, sfits-widen}
 use Rattle.pixel_segment.proofs.PixelSegment.new.Statement.{statement}
 use Rattle.pixel_segment.proofs.PixelSegment.new.Tie as tie
 
-cast-pack : tie.Need-cast-pack
-cast-pack c = search needs
-
 cast-pack-2 : tie.Need-cast-pack-2
 cast-pack-2 c = rw (toZ-ofZ (c .fits .tile-x)) (sfits-widen tt (c .fits .tile-x))
 
 cast-pack-3 : tie.Need-cast-pack-3
 cast-pack-3 c = rw (toZ-ofZ (c .fits .tile-y)) (sfits-widen tt (c .fits .tile-y))
 
-cast-pack-4 : tie.Need-cast-pack-4
-cast-pack-4 c = search needs
-
-cast-pack-5 : tie.Need-cast-pack-5
-cast-pack-5 c = search needs
-
-cast-pack-6 : tie.Need-cast-pack-6
-cast-pack-6 c = search needs
-
 cast-pack-7 : tie.Need-cast-pack-7
 cast-pack-7 c = rw (toZ-ofZ (c .fits .cover)) (sfits-widen tt (c .fits .cover))
-
-pack-requires : tie.Need-pack-requires
-pack-requires c κs = search needs
 
 returns : tie.Need-returns
 returns c =
@@ -55,12 +40,10 @@ pub new-spec : {M : Type 1} → statement M
 new-spec =
     tie.close
     (tie.spec
-    cast-pack
+    (λ c. search needs)
     cast-pack-2
     cast-pack-3
-    cast-pack-4
-    cast-pack-5
-    cast-pack-6
+    (λ c. search needs) (λ c. search needs) (λ c. search needs)
     cast-pack-7
-    pack-requires
+    (λ c κs. search needs)
     returns)

@@ -13,7 +13,7 @@ use Rattle.laws.specs.Integer.{plus, minus}
 use Rattle.laws.proofs.Machine.{sfits, unsigned}
 use Rattle.laws.proofs.Parts.{whole, added}
 use Rattle.pixel_segment.specs.Field.{cpu}
-use Rattle.pixel_segment.specs.Pack.{storedOf, isPackable, InRange}
+use Rattle.pixel_segment.specs.Pack.{storedOf, isPackable, FieldsInRange}
 use Rattle.pixel_segment.specs.declared.Packed.the-variants.{Segment, FieldOutOfRange}
 use Rattle.pixel_segment.proofs.Ranges.{cpu-layout, in-range}
 use Rattle.pixel_segment.proofs.ReadBack.{packs}
@@ -46,13 +46,10 @@ judged c =
 accepted : (c : tie.Else1) → isPackable cpu (c .before .before .args .layer-id) (c .before .before .args .tile-x) (c .before .before .args .tile-y) (c .before .before .args .local-x) (c .before .before .args .local-y) (c .before .before .args .double-area-multiplier) (c .before .before .args .cover) ≡ true
 accepted c = sym (judged (c .before)) ∙ not-false (c .before .is-packable .result) (c .if1 .left)
 
-held : (c : tie.Else1) → InRange cpu (c .before .before .args .layer-id) (c .before .before .args .tile-x) (c .before .before .args .tile-y) (c .before .before .args .local-x) (c .before .before .args .local-y) (c .before .before .args .double-area-multiplier) (c .before .before .args .cover)
+held : (c : tie.Else1) → FieldsInRange cpu (c .before .before .args .layer-id) (c .before .before .args .tile-x) (c .before .before .args .tile-y) (c .before .before .args .local-x) (c .before .before .args .local-y) (c .before .before .args .double-area-multiplier) (c .before .before .args .cover)
 held c =
     let a = c .before .before .args in
     in-range cpu cpu-layout (a .layer-id) (a .tile-x) (a .tile-y) (a .local-x) (a .local-y) (a .double-area-multiplier) (a .cover) (accepted c)
-
-is-packable-requires : tie.Need-is-packable-requires
-is-packable-requires c κs = search needs
 
 returns : tie.Need-returns
 returns c =
@@ -89,9 +86,6 @@ cast-join-6 c =
 cast-join-7 : tie.Need-cast-join-7
 cast-join-7 c = rw (toZ-ofZ (c .before .before .fits .cover)) (fits-cover (held c .cover))
 
-join-requires : tie.Need-join-requires
-join-requires c κs = search needs
-
 returns-2 : tie.Need-returns-2
 returns-2 c =
     let s = c .before .before .before in
@@ -122,7 +116,7 @@ pub pack-spec : {M : Type 1} → statement M
 pack-spec =
     tie.close
     (tie.spec
-    is-packable-requires
+    (λ c κs. search needs)
     returns
     cast-join
     cast-join-2
@@ -131,5 +125,5 @@ pack-spec =
     cast-join-5
     cast-join-6
     cast-join-7
-    join-requires
+    (λ c κs. search needs)
     returns-2)

@@ -9,12 +9,6 @@ use Rattle.pixel_segment.proofs.Widths.{tile-fits}
 use Rattle.pixel_segment.proofs.PixelSegment.tile_x.Statement.{statement}
 use Rattle.pixel_segment.proofs.PixelSegment.tile_x.Tie as tie
 
-extract-requires : tie.Need-extract-requires
-extract-requires c κs = search needs
-
-cast-result : tie.Need-cast-result
-cast-result c = search needs
-
 sub-result : tie.Need-sub-result
 unfolding tileOf
 sub-result c = rw (toZ-pos w16 {n = c .extract .result} (omega arith)) (tile-fits (c .extract .result) (omega arith))
@@ -24,4 +18,4 @@ unfolding tileOf
 returns c = toZ-ofZ (sub-result c) ∙ rw (toZ-pos w16 {n = c .extract .result} (omega arith), c .extract .ensures)
 
 pub tile-x-spec : {M : Type 1} → statement M
-tile-x-spec = tie.close (tie.spec extract-requires cast-result sub-result returns)
+tile-x-spec = tie.close (tie.spec (λ c κs. search needs) (λ c. search needs) sub-result returns)

@@ -15,29 +15,14 @@ Inv-loop amount₀ i₀ amount i = (i ≤ 7) × (amount + sum (drop i cpu) ≡ s
 abbrev μ-loop : tie.MeasureT-loop
 μ-loop amount₀ i₀ amount i = 7 - i
 
-index-requires : tie.Need-index-requires Inv-loop μ-loop
-index-requires c κs = search needs
-
 add-i : tie.Need-add-i Inv-loop μ-loop
 add-i c = omega (arith, index-lt (c .before .args .field), c .index .ensures)
 
 loop-holds : tie.Need-loop-holds Inv-loop μ-loop
 loop-holds c = omega (arith, index-lt (c .before .args .field), c .index .ensures)
 
-mul-amount : tie.Need-mul-amount Inv-loop μ-loop
-mul-amount c = omega arith
-
-array-read-amount : tie.Need-array-read-amount Inv-loop μ-loop
-array-read-amount c = omega arith
-
 add-amount : tie.Need-add-amount Inv-loop μ-loop
 add-amount c = omega (arith, sum-step (c .before .loop .i) cpu (c .loop-test .taken), sum-drop-le (c .before .before .index .result + 1) cpu)
-
-add-i-2 : tie.Need-add-i-2 Inv-loop μ-loop
-add-i-2 c = omega arith
-
-loop-less : tie.Need-loop-less Inv-loop μ-loop
-loop-less c = omega arith
 
 loop-again : tie.Need-loop-again Inv-loop μ-loop
 loop-again c = omega (arith, sum-step (c .before .loop .i) cpu (c .loop-test .taken))
@@ -53,13 +38,11 @@ shift-spec =
     (tie.spec
     Inv-loop
     μ-loop
-    index-requires
+    (λ c κs. search needs)
     add-i
     loop-holds
-    mul-amount
-    array-read-amount
+    (λ c. omega arith) (λ c. omega arith)
     add-amount
-    add-i-2
-    loop-less
+    (λ c. omega arith) (λ c. omega arith)
     loop-again
     returns)

@@ -7,27 +7,6 @@ use Rattle.pixel_segment.specs.Pack.{isPackable}
 use Rattle.pixel_segment.proofs.range.is_packable.Statement.{statement}
 use Rattle.pixel_segment.proofs.range.is_packable.Tie as tie
 
-is-held-requires : tie.Need-is-held-requires
-is-held-requires c κs = search needs
-
-is-held-requires-2 : tie.Need-is-held-requires-2
-is-held-requires-2 c κs = search needs
-
-is-held-requires-3 : tie.Need-is-held-requires-3
-is-held-requires-3 c κs = search needs
-
-is-held-requires-4 : tie.Need-is-held-requires-4
-is-held-requires-4 c κs = search needs
-
-is-held-requires-5 : tie.Need-is-held-requires-5
-is-held-requires-5 c κs = search needs
-
-is-held-requires-6 : tie.Need-is-held-requires-6
-is-held-requires-6 c κs = search needs
-
-lowest-cover-requires : tie.Need-lowest-cover-requires
-lowest-cover-requires c κs = search needs
-
 is-held-requires-7 : tie.Need-is-held-requires-7
 is-held-requires-7 c κs = rw (kept w64 (c .lowest-cover .result) (c .lowest-cover .ok), c .lowest-cover .ensures)
 
@@ -65,12 +44,7 @@ pub is-packable-spec : {M : Type 1} → statement M
 is-packable-spec =
     tie.close
     (tie.spec
-    is-held-requires
-    is-held-requires-2
-    is-held-requires-3
-    is-held-requires-4
-    is-held-requires-5
-    is-held-requires-6
-    lowest-cover-requires
+    (λ c κs. search needs) (λ c κs. search needs) (λ c κs. search needs) (λ c κs. search needs)
+    (λ c κs. search needs) (λ c κs. search needs) (λ c κs. search needs)
     is-held-requires-7
     returns)

@@ -7,11 +7,8 @@ use Rattle.pixel_segment_gpu.proofs.Widths.{cover-same}
 use Rattle.pixel_segment_gpu.proofs.GpuSegment.cover.Statement.{statement}
 use Rattle.pixel_segment_gpu.proofs.GpuSegment.cover.Tie as tie
 
-cover-requires : tie.Need-cover-requires
-cover-requires c κs = search needs
-
 returns : tie.Need-returns
 returns c = kept w8 (c .cover .result) (c .cover .ok) ∙ c .cover .ensures ∙ cover-same (c .before .args .self .0)
 
 pub cover-spec : {M : Type 1} → statement M
-cover-spec = tie.close (tie.spec cover-requires returns)
+cover-spec = tie.close (tie.spec (λ c κs. search needs) returns)

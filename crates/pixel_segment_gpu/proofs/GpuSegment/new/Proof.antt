@@ -41,38 +41,20 @@ judged c =
 accepted : (c : tie.Else1) → isPackable gpu (pos (c .before .before .args .layer-id)) (c .before .before .args .tile-x) (c .before .before .args .tile-y) (pos (c .before .before .args .local-x)) (pos (c .before .before .args .local-y)) (pos (c .before .before .args .double-area-multiplier)) (c .before .before .args .cover) ≡ true
 accepted c = sym (judged (c .before)) ∙ not-false (c .before .is-packable .result) (c .if1 .left)
 
-cast-is-packable : tie.Need-cast-is-packable
-cast-is-packable c = search needs
-
 cast-is-packable-2 : tie.Need-cast-is-packable-2
 cast-is-packable-2 c = rw (toZ-ofZ (c .fits .tile-x)) (sfits-widen tt (c .fits .tile-x))
 
 cast-is-packable-3 : tie.Need-cast-is-packable-3
 cast-is-packable-3 c = rw (toZ-ofZ (c .fits .tile-y)) (sfits-widen tt (c .fits .tile-y))
 
-cast-is-packable-4 : tie.Need-cast-is-packable-4
-cast-is-packable-4 c = search needs
-
-cast-is-packable-5 : tie.Need-cast-is-packable-5
-cast-is-packable-5 c = search needs
-
-cast-is-packable-6 : tie.Need-cast-is-packable-6
-cast-is-packable-6 c = search needs
-
 cast-is-packable-7 : tie.Need-cast-is-packable-7
 cast-is-packable-7 c = rw (toZ-ofZ (c .fits .cover)) (sfits-widen tt (c .fits .cover))
-
-is-packable-requires : tie.Need-is-packable-requires
-is-packable-requires c κs = search needs
 
 returns : tie.Need-returns
 returns c =
     let a = c .before .before .args in
     packs-to gpu gpu-layout (pos (a .layer-id)) (a .tile-x) (a .tile-y) (pos (a .local-x)) (pos (a .local-y)) (pos (a .double-area-multiplier)) (a .cover) (gpuPackedAnswer FieldOutOfRange)
     (rw (sym (judged (c .before)) ∙ not-true (c .before .is-packable .result) (c .if1 .taken)))
-
-join-requires : tie.Need-join-requires
-join-requires c κs = search needs
 
 returns-2 : tie.Need-returns-2
 returns-2 c =
@@ -92,14 +74,12 @@ pub new-spec : {M : Type 1} → statement M
 new-spec =
     tie.close
     (tie.spec
-    cast-is-packable
+    (λ c. search needs)
     cast-is-packable-2
     cast-is-packable-3
-    cast-is-packable-4
-    cast-is-packable-5
-    cast-is-packable-6
+    (λ c. search needs) (λ c. search needs) (λ c. search needs)
     cast-is-packable-7
-    is-packable-requires
+    (λ c κs. search needs)
     returns
-    join-requires
+    (λ c κs. search needs)
     returns-2)

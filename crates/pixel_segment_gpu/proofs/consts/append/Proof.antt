@@ -16,9 +16,6 @@ whole c =
     let k = widthOf gpu (indexOf (c .before .args .field)) in
     joined-lt k (width-lt (indexOf (c .before .args .field))) (c .before .pre) (mod-lt (c .before .args .value) (pow-pos k))
 
-size-requires : tie.Need-size-requires
-size-requires c κs = search needs
-
 mul-result : tie.Need-mul-result
 mul-result c = let h = whole c in rw (c .size .ensures) (omega arith)
 
@@ -32,4 +29,4 @@ returns : tie.Need-returns
 returns c = rw (c .size .ensures)
 
 pub append-spec : {M : Type 1} → statement M
-append-spec = tie.close (tie.spec size-requires mul-result rem-result add-result returns)
+append-spec = tie.close (tie.spec (λ c κs. search needs) mul-result rem-result add-result returns)

@@ -7,9 +7,6 @@ use Rattle.pixel_segment_gpu.proofs.Widths.{width-lt}
 use Rattle.pixel_segment_gpu.proofs.consts.size.Statement.{statement}
 use Rattle.pixel_segment_gpu.proofs.consts.size.Tie as tie
 
-index-requires : tie.Need-index-requires
-index-requires c κs = search needs
-
 mul-result : tie.Need-mul-result
 mul-result c = omega (arith, index-lt (c .before .args .field), c .index .ensures)
 
@@ -27,4 +24,4 @@ returns c = rw (← c .index .ensures) (shifted (widthOf gpu (c .index .result))
 
 pub size-spec : {M : Type 1} → statement M
 size-spec =
-    tie.close (tie.spec index-requires mul-result array-read-result cast-result shl-result returns)
+    tie.close (tie.spec (λ c κs. search needs) mul-result array-read-result cast-result shl-result returns)

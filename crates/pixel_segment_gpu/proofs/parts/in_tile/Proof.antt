@@ -6,14 +6,8 @@ use Rattle.segment_rows.proofs.Halving.{told-le}
 use Rattle.pixel_segment_gpu.proofs.parts.in_tile.Statement.{statement}
 use Rattle.pixel_segment_gpu.proofs.parts.in_tile.Tie as tie
 
-search-last-by-tile-x-at-least-requires : tie.Need-search-last-by-tile-x-at-least-requires
-search-last-by-tile-x-at-least-requires c κs = search needs
-
 end-of-requires : tie.Need-end-of-requires
 end-of-requires c κs = omega (arith, told-le _ _ (c .search-last-by-tile-x-at-least .ensures))
-
-search-last-by-tile-x-requires : tie.Need-search-last-by-tile-x-requires
-search-last-by-tile-x-requires c κs = search needs
 
 end-of-requires-2 : tie.Need-end-of-requires-2
 end-of-requires-2 c κs = omega (arith, told-le _ _ (c .search-last-by-tile-x .ensures))
@@ -38,9 +32,9 @@ pub in-tile-spec : {M : Type 1} → statement M
 in-tile-spec =
     tie.close
     (tie.spec
-    search-last-by-tile-x-at-least-requires
+    (λ c κs. search needs)
     end-of-requires
-    search-last-by-tile-x-requires
+    (λ c κs. search needs)
     end-of-requires-2
     slice-between-requires
     returns)

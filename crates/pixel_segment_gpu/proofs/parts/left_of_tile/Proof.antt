@@ -6,9 +6,6 @@ use Rattle.segment_rows.proofs.Halving.{told-le}
 use Rattle.pixel_segment_gpu.proofs.parts.left_of_tile.Statement.{statement}
 use Rattle.pixel_segment_gpu.proofs.parts.left_of_tile.Tie as tie
 
-search-last-by-tile-x-at-least-requires : tie.Need-search-last-by-tile-x-at-least-requires
-search-last-by-tile-x-at-least-requires c κs = search needs
-
 end-of-requires : tie.Need-end-of-requires
 end-of-requires c κs = omega (arith, told-le _ _ (c .search-last-by-tile-x-at-least .ensures))
 
@@ -21,4 +18,4 @@ returns c =
 
 pub left-of-tile-spec : {M : Type 1} → statement M
 left-of-tile-spec =
-    tie.close (tie.spec search-last-by-tile-x-at-least-requires end-of-requires slice-between-requires returns)
+    tie.close (tie.spec (λ c κs. search needs) end-of-requires slice-between-requires returns)

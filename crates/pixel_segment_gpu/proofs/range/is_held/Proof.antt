@@ -6,9 +6,6 @@ use Rattle.pixel_segment_gpu.proofs.Widths.{size-le}
 use Rattle.pixel_segment_gpu.proofs.range.is_held.Statement.{statement}
 use Rattle.pixel_segment_gpu.proofs.range.is_held.Tie as tie
 
-size-requires : tie.Need-size-requires
-size-requires c κs = search needs
-
 is-among-requires : tie.Need-is-among-requires
 is-among-requires c κs =
     (rw (toZ-ofZ (c .before .fits .low)) (c .before .pre), omega (arith, c .size .ensures, size-le (c .before .args .field)))
@@ -19,4 +16,4 @@ returns c =
     rw (c .is-among .ensures, toZ-ofZ (s .fits .low), toZ-ofZ (s .fits .v), c .before .size .ensures)
 
 pub is-held-spec : {M : Type 1} → statement M
-is-held-spec = tie.close (tie.spec size-requires is-among-requires returns)
+is-held-spec = tie.close (tie.spec (λ c κs. search needs) is-among-requires returns)

@@ -5,12 +5,6 @@ use Rattle.queue_statements.proofs.Ranks.{holds-is, holds-not}
 use Rattle.queue.proofs.search.is_at.Statement.{statement}
 use Rattle.queue.proofs.search.is_at.Tie as tie
 
-mul-result : tie.Need-mul-result
-mul-result c = search needs
-
-shared-slice-read-result : tie.Need-shared-slice-read-result
-shared-slice-read-result c = search needs
-
 returns : tie.Need-returns
 returns c = holds-is _ _ _ _ (c .before .before .pre) (omega arith)
 
@@ -18,4 +12,4 @@ returns-2 : tie.Need-returns-2
 returns-2 c = holds-not _ _ _ _ (c .before .pre) (omega arith)
 
 pub is-at-spec : {M : Type 1} → statement M
-is-at-spec = tie.close (tie.spec mul-result shared-slice-read-result returns returns-2)
+is-at-spec = tie.close (tie.spec (λ c. search needs) (λ c. search needs) returns returns-2)

@@ -16,12 +16,9 @@ slice-write-out c = omega (arith, c .before .before .print-decimal .ensures .ans
 add-result : tie.Need-add-result
 add-result c = omega (arith, c .before .before .print-decimal .ensures .answer, ten (c .before .before .before .before .before .args .n) (c .before .before .before .before .before .fits .n))
 
-same-length : tie.Need-same-length
-same-length c = search needs
-
 returns : tie.Need-returns
 returns c = number-after _ (c .before .before .before .before .before .fits .n) (c .before .before .print-decimal .ensures)
 
 pub print-number-spec : {M : Type 1} → statement M
 print-number-spec =
-    tie.close (tie.spec print-decimal-requires slice-write-out add-result same-length returns)
+    tie.close (tie.spec print-decimal-requires slice-write-out add-result (λ c. search needs) returns)

@@ -5,27 +5,6 @@ use Rattle.report.proofs.Lines.{line-of}
 use Rattle.report.proofs.fields.write_tile.Statement.{statement}
 use Rattle.report.proofs.fields.write_tile.Tie as tie
 
-print-number-requires : tie.Need-print-number-requires
-print-number-requires c κs = search needs
-
-print-op-requires : tie.Need-print-op-requires
-print-op-requires c κs = search needs
-
-print-number-requires-2 : tie.Need-print-number-requires-2
-print-number-requires-2 c κs = search needs
-
-print-number-requires-3 : tie.Need-print-number-requires-3
-print-number-requires-3 c κs = search needs
-
-print-number-requires-4 : tie.Need-print-number-requires-4
-print-number-requires-4 c κs = search needs
-
-print-number-requires-5 : tie.Need-print-number-requires-5
-print-number-requires-5 c κs = search needs
-
-same-length : tie.Need-same-length
-same-length c = search needs
-
 returns : tie.Need-returns
 returns c =
     let carried = c .before .before in
@@ -52,11 +31,6 @@ pub write-tile-spec : {M : Type 1} → statement M
 write-tile-spec =
     tie.close
     (tie.spec
-    print-number-requires
-    print-op-requires
-    print-number-requires-2
-    print-number-requires-3
-    print-number-requires-4
-    print-number-requires-5
-    same-length
+    (λ c κs. search needs) (λ c κs. search needs) (λ c κs. search needs) (λ c κs. search needs)
+    (λ c κs. search needs) (λ c κs. search needs) (λ c. search needs)
     returns)

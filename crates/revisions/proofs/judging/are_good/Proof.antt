@@ -16,15 +16,6 @@ abbrev μ-loop : tie.MeasureT-loop
 loop-holds : tie.Need-loop-holds Inv-loop μ-loop
 loop-holds c = (omega arith, λ floats. pass-first _ floats _)
 
-is-good-requires : tie.Need-is-good-requires Inv-loop μ-loop
-is-good-requires c κs = omega arith
-
-add-i : tie.Need-add-i Inv-loop μ-loop
-add-i c = omega arith
-
-loop-less : tie.Need-loop-less Inv-loop μ-loop
-loop-less c = omega arith
-
 loop-again : tie.Need-loop-again Inv-loop μ-loop
 loop-again c = (omega arith, λ floats. pass-next _ floats _ (c .before .before .loop .inv .1 floats) (c .before .loop-test .taken) (c .is-good .ensures floats))
 
@@ -34,4 +25,4 @@ returns c = λ floats. pass-last _ floats _ (c .before .loop .inv .1 floats) (c 
 pub are-good-spec : {M : Type 1} → statement M
 are-good-spec =
     tie.close
-    (tie.spec Inv-loop μ-loop loop-holds is-good-requires add-i loop-less loop-again returns)
+    (tie.spec Inv-loop μ-loop loop-holds (λ c κs. omega arith) (λ c. omega arith) (λ c. omega arith) loop-again returns)

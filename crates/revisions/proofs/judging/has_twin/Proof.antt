@@ -14,41 +14,8 @@ Inv-loop records n i id revision found₀ j₀ found j = (j ≤ n) × ((floats :
 abbrev μ-loop : tie.MeasureT-loop
 μ-loop records n i id revision found₀ j₀ found j = n - j
 
-mul-id : tie.Need-mul-id Inv-loop μ-loop
-mul-id c = omega arith
-
-mul-id-2 : tie.Need-mul-id-2 Inv-loop μ-loop
-mul-id-2 c = omega arith
-
-shared-slice-read-id : tie.Need-shared-slice-read-id Inv-loop μ-loop
-shared-slice-read-id c = omega arith
-
-mul-revision : tie.Need-mul-revision Inv-loop μ-loop
-mul-revision c = omega arith
-
-add-revision : tie.Need-add-revision Inv-loop μ-loop
-add-revision c = omega arith
-
-mul-revision-2 : tie.Need-mul-revision-2 Inv-loop μ-loop
-mul-revision-2 c = omega arith
-
-shared-slice-read-revision : tie.Need-shared-slice-read-revision Inv-loop μ-loop
-shared-slice-read-revision c = omega arith
-
-add-j : tie.Need-add-j Inv-loop μ-loop
-add-j c = omega arith
-
 loop-holds : tie.Need-loop-holds Inv-loop μ-loop
 loop-holds c = (omega arith, λ floats. seek-first _ floats _ _ _)
-
-is-sent-requires : tie.Need-is-sent-requires Inv-loop μ-loop
-is-sent-requires c κs = omega arith
-
-add-j-2 : tie.Need-add-j-2 Inv-loop μ-loop
-add-j-2 c = omega arith
-
-loop-less : tie.Need-loop-less Inv-loop μ-loop
-loop-less c = omega arith
 
 loop-again : tie.Need-loop-again Inv-loop μ-loop
 unfolding sentAt
@@ -63,17 +30,9 @@ has-twin-spec =
     (tie.spec
     Inv-loop
     μ-loop
-    mul-id
-    mul-id-2
-    shared-slice-read-id
-    mul-revision
-    add-revision
-    mul-revision-2
-    shared-slice-read-revision
-    add-j
+    (λ c. omega arith) (λ c. omega arith) (λ c. omega arith) (λ c. omega arith) (λ c. omega arith)
+    (λ c. omega arith) (λ c. omega arith) (λ c. omega arith)
     loop-holds
-    is-sent-requires
-    add-j-2
-    loop-less
+    (λ c κs. omega arith) (λ c. omega arith) (λ c. omega arith)
     loop-again
     returns)

@@ -16,15 +16,6 @@ abbrev μ-loop : tie.MeasureT-loop
 loop-holds : tie.Need-loop-holds Inv-loop μ-loop
 loop-holds c = (omega arith, λ floats. pair-first _ floats _)
 
-has-twin-requires : tie.Need-has-twin-requires Inv-loop μ-loop
-has-twin-requires c κs = omega arith
-
-add-i : tie.Need-add-i Inv-loop μ-loop
-add-i c = omega arith
-
-loop-less : tie.Need-loop-less Inv-loop μ-loop
-loop-less c = omega arith
-
 loop-again : tie.Need-loop-again Inv-loop μ-loop
 loop-again c = (omega arith, λ floats. pair-next _ floats _ (c .before .before .loop .inv .1 floats) (c .before .loop-test .taken) (c .has-twin .ensures floats))
 
@@ -34,4 +25,4 @@ returns c = λ floats. pair-last _ floats _ (c .before .loop .inv .1 floats) (c 
 pub has-twins-spec : {M : Type 1} → statement M
 has-twins-spec =
     tie.close
-    (tie.spec Inv-loop μ-loop loop-holds has-twin-requires add-i loop-less loop-again returns)
+    (tie.spec Inv-loop μ-loop loop-holds (λ c κs. omega arith) (λ c. omega arith) (λ c. omega arith) loop-again returns)

@@ -7,24 +7,6 @@ use Rattle.revision_statements.specs.Sent.{sentAt, isGood}
 use Rattle.revisions.proofs.judging.is_good.Statement.{statement}
 use Rattle.revisions.proofs.judging.is_good.Tie as tie
 
-words-at-requires : tie.Need-words-at-requires
-words-at-requires c κs = search needs
-
-mul-kind : tie.Need-mul-kind
-mul-kind c = search needs
-
-add-kind : tie.Need-add-kind
-add-kind c = search needs
-
-mul-kind-2 : tie.Need-mul-kind-2
-mul-kind-2 c = search needs
-
-shared-slice-read-kind : tie.Need-shared-slice-read-kind
-shared-slice-read-kind c = search needs
-
-is-in-range-requires : tie.Need-is-in-range-requires
-is-in-range-requires c κs = search needs
-
 returns : tie.Need-returns
 unfolding isGood sentAt
 returns c = λ floats. rw (eq-eqb _ 0 (c .before .if1 .taken)) (c .is-in-range .ensures ∙ ap inRange (c .before .before .before .words-at .ensures))
@@ -37,11 +19,7 @@ pub is-good-spec : {M : Type 1} → statement M
 is-good-spec =
     tie.close
     (tie.spec
-    words-at-requires
-    mul-kind
-    add-kind
-    mul-kind-2
-    shared-slice-read-kind
-    is-in-range-requires
+    (λ c κs. search needs) (λ c. search needs) (λ c. search needs) (λ c. search needs) (λ c. search needs)
+    (λ c κs. search needs)
     returns
     returns-2)

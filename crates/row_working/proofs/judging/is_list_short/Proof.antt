@@ -3,11 +3,8 @@ use borrow.Author.Needs.{needs}
 use Rattle.row_working.proofs.judging.is_list_short.Statement.{statement}
 use Rattle.row_working.proofs.judging.is_list_short.Tie as tie
 
-are-entries-short-requires : tie.Need-are-entries-short-requires
-are-entries-short-requires c κs = search needs
-
 returns : tie.Need-returns
 returns c = rw (c .are-entries-short .ensures)
 
 pub is-list-short-spec : {M : Type 1} → statement M
-is-list-short-spec = tie.close (tie.spec are-entries-short-requires returns)
+is-list-short-spec = tie.close (tie.spec (λ c κs. search needs) returns)

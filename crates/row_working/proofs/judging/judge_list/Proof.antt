@@ -5,9 +5,6 @@ use Rattle.row_statements.specs.TileWork.{listVerdict}
 use Rattle.row_working.proofs.judging.judge_list.Statement.{statement}
 use Rattle.row_working.proofs.judging.judge_list.Tie as tie
 
-survey-layers-requires : tie.Need-survey-layers-requires
-survey-layers-requires c κs = search needs
-
 returns : tie.Need-returns
 unfolding listVerdict
 returns c = let s = c .before .survey-layers .ensures in
@@ -29,4 +26,4 @@ returns-4 c = let s = c .before .before .before .before .before .survey-layers .
     record { verdict = rw (← s .count, le-ltb _ _ (c .before .before .before .before .if1 .left), ← s .known, c .before .before .if2 .left, ← s .light, c .if3 .left); listed = s .count }
 
 pub judge-list-spec : {M : Type 1} → statement M
-judge-list-spec = tie.close (tie.spec survey-layers-requires returns returns-2 returns-3 returns-4)
+judge-list-spec = tie.close (tie.spec (λ c κs. search needs) returns returns-2 returns-3 returns-4)

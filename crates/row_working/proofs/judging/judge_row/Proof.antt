@@ -23,35 +23,17 @@ returns : tie.Need-returns
 unfolding judgedBy
 returns c = rw (c .if1 .taken)
 
-is-wrong-next-requires : tie.Need-is-wrong-next-requires
-is-wrong-next-requires c κs = search needs
-
 returns-2 : tie.Need-returns-2
 unfolding judgedBy
 returns-2 c = rw (c .before .before .if1 .left, ← next-told (c .before), c .if2 .taken)
-
-cast-is-row : tie.Need-cast-is-row
-cast-is-row c = search needs
-
-add-is-row : tie.Need-add-is-row
-add-is-row c = search needs
-
-is-row-requires : tie.Need-is-row-requires
-is-row-requires c κs = search needs
 
 returns-3 : tie.Need-returns-3
 unfolding judgedBy
 returns-3 c = rw (c .before .before .before .before .before .if1 .left, ← next-told (c .before .before .before .before), c .before .before .before .if2 .left, ← row-told (c .before), c .if3 .taken)
 
-is-table-requires : tie.Need-is-table-requires
-is-table-requires c κs = search needs
-
 returns-4 : tie.Need-returns-4
 unfolding judgedBy
 returns-4 c = rw (c .before .before .before .before .before .before .before .if1 .left, ← next-told (c .before .before .before .before .before .before), c .before .before .before .before .before .if2 .left, ← row-told (c .before .before .before), c .before .before .if3 .left, ← c .before .is-table .ensures, c .if4 .taken)
-
-is-queue-requires : tie.Need-is-queue-requires
-is-queue-requires c κs = search needs
 
 returns-5 : tie.Need-returns-5
 unfolding judgedBy
@@ -66,14 +48,12 @@ judge-row-spec =
     tie.close
     (tie.spec
     returns
-    is-wrong-next-requires
+    (λ c κs. search needs)
     returns-2
-    cast-is-row
-    add-is-row
-    is-row-requires
+    (λ c. search needs) (λ c. search needs) (λ c κs. search needs)
     returns-3
-    is-table-requires
+    (λ c κs. search needs)
     returns-4
-    is-queue-requires
+    (λ c κs. search needs)
     returns-5
     returns-6)

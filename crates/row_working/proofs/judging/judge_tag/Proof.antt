@@ -3,9 +3,6 @@ use borrow.Author.Needs.{needs}
 use Rattle.row_working.proofs.judging.judge_tag.Statement.{statement}
 use Rattle.row_working.proofs.judging.judge_tag.Tie as tie
 
-is-tag-out-of-range-requires : tie.Need-is-tag-out-of-range-requires
-is-tag-out-of-range-requires c κs = search needs
-
 returns : tie.Need-returns
 returns c = rw (← c .before .is-tag-out-of-range .ensures, c .if1 .taken)
 
@@ -13,4 +10,4 @@ returns-2 : tie.Need-returns-2
 returns-2 c = rw (← c .before .is-tag-out-of-range .ensures, c .if1 .left)
 
 pub judge-tag-spec : {M : Type 1} → statement M
-judge-tag-spec = tie.close (tie.spec is-tag-out-of-range-requires returns returns-2)
+judge-tag-spec = tie.close (tie.spec (λ c κs. search needs) returns returns-2)

@@ -13,18 +13,6 @@ use Rattle.row_working.proofs.judging.judge_work.Tie as tie
 told : (c : tie.After-judge-row) → let a = c .before .before .before .before .before .args in judgementIn (c .judge-row .result) ≡ judgedBy (a .short) (stateIn (a .state)) (a .tile) (a .row .now) (lentTable (a .layers .now) (a .colors .now) (a .count)) (a .ids .now)
 told c = rw (toZ-ofZ (c .before .before .before .before .before .fits .tile)) at (c .judge-row .ensures)
 
-judge-row-requires : tie.Need-judge-row-requires
-judge-row-requires c κs = search needs
-
-enum-known-refusal : tie.Need-enum-known-refusal
-enum-known-refusal c = search needs
-
-enum-told : tie.Need-enum-told
-enum-told c = search needs
-
-judge-tag-requires : tie.Need-judge-tag-requires
-judge-tag-requires c κs = search needs
-
 returns : tie.Need-returns
 returns c = rw (← told (c .before .before .before), c .before .refusal .given .1)
 
@@ -34,4 +22,4 @@ returns-2 c = rw (← told (c .before .before .before), c .before .enum-told .gi
 pub judge-work-spec : {M : Type 1} → statement M
 judge-work-spec =
     tie.close
-    (tie.spec judge-row-requires enum-known-refusal enum-told judge-tag-requires returns returns-2)
+    (tie.spec (λ c κs. search needs) (λ c. search needs) (λ c. search needs) (λ c κs. search needs) returns returns-2)

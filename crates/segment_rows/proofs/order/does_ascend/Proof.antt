@@ -4,9 +4,6 @@ use borrow.Author.Needs.{needs}
 use Rattle.segment_rows.proofs.order.does_ascend.Statement.{statement}
 use Rattle.segment_rows.proofs.order.does_ascend.Tie as tie
 
-shift-requires : tie.Need-shift-requires
-shift-requires c κs = search needs
-
 does-ascend-above-requires : tie.Need-does-ascend-above-requires
 does-ascend-above-requires c κs = (omega (arith, c .shift .ensures), omega (arith, c .shift .ensures))
 
@@ -14,4 +11,4 @@ returns : tie.Need-returns
 returns c = rw (c .does-ascend-above .ensures, c .before .shift .ensures)
 
 pub does-ascend-spec : {M : Type 1} → statement M
-does-ascend-spec = tie.close (tie.spec shift-requires does-ascend-above-requires returns)
+does-ascend-spec = tie.close (tie.spec (λ c κs. search needs) does-ascend-above-requires returns)

@@ -26,15 +26,6 @@ bound-le offset h = pow-mono {j = 63} (omega arith)
 is-bound : (offset : ℕ) → 0 < offset → (1 * 2 ^ (64 - offset)) % 2 ^ 64 ≡ bound offset
 is-bound offset h = shifted (64 - offset) (omega arith)
 
-sub-bits : tie.Need-sub-bits Inv-loop μ-loop
-sub-bits c = omega arith
-
-cast-highest : tie.Need-cast-highest Inv-loop μ-loop
-cast-highest c = omega arith
-
-shl-highest : tie.Need-shl-highest Inv-loop μ-loop
-shl-highest c = omega arith
-
 sub-highest : tie.Need-sub-highest Inv-loop μ-loop
 sub-highest c = rw (is-bound (c .args .offset) (c .pre .0)) (pow-pos (64 - c .args .offset))
 
@@ -65,35 +56,14 @@ again : (c : tie.After-shared-slice-known Inv-loop μ-loop) → Counted (λ w. w
 again c =
     counted-next (λ w. w / 2 ^ c .before .before .before .args .offset) _ (c .before .before .loop .inv) (c .before .loop-test .taken) refl (known c .small)
 
-mul-key : tie.Need-mul-key Inv-loop μ-loop
-mul-key c = omega arith
-
-shared-slice-read-key : tie.Need-shared-slice-read-key Inv-loop μ-loop
-shared-slice-read-key c = omega arith
-
-shr-key : tie.Need-shr-key Inv-loop μ-loop
-shr-key c = omega arith
-
 add-descents : tie.Need-add-descents Inv-loop μ-loop
 add-descents c = let k = known c in rw (k .is) (omega (arith, k .most, k .before))
 
 sub-descents : tie.Need-sub-descents Inv-loop μ-loop
 sub-descents c = let k = known c in rw (k .is) (omega (arith, k .small))
 
-cast-descents : tie.Need-cast-descents Inv-loop μ-loop
-cast-descents c = omega arith
-
-shr-descents : tie.Need-shr-descents Inv-loop μ-loop
-shr-descents c = omega arith
-
 add-descents-2 : tie.Need-add-descents-2 Inv-loop μ-loop
 add-descents-2 c = rw (known c .is) (record { fits = lt-of-le-of-lt (again c .most) (omega arith) })
-
-add-i : tie.Need-add-i Inv-loop μ-loop
-add-i c = omega arith
-
-loop-less : tie.Need-loop-less Inv-loop μ-loop
-loop-less c = omega arith
 
 loop-again : tie.Need-loop-again Inv-loop μ-loop
 loop-again c = rw (known c .is) (again c)
@@ -107,20 +77,14 @@ does-ascend-above-spec =
     (tie.spec
     Inv-loop
     μ-loop
-    sub-bits
-    cast-highest
-    shl-highest
+    (λ c. omega arith) (λ c. omega arith) (λ c. omega arith)
     sub-highest
     loop-holds
-    mul-key
-    shared-slice-read-key
-    shr-key
+    (λ c. omega arith) (λ c. omega arith) (λ c. omega arith)
     add-descents
     sub-descents
-    cast-descents
-    shr-descents
+    (λ c. omega arith) (λ c. omega arith)
     add-descents-2
-    add-i
-    loop-less
+    (λ c. omega arith) (λ c. omega arith)
     loop-again
     returns)

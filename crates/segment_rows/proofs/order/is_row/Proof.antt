@@ -9,9 +9,6 @@ use Rattle.segment_rows.proofs.Rows.{descends, no-words, told-by-ends}
 use Rattle.segment_rows.proofs.order.is_row.Statement.{statement}
 use Rattle.segment_rows.proofs.order.is_row.Tie as tie
 
-does-ascend-requires : tie.Need-does-ascend-requires
-does-ascend-requires c κs = search needs
-
 returns : tie.Need-returns
 returns c =
     let s = c .before .before .before .args in
@@ -21,24 +18,6 @@ returns-2 : tie.Need-returns-2
 returns-2 c =
     let s = c .before .before .before .before .args in
     no-words cpu (s .stored-tile-y) (s .row .now) (c .if2 .taken) (sym (c .before .before .does-ascend .ensures) ∙ not-false _ (c .before .if1 .left))
-
-shared-slice-read-extract : tie.Need-shared-slice-read-extract
-shared-slice-read-extract c = search needs
-
-extract-requires : tie.Need-extract-requires
-extract-requires c κs = search needs
-
-sub-extract : tie.Need-sub-extract
-sub-extract c = search needs
-
-mul-extract : tie.Need-mul-extract
-mul-extract c = search needs
-
-shared-slice-read-extract-2 : tie.Need-shared-slice-read-extract-2
-shared-slice-read-extract-2 c = search needs
-
-extract-requires-2 : tie.Need-extract-requires-2
-extract-requires-2 c κs = search needs
 
 returns-3 : tie.Need-returns-3
 returns-3 c =
@@ -54,13 +33,9 @@ pub is-row-spec : {M : Type 1} → statement M
 is-row-spec =
     tie.close
     (tie.spec
-    does-ascend-requires
+    (λ c κs. search needs)
     returns
     returns-2
-    shared-slice-read-extract
-    extract-requires
-    sub-extract
-    mul-extract
-    shared-slice-read-extract-2
-    extract-requires-2
+    (λ c. search needs) (λ c κs. search needs) (λ c. search needs) (λ c. search needs) (λ c. search needs)
+    (λ c κs. search needs)
     returns-3)

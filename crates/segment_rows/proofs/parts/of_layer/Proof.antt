@@ -6,14 +6,8 @@ use Rattle.segment_rows.proofs.Halving.{told-le}
 use Rattle.segment_rows.proofs.parts.of_layer.Statement.{statement}
 use Rattle.segment_rows.proofs.parts.of_layer.Tie as tie
 
-search-last-by-layer-id-at-least-requires : tie.Need-search-last-by-layer-id-at-least-requires
-search-last-by-layer-id-at-least-requires c κs = search needs
-
 end-of-requires : tie.Need-end-of-requires
 end-of-requires c κs = omega (arith, told-le _ _ (c .search-last-by-layer-id-at-least .ensures))
-
-search-last-by-layer-id-requires : tie.Need-search-last-by-layer-id-requires
-search-last-by-layer-id-requires c κs = search needs
 
 end-of-requires-2 : tie.Need-end-of-requires-2
 end-of-requires-2 c κs = omega (arith, told-le _ _ (c .search-last-by-layer-id .ensures))
@@ -38,9 +32,9 @@ pub of-layer-spec : {M : Type 1} → statement M
 of-layer-spec =
     tie.close
     (tie.spec
-    search-last-by-layer-id-at-least-requires
+    (λ c κs. search needs)
     end-of-requires
-    search-last-by-layer-id-requires
+    (λ c κs. search needs)
     end-of-requires-2
     slice-between-requires
     returns)

@@ -7,27 +7,6 @@ use lib.ListN.{take, drop}
 use Rattle.segment_rows.proofs.parts.slice_between.Statement.{statement}
 use Rattle.segment_rows.proofs.parts.slice_between.Tie as tie
 
-mul-result : tie.Need-mul-result
-mul-result c = search needs
-
-part-result-start : tie.Need-part-result-start
-part-result-start c = search needs
-
-part-result-end : tie.Need-part-result-end
-part-result-end c = search needs
-
-sub-result : tie.Need-sub-result
-sub-result c = search needs
-
-part-result-start-2 : tie.Need-part-result-start-2
-part-result-start-2 c = search needs
-
-part-result-end-2 : tie.Need-part-result-end-2
-part-result-end-2 c = search needs
-
-returns : tie.Need-returns
-returns c = search needs
-
 returns-2 : tie.Need-returns-2
 returns-2 c =
     let s = c .before .before .args in
@@ -38,11 +17,6 @@ pub slice-between-spec : {M : Type 1} → statement M
 slice-between-spec =
     tie.close
     (tie.spec
-    mul-result
-    part-result-start
-    part-result-end
-    sub-result
-    part-result-start-2
-    part-result-end-2
-    returns
+    (λ c. search needs) (λ c. search needs) (λ c. search needs) (λ c. search needs) (λ c. search needs)
+    (λ c. search needs) (λ c. search needs)
     returns-2)

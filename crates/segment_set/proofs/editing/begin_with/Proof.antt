@@ -23,29 +23,14 @@ abbrev μ-loop : tie.MeasureT-loop
 start-areas-requires : tie.Need-start-areas-requires Inv-loop μ-loop
 start-areas-requires c κs = begin-passed (c .before .before .before .before .pre) .room
 
-magnitudes-requires : tie.Need-magnitudes-requires Inv-loop μ-loop
-magnitudes-requires c κs = tt
-
 loop-holds : tie.Need-loop-holds Inv-loop μ-loop
 loop-holds c =
     let s = c .before .before .before .before .before .before .before in
     rw (toZ-ofZ (s .fits .tile-x), toZ-ofZ (s .fits .tile-y))
     (begin-start (beginning (s .args .layer-id) (s .args .tile-x) (s .args .tile-y) (s .args .cover .covers) (s .args .part .now)) (s .args .slots .now) (s .args .areas .now) _ (c .before .before .start-areas .ensures) (begin-passed (s .pre)) (search needs) (c .magnitudes .ensures))
 
-mul-add : tie.Need-mul-add Inv-loop μ-loop
-mul-add c = omega arith
-
-shared-slice-read-add : tie.Need-shared-slice-read-add Inv-loop μ-loop
-shared-slice-read-add c = omega arith
-
 add-requires : tie.Need-add-requires Inv-loop μ-loop
 add-requires c κs = add-ready (c .before .before .before .before .loop .inv) (omega arith)
-
-add-i : tie.Need-add-i Inv-loop μ-loop
-add-i c = omega arith
-
-loop-less : tie.Need-loop-less Inv-loop μ-loop
-loop-less c = omega arith
 
 loop-again : tie.Need-loop-again Inv-loop μ-loop
 loop-again c = add-next (c .before .before .before .before .before .before .before .before .loop .inv) (omega arith) (c .before .before .before .add .ensures)
@@ -71,13 +56,11 @@ begin-with-spec =
     Inv-loop
     μ-loop
     start-areas-requires
-    magnitudes-requires
+    (λ c κs. tt)
     loop-holds
-    mul-add
-    shared-slice-read-add
+    (λ c. omega arith) (λ c. omega arith)
     add-requires
-    add-i
-    loop-less
+    (λ c. omega arith) (λ c. omega arith)
     loop-again
     same-length
     same-length-2

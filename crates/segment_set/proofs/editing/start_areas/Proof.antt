@@ -18,24 +18,6 @@ abbrev μ-loop : tie.MeasureT-loop
 loop-holds : tie.Need-loop-holds Inv-loop μ-loop
 loop-holds c = start-areas (omega arith)
 
-array-copy-out-area-of : tie.Need-array-copy-out-area-of Inv-loop μ-loop
-array-copy-out-area-of c = omega arith
-
-area-of-requires : tie.Need-area-of-requires Inv-loop μ-loop
-area-of-requires c κs = tt
-
-mul-t11 : tie.Need-mul-t11 Inv-loop μ-loop
-mul-t11 c = omega arith
-
-slice-set-from-areas : tie.Need-slice-set-from-areas Inv-loop μ-loop
-slice-set-from-areas c = omega arith
-
-add-k : tie.Need-add-k Inv-loop μ-loop
-add-k c = omega arith
-
-loop-less : tie.Need-loop-less Inv-loop μ-loop
-loop-less c = omega arith
-
 loop-again : tie.Need-loop-again Inv-loop μ-loop
 loop-again c =
     let a = c .before in
@@ -57,12 +39,8 @@ start-areas-spec =
     Inv-loop
     μ-loop
     loop-holds
-    array-copy-out-area-of
-    area-of-requires
-    mul-t11
-    slice-set-from-areas
-    add-k
-    loop-less
+    (λ c. omega arith) (λ c κs. tt) (λ c. omega arith) (λ c. omega arith) (λ c. omega arith)
+    (λ c. omega arith)
     loop-again
     same-length
     returns)

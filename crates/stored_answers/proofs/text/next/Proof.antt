@@ -12,49 +12,11 @@ Inv-loop text at i₀ value₀ i value = Unit {0}
 abbrev μ-loop : tie.MeasureT-loop
 μ-loop text at i₀ value₀ i value = length text - i
 
-skip-requires : tie.Need-skip-requires Inv-loop μ-loop
-skip-requires c κs = search needs
-
-loop-holds : tie.Need-loop-holds Inv-loop μ-loop
-loop-holds c = tt
-
-shared-slice-read-digit : tie.Need-shared-slice-read-digit Inv-loop μ-loop
-shared-slice-read-digit c = omega arith
-
-digit-requires : tie.Need-digit-requires Inv-loop μ-loop
-digit-requires c κs = search needs
-
-returns : tie.Need-returns Inv-loop μ-loop
-returns c = tt
-
-append-requires : tie.Need-append-requires Inv-loop μ-loop
-append-requires c κs = search needs
-
-add-i : tie.Need-add-i Inv-loop μ-loop
-add-i c = omega arith
-
-loop-less : tie.Need-loop-less Inv-loop μ-loop
-loop-less c = omega arith
-
-loop-again : tie.Need-loop-again Inv-loop μ-loop
-loop-again c = tt
-
-returns-2 : tie.Need-returns-2 Inv-loop μ-loop
-returns-2 c = tt
-
 pub next-spec : {M : Type 1} → statement M
 next-spec =
     tie.close
     (tie.spec
     Inv-loop
     μ-loop
-    skip-requires
-    loop-holds
-    shared-slice-read-digit
-    digit-requires
-    returns
-    append-requires
-    add-i
-    loop-less
-    loop-again
-    returns-2)
+    (λ c κs. search needs) (λ c. tt) (λ c. omega arith) (λ c κs. search needs) (λ c. tt)
+    (λ c κs. search needs) (λ c. omega arith) (λ c. omega arith) (λ c. tt) (λ c. tt))

@@ -13,11 +13,8 @@ use Rattle.styling.proofs.codes.fill.Tie as tie
 returns : tie.Need-returns
 returns c = rw (c .match .keys1) refl
 
-returns-2 : tie.Need-returns-2
-returns-2 c = search needs
-
 returns-3 : tie.Need-returns-3
 returns-3 c = sym (last-case (take 2 (fills (c .before .args .color))) Texture (c .before .args .code) (omega arith))
 
 pub fill-spec : {M : Type 1} → statement M
-fill-spec = tie.close (tie.spec returns returns-2 returns-3)
+fill-spec = tie.close (tie.spec returns (λ c. search needs) returns-3)

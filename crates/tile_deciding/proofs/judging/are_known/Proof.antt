@@ -21,12 +21,6 @@ id-at-requires c κs = omega (arith, c .before .before .before .before .before .
 past-met-requires : tie.Need-past-met-requires Inv-loop μ-loop
 past-met-requires c κs = (c .before .before .loop .inv .within, c .before .before .before .before .before .before .pre .2)
 
-add-p : tie.Need-add-p Inv-loop μ-loop
-add-p c = omega arith
-
-loop-less : tie.Need-loop-less Inv-loop μ-loop
-loop-less c = omega arith
-
 loop-again : tie.Need-loop-again Inv-loop μ-loop
 loop-again c =
     let l = c .before .before .before in
@@ -48,7 +42,6 @@ are-known-spec =
     loop-holds
     id-at-requires
     past-met-requires
-    add-p
-    loop-less
+    (λ c. omega arith) (λ c. omega arith)
     loop-again
     returns)

@@ -13,29 +13,14 @@ Inv-loop ids n there ok₀ low₀ i₀ ok low i = Judging n ids i ok low
 abbrev μ-loop : tie.MeasureT-loop
 μ-loop ids n there ok₀ low₀ i₀ ok low i = there - i
 
-lesser-requires : tie.Need-lesser-requires Inv-loop μ-loop
-lesser-requires c κs = search needs
-
 loop-holds : tie.Need-loop-holds Inv-loop μ-loop
 loop-holds c = begin _ _
-
-mul-id : tie.Need-mul-id Inv-loop μ-loop
-mul-id c = omega arith
-
-shared-slice-read-id : tie.Need-shared-slice-read-id Inv-loop μ-loop
-shared-slice-read-id c = omega arith
 
 cast-id : tie.Need-cast-id Inv-loop μ-loop
 cast-id c = omega (arith, c .shared-slice-known2 .given (c .before .before .loop .i))
 
 add-low : tie.Need-add-low Inv-loop μ-loop
 add-low c = omega (arith, c .shared-slice-known2 .given (c .before .before .loop .i))
-
-add-i : tie.Need-add-i Inv-loop μ-loop
-add-i c = omega arith
-
-loop-less : tie.Need-loop-less Inv-loop μ-loop
-loop-less c = omega arith
 
 loop-again : tie.Need-loop-again Inv-loop μ-loop
 loop-again c = next (c .before .before .loop .inv) (omega arith)
@@ -49,13 +34,11 @@ do-ascend-spec =
     (tie.spec
     Inv-loop
     μ-loop
-    lesser-requires
+    (λ c κs. search needs)
     loop-holds
-    mul-id
-    shared-slice-read-id
+    (λ c. omega arith) (λ c. omega arith)
     cast-id
     add-low
-    add-i
-    loop-less
+    (λ c. omega arith) (λ c. omega arith)
     loop-again
     returns)

@@ -12,22 +12,13 @@ returns : tie.Need-returns
 unfolding linesFor
 returns c = rw (c .if1 .taken)
 
-is-table-requires : tie.Need-is-table-requires
-is-table-requires c κs = search needs
-
 returns-2 : tie.Need-returns-2
 unfolding linesFor
 returns-2 c = rw (c .before .before .if1 .left, ← c .before .is-table .ensures, c .if2 .taken)
 
-do-ascend-requires : tie.Need-do-ascend-requires
-do-ascend-requires c κs = search needs
-
 returns-3 : tie.Need-returns-3
 unfolding linesFor
 returns-3 c = rw (c .before .before .before .before .if1 .left, ← c .before .before .before .is-table .ensures, c .before .before .if2 .left, ← c .before .do-ascend .ensures, c .if3 .taken)
-
-is-tag-out-of-range-requires : tie.Need-is-tag-out-of-range-requires
-is-tag-out-of-range-requires c κs = search needs
 
 returns-4 : tie.Need-returns-4
 unfolding linesFor
@@ -53,11 +44,11 @@ judge-deciding-spec =
     tie.close
     (tie.spec
     returns
-    is-table-requires
+    (λ c κs. search needs)
     returns-2
-    do-ascend-requires
+    (λ c κs. search needs)
     returns-3
-    is-tag-out-of-range-requires
+    (λ c κs. search needs)
     returns-4
     returns-5
     are-known-requires

@@ -38,38 +38,11 @@ at-last c =
     let e : found (c .before .d .given .0 .0) ≡ found (known s .b) = sym (ap placeIn (c .before .d .given .1)) ∙ answered (c .before .before .before) ∙ known s .searched in
     cc
 
-layer-at-requires : tie.Need-layer-at-requires
-layer-at-requires c κs = search needs
-
-mul-rest : tie.Need-mul-rest
-mul-rest c = search needs
-
-sub-rest : tie.Need-sub-rest
-sub-rest c = search needs
-
-part-rest-start : tie.Need-part-rest-start
-part-rest-start c = search needs
-
-part-rest-end : tie.Need-part-rest-end
-part-rest-end c = search needs
-
-search-last-by-layer-id-requires : tie.Need-search-last-by-layer-id-requires
-search-last-by-layer-id-requires c κs = search needs
-
-enum-known-d : tie.Need-enum-known-d
-enum-known-d c = search needs
-
 add-result : tie.Need-add-result
 add-result c = let s = c .before .before .before .before .before .before .before in omega (arith, at-last c, (known s) .within, length-drop (s .args .j) (s .args .part .now))
 
 add-result-2 : tie.Need-add-result-2
 add-result-2 c = let s = c .before .before .before .before .before .before .before in omega (arith, at-last c, (known s) .within, length-drop (s .args .j) (s .args .part .now))
-
-enum-told : tie.Need-enum-told
-enum-told c = search needs
-
-add-result-3 : tie.Need-add-result-3
-add-result-3 c = search needs
 
 returns : tie.Need-returns
 returns c =
@@ -87,16 +60,10 @@ pub group-end-spec : {M : Type 1} → statement M
 group-end-spec =
     tie.close
     (tie.spec
-    layer-at-requires
-    mul-rest
-    sub-rest
-    part-rest-start
-    part-rest-end
-    search-last-by-layer-id-requires
-    enum-known-d
+    (λ c κs. search needs) (λ c. search needs) (λ c. search needs) (λ c. search needs) (λ c. search needs)
+    (λ c κs. search needs) (λ c. search needs)
     add-result
     add-result-2
-    enum-told
-    add-result-3
+    (λ c. search needs) (λ c. search needs)
     returns
     returns-2)

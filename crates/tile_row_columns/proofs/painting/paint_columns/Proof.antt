@@ -15,12 +15,6 @@ use Rattle.tile_row_columns.proofs.Wide.{ids-wide, covers-wide}
 use Rattle.tile_row_columns.proofs.painting.paint_columns.Statement.{statement}
 use Rattle.tile_row_columns.proofs.painting.paint_columns.Tie as tie
 
-lesser-requires : tie.Need-lesser-requires
-lesser-requires c κs = search needs
-
-mul-end : tie.Need-mul-end
-mul-end c = search needs
-
 array-share-prefix-ids : tie.Need-array-share-prefix-ids
 array-share-prefix-ids c =
     let b = c .before .before .before .before .before .before .before in
@@ -43,12 +37,6 @@ slice-aggregate-paint-layer-2 c =
     let b = c .before .before .before .before .before .before .before .before .before in
     sym (length-take-le (n .result * 16) (b .args .columns .covers) (omega (arith, n .ensures, covers-wide (b .args .columns) _ (b .good .1 .1 .1 .1 .1 .1 .1 .0))))
 
-paint-layer-requires : tie.Need-paint-layer-requires
-paint-layer-requires c κs = search needs
-
-same-length : tie.Need-same-length
-same-length c = search needs
-
 returns : tie.Need-returns
 returns c =
     let n = c .before .before .before .before .before .before .before .before .lesser in
@@ -66,12 +54,10 @@ pub paint-columns-spec : {M : Type 1} → statement M
 paint-columns-spec =
     tie.close
     (tie.spec
-    lesser-requires
-    mul-end
+    (λ c κs. search needs) (λ c. search needs)
     array-share-prefix-ids
     slice-aggregate-paint-layer
     array-share-prefix-covers
     slice-aggregate-paint-layer-2
-    paint-layer-requires
-    same-length
+    (λ c κs. search needs) (λ c. search needs)
     returns)

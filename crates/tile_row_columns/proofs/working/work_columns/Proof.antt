@@ -15,12 +15,6 @@ use Rattle.tile_row_columns.proofs.Wide.{ids-wide, covers-wide}
 use Rattle.tile_row_columns.proofs.working.work_columns.Statement.{statement}
 use Rattle.tile_row_columns.proofs.working.work_columns.Tie as tie
 
-lesser-requires : tie.Need-lesser-requires
-lesser-requires c κs = search needs
-
-mul-end : tie.Need-mul-end
-mul-end c = search needs
-
 array-share-prefix-ids : tie.Need-array-share-prefix-ids
 array-share-prefix-ids c =
     let b = c .before .before .before .before .before .before .before .before .before .before in
@@ -43,27 +37,6 @@ slice-aggregate-work-tile-2 c =
     let b = c .before .before .before .before .before .before .before .before .before .before .before .before in
     sym (length-take-le (n .result * 16) (b .args .columns .covers) (omega (arith, n .ensures, covers-wide (b .args .columns) _ (b .good .1 .1 .1 .1 .1 .1 .1 .1 .1 .0))))
 
-work-tile-requires : tie.Need-work-tile-requires
-work-tile-requires c κs = search needs
-
-same-length : tie.Need-same-length
-same-length c = search needs
-
-same-length-2 : tie.Need-same-length-2
-same-length-2 c = search needs
-
-same-length-3 : tie.Need-same-length-3
-same-length-3 c = search needs
-
-same-length-4 : tie.Need-same-length-4
-same-length-4 c = search needs
-
-same-length-5 : tie.Need-same-length-5
-same-length-5 c = search needs
-
-same-length-6 : tie.Need-same-length-6
-same-length-6 c = search needs
-
 returns : tie.Need-returns
 returns c =
     let n = c .before .before .before .before .before .before .before .before .before .before .before .before .before .before .before .before .before .before .before .before .before .lesser in
@@ -81,17 +54,11 @@ pub work-columns-spec : {M : Type 1} → statement M
 work-columns-spec =
     tie.close
     (tie.spec
-    lesser-requires
-    mul-end
+    (λ c κs. search needs) (λ c. search needs)
     array-share-prefix-ids
     slice-aggregate-work-tile
     array-share-prefix-covers
     slice-aggregate-work-tile-2
-    work-tile-requires
-    same-length
-    same-length-2
-    same-length-3
-    same-length-4
-    same-length-5
-    same-length-6
+    (λ c κs. search needs) (λ c. search needs) (λ c. search needs) (λ c. search needs) (λ c. search needs)
+    (λ c. search needs) (λ c. search needs)
     returns)

@@ -3,11 +3,8 @@ use borrow.Author.Needs.{needs}
 use Rattle.tile_unchanged.proofs.item.item_for.Statement.{statement}
 use Rattle.tile_unchanged.proofs.item.item_for.Tie as tie
 
-is-full-requires : tie.Need-is-full-requires
-is-full-requires c κs = search needs
-
 returns : tie.Need-returns
 returns c = rw (c .is-full .ensures)
 
 pub item-for-spec : {M : Type 1} → statement M
-item-for-spec = tie.close (tie.spec is-full-requires returns)
+item-for-spec = tie.close (tie.spec (λ c κs. search needs) returns)

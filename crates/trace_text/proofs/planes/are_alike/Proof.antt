@@ -11,45 +11,11 @@ Inv-loop areas row other ok₀ column₀ ok column = Unit {0}
 abbrev μ-loop : tie.MeasureT-loop
 μ-loop areas row other ok₀ column₀ ok column = 16 - column
 
-loop-holds : tie.Need-loop-holds Inv-loop μ-loop
-loop-holds c = tt
-
-area-place-requires : tie.Need-area-place-requires Inv-loop μ-loop
-area-place-requires c κs = search needs
-
-area-at-requires : tie.Need-area-at-requires Inv-loop μ-loop
-area-at-requires c κs = search needs
-
-area-place-requires-2 : tie.Need-area-place-requires-2 Inv-loop μ-loop
-area-place-requires-2 c κs = search needs
-
-area-at-requires-2 : tie.Need-area-at-requires-2 Inv-loop μ-loop
-area-at-requires-2 c κs = search needs
-
-add-column : tie.Need-add-column Inv-loop μ-loop
-add-column c = omega arith
-
-loop-less : tie.Need-loop-less Inv-loop μ-loop
-loop-less c = omega arith
-
-loop-again : tie.Need-loop-again Inv-loop μ-loop
-loop-again c = tt
-
-returns : tie.Need-returns Inv-loop μ-loop
-returns c = search needs
-
 pub are-alike-spec : {M : Type 1} → statement M
 are-alike-spec =
     tie.close
     (tie.spec
     Inv-loop
     μ-loop
-    loop-holds
-    area-place-requires
-    area-at-requires
-    area-place-requires-2
-    area-at-requires-2
-    add-column
-    loop-less
-    loop-again
-    returns)
+    (λ c. tt) (λ c κs. search needs) (λ c κs. search needs) (λ c κs. search needs) (λ c κs. search needs)
+    (λ c. omega arith) (λ c. omega arith) (λ c. tt) (λ c. search needs))

@@ -5,11 +5,8 @@ use borrow.Author.Needs.{needs}
 use Rattle.cached_tile.proofs.kept.Kept.absent.Statement.{statement}
 use Rattle.cached_tile.proofs.kept.Kept.absent.Tie as tie
 
-default-requires : tie.Need-default-requires
-default-requires c κs = search needs
-
 returns : tie.Need-returns
 returns c = rw (c .default .ensures) refl
 
 pub absent-spec : {M : Type 1} → statement M
-absent-spec = tie.close (tie.spec default-requires returns)
+absent-spec = tie.close (tie.spec (λ c κs. search needs) returns)

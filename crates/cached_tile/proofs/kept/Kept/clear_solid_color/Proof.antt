@@ -5,14 +5,8 @@ use borrow.Author.Needs.{needs}
 use Rattle.cached_tile.proofs.kept.Kept.clear_solid_color.Statement.{statement}
 use Rattle.cached_tile.proofs.kept.Kept.clear_solid_color.Tie as tie
 
-update-solid-color-requires : tie.Need-update-solid-color-requires
-update-solid-color-requires c κs = search needs
-
 returns : tie.Need-returns
 returns c = rw (c .before .before .if1 .taken, c .before .update-solid-color .ensures .tile) refl
 
-returns-2 : tie.Need-returns-2
-returns-2 c = search needs
-
 pub clear-solid-color-spec : {M : Type 1} → statement M
-clear-solid-color-spec = tie.close (tie.spec update-solid-color-requires returns returns-2)
+clear-solid-color-spec = tie.close (tie.spec (λ c κs. search needs) returns (λ c. search needs))

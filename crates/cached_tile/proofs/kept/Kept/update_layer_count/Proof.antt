@@ -5,9 +5,6 @@ use borrow.Author.Needs.{needs}
 use Rattle.cached_tile.proofs.kept.Kept.update_layer_count.Statement.{statement}
 use Rattle.cached_tile.proofs.kept.Kept.update_layer_count.Tie as tie
 
-update-layer-count-requires : tie.Need-update-layer-count-requires
-update-layer-count-requires c κs = search needs
-
 returns : tie.Need-returns
 returns c =
     record {
@@ -15,8 +12,5 @@ returns c =
       kept = rw (c .before .before .if1 .taken, c .before .update-layer-count .ensures .tile) refl;
     }
 
-returns-2 : tie.Need-returns-2
-returns-2 c = search needs
-
 pub update-layer-count-spec : {M : Type 1} → statement M
-update-layer-count-spec = tie.close (tie.spec update-layer-count-requires returns returns-2)
+update-layer-count-spec = tie.close (tie.spec (λ c κs. search needs) returns (λ c. search needs))

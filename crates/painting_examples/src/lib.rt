@@ -1,0 +1,3 @@
+// Worked examples of painted planes, run.
+pub mod languages;
+pub mod planes;
