@@ -10,3 +10,4 @@ pub mod Calls
 pub mod Revisions
 pub mod Sets
 pub mod Bounds
+pub mod Counts
