@@ -2,6 +2,7 @@
 // exported operations, and every number of the answer held to the stored one. Says how many cases of each kind were
 // compared and how many differ.
 mod covers;
+mod kept;
 mod paints;
 mod rows;
 mod tiles;
@@ -34,6 +35,8 @@ fn replay(
         10 => tiles::color(text, at),
         11 => tiles::settle(text, at),
         12 | 13 => rows::row(text, at, row, layers, colors),
+        20 => kept::stays(text, at),
+        21 => kept::history(text, at, row, layers, colors),
         _ => Cursor {
             at: at,
             same: false,
@@ -109,5 +112,7 @@ fn main() {
     let a10 = section(text, 10, b"cached colours", a9);
     let a11 = section(text, 11, b"settling", a10);
     let a12 = section(text, 12, b"openings", a11);
-    section(text, 13, b"rows of tiles", a12);
+    let a13 = section(text, 13, b"rows of tiles", a12);
+    let a20 = section(text, 20, b"kept counts", a13);
+    section(text, 21, b"kept histories", a20);
 }
