@@ -30,12 +30,12 @@ use Rattle.kept_count.specs.declared.CountKept.{CountKept}
 use Rattle.ffi_numbers.specs.Numbers.{refusalNumber, valueOr, isFound, placeNumber}
 use Rattle.ffi_numbers.specs.Cached.{isSome, givenOr, colorOr, writtenOr, settledBytes}
 use Rattle.ffi_numbers.specs.Rows.{StateNumbers, openNumbers, OpenTold}
+use Rattle.ffi_numbers.specs.Counts.{CountNumbers, countedNumbers, CountTold}
 use Rattle.ffi.specs.Sets.{SetNumbers, judgedNumber, editedNumbers, EditTold}
 use Rattle.ffi.specs.Work.{WorkNumbers, workedNumbers, WorkTold}
 use Rattle.ffi.specs.Listing.{ListNumbers, listedNumbers, ListTold}
 use Rattle.ffi.specs.Deciding.{DecideNumbers, decidedNumbers, DecideTold}
 use Rattle.ffi.specs.Painting.{PaintNumbers, paintedNumbers, PaintTold}
-use Rattle.ffi.specs.Counts.{CountNumbers, countedNumbers, CountTold}
 
 -- a search: whether the key was found, and the place
 pub searched : {f g : Place} {r : Bool} {p : ℕ} → f ≡ g → (r ≡ isFound f) × (p ≡ placeNumber f) → (r ≡ isFound g) × (p ≡ placeNumber g)

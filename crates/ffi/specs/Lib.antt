@@ -10,4 +10,3 @@ pub mod Calls
 pub mod Revisions
 pub mod Sets
 pub mod Bounds
-pub mod Counts

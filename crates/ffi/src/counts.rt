@@ -2,32 +2,10 @@
 // is 0 for a draw that is not clipped, 1 for a clip, 2 for a clipped draw.
 use cached_tile::kept::Kept;
 use ffi_numbers::cached;
-use kept_count::CountAnswer;
-ghost use mathlib.Core.Path.{_≡_};
-ghost use Rattle.kept_count.specs.Keeping.{lentMembers, keepOf, countAnswer};
-ghost use Rattle.ffi_numbers.specs.Numbers.{refusalNumber};
+use ffi_numbers::counts;
+ghost use Rattle.kept_count.specs.Keeping.{lentMembers, keepOf};
 ghost use Rattle.ffi_numbers.specs.Cached.{keptOf};
-ghost use Rattle.ffi.specs.Counts.{countNumbers, countedNumbers, CountTold};
-
-fn put_counted(answer: CountAnswer, after: Kept, kept: &mut [u8; 8], stays: &mut bool) -> u32
-    ensures { λ r. ⌜ r ≡ refusalNumber (countAnswer answer) ⌝ }
-    ensures { λ _. ⌜ countNumbers (now (kept .exit)) (now (stays .exit))
-        ≡ countedNumbers (countAnswer answer) after (countNumbers (now (kept .entry)) (now (stays .entry))) ⌝ }
-{
-    match answer {
-        CountAnswer::Refused(refusal) => refusals::number_of(refusal),
-        CountAnswer::Stays => {
-            cached::put_kept(after, kept);
-            *stays = true;
-            0
-        },
-        CountAnswer::Dropped => {
-            cached::put_kept(after, kept);
-            *stays = false;
-            0
-        },
-    }
-}
+ghost use Rattle.ffi_numbers.specs.Counts.{countNumbers, CountTold};
 
 // 0 and in `stays` whether the count may stay, or the number of the refusal: whoever of the `last` layers of the tile's
 // last accepted work was listed is listed still among the `n` of today, as the same kind. Where it may not, the count's
@@ -61,5 +39,5 @@ pub extern "C" fn ffi_keep_count(
     let done = kept_count::keep_count(last_ids, last_kinds, last, ids, kinds, n, before);
     let after = done.kept;
     let answer = done.answer;
-    put_counted(answer, after, kept, stays)
+    counts::put_counted(answer, after, kept, stays)
 }

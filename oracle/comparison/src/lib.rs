@@ -44,6 +44,7 @@ pub mod stored_rows;
 pub mod succession;
 pub mod tally;
 pub mod tiles;
+pub mod timed_bounds;
 pub mod timed_crate;
 pub mod timed_parts;
 pub mod timed_rows;

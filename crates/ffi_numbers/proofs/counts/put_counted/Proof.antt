@@ -2,8 +2,8 @@
 use mathlib.Core.Path.{refl}
 use mathlib.Core.Bool.{true, false}
 use borrow.Author.Needs.{needs}
-use Rattle.ffi.proofs.counts.put_counted.Statement.{statement}
-use Rattle.ffi.proofs.counts.put_counted.Tie as tie
+use Rattle.ffi_numbers.proofs.counts.put_counted.Statement.{statement}
+use Rattle.ffi_numbers.proofs.counts.put_counted.Tie as tie
 
 enum-known-answer : tie.Need-enum-known-answer
 enum-known-answer c = search needs
