@@ -80,7 +80,7 @@ fn refusal(call: &BoundsCall) -> u32 {
         return 3;
     }
     let is_bad = |pair: &&[i8]| pair[0] > pair[1] || pair[0] < -32 || pair[1] > 31;
-    if pairs[..call.part.len()].iter().any(|pair| is_bad(pair)) || (0..16).any(|y| call.low[y] > call.high[y]) {
+    if pairs[..call.part.len()].iter().any(is_bad) || (0..16).any(|y| call.low[y] > call.high[y]) {
         return 14;
     }
     let greater = |a: i8, b: i8| u32::from(a.unsigned_abs().max(b.unsigned_abs()));

@@ -93,8 +93,8 @@ fn frame(random: &mut Random, shot: &Shot, has_last: bool, is_protocol: bool, ti
         }
     }
     let mut again = Models::open(0, from, to, &picture.words, &tables);
-    for at in from..to {
-        let worked = again.work(at, &picture.frame, Some(cached[at])).worked;
+    for (at, &bytes) in (from..to).zip(&cached[from..to]) {
+        let worked = again.work(at, &picture.frame, Some(bytes)).worked;
         settles.extend(settled(&worked).map(|line| line.text()));
     }
     let scene = Scene { tile_y: 0, from, to, tiles: tiles.len(), caches: true, pictures: Vec::new() };
