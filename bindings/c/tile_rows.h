@@ -52,6 +52,20 @@ bool ffi_update_solid_color(uint8_t tile[8], bool given, const uint8_t color[4],
    refusal. The tile's bytes are stored where the call is accepted and a tile is given. */
 uint32_t ffi_settle(bool given, uint8_t tile[8], const uint8_t color[4], bool *is_written);
 
+/* 0 and in `stays` whether the count may stay, or the number of the refusal: whoever of the `last` layers of the tile's
+   last accepted work was listed is listed still among the `n` of today, as the same kind. Where it may not, the count's
+   tag is dropped and nothing else. The tile's bytes are stored where the call is accepted and a tile is given. */
+uint32_t ffi_keep_count(
+    const uint32_t *last_ids, size_t last_ids_len,
+    const uint8_t *last_kinds, size_t last_kinds_len,
+    size_t last,
+    const uint32_t *ids, size_t ids_len,
+    const uint8_t *kinds, size_t kinds_len,
+    size_t n,
+    bool is_kept,
+    uint8_t kept[8],
+    bool *stays);
+
 /* `ffi_is_empty` of the library. */
 bool ffi_is_empty(const int8_t covers[16], uint32_t rule);
 

@@ -41,6 +41,21 @@ mod raw {
             previous: *mut [u8; 4],
         ) -> bool;
         pub fn ffi_settle(given: bool, tile: *mut [u8; 8], color: *const [u8; 4], is_written: *mut bool) -> u32;
+        pub fn ffi_keep_count(
+            last_ids: *const u32,
+            last_ids_len: usize,
+            last_kinds: *const u8,
+            last_kinds_len: usize,
+            last: usize,
+            ids: *const u32,
+            ids_len: usize,
+            kinds: *const u8,
+            kinds_len: usize,
+            n: usize,
+            is_kept: bool,
+            kept: *mut [u8; 8],
+            stays: *mut bool,
+        ) -> u32;
         pub fn ffi_is_empty(covers: *const [i8; 16], rule: u32) -> bool;
         pub fn ffi_is_full(covers: *const [i8; 16], rule: u32) -> bool;
         pub fn ffi_carry(part: *const u64, part_len: usize, covers: *mut [i8; 16]) -> u32;
@@ -493,6 +508,43 @@ pub fn settle(given: bool, tile: &mut [u8; 8], color: &[u8; 4], is_written: &mut
     // SAFETY: the references are those that the export takes, a slice with its own length; it is proved to keep
     // to them for every value, and nothing of them is held after the call.
     unsafe { raw::ffi_settle(given, tile, color, is_written) }
+}
+
+/// 0 and in `stays` whether the count may stay, or the number of the refusal: whoever of the `last` layers of the tile's
+/// last accepted work was listed is listed still among the `n` of today, as the same kind. Where it may not, the count's
+/// tag is dropped and nothing else. The tile's bytes are stored where the call is accepted and a tile is given.
+#[allow(clippy::too_many_arguments)]
+#[inline]
+pub fn keep_count(
+    last_ids: &[u32],
+    last_kinds: &[u8],
+    last: usize,
+    ids: &[u32],
+    kinds: &[u8],
+    n: usize,
+    is_kept: bool,
+    kept: &mut [u8; 8],
+    stays: &mut bool,
+) -> u32 {
+    // SAFETY: the references are those that the export takes, a slice with its own length; it is proved to keep
+    // to them for every value, and nothing of them is held after the call.
+    unsafe {
+        raw::ffi_keep_count(
+            last_ids.as_ptr(),
+            last_ids.len(),
+            last_kinds.as_ptr(),
+            last_kinds.len(),
+            last,
+            ids.as_ptr(),
+            ids.len(),
+            kinds.as_ptr(),
+            kinds.len(),
+            n,
+            is_kept,
+            kept,
+            stays,
+        )
+    }
 }
 
 /// `ffi_is_empty` of the library.

@@ -63,10 +63,47 @@
 //! are unchanged and in [`Frame`] what the last clear colour was. A tile of which nothing changed is then decided as
 //! [`Decision::None`], and a solid one whose bytes are there already is [`Settled::Keep`].
 //!
+//! That decides as the Rust does, which at times keeps a tile with a wrong picture. A [`TileHistory`] for each tile, in
+//! place of the cached tile, keeps what it takes to keep only what is right:
+//!
+//! ```
+//! use tile_rows::{Color, Decision, Layer, LayerTable, Refusal, Row, Style, TileHistory};
+//! # fn draw_afresh(_: &Row, _: Decision) -> [u8; 4] { [0; 4] }
+//!
+//! # fn main() -> Result<(), Refusal> {
+//! let white = Color { r: 1.0, g: 1.0, b: 1.0, a: 1.0 };
+//! let mut tiles = vec![TileHistory::new(); 4];
+//! for frame in 0..3 {
+//!     // In frame 1 and later, layers that stood in the frame before with the same record and segments are unchanged.
+//!     let mut layer = Layer::draw(1, Style::solid(white));
+//!     layer.is_unchanged = frame > 0;
+//!     let table = LayerTable::new(&[layer]);
+//!     let mut row = Row::open(&[], &table, 0, 0..4)?;
+//!     for (tile, history) in (0..).zip(&mut tiles) {
+//!         let worked = history.work(&mut row, tile, frame, white)?;
+//!         if worked.decision != Decision::None {
+//!             let bytes = draw_afresh(&row, worked.decision);
+//!             history.settle(bytes)?; // of a solid tile: whether the bytes are to be written
+//!         }
+//!         assert_eq!(worked.decision == Decision::None, frame > 0);
+//!     }
+//! }
+//! # Ok(())
+//! # }
+//! ```
+//!
 //! # While an outline is dragged
 //!
 //! A [`SegmentSet`] keeps the segments of one layer in one tile with their doubled areas and their carry, and takes
 //! segments in and lets them out one at a time.
+//!
+//! # Before outlines are final
+//!
+//! [`Bounded::bound_part`] says what a layer may cover in a tile when each cover is known within bounds only.
+//!
+//! # Tiles four pixels high
+//!
+//! [`four_high`] has packed segments, covers and coverages of tiles 16 wide and 4 high.
 //!
 //! # Threads
 //!
@@ -92,12 +129,15 @@
 
 #![deny(missing_docs, unsafe_code)]
 
+mod bounds;
 pub mod cached_tile;
 mod color;
 mod cover;
 mod decision;
 #[allow(unsafe_code)] // the declarations, and one call of each
 pub mod exports;
+pub mod four_high;
+mod history;
 mod mark;
 pub mod plane;
 pub mod plate;
@@ -109,10 +149,12 @@ mod style;
 mod table;
 
 pub use crate::{
+    bounds::Bounded,
     cached_tile::{settle, CachedTile, Settled},
     color::Color,
     cover::Cover,
     decision::Decision,
+    history::TileHistory,
     mark::Mark,
     plane::Plane,
     plate::Plate,

@@ -8,7 +8,7 @@ use crate::{
 };
 
 /// How many entries the library asks of every queue and list.
-const ENTRIES: usize = 256;
+pub(crate) const ENTRIES: usize = 256;
 
 /// How many flags a list has: for each entry whether its layer has segments in the tile, and behind these whether it is changed.
 const FLAGS: usize = 2 * ENTRIES;
@@ -103,12 +103,12 @@ impl Queue {
 #[derive(Clone, Debug)]
 pub struct TileList {
     tile: i32,
-    ids: Box<[u32; ENTRIES]>,
+    pub(crate) ids: Box<[u32; ENTRIES]>,
     covers: Box<[i8; 16 * ENTRIES]>,
     /// Whether each has segments, and from `ENTRIES` on whether each is changed.
     flags: Box<[bool; FLAGS]>,
     unmasked: Box<[bool; ENTRIES]>,
-    count: usize,
+    pub(crate) count: usize,
     passed_over: usize,
 }
 
@@ -183,7 +183,7 @@ pub struct Row<'a> {
     taken: Box<Queue>,
     /// The queue that it handed on: the next tile takes it in.
     handed: Box<Queue>,
-    list: TileList,
+    pub(crate) list: TileList,
 }
 
 impl<'a> Row<'a> {

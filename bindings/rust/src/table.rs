@@ -105,6 +105,16 @@ impl LayerTable {
         }
     }
 
+    /// The kinds of listed layers, ascending, of a table that was judged: 0 a draw that is not clipped, 1 a clip, 2 a
+    /// clipped draw.
+    pub(crate) fn put_kinds(&self, ids: &[u32], kinds: &mut [u8]) {
+        let mut records = self.words.chunks_exact(8);
+        for (&id, kind) in ids.iter().zip(kinds) {
+            let record = records.find(|record| record[0] == id).expect("a listed layer has a record");
+            *kind = if record[2] == 1 { 1 } else { 2 * u8::from(record[4] == 1) };
+        }
+    }
+
     pub(crate) fn lent(&self) -> (&[u32], &[f32], usize) {
         (&self.words, &self.colors, self.count)
     }

@@ -85,6 +85,19 @@ fn the_page_draws_what_it_counts() {
     }
 }
 
+/// The tour links a page for each of its three mistakes; they are made anew by the example, from the repository's root.
+#[test]
+fn the_tours_pages_are_the_inspectors() {
+    for name in ["carry_to_the_right", "covered_carry_to_the_right", "equal_keys"] {
+        let file = format!("{name}.job");
+        let page = page::page(&format!("crates/jobs/data/{file}"), &fs::read(jobs("data").join(&file)).unwrap(), None);
+        let kept = PathBuf::from(env!("CARGO_MANIFEST_DIR")).join(format!("../../docs/tour/pages/{name}.html"));
+        assert!(fs::read_to_string(kept).unwrap() == page, "{name}: `inspect {file}` makes another page");
+        let tour = fs::read_to_string(jobs("../../docs/TOUR.md")).unwrap();
+        assert!(tour.contains(&format!("(tour/pages/{name}.html)")), "{name}: the tour links it");
+    }
+}
+
 /// A page as Chromium leaves it after its scripts, and one more script, ran.
 fn loaded(name: &str, page: &str, script: &str) -> String {
     let file = PathBuf::from(env!("CARGO_TARGET_TMPDIR")).join(name);

@@ -4,6 +4,7 @@
 mod covers;
 mod decidings;
 mod listings;
+mod kept;
 mod paints;
 mod rows;
 mod tiles;
@@ -38,6 +39,8 @@ fn replay(
         12 | 13 => rows::row(text, at, row, layers, colors),
         14 => listings::list(text, at, row, layers, colors),
         15 => decidings::decide(text, at, layers, colors),
+        16 => kept::stays(text, at),
+        17 => kept::history(text, at, row, layers, colors),
         _ => Cursor {
             at: at,
             same: false,
@@ -115,5 +118,7 @@ fn main() {
     let a12 = section(text, 12, b"openings", a11);
     let a13 = section(text, 13, b"rows of tiles", a12);
     let a14 = section(text, 14, b"listings", a13);
-    section(text, 15, b"decidings", a14);
+    let a15 = section(text, 15, b"decidings", a14);
+    let a16 = section(text, 16, b"kept counts", a15);
+    section(text, 17, b"kept histories", a16);
 }

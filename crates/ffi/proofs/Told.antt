@@ -25,9 +25,12 @@ use Rattle.listing_statements.specs.Listing.{ListCall, ListLent, listingOf, lis
 use Rattle.listing_statements.specs.Deciding.{DecideGiven, decideAnswer, DecidesTile}
 use Rattle.listing_statements.specs.declared.TileListed.{TileListed}
 use Rattle.listing_statements.specs.declared.TileDecided.{TileDecided}
+use Rattle.kept_count.specs.Keeping.{CountGiven, countAnswer, KeepsCount}
+use Rattle.kept_count.specs.declared.CountKept.{CountKept}
 use Rattle.ffi_numbers.specs.Numbers.{refusalNumber, valueOr, isFound, placeNumber}
 use Rattle.ffi_numbers.specs.Cached.{isSome, givenOr, colorOr, writtenOr, settledBytes}
 use Rattle.ffi_numbers.specs.Rows.{StateNumbers, openNumbers, OpenTold}
+use Rattle.ffi_numbers.specs.Counts.{CountNumbers, countedNumbers, CountTold}
 use Rattle.ffi.specs.Sets.{SetNumbers, judgedNumber, editedNumbers, EditTold}
 use Rattle.ffi.specs.Work.{WorkNumbers, workedNumbers, WorkTold}
 use Rattle.ffi.specs.Listing.{ListNumbers, listedNumbers, ListTold}
@@ -107,3 +110,7 @@ edited {old = old} gives told =
       slots-are = ap (λ (s : SetState). s .slots) (gives .leaves);
       areas-are = ap (λ (s : SetState). s .areas) (gives .leaves);
     }
+
+-- whether a count may stay
+pub counted : {g : CountGiven} {w : CountKept} {old new : CountNumbers} {r : ℕ} → KeepsCount g w → (r ≡ refusalNumber (countAnswer (w .answer))) × (new ≡ countedNumbers (countAnswer (w .answer)) (w .kept) old) → CountTold g old r new
+counted {old = old} keeps told = record { number = told .0 ∙ ap refusalNumber (keeps .answer); numbers = told .1 ∙ λ i. countedNumbers (keeps .answer i) (keeps .kept i) old }

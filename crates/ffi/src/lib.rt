@@ -4,6 +4,7 @@
 // refuses, and nothing else.
 pub mod bounds;
 pub mod cached;
+pub mod counts;
 pub mod covers;
 pub mod deciding;
 pub mod four_high;

@@ -87,6 +87,22 @@ pub fn fill_bytes(text: &[u8], at: usize, out: &mut [u8]) -> usize {
     place
 }
 
+// The place after n numbers, which `out` then holds from the front on; fewer where it is shorter.
+pub fn fill_some_bytes(text: &[u8], at: usize, out: &mut [u8], n: usize) -> usize {
+    let mut place = at;
+    let mut i: usize = 0;
+    while i < out.len() {
+        if n <= i {
+            return place;
+        }
+        let number = text::next(text, place);
+        out[i] = numbers::byte(number.value);
+        place = number.at;
+        i += 1;
+    }
+    place
+}
+
 // Whether a number that was found is the stored one, or, where none is stored, `rest`.
 fn hold_word(text: &[u8], cursor: Cursor, found: u32, stored: bool, rest: u32) -> Cursor {
     if stored {

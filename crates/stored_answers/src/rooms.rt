@@ -32,6 +32,13 @@ pub fn ids() -> [u32; 256]
     [7; 256]
 }
 
+// No list has such a kind.
+pub fn kinds() -> [u8; 256]
+    ensures { λ r. ⌜ 256 ≡ length r ⌝ }
+{
+    [7; 256]
+}
+
 pub fn covers() -> [i8; 4096]
     ensures { λ r. ⌜ 4096 ≡ length r ⌝ }
 {

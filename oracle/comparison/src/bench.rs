@@ -4,7 +4,7 @@ use std::hint::black_box;
 
 use crate::{
     tally::caught,
-    timed_crate, timed_four_high, timed_parts, timed_rows, timed_sets, timed_tiles, timed_words,
+    timed_bounds, timed_crate, timed_four_high, timed_parts, timed_rows, timed_sets, timed_tiles, timed_words,
     timing::{Bench, ROUNDS},
 };
 
@@ -39,4 +39,6 @@ pub fn print(only: String) {
     timed_crate::print(bench);
     bench.titled("A kept set of segments", ["begun anew", "edited"]);
     timed_sets::print(bench);
+    bench.titled("Covers within bounds", ["painted four times", "bounded"]);
+    timed_bounds::print(bench);
 }

@@ -80,7 +80,7 @@ fn refusal(call: &BoundsCall) -> u32 {
         return 3;
     }
     let is_bad = |pair: &&[i8]| pair[0] > pair[1] || pair[0] < -32 || pair[1] > 31;
-    if pairs[..call.part.len()].iter().any(|pair| is_bad(pair)) || (0..16).any(|y| call.low[y] > call.high[y]) {
+    if pairs[..call.part.len()].iter().any(is_bad) || (0..16).any(|y| call.low[y] > call.high[y]) {
         return 14;
     }
     let greater = |a: i8, b: i8| u32::from(a.unsigned_abs().max(b.unsigned_abs()));
@@ -180,7 +180,7 @@ fn planes(kind: &mut Kind) {
 fn painted(part: &[u64], covers: &[i8], carry: [i8; 16], rule: usize) -> Option<Vec<u16>> {
     let chosen: Vec<u64> = part.iter().zip(covers).map(|(&word, &c)| word & !63 | u64::from(c as u8 & 63)).collect();
     let plane = caught(|| recorder::paint(&chosen, carry, RULES[rule]))?.plane;
-    Some((0..256).map(|k| (plane[k % 16 * 16 + k / 16] * 512.0) as u16).collect())
+    Some(plane.iter().map(|coverage| (coverage * 512.0) as u16).collect())
 }
 
 /// A call that is accepted, its planes, and whether a choice's weights by the Rust pass a test against them.

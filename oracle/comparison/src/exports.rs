@@ -364,5 +364,20 @@ extern "C" {
         plane_len: usize,
         mark: *mut u32,
     ) -> u32;
+    pub fn ffi_keep_count(
+        last_ids: *const u32,
+        last_ids_len: usize,
+        last_kinds: *const u8,
+        last_kinds_len: usize,
+        last: usize,
+        ids: *const u32,
+        ids_len: usize,
+        kinds: *const u8,
+        kinds_len: usize,
+        n: usize,
+        is_kept: bool,
+        kept: *mut [u8; 8],
+        stays: *mut bool,
+    ) -> u32;
     pub fn ffi_settle(given: bool, tile: *mut [u8; 8], color: *const [u8; 4], is_written: *mut bool) -> u32;
 }

@@ -7,9 +7,9 @@
 use std::{env, process::ExitCode};
 
 use comparison::{
-    backwards, bench, bounds, cached, covers, curve, deciding, edited_sets, four_high, four_high_rows, jobs, layers,
-    listing, loads, openings, paintings, plates, rows, standing, stored, stored_jobs, succession, tally::Tally, tiles,
-    two_rows, words,
+    backwards, bench, bounds, cached, covers, curve, deciding, edited_sets, four_high, four_high_rows, jobs,
+    kept_counts, kept_frames, layers, listing, loads, openings, paintings, plates, rows, standing, stored, stored_jobs,
+    succession, tally::Tally, tiles, two_rows, words,
 };
 
 fn main() -> ExitCode {
@@ -48,6 +48,8 @@ fn main() -> ExitCode {
     standing::compare(&mut tally);
     edited_sets::compare(&mut tally);
     two_rows::compare(&mut tally);
+    kept_counts::compare(&mut tally);
+    kept_frames::compare(&mut tally);
     bounds::compare(&mut tally);
     jobs::compare(&mut tally);
     stored_jobs::compare(&mut tally);

@@ -96,6 +96,11 @@ impl<'t> Models<'t> {
         Judged { worked: second, left_out: Some(LeftOut { why, painted: rust.painted, is_other }) }
     }
 
+    /// The display bytes of a tile that was painted, column by column: red, green, blue, alpha.
+    pub fn pixels(&mut self) -> Vec<[u8; 4]> {
+        self.second.pixels(second::cpu::RGBA)
+    }
+
     /// One layer of the tile just worked.
     pub fn paint(&mut self, id: u32) -> Painted {
         let (rust, second) = (self.rust.paint(id), self.second.paint(id));

@@ -19,8 +19,8 @@ pub fn compare(tally: &mut Tally) {
 }
 
 /// One row of a frame on both sides, tile after tile.
-struct Pair<'t> {
-    models: Models<'t>,
+pub struct Pair<'t> {
+    pub models: Models<'t>,
     records: &'t [Record],
     table: LentTable,
     row: &'t [u64],
@@ -29,7 +29,7 @@ struct Pair<'t> {
 }
 
 impl<'t> Pair<'t> {
-    fn open(random: &mut Random, scene: &Scene, picture: &'t Picture, tables: &'t Tables) -> Self {
+    pub fn open(random: &mut Random, scene: &Scene, picture: &'t Picture, tables: &'t Tables) -> Self {
         let models = Models::open(scene.tile_y, scene.from, scene.to, &picture.words, tables);
         let mut queue = any_queue(random, false);
         let mut state = any_state(random);
@@ -91,8 +91,15 @@ fn rows(kind: &mut Kind) {
     }
 }
 
-/// One tile on both sides, and the settling of a solid one.
-fn work(kind: &mut Kind, pair: &mut Pair<'_>, tile: usize, picture: &Picture, caches: bool, cached: &mut Cached) {
+/// One tile on both sides, and the settling of a solid one; what the library must answer, where the Rust does not panic.
+pub fn work(
+    kind: &mut Kind,
+    pair: &mut Pair<'_>,
+    tile: usize,
+    picture: &Picture,
+    caches: bool,
+    cached: &mut Cached,
+) -> Option<Judged> {
     let frame = &picture.frame;
     let call = pair.work(tile, frame.clear, frame.previous_clear, caches);
     let before = any_memory(&mut kind.random, pair.state, *cached);
@@ -100,7 +107,7 @@ fn work(kind: &mut Kind, pair: &mut Pair<'_>, tile: usize, picture: &Picture, ca
     let number = library::work_tile(&call, &mut after);
     let Some(judged) = caught(|| pair.models.work(tile, frame, caches.then_some(*cached))) else {
         kind.case(false, || format!("{}: the Rust panics", input(&call, &before)));
-        return;
+        return None;
     };
     let worked = &judged.worked;
     note(kind, worked);
@@ -118,6 +125,7 @@ fn work(kind: &mut Kind, pair: &mut Pair<'_>, tile: usize, picture: &Picture, ca
     *cached = settle(kind, &call, &before, Cached(after.kept), &judged);
     pair.state = after.state;
     pair.queue = after.next;
+    Some(judged)
 }
 
 /// What is kept in the end: of a solid tile after settling. Where no cached tile is given, all bytes are as before. A tile

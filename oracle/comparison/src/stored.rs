@@ -20,6 +20,7 @@ use crate::{
     memory::damaged_row,
     random::Random,
     stored_calls,
+    stored_kept,
     stored_lines::{bytes, float, Line},
     stored_rows::{self, opened, row_given, small_scene},
     words::{any_fields, any_row, any_word, layer, near_range, rust_pack, segment, tile, Segment},
@@ -27,6 +28,9 @@ use crate::{
 
 /// The seed of the stored cases.
 const SEED: u64 = 1;
+
+/// How many askings whether a count may stay are stored.
+const ASKINGS: usize = 60;
 
 /// All blocks, in the order in which the program reads them.
 pub fn answers() -> String {
@@ -56,6 +60,12 @@ pub fn answers() -> String {
         writeln!(text, "{row}").unwrap();
     }
     text += &stored_calls::blocks();
+    let mut random = Random::new(SEED);
+    writeln!(text, "STAYS {ASKINGS:x}").unwrap();
+    (0..ASKINGS).for_each(|_| writeln!(text, "{}", stored_kept::asking(&mut random).text()).unwrap());
+    let histories = stored_kept::lines(&mut random);
+    writeln!(text, "HISTORY {:x}", histories.len()).unwrap();
+    histories.iter().for_each(|history| writeln!(text, "{history}").unwrap());
     text
 }
 

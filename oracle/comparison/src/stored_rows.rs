@@ -102,7 +102,7 @@ fn arranged(random: &mut Random) -> String {
 /// Which layers of a tile are painted after its work.
 type Choice = fn(&mut Random, &Worked, &Picture) -> Vec<u32>;
 
-fn row(random: &mut Random, scene: &Scene, picture: &Picture, cached: &mut [Cached], choice: Choice) -> String {
+pub fn row(random: &mut Random, scene: &Scene, picture: &Picture, cached: &mut [Cached], choice: Choice) -> String {
     let ends = [scene.tile_y, scene.from, scene.to].map(|end| end as i32);
     let tables = Tables::new(&picture.records);
     let given = row_given(ends, &lent(&picture.records), &picture.words);
