@@ -176,11 +176,11 @@ fn planes(kind: &mut Kind) {
     kind.case(ours == expected, || format!("{call:?}: expected {expected:?}, the library {ours:?}"));
 }
 
-/// The weights of a part with other covers, by the Rust: its coverages times 512, at row × 16 + column.
+/// The weights of a part with other covers, by the Rust: its coverages times 512, at row × 16 + column as they are recorded.
 fn painted(part: &[u64], covers: &[i8], carry: [i8; 16], rule: usize) -> Option<Vec<u16>> {
     let chosen: Vec<u64> = part.iter().zip(covers).map(|(&word, &c)| word & !63 | u64::from(c as u8 & 63)).collect();
     let plane = caught(|| recorder::paint(&chosen, carry, RULES[rule]))?.plane;
-    Some((0..256).map(|k| (plane[k % 16 * 16 + k / 16] * 512.0) as u16).collect())
+    Some(plane.iter().map(|number| (number * 512.0) as u16).collect())
 }
 
 /// A call that is accepted, its planes, and whether a choice's weights by the Rust pass a test against them.
