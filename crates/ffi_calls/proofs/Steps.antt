@@ -23,7 +23,7 @@ use Rattle.listing_statements.specs.Listing.{ListLent, ListGiven, listingOut, l
 use Rattle.listing_statements.specs.Deciding.{DecideGiven, decidingOf}
 use Rattle.listing_statements.specs.Succession.{lentPart}
 use Rattle.listing_runs.specs.Due.{ListChoice, listDueVerdict, listDue, DecideChoice, nthOn, decideDue}
-use Rattle.listing_runs.specs.Run.{HeldList, HeldAll, heldWith, Among, SameEntries, listOn, decideOn, rowAfter, listsAfter, listsWorked, CallStep}
+use Rattle.listing_runs.specs.Run.{HeldList, HeldAll, heldWith, AmongLists, SameEntries, listOn, decideOn, rowAfter, listsAfter, listsWorked, CallStep}
 use Rattle.listing_runs.specs.InnerHolding.{HoldsAll}
 use Rattle.listing_runs.proofs.Lists.{found}
 use Rattle.listing_runs.proofs.Steps.{list-due, nth-is, decide-due}
@@ -149,7 +149,7 @@ module _ {o : OpenRow} (is-open : IsOpen o) {p : Past} (k : HeldByNumbers) (hold
   -- ---- deciding
 
   pub decided-right : {l : HeldList} (c : DecideChoice) {old : DecideNumbers} {r : ℕ} {new : DecideNumbers} {back : List Bool}
-      → Among l (k .lists) → l .tile ≡ c .tile → SameEntries (l .count) (l .list) (c .list)
+      → AmongLists l (k .lists) → l .tile ≡ c .tile → SameEntries (l .count) (l .list) (c .list)
       → DecideTold (decidingOf (decideOn o l c) (c .unmasked)) old r new back
       → (nthOn o c < p .tiles) × DecideTold (decideDue o c) old r new back
   decided-right {l} c {old} {r} {new} {back} among et same t =

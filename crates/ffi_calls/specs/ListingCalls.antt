@@ -23,7 +23,7 @@ use Rattle.listing_statements.specs.Listing.{ListCall, ListLent, listingVerdict
 use Rattle.listing_statements.specs.Deciding.{DecideCall, decidingOf}
 use Rattle.listing_statements.specs.Succession.{lentPart}
 use Rattle.listing_runs.specs.Due.{ListChoice, listDueVerdict, listDue, DecideChoice, nthOn, decideDue}
-use Rattle.listing_runs.specs.Run.{HeldList, HeldAll, heldWith, Among, SameEntries, listOn, decideOn}
+use Rattle.listing_runs.specs.Run.{HeldList, HeldAll, heldWith, AmongLists, SameEntries, listOn, decideOn}
 use Rattle.ffi_numbers.specs.Rows.{StateNumbers, OpenTold}
 use Rattle.ffi.specs.Work.{WorkNumbers, WorkTold}
 use Rattle.ffi.specs.Painting.{PaintNumbers, PaintTold}
@@ -91,7 +91,7 @@ pub data ListingCall (o : OpenRow) : HeldByNumbers → ListingTold → HeldByNum
       ListingCall o k (ListingTold.list c (listNumbers (k .row .words) (k .row .counts) listed) r new back)
       (heldBoth (heldListed r (k .row) new (c .queue) back) (listsLeft r (record { tile = c .tile; count = new .listed; list = back .list }) (k .lists)))
   decide : {k : HeldByNumbers} {l : HeldList} {c : DecideChoice} {old : DecideNumbers} {r : ℕ} {new : DecideNumbers} {back : List Bool} →
-      Among l (k .lists) → l .tile ≡ c .tile → SameEntries (l .count) (l .list) (c .list) →
+      AmongLists l (k .lists) → l .tile ≡ c .tile → SameEntries (l .count) (l .list) (c .list) →
       DecideTold (decidingOf (decideOn o l c) (c .unmasked)) old r new back →
       ListingCall o k (ListingTold.decide c old r new back) k
   otherWork : {k : HeldByNumbers} {a : WorkCall} {lent : WorkLent} {n : ℕ} {old : WorkNumbers} {r : ℕ} {new : WorkNumbers} {back : WorkLent} →

@@ -4,7 +4,11 @@ use cover::carry;
 use pixel_segment::PixelSegment;
 ghost use mathlib.Core.Path.{_≡_};
 ghost use mathlib.Core.Bool.{true};
-ghost use Rattle.pixel_segment.specs.Field.{cpu};
+ghost use Prim.Native.Nat.{ℕ, _+_, _*_, _≤_, _<_};
+ghost use lib.IntN.{natAbs, _+ℤ_};
+ghost use Rattle.laws.specs.Lists.{tabulate};
+ghost use Rattle.pixel_segment.specs.Field.{cpu, coverOf, doubleAreaOf};
+ghost use Rattle.cover_statements.specs.Cover.{coverAt};
 ghost use Rattle.cover_statements.specs.Cell.{cellOf, noCells, Judged, JudgedAreas, Shadable, Shaded, Summable, Summed};
 ghost use Rattle.cover_statements.specs.Load.{allLight};
 
@@ -13,6 +17,21 @@ pub fn cell(segment: PixelSegment) -> usize
     ensures { λ r. ⌜ r ≡ cellOf cpu 16 (segment .0) ⌝ }
 {
     segment.local_x() as usize * 16 + segment.local_y() as usize
+}
+
+// The cover of a segment, at 16 bits, with its field's size as a constant: what is worked out of it stays in registers.
+fn cover_of(segment: PixelSegment) -> i16
+    ensures { λ r. ⌜ r ≡ coverOf cpu (segment .0) ⌝ }
+{
+    ((segment.0 % 64 + 32) % 64) as i16 - 32
+}
+
+// The double area of a segment with this cover.
+fn area_of(segment: PixelSegment, cover: i16) -> i16
+    requires { ⌜ cover ≡ coverOf cpu (segment .0) ⌝ }
+    ensures { λ r. ⌜ r ≡ doubleAreaOf cpu (segment .0) ⌝ }
+{
+    segment.double_area_multiplier() as i16 * cover
 }
 
 // The double areas and the covers of each cell, summed, as long as the absolute covers of each pixel row stay within
@@ -30,23 +49,40 @@ fn acc_segments(
     let mut i = 0;
     while i < part.len() {
         let segment = PixelSegment(part[i]);
-        let cover = segment.cover();
+        let cover = cover_of(segment);
         let y = segment.local_y() as usize;
         let before = loads[y];
-        let load = before + weight::cover_magnitude(cover);
+        let load = before + weight::magnitude(cover);
         if 127 < load {
             return false;
         }
         loads[y] = load;
         let k = cell(segment);
-        areas[k] = areas[k] + segment.double_area();
-        covers[k] = covers[k] + cover;
+        areas[k] = areas[k] + area_of(segment, cover);
+        covers[k] = covers[k] + cover as i8;
         i += 1;
     }
     true
 }
 
-// A column's own double areas become its doubled areas; the sums of the rows come back with the column's covers added.
+// The sums of the rows with a column's covers added.
+fn add_covers(covers: &[i8; 256], column: usize, sums: [i8; 16]) -> [i8; 16]
+    requires { ⌜ (column < 16) × ((y : ℕ) → y < 16
+        → natAbs (coverAt sums y +ℤ coverAt (now covers) (column * 16 + y)) ≤ 127) ⌝ }
+    ensures { λ r. ⌜ r
+        ≡ tabulate 16 (λ y. coverAt sums y +ℤ coverAt (now (covers .entry)) (column * 16 + y)) ⌝ }
+{
+    let mut next = sums;
+    let mut y = 0;
+    while y < 16 {
+        next[y] = sums[y] + covers[column * 16 + y];
+        y += 1;
+    }
+    next
+}
+
+// A column's own double areas become its doubled areas; the sums of the rows come back with the column's covers added,
+// by a loop of its own: in one with the areas the covers would have to be read anew after each area that is written.
 fn compute_doubled_areas(
     areas: &mut [i16; 256],
     covers: &[i8; 256],
@@ -56,15 +92,13 @@ fn compute_doubled_areas(
     requires { ⌜ Shadable 16 column (now areas) (now covers) sums ⌝ }
     ensures { λ r. ⌜ Shaded 16 column 16 (now (areas .entry)) (now (covers .entry)) sums (now (areas .exit)) r ⌝ }
 {
-    let mut next = sums;
     let mut y = 0;
     while y < 16 {
         let k = column * 16 + y;
-        next[y] = sums[y] + covers[k];
         areas[k] = 32 * (sums[y] as i16) + areas[k];
         y += 1;
     }
-    next
+    add_covers(covers, column, sums)
 }
 
 // The cells of a part become its doubled areas, a column after the other, from an incoming cover.

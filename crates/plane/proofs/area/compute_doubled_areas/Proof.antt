@@ -1,55 +1,45 @@
 -- `plane::area::compute_doubled_areas` meets its contract. Assumes nothing.
 use mathlib.Core.Path.{_≡_, refl}
-use Prim.Native.Nat.{_+_, _-_, _*_, _^_, _≤_, _<_}
+use mathlib.Core.List.{List}
+use Prim.Native.Nat.{ℕ, _+_, _-_, _*_, _^_, _≤_, _<_}
 use native.Mathlib.Omega.{arith}
 use borrow.Author.Needs.{needs, sfits-of}
-use lib.IntN.{ℤ, pos, _*ℤ_}
+use borrow.Author.Tests.{lt-ltb}
+use lib.IntN.{ℤ, pos, _+ℤ_, _*ℤ_}
+use lib.ListN.{set}
 use lib.Signed.{mag}
 use mir.Facts.{toZ-ofZ, sfits-widen}
 use mir.Syntax.{w8, w16}
 use mir.Val.{SFits}
 use Rattle.laws.proofs.Machine.{sfits, within, small, kept}
 use Rattle.laws.proofs.Parts.{times}
+use Rattle.laws.proofs.Rows.{length-tabulate, getD-tabulate}
 use Rattle.cover_statements.specs.Cell.{Shaded}
 use Rattle.cover_statements.specs.Cover.{coverAt}
 use Rattle.cover_statements.proofs.Shades.{shade-start, shade-area, shade-next}
 use Rattle.plane.proofs.area.compute_doubled_areas.Statement.{statement}
 use Rattle.plane.proofs.area.compute_doubled_areas.Tie as tie
 
+-- the sums that a loop over both would have by then
+record Shading (column y : ℕ) (areas₀ covers sums areas : List ℤ) : Type 0 where
+  reached : y ≤ 16
+  next : List ℤ
+  shaded : Shaded 16 column y areas₀ covers sums areas next
+
 abbrev Inv-loop : tie.InvT-loop
-Inv-loop areas₀ covers column sums next₀ y₀ areas next y = (y ≤ 16) × Shaded 16 column y areas₀ covers sums areas next
+Inv-loop areas₀ covers column sums y₀ areas y = Shading column y areas₀ covers sums areas
 
 abbrev μ-loop : tie.MeasureT-loop
-μ-loop areas₀ covers column sums next₀ y₀ areas next y = 16 - y
+μ-loop areas₀ covers column sums y₀ areas y = 16 - y
 
 loop-holds : tie.Need-loop-holds Inv-loop μ-loop
-loop-holds c = (omega arith, shade-start (c .pre .room) (search needs))
+loop-holds c = record { reached = omega arith; next = c .args .t4; shaded = shade-start (c .pre .room) (search needs) }
 
 mul-k : tie.Need-mul-k Inv-loop μ-loop
 mul-k c = omega (arith, c .before .before .pre .low)
 
 add-k : tie.Need-add-k Inv-loop μ-loop
 add-k c = omega (arith, c .before .before .pre .low)
-
-array-copy-out-next : tie.Need-array-copy-out-next Inv-loop μ-loop
-array-copy-out-next c = omega arith
-
-element-copy-out-next : tie.Need-element-copy-out-next Inv-loop μ-loop
-element-copy-out-next c = omega (arith, c .before .before .before .pre .low)
-
-add-next : tie.Need-add-next Inv-loop μ-loop
-add-next c =
-    let t = c .before .before in
-    let l = t .before in
-    let s = l .before in
-    rw (
-      kept w8 (coverAt (s .args .t4) (l .loop .y)) (c .before .next .given),
-      kept w8 (coverAt (s .args .covers .now) (s .args .column * 16 + l .loop .y)) (c .next2 .given),
-    )
-    (small w8 _ (omega (arith, s .pre .sum-small (l .loop .y) (t .loop-test .taken))))
-
-array-set-from-next : tie.Need-array-set-from-next Inv-loop μ-loop
-array-set-from-next c = omega arith
 
 array-copy-out-areas : tie.Need-array-copy-out-areas Inv-loop μ-loop
 array-copy-out-areas c = omega arith
@@ -63,26 +53,26 @@ scaled z h = sfits w16 (pos 32 *ℤ z) (omega (arith, times 32 z, within w8 z (s
 
 cast-areas : tie.Need-cast-areas Inv-loop μ-loop
 cast-areas c =
-    let l = c .before .before .before .before in
+    let l = c .before .before in
     let z = coverAt (l .before .args .t4) (l .loop .y) in
     rw (kept w8 z (c .areas .given)) (wide z (c .areas .given))
 
 mul-areas : tie.Need-mul-areas Inv-loop μ-loop
 mul-areas c =
-    let l = c .before .before .before .before in
+    let l = c .before .before in
     let z = coverAt (l .before .args .t4) (l .loop .y) in
     rw (kept w8 z (c .areas .given), toZ-ofZ (wide z (c .areas .given))) (scaled z (c .areas .given))
 
 mul-areas-2 : tie.Need-mul-areas-2 Inv-loop μ-loop
-mul-areas-2 c = omega (arith, c .before .before .before .before .before .pre .low)
+mul-areas-2 c = omega (arith, c .before .before .before .pre .low)
 
 element-copy-out-areas : tie.Need-element-copy-out-areas Inv-loop μ-loop
-element-copy-out-areas c = omega (arith, c .before .before .before .before .before .pre .low)
+element-copy-out-areas c = omega (arith, c .before .before .before .pre .low)
 
 add-areas : tie.Need-add-areas Inv-loop μ-loop
 add-areas c =
     let a = c .before in
-    let t = a .before .before .before in
+    let t = a .before in
     let l = t .before in
     let s = l .before in
     let z = coverAt (s .args .t4) (l .loop .y) in
@@ -91,15 +81,15 @@ add-areas c =
       toZ-ofZ (wide z (a .areas .given)),
       toZ-ofZ (scaled z (a .areas .given)),
       kept w16 (coverAt (l .loop .areas) (s .args .column * 16 + l .loop .y)) (c .areas2 .given),
-      shade-area (l .loop .inv .1) (s .pre .low) (t .loop-test .taken),
+      shade-area (l .loop .inv .shaded) (s .pre .low) (t .loop-test .taken),
     )
     (small w16 _ (omega (arith, s .pre .area-small (l .loop .y) (t .loop-test .taken))))
 
-mul-t29 : tie.Need-mul-t29 Inv-loop μ-loop
-mul-t29 c = omega (arith, c .before .before .before .before .before .before .pre .low)
+mul-t19 : tie.Need-mul-t19 Inv-loop μ-loop
+mul-t19 c = omega (arith, c .before .before .before .before .pre .low)
 
 element-set-from-areas : tie.Need-element-set-from-areas Inv-loop μ-loop
-element-set-from-areas c = omega (arith, c .before .before .before .before .before .before .pre .low)
+element-set-from-areas c = omega (arith, c .before .before .before .before .pre .low)
 
 add-y : tie.Need-add-y Inv-loop μ-loop
 add-y c = omega arith
@@ -110,13 +100,15 @@ loop-less c = omega arith
 loop-again : tie.Need-loop-again Inv-loop μ-loop
 loop-again c =
     let a = c .before in
-    let n = a .before in
-    let t = n .before .before in
+    let t = a .before in
     let l = t .before in
     let s = l .before in
-    let z = coverAt (s .args .t4) (l .loop .y) in (
-      omega arith,
-      shade-next (l .loop .inv .1) (s .pre .low) (t .loop-test .taken) refl
+    let z = coverAt (s .args .t4) (l .loop .y) in
+    record {
+      reached = omega arith;
+      next = set (l .loop .inv .next) (l .loop .y) (z +ℤ coverAt (s .args .covers .now) (s .args .column * 16 + l .loop .y));
+      shaded =
+          shade-next (l .loop .inv .shaded) (s .pre .low) (t .loop-test .taken) refl
           (rw (
             toZ-ofZ (add-areas c),
             kept w8 z (a .areas .given),
@@ -124,18 +116,25 @@ loop-again c =
             toZ-ofZ (scaled z (a .areas .given)),
             kept w16 (coverAt (l .loop .areas) (s .args .column * 16 + l .loop .y)) (c .areas2 .given),
           ))
-          (rw (
-            toZ-ofZ (add-next n),
-            kept w8 z (a .areas .given),
-            kept w8 (coverAt (s .args .covers .now) (s .args .column * 16 + l .loop .y)) (n .next2 .given),
-          )),
-    )
+          refl;
+    }
+
+add-covers-requires : tie.Need-add-covers-requires Inv-loop μ-loop
+add-covers-requires c κs = let s = c .before .before in (s .pre .low, s .pre .sum-small)
 
 returns : tie.Need-returns Inv-loop μ-loop
 returns c =
-    let l = c .before in
-    let e : l .loop .y ≡ 16 = omega arith in
-    rw e at (l .loop .inv .1)
+    let l = c .before .before in
+    let s = l .before in
+    let e : l .loop .y ≡ 16 = omega (arith, l .loop .inv .reached) in
+    let h = rw e at (l .loop .inv .shaded) in
+    let f : ℕ → ℤ = λ y. coverAt (s .args .t4) y +ℤ coverAt (s .args .covers .now) (s .args .column * 16 + y) in
+    record {
+      long = h .long;
+      area = h .area;
+      sums-long = rw (c .add-covers .ensures) (length-tabulate 16 f);
+      sum = λ y p. rw (c .add-covers .ensures, lt-ltb y 16 p) (getD-tabulate 16 f (pos 0) y p);
+    }
 
 pub compute-doubled-areas-spec : {M : Type 1} → statement M
 compute-doubled-areas-spec =
@@ -146,19 +145,16 @@ compute-doubled-areas-spec =
     loop-holds
     mul-k
     add-k
-    array-copy-out-next
-    element-copy-out-next
-    add-next
-    array-set-from-next
     array-copy-out-areas
     cast-areas
     mul-areas
     mul-areas-2
     element-copy-out-areas
     add-areas
-    mul-t29
+    mul-t19
     element-set-from-areas
     add-y
     loop-less
     loop-again
+    add-covers-requires
     returns)

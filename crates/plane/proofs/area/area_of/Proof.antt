@@ -1,0 +1,35 @@
+-- `plane::area::area_of` meets its contract. Assumes nothing.
+use mathlib.Core.Path.{_∙_}
+use native.Mathlib.Omega.{arith}
+use borrow.Author.Needs.{needs}
+use mir.Syntax.{w16}
+use mir.Facts.{toZ-ofZ, toZ-pos}
+use Rattle.pixel_segment.specs.Field.{cpu, multiplierOf, doubleAreaOf}
+use Rattle.pixel_segment.proofs.Widths.{area-fits}
+use Rattle.plane.proofs.area.area_of.Statement.{statement}
+use Rattle.plane.proofs.area.area_of.Tie as tie
+
+double-area-multiplier-requires : tie.Need-double-area-multiplier-requires
+double-area-multiplier-requires c κs = search needs
+
+cast-result : tie.Need-cast-result
+cast-result c = search needs
+
+mul-result : tie.Need-mul-result
+unfolding doubleAreaOf
+mul-result c = let s = c .before in
+    let w = s .args .segment .0 in
+    rw
+    (c .double-area-multiplier .ensures, toZ-pos w16 {n = multiplierOf cpu w} (omega arith), toZ-ofZ (s .fits .cover), s .pre)
+    (area-fits w)
+
+returns : tie.Need-returns
+unfolding doubleAreaOf
+returns c = let s = c .before in
+    let w = s .args .segment .0 in
+    toZ-ofZ (mul-result c)
+    ∙ rw
+    (c .double-area-multiplier .ensures, toZ-pos w16 {n = multiplierOf cpu w} (omega arith), toZ-ofZ (s .fits .cover), s .pre)
+
+pub area-of-spec : {M : Type 1} → statement M
+area-of-spec = tie.close (tie.spec double-area-multiplier-requires cast-result mul-result returns)
