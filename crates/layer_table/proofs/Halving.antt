@@ -15,6 +15,12 @@ use Rattle.layer_table.specs.Lookup.{recordPlace}
 use Rattle.layer_table.proofs.Listed.{length-ids, getD-ids, ids-lt}
 use Rattle.layer_table.proofs.Places.{place-at, place-none}
 
+-- a record that has the id stands in its place
+pub hit : (words : List ℕ) (count id at : ℕ) → strictlyAscends (tableIds words count) ≡ true → at < count → idAt words at ≡ id → given at ≡ recordPlace (tableIds words count) id
+hit words count id at asc h e =
+    ap given (sym (zero-add at))
+    ∙ sym (place-at 0 0 (tableIds words count) at id asc (rw (length-ids words count) h) (getD-ids words count at h ∙ e))
+
 pub record Halving (words : List ℕ) (count id start len : ℕ) : Type 0 where
   pub some : 0 < len
   pub within : start + len ≤ count
@@ -54,9 +60,7 @@ module _ {words : List ℕ} {count id start len : ℕ} (left : Halving words cou
       }
 
   pub found : idAt words start ≡ id → given start ≡ recordPlace (tableIds words count) id
-  found e =
-      ap given (sym (zero-add start))
-      ∙ sym (place-at 0 0 (tableIds words count) start id asc (rw (length-ids words count) (omega arith)) (getD-ids words count start (omega arith) ∙ e))
+  found e = hit words count id start asc (omega arith) e
 
   pub absent : len ≤ 1 → (idAt words start ≡ id → ⊥) → refused 8 ≡ recordPlace (tableIds words count) id
   absent h e = sym (place-none 0 (tableIds words count) id (λ i p q. not-at i (rw (length-ids words count) at p) (sym (getD-ids words count i (rw (length-ids words count) at p)) ∙ q)))
