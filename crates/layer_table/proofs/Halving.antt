@@ -1,13 +1,16 @@
 -- Halving an ascending table: what holds of the `len` places from `start` on that are left. No place outside them has the id.
 -- Assumes nothing.
 use mathlib.Core.Path.{_≡_, sym, ap, _∙_}
-use mathlib.Core.Bool.{true}
+use mathlib.Core.Bool.{Bool, true, _&&_}
 use mathlib.Core.Logic.{⊎-elim}
 use mathlib.Core.List.{List}
 use Prim.Native.Nat.{ℕ, _+_, _-_, _/_, _≤_, _<_}
 use native.Mathlib.Nat.{eq-or-lt-of-le, zero-add}
 use native.Mathlib.Omega.{arith}
+use borrow.Author.Tests.{ltb-true, eqb-true}
+use lib.Dec.{ltb, eqb}
 use Rattle.laws.specs.Answer.{refused, given}
+use Rattle.laws.proofs.Bools.{left, right}
 use Rattle.laws.proofs.Orders.{le-or-lt}
 use Rattle.styling.specs.Ascending.{strictlyAscends}
 use Rattle.layer_table.specs.Table.{idAt, tableIds}
@@ -20,6 +23,12 @@ pub hit : (words : List ℕ) (count id at : ℕ) → strictlyAscends (tableIds w
 hit words count id at asc h e =
     ap given (sym (zero-add at))
     ∙ sym (place-at 0 0 (tableIds words count) at id asc (rw (length-ids words count) h) (getD-ids words count at h ∙ e))
+
+-- as a test of the place says it
+pub tried : (words : List ℕ) (count id at : ℕ) {ok : Bool} → strictlyAscends (tableIds words count) ≡ true → ok ≡ (ltb at count && eqb (idAt words at) id) → ok ≡ true → given at ≡ recordPlace (tableIds words count) id
+tried words count id at asc e h =
+    let both : (ltb at count && eqb (idAt words at) id) ≡ true = sym e ∙ h in
+    hit words count id at asc (ltb-true at count (left (ltb at count) (eqb (idAt words at) id) both)) (eqb-true (idAt words at) id (right (ltb at count) (eqb (idAt words at) id) both))
 
 pub record Halving (words : List ℕ) (count id start len : ℕ) : Type 0 where
   pub some : 0 < len
