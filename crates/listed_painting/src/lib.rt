@@ -41,7 +41,7 @@ pub struct PaintedNext {
 }
 
 // Before the first layer of a tile.
-fn start() -> PaintWalk
+pub fn start() -> PaintWalk
     ensures { λ r. ⌜ StartsAnywhere r ⌝ }
 {
     PaintWalk {

@@ -1,15 +1,16 @@
 // The shown layers of a tile, counted and, where the tile is painted, painted one after the other.
 use listed_painting::PaintWalk;
 ghost use mathlib.Core.Path.{_≡_};
-ghost use mathlib.Core.List.{List};
-ghost use Prim.Native.Nat.{ℕ, _≤_};
+ghost use mathlib.Core.Bool.{true, cond};
+ghost use Prim.Native.Nat.{_+_, _≤_};
 ghost use lib.Count.{ones};
 ghost use lib.ListN.{length, take};
 ghost use Rattle.layer_table.specs.Table.{tableOf};
 ghost use Rattle.queue_statements.specs.Queue.{queueOf};
 ghost use Rattle.listed_painting.specs.InnerWalk.{Painter, WalkHolds, CanPaint};
 ghost use Rattle.row_lines.specs.Shown.{shownIn};
-ghost use Rattle.shown_layers.specs.Counting.{sumIn, idsOf, atStart, tallied, EntryTallied, Walkable};
+ghost use Rattle.shown_layers.specs.Counting.{sumIn, idsOf, atStart, tallied};
+ghost use Rattle.shown_layers.specs.InnerTally.{EntryTallied, CountsShown, Walkable};
 
 // Where the walk over the tile's layers stands, how many layers were shown so far, and how many octets they used.
 pub struct Tally {
@@ -109,4 +110,59 @@ fn paint_shown(
         i += 1;
     }
     tally
+}
+
+// One more where a layer is not masked off.
+fn counted(shown: u32, unmasked: bool) -> u32
+    requires { ⌜ shown ≤ 256 ⌝ }
+    ensures { λ r. ⌜ r ≡ cond unmasked (shown + 1) shown ⌝ }
+{
+    if unmasked { shown + 1 } else { shown }
+}
+
+// How many of the listed layers from `skipped` on are not masked off.
+fn count_shown(list_unmasked: &[bool], skipped: usize, listed: usize) -> u32
+    requires { ⌜ (listed ≤ 256) × (listed ≤ length (now «list_unmasked»)) ⌝ }
+    ensures { λ r. ⌜ CountsShown (take listed (now («list_unmasked» .entry))) skipped listed r ⌝ }
+{
+    let mut shown: u32 = 0;
+    let mut i = skipped;
+    while i < listed {
+        shown = counted(shown, list_unmasked[i]);
+        i += 1;
+    }
+    shown
+}
+
+// The shown layers of a tile: where it is painted they are painted, and else counted.
+pub fn tally_shown(
+    paints: bool,
+    ids: &[u32],
+    covers: &[i8],
+    n: usize,
+    part: &[u64],
+    layers: &[u32],
+    colors: &[f32],
+    count: usize,
+    list_unmasked: &[bool],
+    skipped: usize,
+    listed: usize,
+) -> Tally
+    requires { ⌜ Painter n (now ids) (now covers) (now part) (now layers) (now colors) count
+        × Walkable (tableOf (now layers) (now colors) count) (queueOf n (now ids) (now covers)) (now part)
+        (now «list_unmasked») skipped listed ⌝ }
+    ensures { λ r. ⌜ sumIn r ≡ tallied paints (tableOf (now (layers .entry)) (now (colors .entry)) count)
+        (queueOf n (now (ids .entry)) (now (covers .entry))) (now (part .entry)) atStart
+        (shownIn skipped (take listed (now («list_unmasked» .entry)))
+        (idsOf (queueOf n (now (ids .entry)) (now (covers .entry))) (now (part .entry)))) ⌝ }
+{
+    if paints {
+        paint_shown(ids, covers, n, part, layers, colors, count, list_unmasked, skipped, listed)
+    } else {
+        Tally {
+            walk: listed_painting::start(),
+            shown: count_shown(list_unmasked, skipped, listed),
+            octets: 0,
+        }
+    }
 }
