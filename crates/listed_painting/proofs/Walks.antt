@@ -1,9 +1,10 @@
 -- The walk that paints a tile's layers: what it holds at the start and after each layer, and that the layer it meets is painted as by itself.
 -- Assumes nothing.
-use mathlib.Core.Path.{_≡_, refl, sym, ap, ap₂, _∙_}
-use mathlib.Core.Bool.{Bool, true, false, cond, not, _&&_}
-use mathlib.Core.List.{List, [], _∷_, _++_}
-use Prim.Native.Nat.{ℕ, suc, _+_, _<_}
+use mathlib.Core.Path.{_≡_, refl, sym, ap, ap₂, subst, _∙_}
+use mathlib.Core.Bool.{Bool, true, false, cond, not, _&&_, false≢true}
+use mathlib.Core.Logic.{⊎-elim}
+use mathlib.Core.List.{List}
+use Prim.Native.Nat.{ℕ, _+_, _<_}
 use native.Mathlib.Numerals.{add-one}
 use native.Mathlib.Omega.{arith}
 use lib.Dec.{ltb}
@@ -11,10 +12,10 @@ use lib.Ieee.{Float}
 use lib.IntN.{ℤ}
 use lib.ListN.{length, getD, take}
 use lib.Seq.{take-suc}
-use Rattle.laws.specs.Answer.{Answer, given}
+use Rattle.laws.specs.Answer.{refused, given, isGiven}
 use Rattle.laws.proofs.Drops.{cons-lt, cons-at}
-use Rattle.pixel_segment.specs.Field.{cpu, layerIdOf}
-use Rattle.segment_rows.specs.Rows.{Ordered}
+use Rattle.laws.proofs.Orders.{le-or-lt}
+use Rattle.pixel_segment.specs.Field.{cpu}
 use Rattle.segment_rows.specs.Search.{between, layerPart}
 use Rattle.segment_rows.proofs.TileParts.{layer-part}
 use Rattle.styling.specs.Ascending.{strictlyAscends}
@@ -26,22 +27,22 @@ use Rattle.cover_statements.specs.Entry.{coverEntry}
 use Rattle.queue_statements.specs.Queue.{queueOf, idsIn, heldIn, zeros, Queued}
 use Rattle.queue_statements.proofs.Queues.{ids-queue}
 use Rattle.tile_layers.specs.Listing.{Listed, noListed, layersIn}
-use Rattle.tile_layers.specs.Walk.{Walks, listedAt, layersLeft, Stepped, Moved}
+use Rattle.tile_layers.specs.Walk.{Walks, listedAt, Stepped, Moved}
 use Rattle.tile_layers.specs.declared.walk.Next.{Next}
 use Rattle.tile_layers.proofs.Filling.{has-between}
 use Rattle.tile_layers.proofs.Ordering.{list-ascends}
-use Rattle.tile_layers.proofs.Walking.{Walking, walk-start, walk-here, walk-next}
+use Rattle.tile_layers.proofs.Walking.{Walking, walk-start, walk-here, walk-next, walk-all}
 use Rattle.pass_statements.specs.Entry.{Entry}
 use Rattle.pass_statements.specs.Item.{itemFor}
 use Rattle.layer_workbench.specs.Work.{entryOf}
 use Rattle.row_carries.proofs.Merged.{listed-cover, listed-own}
 use Rattle.painter.specs.Clip.{clipIn}
 use Rattle.painter.specs.InnerOwn.{PaintsOwn}
-use Rattle.painter.specs.Painting.{Paints}
 use Rattle.painter.specs.declared.Clip as painter
+use Rattle.painter.specs.declared.painting.Painting as painting
 use Rattle.painter.proofs.Painted.{painted}
 use Rattle.listed_painting.specs.InnerFreeing.{freeAfter, freeBy, freeFrom}
-use Rattle.listed_painting.specs.InnerWalk.{WalkHolds, CanPaint, PaintsNext, idIn}
+use Rattle.listed_painting.specs.InnerWalk.{WalkHolds, PassesOver, CanPaint, PaintsNext, idIn}
 use Rattle.listed_painting.specs.declared.PaintWalk.{PaintWalk}
 use Rattle.listed_painting.proofs.Freeing.{free-snoc, unmarked, needs-passed}
 
@@ -62,6 +63,10 @@ module _ (table : List Layer) (n : ℕ) (ids : List ℕ) (covers : List ℤ) (pa
   module _ {w : PaintWalk} (h : WalkHolds table n ids covers part w) where
     pub walking : Walking n ids covers part (w .carries) (w .segments) (w .passed)
     walking = record { within-i = h .carries-in; within-j = h .segments-in; few = h .few; inside = h .inside; left = h .left }
+
+    -- where a layer is left, a carry or a segment is
+    pub more : w .passed < length whole → w .carries + w .segments < n + length part
+    more p = ⊎-elim (λ q. absurd (omega (arith, p, walk-all n ids covers part walking q))) (λ q. q) (le-or-lt (n + length part) (w .carries + w .segments))
 
     module _ (r : Next) (s : Stepped n ids covers part (w .carries) (w .segments) r) (m : Moved n part (w .carries) (w .segments) r) where
       pub inside : w .passed < length whole
@@ -89,6 +94,19 @@ module _ (table : List Layer) (n : ℕ) (ids : List ℕ) (covers : List ℤ) (pa
           let v = walk-next n ids covers part walking r s m in
           record { carries-in = v .within-i; segments-in = v .within-j; few = v .few; inside = v .inside; left = v .left; free = free-next e }
 
+      -- passed over: its record is known, or the table lacks it
+      pub over-known : {v : PaintWalk} {below hint : ℕ} {layer : Layer} {cover : List ℤ} → v ≡ record { passed = w .passed + 1; carries = r .i; segments = r .end; clip = w .clip; «free_below» = below; hint = hint } → lookup table (r .id) ≡ given layer → cover ≡ cond (r .carried) (coverEntry 16 (w .carries) covers) zeros → below ≡ freeAfter (itemFor layer (record { id = r .id; cover = cover; segments = ltb (w .segments) (r .end); changed = false })) (w .«free_below») → PassesOver table n ids covers part w v
+      over-known {v} {below} {hint} e found ec eb =
+          subst (PassesOver table n ids covers part w) (sym e) (record { holds = stepped (w .clip) hint (rw (found, ← ec) eb); one-more = refl; clip-kept = refl })
+
+      pub over-missing : {v : PaintWalk} {k : ℕ} → v ≡ record { passed = w .passed + 1; carries = r .i; segments = r .end; clip = w .clip; «free_below» = w .«free_below»; hint = w .hint } → lookup table (r .id) ≡ refused k → PassesOver table n ids covers part w v
+      over-missing {v} e missing =
+          subst (PassesOver table n ids covers part w) (sym e) (record { holds = stepped (w .clip) (w .hint) (rw missing refl); one-more = refl; clip-kept = refl })
+
+      -- a layer that can be painted is in the table
+      pub in-table : {k : ℕ} → CanPaint table (queueOf n ids covers) part (w .passed) → lookup table (r .id) ≡ refused k → ⊥
+      in-table c e = false≢true (sym (ap isGiven (rw id-is at e)) ∙ c .known)
+
       module _ (q : Queued n ids covers) (o : Walks n ids part) where
         up : strictlyAscends (idsIn (queueOf n ids covers)) ≡ true
         up = rw (ids-queue n ids covers (q .ids-long)) (q .ascending)
@@ -106,22 +124,24 @@ module _ (table : List Layer) (n : ℕ) (ids : List ℕ) (covers : List ℤ) (pa
         pub light-is : {cover : List ℤ} {own : List ℕ} → cover ≡ cond (r .carried) (coverEntry 16 (w .carries) covers) zeros → own ≡ between (w .segments) (r .end) part → CanPaint table (queueOf n ids covers) part (w .passed) → isLight cpu 16 cover own ≡ true
         light-is ec eo c = ap₂ (isLight cpu 16) (ec ∙ cover-is) (eo ∙ own-is) ∙ c .light
 
-        module _ {layer : Layer} (found : lookup table (r .id) ≡ given layer) where
-          pub paints-next : {cover : List ℤ} {own : List ℕ} {needs : Bool} {old plane : List Float} {after : painter.Clip} {mark below : ℕ} (hint : ℕ)
-              → cover ≡ cond (r .carried) (coverEntry 16 (w .carries) covers) zeros → own ≡ between (w .segments) (r .end) part
-              → needs ≡ (isClipped (layer .props .func) && not (ltb (r .id) (w .«free_below»)))
-              → PaintsOwn own cover (r .id) layer needs (clipIn (w .clip)) old (record { clip = after; mark = mark }) plane
-              → below ≡ freeAfter (itemFor layer (record { id = r .id; cover = cover; segments = ltb (w .segments) (r .end); changed = false })) (w .«free_below»)
-              → PaintsNext table n ids covers part w old (record { walk = record { passed = w .passed + 1; carries = r .i; segments = r .end; clip = after; «free_below» = below; hint = hint }; mark = mark }) plane
-          paints-next {cover} {own} {needs} {old} {plane} {after} {mark} {below} hint ec eo en p eb =
-              record {
-                holds = stepped after hint (rw (found, ← ec) eb);
-                one-more = refl;
-                paints = λ l e.
-                    let same : layer ≡ l = cc (found, e, id-is) in
-                    rw (← same)
-                    (painted table (queueOf n ids covers) part (idIn (queueOf n ids covers) part (w .passed)) layer (clipIn (w .clip)) old
-                    (eo ∙ own-is) (ec ∙ cover-is)
-                    (en ∙ ap (λ (k : ℕ). isClipped (layer .props .func) && not (ltb k (w .«free_below»))) id-is ∙ needs-passed whole (list-ascends (queueOf n ids covers) part up (o .ordered)) table (layer .props .func) (w .passed) (w .«free_below») inside (h .free))
-                    (rw id-is at p));
-              }
+        pub paints-next : {v : PaintWalk} {layer : Layer} {cover : List ℤ} {own : List ℕ} {needs : Bool} {old plane : List Float} {below hint : ℕ} (p : painting.Painting)
+            → v ≡ record { passed = w .passed + 1; carries = r .i; segments = r .end; clip = p .clip; «free_below» = below; hint = hint }
+            → lookup table (r .id) ≡ given layer
+            → cover ≡ cond (r .carried) (coverEntry 16 (w .carries) covers) zeros → own ≡ between (w .segments) (r .end) part
+            → needs ≡ (isClipped (layer .props .func) && not (ltb (r .id) (w .«free_below»)))
+            → PaintsOwn own cover (r .id) layer needs (clipIn (w .clip)) old p plane
+            → below ≡ freeAfter (itemFor layer (record { id = r .id; cover = cover; segments = ltb (w .segments) (r .end); changed = false })) (w .«free_below»)
+            → PaintsNext table n ids covers part w old (record { walk = v; mark = p .mark }) plane
+        paints-next {v} {layer} {cover} {own} {needs} {old} {plane} {below} {hint} p e found ec eo en po eb =
+            subst (λ (x : PaintWalk). PaintsNext table n ids covers part w old (record { walk = x; mark = p .mark }) plane) (sym e)
+            (record {
+              holds = stepped (p .clip) hint (rw (found, ← ec) eb);
+              one-more = refl;
+              paints = λ l el.
+                  let same : layer ≡ l = cc (found, el, id-is) in
+                  let t = painted table (queueOf n ids covers) part (idIn (queueOf n ids covers) part (w .passed)) layer (clipIn (w .clip)) old
+                  (eo ∙ own-is) (ec ∙ cover-is)
+                  (en ∙ ap (λ (k : ℕ). isClipped (layer .props .func) && not (ltb k (w .«free_below»))) id-is ∙ needs-passed whole (list-ascends (queueOf n ids covers) part up (o .ordered)) table (layer .props .func) (w .passed) (w .«free_below») inside (h .free))
+                  (rw id-is at po) in
+                  rw (← same) (record { clip-is = t .clip-is; mark-is = t .mark-is; plane-is = t .plane-is });
+            })

@@ -193,17 +193,18 @@ pub fn paint_next(
     let i = at.carries;
     let j = at.segments;
     let next = walk::next_layer(ids, n, part, i, j);
+    let end = next.end;
     let cover = walk::incoming_cover(covers, next.carried, i);
     match layer_table::find_from(layers, count, at.hint, next.id) {
         Found::At(p) => {
             let layer = layer_table::layer_at(layers, colors, p);
             let props = layer.props;
             let func = props.func;
-            let own = &part[j..next.end];
             let needs = needs_clip(func, next.id, at.free_below);
+            let own = &part[j..end];
             let painted = painting::paint_own(own, cover, next.id, layer, needs, clip, plane);
             let after = painted.clip;
-            let free_below = free_after(layer, next.id, cover, j < next.end, at.free_below);
+            let free_below = free_after(layer, next.id, cover, j < end, at.free_below);
             PaintedNext {
                 walk: step(at.passed, next, after, free_below, p + 1),
                 mark: painted.mark,

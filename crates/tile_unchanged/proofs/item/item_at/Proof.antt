@@ -21,8 +21,8 @@ add-changed c = search needs
 shared-slice-read-changed : tie.Need-shared-slice-read-changed
 shared-slice-read-changed c = search needs
 
-find-requires : tie.Need-find-requires
-find-requires c κs = search needs
+find-from-requires : tie.Need-find-from-requires
+find-from-requires c κs = search needs
 
 enum-known-p : tie.Need-enum-known-p
 enum-known-p c = search needs
@@ -30,7 +30,7 @@ enum-known-p c = search needs
 layer-at-requires : tie.Need-layer-at-requires
 layer-at-requires c κs =
     let a = c .before .before .before .before .before .before .before .before .before .before in
-    let found = at-place {floats = a .args .colors .now} (c .before .p .given .1) (c .before .before .before .find .ensures) (a .pre .1 .ascending) in
+    let found = at-place {floats = a .args .colors .now} (c .before .p .given .1) (c .before .before .before .find-from .ensures) (a .pre .1 .ascending) in
     omega (arith, found .within, a .pre .1 .words-long, a .pre .1 .floats-long)
 
 read-cover-requires : tie.Need-read-cover-requires
@@ -48,7 +48,7 @@ enum-told c = search needs
 returns : tie.Need-returns
 returns c =
     let a = c .before .before .before .before .before .before .before .before .before .before .before .before .before .before in
-    let found = at-place {floats = a .args .colors .now} (c .before .before .before .before .before .p .given .1) (c .before .before .before .before .before .before .before .find .ensures) (a .pre .1 .ascending) in
+    let found = at-place {floats = a .args .colors .now} (c .before .before .before .before .before .p .given .1) (c .before .before .before .before .before .before .before .find-from .ensures) (a .pre .1 .ascending) in
     item-found (tableOf (a .args .layers .now) (a .args .colors .now) (a .args .count))
     (entryAt (a .args .ids .now) (a .args .covers .now) (a .args .flags .now) (a .args .i .0))
     (c .item-for .ensures)
@@ -59,7 +59,7 @@ returns c =
 returns-2 : tie.Need-returns-2
 returns-2 c =
     let a = c .before .before .before .before .before .before .before .before .before in
-    let found = at-none {floats = a .args .colors .now} (c .enum-told .given .1) (c .before .before .find .ensures) in
+    let found = at-none {floats = a .args .colors .now} (c .enum-told .given .1) (c .before .before .find-from .ensures) in
     item-missing (tableOf (a .args .layers .now) (a .args .colors .now) (a .args .count))
     (entryAt (a .args .ids .now) (a .args .covers .now) (a .args .flags .now) (a .args .i .0))
     (found .looked)
@@ -72,7 +72,7 @@ item-at-spec =
     shared-slice-read-id
     add-changed
     shared-slice-read-changed
-    find-requires
+    find-from-requires
     enum-known-p
     layer-at-requires
     read-cover-requires
