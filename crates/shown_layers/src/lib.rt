@@ -49,17 +49,28 @@ fn tally_entry(
 {
     let at = tally.walk;
     if unmasked {
-        let painted =
-            listed_painting::paint_next(ids, covers, n, part, layers, colors, count, at, plane);
+        let painted = listed_painting::paint_next(
+            ids,
+            covers,
+            n,
+            part,
+            layers,
+            colors,
+            count,
+            at,
+            plane,
+        );
         let after = painted.walk;
+        let used = used_octets(painted.mark);
         Tally {
             walk: after,
             shown: tally.shown + 1,
-            octets: tally.octets + used_octets(painted.mark),
+            octets: tally.octets + used,
         }
     } else {
+        let passed = listed_painting::pass_over(ids, covers, n, part, layers, colors, count, at);
         Tally {
-            walk: listed_painting::pass_over(ids, covers, n, part, layers, colors, count, at),
+            walk: passed,
             shown: tally.shown,
             octets: tally.octets,
         }
@@ -88,8 +99,9 @@ fn paint_shown(
         (idsOf (queueOf n (now (ids .entry)) (now (covers .entry))) (now (part .entry)))) ⌝ }
 {
     let mut plane = [0.0f32; 256];
+    let walk = listed_painting::start_past(ids, covers, n, part, layers, colors, count, skipped);
     let mut tally = Tally {
-        walk: listed_painting::start_past(ids, covers, n, part, layers, colors, count, skipped),
+        walk: walk,
         shown: 0,
         octets: 0,
     };
@@ -113,11 +125,11 @@ fn paint_shown(
 }
 
 // One more where a layer is not masked off.
-fn counted(shown: u32, unmasked: bool) -> u32
+fn counted(shown: u32, is_shown: bool) -> u32
     requires { ⌜ shown ≤ 256 ⌝ }
-    ensures { λ r. ⌜ r ≡ cond unmasked (shown + 1) shown ⌝ }
+    ensures { λ r. ⌜ r ≡ cond «is_shown» (shown + 1) shown ⌝ }
 {
-    if unmasked { shown + 1 } else { shown }
+    if is_shown { shown + 1 } else { shown }
 }
 
 // How many of the listed layers from `skipped` on are not masked off.
@@ -157,11 +169,24 @@ pub fn tally_shown(
         (idsOf (queueOf n (now (ids .entry)) (now (covers .entry))) (now (part .entry)))) ⌝ }
 {
     if paints {
-        paint_shown(ids, covers, n, part, layers, colors, count, list_unmasked, skipped, listed)
+        paint_shown(
+            ids,
+            covers,
+            n,
+            part,
+            layers,
+            colors,
+            count,
+            list_unmasked,
+            skipped,
+            listed,
+        )
     } else {
+        let walk = listed_painting::start();
+        let shown = count_shown(list_unmasked, skipped, listed);
         Tally {
-            walk: listed_painting::start(),
-            shown: count_shown(list_unmasked, skipped, listed),
+            walk: walk,
+            shown: shown,
             octets: 0,
         }
     }
