@@ -23,9 +23,9 @@ use Rattle.listed_painting.specs.declared.PaintedNext.{PaintedNext}
 use Rattle.row_statements.specs.Painting.{layerFrom, layerIn}
 use Rattle.row_lines.specs.Shown.{shownIn}
 use Rattle.shown_layers.specs.Counting.{Sum, sumIn, idsOf, atStart, tallyNext, tallied}
-use Rattle.shown_layers.specs.InnerTally.{EntryTallied, Walkable}
+use Rattle.shown_layers.specs.InnerTally.{EntryTallied, CountsShown, Walkable}
 use Rattle.shown_layers.specs.declared.Tally.{Tally}
-use Rattle.shown_layers.proofs.Tallying.{Tallying, start, next, end, id-at, ids-long}
+use Rattle.shown_layers.proofs.Tallying.{Tallying, start, next, end, counted, id-at, ids-long}
 
 -- the record that the table has
 found-layer : (table : List Layer) (id : ℕ) → isGiven (lookup table id) ≡ true → lookup table id ≡ given (layerIn table id)
@@ -85,6 +85,15 @@ module _ (table : List Layer) (n : ℕ) (ids : List ℕ) (covers : List ℤ) (pa
               subst (λ (c : Option ℕ). Tallying table (queueOf n ids covers) part (idsOf (queueOf n ids covers) part) shown skipped m (record { clip = c; shown = 0; octets = 0 }) skipped)
               (sym (s .no-clip)) start;
         }
+
+    -- in a tile that is not painted
+    pub not-painted : {paints : Bool} {w : PaintWalk} {r : ℕ} → paints ≡ false → WalkStarts table n ids covers part 0 w → CountsShown (take m shown) skipped m r → m ≡ length (layersIn (queueOf n ids covers) part) → sumIn (record { walk = w; shown = r; octets = 0 }) ≡ tallied paints table (queueOf n ids covers) part atStart (shownIn skipped (take m shown) (idsOf (queueOf n ids covers) part))
+    not-painted {paints} {w} {r} e s c all =
+        let due = shownIn skipped (take m shown) (idsOf (queueOf n ids covers) part) in
+        let many : r ≡ 0 + length due = let k = c .count (idsOf (queueOf n ids covers) part) (ids-long (queueOf n ids covers) part ∙ sym all) in omega (arith, k) in
+        (λ i. record { clip = s .no-clip i; shown = many i; octets = 0 })
+        ∙ sym (counted table (queueOf n ids covers) part atStart due)
+        ∙ sym (ap (λ (b : Bool). tallied b table (queueOf n ids covers) part atStart due) e)
 
     module _ (w : Walkable table (queueOf n ids covers) part shown skipped m) where
       all-ids : length (idsOf (queueOf n ids covers) part) ≡ m

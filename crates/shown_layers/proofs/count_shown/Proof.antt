@@ -19,7 +19,7 @@ shared-slice-read-counted : tie.Need-shared-slice-read-counted Inv-loop μ-loop
 shared-slice-read-counted c = search needs
 
 counted-requires : tie.Need-counted-requires Inv-loop μ-loop
-counted-requires c κs = ?
+counted-requires c κs = omega (arith, c .before .before .loop .inv .few, c .before .loop-test .taken, c .before .before .before .before .pre .0)
 
 add-i : tie.Need-add-i Inv-loop μ-loop
 add-i c = search needs
@@ -28,10 +28,10 @@ loop-less : tie.Need-loop-less Inv-loop μ-loop
 loop-less c = search needs
 
 loop-again : tie.Need-loop-again Inv-loop μ-loop
-loop-again c = ?
+loop-again c = count-next (c .before .before .before .loop .inv) (c .before .before .before .before .before .pre .1) (c .before .before .loop-test .taken) (c .counted .ensures)
 
 returns : tie.Need-returns Inv-loop μ-loop
-returns c = ?
+returns c = record { count = count-end (c .before .loop .inv) (c .before .before .before .pre .1) (c .loop-test .left) }
 
 pub count-shown-spec : {M : Type 1} → statement M
 count-shown-spec =
