@@ -16,11 +16,11 @@ ghost use Rattle.layer_carrying.specs.Carrying.{ruleIn, handedOn, Hands,
 ghost use Rattle.tile_layers.specs.Walk.{Walks};
 
 // The fill rule of a layer.
-pub fn rule_of(layers: &[u32], colors: &[f32], count: usize, id: u32) -> FillRule
+pub fn rule_of(layers: &[u32], colors: &[f32], count: usize, hint: usize, id: u32) -> FillRule
     requires { ⌜ Table (now layers) (now colors) count ⌝ }
     ensures { λ r. ⌜ r ≡ ruleIn (tableOf (now (layers .entry)) (now (colors .entry)) count) id ⌝ }
 {
-    match layer_table::find(layers, count, id) {
+    match layer_table::find_from(layers, count, hint, id) {
         Found::At(p) => {
             let layer = layer_table::layer_at(layers, colors, p);
             let props = layer.props;
@@ -79,7 +79,7 @@ pub fn hand_on(
         let end = next.end;
         let cover = walk::incoming_cover(covers, next.carried, i);
         let sum = carry::add_segments(&part[j..end], cover);
-        let keep = !sum.is_empty(rule_of(layers, colors, count, next.id));
+        let keep = !sum.is_empty(rule_of(layers, colors, count, m, next.id));
         m = put_carry(next_ids, next_covers, m, next.id, sum, keep);
         i = next.i;
         j = end;

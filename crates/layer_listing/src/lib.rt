@@ -25,11 +25,11 @@ pub struct Survey {
     pub light: bool,
 }
 
-fn is_known(layers: &[u32], colors: &[f32], count: usize, id: u32) -> bool
+fn is_known(layers: &[u32], colors: &[f32], count: usize, hint: usize, id: u32) -> bool
     requires { ⌜ Table (now layers) (now colors) count ⌝ }
     ensures { λ r. ⌜ r ≡ isGiven (lookup (tableOf (now (layers .entry)) (now (colors .entry)) count) id) ⌝ }
 {
-    match layer_table::find(layers, count, id) {
+    match layer_table::find_from(layers, count, hint, id) {
         Found::At(_) => true,
         Found::Absent => false,
     }
@@ -59,7 +59,7 @@ pub fn survey_layers(
         let next = walk::next_layer(ids, n, part, i, j);
         let end = next.end;
         let cover = walk::incoming_cover(covers, next.carried, i);
-        known = known & is_known(layers, colors, count, next.id);
+        known = known & is_known(layers, colors, count, total, next.id);
         light = light & carry::is_light(&part[j..end], cover);
         i = next.i;
         j = end;

@@ -7,11 +7,11 @@ ghost use Rattle.layer_table.specs.Table.{Table, tableOf};
 ghost use Rattle.tile_layers.specs.Listing.{isChanged, overFrom};
 ghost use Rattle.layer_listing.specs.InnerWriting.{marksFor};
 
-fn is_changed(layers: &[u32], colors: &[f32], count: usize, id: u32) -> bool
+fn is_changed(layers: &[u32], colors: &[f32], count: usize, hint: usize, id: u32) -> bool
     requires { ⌜ Table (now layers) (now colors) count ⌝ }
     ensures { λ r. ⌜ r ≡ isChanged (tableOf (now (layers .entry)) (now (colors .entry)) count) id ⌝ }
 {
-    match layer_table::find(layers, count, id) {
+    match layer_table::find_from(layers, count, hint, id) {
         Found::At(p) => {
             let layer = layer_table::layer_at(layers, colors, p);
             !layer.is_unchanged
@@ -35,7 +35,7 @@ pub fn mark_changed(
 {
     let mut i: usize = 0;
     while i < n {
-        flags[256 + i] = is_changed(layers, colors, count, ids[i]);
+        flags[256 + i] = is_changed(layers, colors, count, i, ids[i]);
         i += 1;
     }
 }

@@ -1,19 +1,34 @@
 -- Halving an ascending table: what holds of the `len` places from `start` on that are left. No place outside them has the id.
 -- Assumes nothing.
 use mathlib.Core.Path.{_≡_, sym, ap, _∙_}
-use mathlib.Core.Bool.{true}
+use mathlib.Core.Bool.{Bool, true, _&&_}
 use mathlib.Core.Logic.{⊎-elim}
 use mathlib.Core.List.{List}
 use Prim.Native.Nat.{ℕ, _+_, _-_, _/_, _≤_, _<_}
 use native.Mathlib.Nat.{eq-or-lt-of-le, zero-add}
 use native.Mathlib.Omega.{arith}
+use borrow.Author.Tests.{ltb-true, eqb-true}
+use lib.Dec.{ltb, eqb}
 use Rattle.laws.specs.Answer.{refused, given}
+use Rattle.laws.proofs.Bools.{left, right}
 use Rattle.laws.proofs.Orders.{le-or-lt}
 use Rattle.styling.specs.Ascending.{strictlyAscends}
 use Rattle.layer_table.specs.Table.{idAt, tableIds}
 use Rattle.layer_table.specs.Lookup.{recordPlace}
 use Rattle.layer_table.proofs.Listed.{length-ids, getD-ids, ids-lt}
 use Rattle.layer_table.proofs.Places.{place-at, place-none}
+
+-- a record that has the id stands in its place
+pub hit : (words : List ℕ) (count id at : ℕ) → strictlyAscends (tableIds words count) ≡ true → at < count → idAt words at ≡ id → given at ≡ recordPlace (tableIds words count) id
+hit words count id at asc h e =
+    ap given (sym (zero-add at))
+    ∙ sym (place-at 0 0 (tableIds words count) at id asc (rw (length-ids words count) h) (getD-ids words count at h ∙ e))
+
+-- as a test of the place says it
+pub tried : (words : List ℕ) (count id at : ℕ) {ok : Bool} → strictlyAscends (tableIds words count) ≡ true → ok ≡ (ltb at count && eqb (idAt words at) id) → ok ≡ true → given at ≡ recordPlace (tableIds words count) id
+tried words count id at asc e h =
+    let both : (ltb at count && eqb (idAt words at) id) ≡ true = sym e ∙ h in
+    hit words count id at asc (ltb-true at count (left (ltb at count) (eqb (idAt words at) id) both)) (eqb-true (idAt words at) id (right (ltb at count) (eqb (idAt words at) id) both))
 
 pub record Halving (words : List ℕ) (count id start len : ℕ) : Type 0 where
   pub some : 0 < len
@@ -54,9 +69,7 @@ module _ {words : List ℕ} {count id start len : ℕ} (left : Halving words cou
       }
 
   pub found : idAt words start ≡ id → given start ≡ recordPlace (tableIds words count) id
-  found e =
-      ap given (sym (zero-add start))
-      ∙ sym (place-at 0 0 (tableIds words count) start id asc (rw (length-ids words count) (omega arith)) (getD-ids words count start (omega arith) ∙ e))
+  found e = hit words count id start asc (omega arith) e
 
   pub absent : len ≤ 1 → (idAt words start ≡ id → ⊥) → refused 8 ≡ recordPlace (tableIds words count) id
   absent h e = sym (place-none 0 (tableIds words count) id (λ i p q. not-at i (rw (length-ids words count) at p) (sym (getD-ids words count i (rw (length-ids words count) at p)) ∙ q)))

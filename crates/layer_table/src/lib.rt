@@ -8,7 +8,8 @@ use styling::Style;
 use styling::codes;
 ghost use mathlib.Core.Path.{_≡_};
 ghost use Prim.Native.Nat.{_*_, _+_, _≤_, _<_};
-ghost use mathlib.Core.Bool.{true};
+ghost use mathlib.Core.Bool.{true, _&&_};
+ghost use lib.Dec.{ltb, eqb};
 ghost use lib.ListN.{length};
 ghost use Rattle.layer_table.specs.Record.{inRange, funcOf, layerOf};
 ghost use Rattle.layer_table.specs.Table.{idAt, wordsAt, colorAt, layerAt, tableIds, isTableShort, isTable};
@@ -17,6 +18,9 @@ ghost use Rattle.styling.specs.Ascending.{strictlyAscends};
 
 // The largest layer id, and the longest span.
 const LAYER_LIMIT: u32 = 2097151;
+
+// How many records are tried from a hint on, before a table is searched.
+const TRIES: usize = 6;
 
 // The words of one record, as they stand in the table.
 pub struct Words {
@@ -180,4 +184,34 @@ pub fn find(layers: &[u32], count: usize, id: u32) -> Found
     } else {
         Found::Absent
     }
+}
+
+// Whether the table has a record at a place, and it is the layer's.
+fn is_at(layers: &[u32], count: usize, at: usize, id: u32) -> bool
+    requires { ⌜ 8 * count ≤ length (now layers) ⌝ }
+    ensures { λ r. ⌜ r ≡ (ltb at count && eqb (idAt (now (layers .entry)) at) id) ⌝ }
+{
+    if at < count {
+        id_at(layers, at) == id
+    } else {
+        false
+    }
+}
+
+// The same place as by `find`, with any hint where it may be: the next records from there on are tried first, since
+// layers are mostly looked up in their order.
+pub fn find_from(layers: &[u32], count: usize, hint: usize, id: u32) -> Found
+    requires { ⌜ (8 * count ≤ length (now layers)) × (strictlyAscends (tableIds (now layers) count) ≡ true) ⌝ }
+    ensures { λ r. ⌜ foundOf r ≡ recordPlace (tableIds (now (layers .entry)) count) id ⌝ }
+{
+    if hint < count {
+        let mut k: usize = 0;
+        while k < TRIES {
+            if is_at(layers, count, hint + k, id) {
+                return Found::At(hint + k);
+            }
+            k += 1;
+        }
+    }
+    find(layers, count, id)
 }

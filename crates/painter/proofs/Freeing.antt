@@ -30,13 +30,13 @@ use Rattle.painter.specs.Painting.{itemsIn}
 
 module _ (table : List Layer) (id : ℕ) where
   -- the latest clip once one more layer is met
-  abbrev latestWith : Item → Option Item → Option Item
+  abbrev pub latestWith : Item → Option Item → Option Item
   latestWith x found = cond (isClip (x .func) && ltb (x .id) id) (some x) found
 
-  abbrev latestAfter : Answer Layer → Entry → Option Item → Option Item
+  abbrev pub latestAfter : Answer Layer → Entry → Option Item → Option Item
   latestAfter a e found = cond (isGiven a) (latestWith (itemFrom a e) found) found
 
-  latest-cons : (l : Listed) (ls : List Listed) (found : Option Item) → latestClip (itemsIn table (l ∷ ls)) id found ≡ latestClip (itemsIn table ls) id (latestAfter (lookup table (l .id)) (entryOf table l) found)
+  pub latest-cons : (l : Listed) (ls : List Listed) (found : Option Item) → latestClip (itemsIn table (l ∷ ls)) id found ≡ latestClip (itemsIn table ls) id (latestAfter (lookup table (l .id)) (entryOf table l) found)
   unfolding latestClip
   latest-cons l ls found = by (isGiven (lookup table (l .id)))
     where
@@ -47,7 +47,7 @@ module _ (table : List Layer) (id : ℕ) where
       by true = refl
       by false = refl
 
-  latest-nil : (found : Option Item) → latestClip (itemsIn table []) id found ≡ found
+  pub latest-nil : (found : Option Item) → latestClip (itemsIn table []) id found ≡ found
   unfolding latestClip
   latest-nil found = refl
 

@@ -2,3 +2,4 @@
 pub mod Clip
 pub mod Painting
 pub mod Freed
+pub mod InnerOwn

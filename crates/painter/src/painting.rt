@@ -2,16 +2,23 @@
 use crate::Clip;
 use crate::clips;
 use crate::freed;
+use cover::Cover;
 use segment_rows::parts;
 use styling::Func;
 use styling::Layer;
 ghost use mathlib.Core.Path.{_≡_};
 ghost use mathlib.Core.Bool.{true};
+ghost use Prim.Native.Nat.{_≤_};
+ghost use lib.ListN.{length};
 ghost use Rattle.laws.specs.Answer.{given};
+ghost use Rattle.pixel_segment.specs.Field.{cpu};
+ghost use Rattle.cover_statements.specs.Carry.{isLight};
+ghost use Rattle.pass_statements.specs.Rules.{lastReached};
 ghost use Rattle.layer_table.specs.Lookup.{lookup};
 ghost use Rattle.layer_table.specs.Table.{tableOf};
 ghost use Rattle.queue_statements.specs.Queue.{queueOf};
 ghost use Rattle.painter.specs.Clip.{clipIn};
+ghost use Rattle.painter.specs.InnerOwn.{PaintsOwn};
 ghost use Rattle.painter.specs.Painting.{MarkGiven, isLightIn, Ready, Paints};
 
 // What painting gives: the painter's clip after it, and the mark.
@@ -33,6 +40,34 @@ fn mark_for(func: Func, needs: bool, alive: Clip, used: u32) -> u32
                 used
             }
         }
+    }
+}
+
+// Paints a layer from its own segments and the cover that comes in for it; `needs` says whether it needs a clip.
+pub fn paint_own(
+    own: &[u64],
+    cover: Cover,
+    id: u32,
+    layer: Layer,
+    needs: bool,
+    clip: Clip,
+    plane: &mut [f32],
+) -> Painting
+    requires { ⌜ (isLight cpu 16 (cover .covers) (now own) ≡ true) × (256 ≤ length (now plane))
+        × (lastReached id (layer .props .func) ≤ 4294967295) ⌝ }
+    ensures { λ r. ⌜ PaintsOwn (now (own .entry)) (cover .covers) id layer needs (clipIn clip)
+        (now (plane .entry)) r (now (plane .exit)) ⌝ }
+{
+    let props = layer.props;
+    let rule = props.fill_rule;
+    let func = props.func;
+    let used = plane::paint(own, cover, rule, plane);
+    let alive = clips::alive_at(clip, id);
+    let after = clips::clip_after(func, id, clip);
+    let mark = mark_for(func, needs, alive, used);
+    Painting {
+        clip: after,
+        mark: mark,
     }
 }
 
@@ -59,16 +94,9 @@ pub fn paint(
         (now (plane .entry)) r (now (plane .exit)) ⌝ }
 {
     let props = layer.props;
-    let rule = props.fill_rule;
     let func = props.func;
     let own = parts::of_layer(part, id);
-    let used = plane::paint(own, queue::incoming(ids, covers, n, id), rule, plane);
+    let cover = queue::incoming(ids, covers, n, id);
     let needs = freed::needs_clip(ids, covers, n, part, layers, colors, count, func, id);
-    let alive = clips::alive_at(clip, id);
-    let after = clips::clip_after(func, id, clip);
-    let mark = mark_for(func, needs, alive, used);
-    Painting {
-        clip: after,
-        mark: mark,
-    }
+    paint_own(own, cover, id, layer, needs, clip, plane)
 }

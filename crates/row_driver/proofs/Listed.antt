@@ -1,28 +1,30 @@
 -- An accepted work's list: each of its layers can be painted, since the table has it and number 9 does not apply; and the tally of the lent list is
 -- the tile's. Assumes nothing.
-use mathlib.Core.Path.{_≡_, refl, ap, sym, subst, _∙_}
+use mathlib.Core.Path.{_≡_, refl, ap, sym, _∙_}
 use mathlib.Core.Bool.{true, not}
-use mathlib.Core.List.{List, [], _∷_, map}
-use Prim.Native.Nat.{ℕ, zero, suc, _≤_, _<_}
-use native.Mathlib.Nat.{le-of-suc-le-suc}
+use mathlib.Core.List.{List, map}
+use mathlib.Core.Logic.{⊎-elim}
+use Prim.Native.Nat.{ℕ, _≤_, _<_}
 use native.Mathlib.Omega.{arith}
-use lib.ListN.{length, take, drop, getD, length-map}
-use lib.Seq.{getD-take, take-append-seam}
-use Rattle.laws.specs.Answer.{refused, given}
+use lib.ListN.{length, take, drop, length-map}
+use lib.Seq.{take-append-seam}
+use Rattle.laws.specs.Answer.{refused, given, isGiven}
 use Rattle.laws.specs.Lists.{over}
+use Rattle.laws.proofs.Every.{all-at}
 use Rattle.laws.proofs.Rows.{length-over}
 use Rattle.pixel_segment.specs.Field.{cpu, layerIdOf}
 use Rattle.segment_rows.specs.Rows.{Ordered}
 use Rattle.segment_rows.specs.Search.{tilePart}
 use Rattle.styling.specs.Ascending.{strictlyAscends}
 use Rattle.styling.specs.declared.Layer.{Layer}
+use Rattle.layer_table.specs.Lookup.{lookup}
 use Rattle.queue_statements.specs.Queue.{Carry, idsIn}
 use Rattle.queue_statements.proofs.Judging as queue-judging
 use Rattle.queue_statements.proofs.Queues.{ids-queue}
-use Rattle.tile_layers.specs.Listing.{Listed, noListed, layersIn, incomingOf}
+use Rattle.tile_layers.specs.Listing.{noListed, layersIn, incomingOf}
 use Rattle.layer_carrying.proofs.Handing.{handed-few}
 use Rattle.pass_statements.specs.Item.{itemOf}
-use Rattle.pass_statements.proofs.Words.{outcome-long}
+use Rattle.pass_statements.proofs.Words.{outcome-long, skipped-within}
 use Rattle.pass_statements.specs.Decision.{codeOf, decisionIn}
 use Rattle.layer_workbench.specs.Work.{entryOf, outcomeByEntries, clearUnchanged, countFrom}
 use Rattle.cached_tile.specs.Kept.{previousCount}
@@ -41,7 +43,9 @@ use Rattle.row_statements.proofs.Paintings.{layer-passed}
 use Rattle.row_lines.specs.Shown.{shownIn}
 use Rattle.row_lines.specs.Lines.{isPaint}
 use Rattle.row_lines.proofs.Accepted.{listed-pass}
-use Rattle.shown_layers.specs.Counting.{sumIn, atStart, tallied, Painter, Paintable, Walkable}
+use Rattle.listed_painting.specs.InnerWalk.{Painter, CanPaint, idIn}
+use Rattle.shown_layers.specs.Counting.{sumIn, idsOf, atStart, tallied}
+use Rattle.shown_layers.specs.InnerTally.{Walkable}
 use Rattle.row_driver.specs.InnerSteps.{tallyAt, lineAt, Workable}
 use Rattle.row_lines.specs.declared.Line.{Line}
 use Rattle.shown_layers.specs.declared.Tally.{Tally}
@@ -49,17 +53,13 @@ use Rattle.shown_layers.specs.declared.Tally.{Tally}
 -- ---- the layers of a list
 
 module _ (table : List Layer) (q : List Carry) (part : List ℕ) (up : strictlyAscends (idsIn q) ≡ true) (ordered : Ordered (layerIdOf cpu) part) (l : Listable table (layersIn q part)) where
-  paintable : (i : ℕ) → i < length (layersIn q part) → Paintable table q part (getD (layersIn q part) i noListed .id)
-  paintable i h =
-      let id = getD (layersIn q part) i noListed .id in
-      let p = layer-passed table q part id (listed-pass table q part up ordered l i h) in
-      record { found = p .found; light = p .light }
-
--- the ids of a list in the lent column
-id-at : (ls : List Listed) (i : ℕ) → i < length ls → getD (idsIn (incomingOf ls)) i 0 ≡ getD ls i noListed .id
-id-at [] i h = absurd (omega arith)
-id-at (l ∷ ls) zero h = refl
-id-at (l ∷ ls) (suc i) h = id-at ls i (le-of-suc-le-suc h)
+  can-paint : (i : ℕ) → i < length (layersIn q part) → CanPaint table q part i
+  can-paint i h =
+      record {
+        listed = h;
+        known = all-at (λ y. isGiven (lookup table (y .id))) (layersIn q part) (l .known) i noListed h;
+        light = layer-passed table q part (idIn q part i) (listed-pass table q part up ordered l i h) .light;
+      }
 
 -- the front of a lent column
 front {ℓ} : {A : Type ℓ} (ws old : List A) (n : ℕ) → n ≡ length ws → take n (over ws old) ≡ ws
@@ -93,7 +93,6 @@ module _ (a : WorkCall) (lent : WorkLent) (ready : Workable a lent) where
     pub passes : layersVerdict a ≡ pass
     pub done : tileAnswerIn d ≡ tileAnswer (saysFor a)
     pub left : s .left ≡ length (saysFor a .handed)
-    pub list-ids : back .list .ids ≡ over (idsIn (incomingOf (listedFor a))) (lent .list .ids)
     pub list-unmasked : back .list .unmasked ≡ over (saysFor a .outcome .unmasked) (lent .list .unmasked)
 
   pub accepted : {w : TileWorked} {back : WorkLent} {d : TileDone} → w .answer ≡ worked.Done d → GivesWork (workedBy a lent) w back → Accepted d (w .state) back
@@ -107,7 +106,6 @@ module _ (a : WorkCall) (lent : WorkLent) (ready : Workable a lent) where
             passes = ev;
             done = cc;
             left = ap (λ (x : State). x .left) es;
-            list-ids = ap (λ (x : WorkLent). x .list .ids) el;
             list-unmasked = ap (λ (x : WorkLent). x .list .unmasked) el;
           }
 
@@ -125,8 +123,14 @@ module _ (a : WorkCall) (lent : WorkLent) (ready : Workable a lent) where
       outcome-long (a .clear) (clearUnchanged (a .previous) (a .clear)) (countFrom (previousCount (a .kept))) (map (itemOf (layersOf (a .table))) (map (entryOf (layersOf (a .table))) (listedFor a)))
       ∙ length-map (map (entryOf (layersOf (a .table))) (listedFor a)) (itemOf (layersOf (a .table))) ∙ length-map (listedFor a) (entryOf (layersOf (a .table)))
 
-  ids-long : length (idsIn (incomingOf (listedFor a))) ≡ length (listedFor a)
-  ids-long = length-map (incomingOf (listedFor a)) (λ c. c .id) ∙ length-map (listedFor a) (λ x. record { id = x .id; cover = x .cover })
+  -- the first layer that is not skipped is listed, or none is skipped
+  skips : saysFor a .outcome .skipped ≤ length (listedFor a)
+  unfolding outcomeByEntries
+  skips =
+      let items = map (itemOf (layersOf (a .table))) (map (entryOf (layersOf (a .table))) (listedFor a)) in
+      let long : length items ≡ length (listedFor a) = length-map (map (entryOf (layersOf (a .table))) (listedFor a)) (itemOf (layersOf (a .table))) ∙ length-map (listedFor a) (entryOf (layersOf (a .table))) in
+      ⊎-elim (λ e. omega (arith, e)) (λ e. omega (arith, e, long))
+      (skipped-within (a .clear) (clearUnchanged (a .previous) (a .clear)) (countFrom (previousCount (a .kept))) items)
 
   module _ {d : TileDone} {s : RowState} {back : WorkLent} (t : Accepted d s back) where
     listable : Listable (layersOf (a .table)) (listedFor a)
@@ -138,36 +142,31 @@ module _ (a : WorkCall) (lent : WorkLent) (ready : Workable a lent) where
     pub few : (d .listed ≤ 256) × (s .left ≤ 256)
     few = (omega (arith, count, listable .few), omega (arith, t .left, listable .few, handed-few (layersOf (a .table)) (listedFor a)))
 
-    ids-front : take (d .listed) (back .list .ids) ≡ idsIn (incomingOf (listedFor a))
-    ids-front = ap (take (d .listed)) (t .list-ids) ∙ front (idsIn (incomingOf (listedFor a))) (lent .list .ids) (d .listed) (count ∙ sym ids-long)
-
     unmasked-front : take (d .listed) (back .list .unmasked) ≡ saysFor a .outcome .unmasked
     unmasked-front = ap (take (d .listed)) (t .list-unmasked) ∙ front (saysFor a .outcome .unmasked) (lent .list .unmasked) (d .listed) (count ∙ sym flags-long)
 
-    pub walkable : Walkable (layersOf (a .table)) (carriesIn (a .state .left) (a .queue)) (tilePart (a .tile) (a .row)) (back .list .ids) (back .list .unmasked) (d .listed)
+    pub walkable : Walkable (layersOf (a .table)) (carriesIn (a .state .left) (a .queue)) (tilePart (a .tile) (a .row)) (back .list .unmasked) (d .skipped .0) (d .listed)
     unfolding queue part
     walkable =
         let r = ready .judged .rooms in
-        let ids : length (back .list .ids) ≡ length (lent .list .ids) = ap length (t .list-ids) ∙ length-over (lent .list .ids) (idsIn (incomingOf (listedFor a))) (omega (arith, ids-long, listable .few, r .list-ids)) in
         let flags : length (back .list .unmasked) ≡ length (lent .list .unmasked) = ap length (t .list-unmasked) ∙ length-over (lent .list .unmasked) (saysFor a .outcome .unmasked) (omega (arith, flags-long, listable .few, r .list-unmasked)) in
+        let skipped : d .skipped .0 ≡ saysFor a .outcome .skipped = ap (λ (x : TileAnswer). x .skipped) (t .done) in
         record {
           few = few .0;
-          ids-long = omega (arith, few, ids, r .list-ids);
+          all = count;
+          within = omega (arith, skips, skipped, count);
           unmasked-long = omega (arith, few, flags, r .list-unmasked);
-          each =
-              λ i h.
-              let id : getD (back .list .ids) i 0 ≡ getD (listedFor a) i noListed .id = sym (getD-take (d .listed) (back .list .ids) i 0 h) ∙ ap (λ (l : List ℕ). getD l i 0) ids-front ∙ id-at (listedFor a) i (omega (arith, h, count)) in
-              subst (Paintable (layersOf (a .table)) queue part) (sym id) (paintable (layersOf (a .table)) queue part ascends (ready .judged .walks .ordered) listable i (omega (arith, h, count)));
+          each = λ i h. can-paint (layersOf (a .table)) queue part ascends (ready .judged .walks .ordered) listable i (omega (arith, h, count));
         }
 
     -- the line, from what the lent list sums up to
-    pub line-done : (tally : Tally) {line : Line} → sumIn tally ≡ tallied (isPaint (decisionIn (d .decision))) (layersOf (a .table)) (carriesIn (a .state .left) (a .queue)) (tilePart (a .tile) (a .row)) atStart (shownIn (d .skipped .0) (take (d .listed) (back .list .unmasked)) (take (d .listed) (back .list .ids)))
+    pub line-done : (tally : Tally) {line : Line} → sumIn tally ≡ tallied (isPaint (decisionIn (d .decision))) (layersOf (a .table)) (carriesIn (a .state .left) (a .queue)) (tilePart (a .tile) (a .row)) atStart (shownIn (d .skipped .0) (take (d .listed) (back .list .unmasked)) (idsOf (carriesIn (a .state .left) (a .queue)) (tilePart (a .tile) (a .row))))
         → line ≡ record { decision = codeOf (decisionIn (d .decision)); listed = d .listed; shown = tally .shown; octets = tally .octets; carried = s .left } → line ≡ lineAt a
     unfolding lineAt
     line-done tally {line} e el =
         let same : sumIn tally ≡ tallyAt a =
         e
-        ∙ rw (ids-front, unmasked-front)
+        ∙ rw unmasked-front
         (ap (λ (x : TileAnswer). tallied (isPaint (x .decision)) (layersOf (a .table)) (carriesIn (a .state .left) (a .queue)) (tilePart (a .tile) (a .row)) atStart (shownIn (x .skipped) (saysFor a .outcome .unmasked) (idsIn (incomingOf (listedFor a))))) (t .done)) in
         el
         ∙ (λ i.

@@ -149,7 +149,6 @@ fn work_line(
                 layers,
                 colors,
                 count,
-                list_ids,
                 list_unmasked,
                 skipped.0,
                 done.listed,

@@ -1,39 +1,87 @@
 -- The walk over a tile's shown layers: what is tallied, with what is left, gives what the whole list gives. Assumes nothing.
 use mathlib.Core.Path.{_≡_, refl, ap, ap₂, sym, subst, _∙_}
 use mathlib.Core.Bool.{Bool, true, false, cond}
-use mathlib.Core.List.{List, _∷_}
-use mathlib.Core.Option.{Option}
-use Prim.Native.Nat.{ℕ, suc, _+_, _*_, _≤_, _<_}
+use mathlib.Core.List.{List, [], _∷_}
+use Prim.Native.Nat.{ℕ, zero, suc, _+_, _*_, _≤_, _<_}
+use native.Mathlib.Nat.{le-of-suc-le-suc, add-zero}
 use native.Mathlib.Numerals.{add-one}
 use native.Mathlib.Omega.{arith}
-use lib.Count.{ones}
-use lib.ListN.{length, drop, take, getD, drop-of-length-le}
+use lib.ListN.{length, drop, take, getD, length-map, drop-of-length-le}
 use lib.Seq.{drop-cons, getD-take, length-take-le}
 use Rattle.styling.specs.declared.Layer.{Layer}
-use Rattle.queue_statements.specs.Queue.{Carry}
-use Rattle.painter.specs.Clip.{clipAfter}
-use Rattle.painter.specs.Painting.{markIn}
-use Rattle.row_statements.specs.Painting.{layerIn}
+use Rattle.queue_statements.specs.Queue.{Carry, idsIn}
+use Rattle.tile_layers.specs.Listing.{Listed, noListed, layersIn, incomingOf}
 use Rattle.row_lines.specs.Shown.{flagged, shownIn}
-use Rattle.shown_layers.specs.Counting.{Sum, atStart, tallyNext, tallied}
+use Rattle.shown_layers.specs.Counting.{Sum, idsOf, atStart, tallyNext, tallied}
+
+-- ---- the ids of a tile's layers
+
+pub id-at : (ls : List Listed) (i : ℕ) → i < length ls → getD (idsIn (incomingOf ls)) i 0 ≡ getD ls i noListed .id
+id-at [] i h = absurd (omega arith)
+id-at (l ∷ ls) zero h = refl
+id-at (l ∷ ls) (suc i) h = id-at ls i (le-of-suc-le-suc h)
+
+pub ids-long : (queue : List Carry) (part : List ℕ) → length (idsOf queue part) ≡ length (layersIn queue part)
+ids-long queue part = length-map (incomingOf (layersIn queue part)) (λ c. c .id) ∙ length-map (layersIn queue part) (λ x. record { id = x .id; cover = x .cover })
 
 -- ---- the shown layers, from a place on
 
-module _ (ids : List ℕ) (shown : List Bool) (n i : ℕ) (p : i < n) (li : n ≤ length ids) (ls : n ≤ length shown) where
-  rest-by : shownIn i (take n shown) (take n ids) ≡ cond (getD shown i false) (getD ids i 0 ∷ shownIn (suc i) (take n shown) (take n ids)) (shownIn (suc i) (take n shown) (take n ids))
+module _ (ids : List ℕ) (shown : List Bool) (n i : ℕ) (li : length ids ≡ n) (ls : n ≤ length shown) where
+  rest-by : i < n → shownIn i (take n shown) ids ≡ cond (getD shown i false) (getD ids i 0 ∷ shownIn (suc i) (take n shown) ids) (shownIn (suc i) (take n shown) ids)
   unfolding flagged
-  rest-by =
+  rest-by p =
       ap₂ flagged
       (drop-cons (take n shown) i false (omega (arith, length-take-le n shown ls)) ∙ ap (λ (s : Bool). s ∷ drop (suc i) (take n shown)) (getD-take n shown i false p))
-      (drop-cons (take n ids) i 0 (omega (arith, length-take-le n ids li)) ∙ ap (λ (id : ℕ). id ∷ drop (suc i) (take n ids)) (getD-take n ids i 0 p))
+      (drop-cons ids i 0 (omega (arith, li)))
 
-  rest-shown : getD shown i false ≡ true → shownIn i (take n shown) (take n ids) ≡ getD ids i 0 ∷ shownIn (i + 1) (take n shown) (take n ids)
-  rest-shown e = rest-by ∙ rw (e, add-one i)
+  rest-shown : i < n → getD shown i false ≡ true → shownIn i (take n shown) ids ≡ getD ids i 0 ∷ shownIn (i + 1) (take n shown) ids
+  rest-shown p e = rest-by p ∙ rw (e, add-one i)
 
-  rest-masked : getD shown i false ≡ false → shownIn i (take n shown) (take n ids) ≡ shownIn (i + 1) (take n shown) (take n ids)
-  rest-masked e = rest-by ∙ rw (e, add-one i)
+  rest-masked : i < n → getD shown i false ≡ false → shownIn i (take n shown) ids ≡ shownIn (i + 1) (take n shown) ids
+  rest-masked p e = rest-by p ∙ rw (e, add-one i)
 
--- ---- the walk
+  rest-none : n ≤ i → shownIn i (take n shown) ids ≡ []
+  unfolding flagged
+  rest-none p = ap₂ flagged (drop-of-length-le (take n shown) {i = i} (omega (arith, length-take-le n shown ls))) (drop-of-length-le ids {i = i} (omega (arith, li)))
+
+-- ---- layers that are counted
+
+pub record Counting (shown : List Bool) (skipped n r i : ℕ) : Type 0 where
+  pub few : r ≤ i
+  pub same : (ids : List ℕ) → length ids ≡ n → r + length (shownIn i (take n shown) ids) ≡ length (shownIn skipped (take n shown) ids)
+
+pub count-start : (shown : List Bool) (skipped n : ℕ) → Counting shown skipped n 0 skipped
+count-start shown skipped n = record { few = omega arith; same = λ ids e. omega arith }
+
+module _ {shown : List Bool} {skipped n r i : ℕ} (v : Counting shown skipped n r i) (ls : n ≤ length shown) where
+  pub count-next : {s : ℕ} → i < n → s ≡ cond (getD shown i false) (r + 1) r → Counting shown skipped n s (i + 1)
+  count-next {s} p e = by (getD shown i false) refl e
+    where
+      by : (b : Bool) → getD shown i false ≡ b → s ≡ cond b (r + 1) r → Counting shown skipped n s (i + 1)
+      by true eb es =
+          record {
+            few = omega (arith, es, v .few);
+            same = λ ids li. omega (arith, es, v .same ids li, ap length (rest-shown ids shown n i li ls p eb));
+          }
+      by false eb es =
+          record {
+            few = omega (arith, es, v .few);
+            same = λ ids li. omega (arith, es, v .same ids li, ap length (rest-masked ids shown n i li ls p eb));
+          }
+
+  pub count-end : n ≤ i → (ids : List ℕ) → length ids ≡ n → r ≡ length (shownIn skipped (take n shown) ids)
+  count-end p ids li = omega (arith, v .same ids li, ap length (rest-none ids shown n i li ls p))
+
+-- in a tile that is not painted the shown layers are counted
+pub counted : (table : List Layer) (queue : List Carry) (part : List ℕ) (t : Sum) (ids : List ℕ) → tallied false table queue part t ids ≡ record { clip = t .clip; shown = t .shown + length ids; octets = t .octets }
+unfolding tallied tallyNext
+counted table queue part t [] = λ i. record { clip = t .clip; shown = sym (add-zero (t .shown)) i; octets = t .octets }
+counted table queue part t (id ∷ ids) =
+    let next : t .shown + 1 + length ids ≡ t .shown + suc (length ids) = omega arith in
+    counted table queue part (record { clip = t .clip; shown = t .shown + 1; octets = t .octets }) ids
+    ∙ (λ i. record { clip = t .clip; shown = next i; octets = t .octets })
+
+-- ---- layers that are painted
 
 -- a shown layer counts, whether it is painted or not
 pub next-shown : (paints : Bool) (table : List Layer) (queue : List Carry) (part : List ℕ) (t : Sum) (id : ℕ) → tallyNext paints table queue part t id .shown ≡ t .shown + 1
@@ -41,56 +89,44 @@ unfolding tallyNext
 next-shown true table queue part t id = refl
 next-shown false table queue part t id = refl
 
--- a layer that is counted, and one that is painted
-module _ {paints : Bool} (table : List Layer) (queue : List Carry) (part : List ℕ) (t : Sum) (id : ℕ) where
-  pub unpainted : paints ≡ false → record { clip = t .clip; shown = t .shown + 1; octets = t .octets } ≡ tallyNext paints table queue part t id
-  unfolding tallyNext
-  unpainted e = rw e
-
-  pub painted : {clip : Option ℕ} {mark used : ℕ} → paints ≡ true → mark ≡ markIn table queue part id (layerIn table id) (t .clip) → clip ≡ clipAfter (layerIn table id .props .func) id (t .clip) → used ≡ ones mark → record { clip = clip; shown = t .shown + 1; octets = t .octets + used } ≡ tallyNext paints table queue part t id
-  unfolding tallyNext
-  painted e em ec eu = rw (e, eu, em, ec)
-
-pub record Tallying (paints : Bool) (table : List Layer) (queue : List Carry) (part ids : List ℕ) (shown : List Bool) (skipped n : ℕ) (t : Sum) (i : ℕ) : Type 0 where
+pub record Tallying (table : List Layer) (queue : List Carry) (part ids : List ℕ) (shown : List Bool) (skipped n : ℕ) (t : Sum) (i : ℕ) : Type 0 where
   pub few : t .shown ≤ i
   pub used : t .octets ≤ 32 * i
-  pub same : tallied paints table queue part t (shownIn i (take n shown) (take n ids)) ≡ tallied paints table queue part atStart (shownIn skipped (take n shown) (take n ids))
+  pub same : tallied true table queue part t (shownIn i (take n shown) ids) ≡ tallied true table queue part atStart (shownIn skipped (take n shown) ids)
 
-module _ {paints : Bool} {table : List Layer} {queue : List Carry} {part ids : List ℕ} {shown : List Bool} {skipped n : ℕ} where
-  pub start : Tallying paints table queue part ids shown skipped n atStart skipped
+module _ {table : List Layer} {queue : List Carry} {part ids : List ℕ} {shown : List Bool} {skipped n : ℕ} where
+  pub start : Tallying table queue part ids shown skipped n atStart skipped
   start = record { few = omega arith; used = omega arith; same = refl }
 
-  module _ {t : Sum} {i : ℕ} (v : Tallying paints table queue part ids shown skipped n t i) where
-    shown-next : {r : Sum} → i < n → n ≤ length ids → n ≤ length shown → getD shown i false ≡ true → r ≡ tallyNext paints table queue part t (getD ids i 0) → r .octets ≤ t .octets + 32 → Tallying paints table queue part ids shown skipped n r (i + 1)
+  module _ {t : Sum} {i : ℕ} (v : Tallying table queue part ids shown skipped n t i) (li : length ids ≡ n) (ls : n ≤ length shown) where
+    shown-next : {r : Sum} → i < n → getD shown i false ≡ true → r ≡ tallyNext true table queue part t (getD ids i 0) → r .octets ≤ t .octets + 32 → Tallying table queue part ids shown skipped n r (i + 1)
     unfolding tallied
-    shown-next {r} p li ls e is h =
-        let count : r .shown ≡ t .shown + 1 = ap (λ (x : Sum). x .shown) is ∙ next-shown paints table queue part t (getD ids i 0) in
+    shown-next {r} p e is h =
+        let count : r .shown ≡ t .shown + 1 = ap (λ (x : Sum). x .shown) is ∙ next-shown true table queue part t (getD ids i 0) in
         record {
           few = omega (arith, count, v .few);
           used = omega (arith, h, v .used);
           same =
-              ap (λ (x : Sum). tallied paints table queue part x (shownIn (i + 1) (take n shown) (take n ids))) is
-              ∙ sym (ap (tallied paints table queue part t) (rest-shown ids shown n i p li ls e))
+              ap (λ (x : Sum). tallied true table queue part x (shownIn (i + 1) (take n shown) ids)) is
+              ∙ sym (ap (tallied true table queue part t) (rest-shown ids shown n i li ls p e))
               ∙ v .same;
         }
 
-    masked-next : i < n → n ≤ length ids → n ≤ length shown → getD shown i false ≡ false → Tallying paints table queue part ids shown skipped n t (i + 1)
-    masked-next p li ls e =
+    masked-next : i < n → getD shown i false ≡ false → Tallying table queue part ids shown skipped n t (i + 1)
+    masked-next p e =
         record {
           few = omega (arith, v .few);
           used = omega (arith, v .used);
-          same = sym (ap (tallied paints table queue part t) (rest-masked ids shown n i p li ls e)) ∙ v .same;
+          same = sym (ap (tallied true table queue part t) (rest-masked ids shown n i li ls p e)) ∙ v .same;
         }
 
-    pub next : {r : Sum} → i < n → n ≤ length ids → n ≤ length shown → r ≡ cond (getD shown i false) (tallyNext paints table queue part t (getD ids i 0)) t → r .octets ≤ t .octets + 32 → Tallying paints table queue part ids shown skipped n r (i + 1)
-    next {r} p li ls is h = by (getD shown i false) refl is
+    pub next : {r : Sum} → i < n → r ≡ cond (getD shown i false) (tallyNext true table queue part t (getD ids i 0)) t → r .octets ≤ t .octets + 32 → Tallying table queue part ids shown skipped n r (i + 1)
+    next {r} p is h = by (getD shown i false) refl is
       where
-        by : (b : Bool) → getD shown i false ≡ b → r ≡ cond b (tallyNext paints table queue part t (getD ids i 0)) t → Tallying paints table queue part ids shown skipped n r (i + 1)
-        by true e is = shown-next p li ls e is h
-        by false e is = subst (λ (x : Sum). Tallying paints table queue part ids shown skipped n x (i + 1)) (sym is) (masked-next p li ls e)
+        by : (b : Bool) → getD shown i false ≡ b → r ≡ cond b (tallyNext true table queue part t (getD ids i 0)) t → Tallying table queue part ids shown skipped n r (i + 1)
+        by true e is = shown-next p e is h
+        by false e is = subst (λ (x : Sum). Tallying table queue part ids shown skipped n x (i + 1)) (sym is) (masked-next p e)
 
-    pub end : n ≤ i → n ≤ length ids → n ≤ length shown → t ≡ tallied paints table queue part atStart (shownIn skipped (take n shown) (take n ids))
-    unfolding tallied flagged
-    end p li ls =
-        sym (ap (tallied paints table queue part t) (ap₂ flagged (drop-of-length-le (take n shown) {i = i} (omega (arith, length-take-le n shown ls))) (drop-of-length-le (take n ids) {i = i} (omega (arith, length-take-le n ids li)))))
-        ∙ v .same
+    pub end : n ≤ i → t ≡ tallied true table queue part atStart (shownIn skipped (take n shown) ids)
+    unfolding tallied
+    end p = sym (ap (tallied true table queue part t) (rest-none ids shown n i li ls p)) ∙ v .same

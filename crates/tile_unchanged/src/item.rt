@@ -53,7 +53,7 @@ pub fn item_at(
     let at = i.0;
     let id = ids[at];
     let changed = flags[256 + at];
-    match layer_table::find(layers, count, id) {
+    match layer_table::find_from(layers, count, at, id) {
         Found::At(p) => {
             let layer = layer_table::layer_at(layers, colors, p);
             item_for(layer, id, entry::read_cover(covers, at), flags[at], changed)

@@ -5,8 +5,8 @@ use Rattle.layer_table.proofs.Looking.{at-place, at-none}
 use Rattle.layer_carrying.proofs.rule_of.Statement.{statement}
 use Rattle.layer_carrying.proofs.rule_of.Tie as tie
 
-find-requires : tie.Need-find-requires
-find-requires c κs = search needs
+find-from-requires : tie.Need-find-from-requires
+find-from-requires c κs = search needs
 
 enum-known-p : tie.Need-enum-known-p
 enum-known-p c = search needs
@@ -14,7 +14,7 @@ enum-known-p c = search needs
 layer-at-requires : tie.Need-layer-at-requires
 layer-at-requires c κs =
     let s = c .before .before .before .before .before .before in
-    let found = at-place {floats = s .args .colors .now} (c .before .p .given .1) (c .before .before .before .find .ensures) (s .pre .ascending) in
+    let found = at-place {floats = s .args .colors .now} (c .before .p .given .1) (c .before .before .before .find-from .ensures) (s .pre .ascending) in
     omega (arith, found .within, s .pre .words-long, s .pre .floats-long)
 
 enum-told : tie.Need-enum-told
@@ -23,14 +23,14 @@ enum-told c = search needs
 returns : tie.Need-returns
 returns c =
     let s = c .before .before .before .before .before .before .before .before in
-    let found = at-place {floats = s .args .colors .now} (c .before .before .before .p .given .1) (c .before .before .before .before .before .find .ensures) (s .pre .ascending) in
+    let found = at-place {floats = s .args .colors .now} (c .before .before .before .p .given .1) (c .before .before .before .before .before .find-from .ensures) (s .pre .ascending) in
     rw (found .looked, c .before .layer-at .ensures)
 
 returns-2 : tie.Need-returns-2
 returns-2 c =
     let s = c .before .before .before .before .before in
-    rw ((at-none {floats = s .args .colors .now} (c .enum-told .given .1) (c .before .before .find .ensures)) .looked)
+    rw ((at-none {floats = s .args .colors .now} (c .enum-told .given .1) (c .before .before .find-from .ensures)) .looked)
 
 pub rule-of-spec : {M : Type 1} → statement M
 rule-of-spec =
-    tie.close (tie.spec find-requires enum-known-p layer-at-requires enum-told returns returns-2)
+    tie.close (tie.spec find-from-requires enum-known-p layer-at-requires enum-told returns returns-2)

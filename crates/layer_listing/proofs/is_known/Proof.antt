@@ -4,8 +4,8 @@ use Rattle.layer_table.proofs.Looking.{at-place, at-none}
 use Rattle.layer_listing.proofs.is_known.Statement.{statement}
 use Rattle.layer_listing.proofs.is_known.Tie as tie
 
-find-requires : tie.Need-find-requires
-find-requires c κs = search needs
+find-from-requires : tie.Need-find-from-requires
+find-from-requires c κs = search needs
 
 enum-told : tie.Need-enum-told
 enum-told c = search needs
@@ -16,12 +16,12 @@ enum-told-2 c = search needs
 returns : tie.Need-returns
 returns c =
     let s = c .before .before .before .before .before in
-    rw ((at-place {floats = s .args .colors .now} (c .enum-told .given .1) (c .before .before .find .ensures) (s .pre .ascending)) .looked)
+    rw ((at-place {floats = s .args .colors .now} (c .enum-told .given .1) (c .before .before .find-from .ensures) (s .pre .ascending)) .looked)
 
 returns-2 : tie.Need-returns-2
 returns-2 c =
     let s = c .before .before .before .before .before in
-    rw ((at-none {floats = s .args .colors .now} (c .enum-told2 .given .1) (c .before .before .find .ensures)) .looked)
+    rw ((at-none {floats = s .args .colors .now} (c .enum-told2 .given .1) (c .before .before .find-from .ensures)) .looked)
 
 pub is-known-spec : {M : Type 1} → statement M
-is-known-spec = tie.close (tie.spec find-requires enum-told enum-told-2 returns returns-2)
+is-known-spec = tie.close (tie.spec find-from-requires enum-told enum-told-2 returns returns-2)

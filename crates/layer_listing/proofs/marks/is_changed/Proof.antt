@@ -7,8 +7,8 @@ use Rattle.layer_listing.proofs.Marking.{changed-found, changed-missing
 use Rattle.layer_listing.proofs.marks.is_changed.Statement.{statement}
 use Rattle.layer_listing.proofs.marks.is_changed.Tie as tie
 
-find-requires : tie.Need-find-requires
-find-requires c κs = search needs
+find-from-requires : tie.Need-find-from-requires
+find-from-requires c κs = search needs
 
 enum-known-p : tie.Need-enum-known-p
 enum-known-p c = search needs
@@ -16,7 +16,7 @@ enum-known-p c = search needs
 layer-at-requires : tie.Need-layer-at-requires
 layer-at-requires c κs =
     let a = c .before .before .before .before .before .before in
-    let found = at-place {floats = a .args .colors .now} (c .before .p .given .1) (c .before .before .before .find .ensures) (a .pre .ascending) in
+    let found = at-place {floats = a .args .colors .now} (c .before .p .given .1) (c .before .before .before .find-from .ensures) (a .pre .ascending) in
     omega (arith, found .within, a .pre .words-long, a .pre .floats-long)
 
 enum-told : tie.Need-enum-told
@@ -25,15 +25,15 @@ enum-told c = search needs
 returns : tie.Need-returns
 returns c =
     let a = c .before .before .before .before .before .before .before .before in
-    let found = at-place {floats = a .args .colors .now} (c .before .before .before .p .given .1) (c .before .before .before .before .before .find .ensures) (a .pre .ascending) in
+    let found = at-place {floats = a .args .colors .now} (c .before .before .before .p .given .1) (c .before .before .before .before .before .find-from .ensures) (a .pre .ascending) in
     changed-found (tableOf (a .args .layers .now) (a .args .colors .now) (a .args .count)) (a .args .id) (c .before .layer-at .ensures) (found .looked)
 
 returns-2 : tie.Need-returns-2
 returns-2 c =
     let a = c .before .before .before .before .before in
     changed-missing (tableOf (a .args .layers .now) (a .args .colors .now) (a .args .count)) (a .args .id)
-    ((at-none {floats = a .args .colors .now} (c .enum-told .given .1) (c .before .before .find .ensures)) .looked)
+    ((at-none {floats = a .args .colors .now} (c .enum-told .given .1) (c .before .before .find-from .ensures)) .looked)
 
 pub is-changed-spec : {M : Type 1} → statement M
 is-changed-spec =
-    tie.close (tie.spec find-requires enum-known-p layer-at-requires enum-told returns returns-2)
+    tie.close (tie.spec find-from-requires enum-known-p layer-at-requires enum-told returns returns-2)

@@ -76,17 +76,17 @@ is-paint-requires c κs = search needs
 tally-shown-requires : tie.Need-tally-shown-requires
 unfolding called lentTo backOf
 tally-shown-requires c κs =
-    let s = c .before .before .before .before .before .before .before .before .before .before .before .before .before .before .before .before .before .before .before .before .before .before .before .before .before .before .before .before .before .before .before .before .before .before .before .before in
-    let given = given-is (c .before .before .before .before .before .before .before .before .before .before .before .before .before .before .before .before .before .before .before) in
-    let t = accepted (called s) (lentTo s) (s .pre) (c .before .before .before .before .before .before .before .answer .given .1) given in
-    rw (part-is (c .before .before .before)) (painter (called s) (lentTo s) (s .pre), walkable (called s) (lentTo s) (s .pre) t)
+    let s = c .before .before .before .before .before .before .before .before .before .before .before .before .before .before .before .before .before .before .before .before .before .before .before .before .before .before .before .before .before .before .before .before .before .before .before in
+    let given = given-is (c .before .before .before .before .before .before .before .before .before .before .before .before .before .before .before .before .before .before) in
+    let t = accepted (called s) (lentTo s) (s .pre) (c .before .before .before .before .before .before .answer .given .1) given in
+    rw (part-is (c .before .before)) (painter (called s) (lentTo s) (s .pre), walkable (called s) (lentTo s) (s .pre) t)
 
 line-of-requires : tie.Need-line-of-requires
 unfolding called lentTo
 line-of-requires c κs =
-    let s = c .before .before .before .before .before .before .before .before .before .before .before .before .before .before .before .before .before .before .before .before .before .before .before .before .before .before .before .before .before .before .before .before .before .before .before .before .before in
-    let given = given-is (c .before .before .before .before .before .before .before .before .before .before .before .before .before .before .before .before .before .before .before .before) in
-    few (called s) (lentTo s) (s .pre) (accepted (called s) (lentTo s) (s .pre) (c .before .before .before .before .before .before .before .before .answer .given .1) given)
+    let s = c .before .before .before .before .before .before .before .before .before .before .before .before .before .before .before .before .before .before .before .before .before .before .before .before .before .before .before .before .before .before .before .before .before .before .before .before in
+    let given = given-is (c .before .before .before .before .before .before .before .before .before .before .before .before .before .before .before .before .before .before .before) in
+    few (called s) (lentTo s) (s .pre) (accepted (called s) (lentTo s) (s .pre) (c .before .before .before .before .before .before .before .answer .given .1) given)
 
 same-length : tie.Need-same-length
 same-length c = search needs
@@ -114,30 +114,30 @@ returns c =
     record { works = given; line-is = λ e. absurd (line-refused (called s) (lentTo s) (s .pre) (c .before .enum-told .given .1) given e) }
 
 same-length-7 : tie.Need-same-length-7
-same-length-7 c = c .before .before .before .before .before .before .before .before .before .before .before .before .before .before .before .before .before .before .before .before .before .work-judged .kept .1 .1 .1 .1 .1 .1 .1 .1 .1 .1 .1 .0
+same-length-7 c = c .before .before .before .before .before .before .before .before .before .before .before .before .before .before .before .before .before .before .before .before .work-judged .kept .1 .1 .1 .1 .1 .1 .1 .1 .1 .1 .1 .0
 
 same-length-8 : tie.Need-same-length-8
-same-length-8 c = c .before .before .before .before .before .before .before .before .before .before .before .before .before .before .before .before .before .before .before .before .before .work-judged .kept .1 .1 .1 .1 .1 .1 .1 .1 .1 .1 .1 .1 .0
+same-length-8 c = c .before .before .before .before .before .before .before .before .before .before .before .before .before .before .before .before .before .before .before .before .work-judged .kept .1 .1 .1 .1 .1 .1 .1 .1 .1 .1 .1 .1 .0
 
 same-length-9 : tie.Need-same-length-9
-same-length-9 c = c .before .before .before .before .before .before .before .before .before .before .before .before .before .before .before .before .before .before .before .before .before .work-judged .kept .1 .1 .1 .1 .1 .1 .1 .1 .1 .1 .1 .1 .1 .0
+same-length-9 c = c .before .before .before .before .before .before .before .before .before .before .before .before .before .before .before .before .before .before .before .before .work-judged .kept .1 .1 .1 .1 .1 .1 .1 .1 .1 .1 .1 .1 .1 .0
 
 same-length-10 : tie.Need-same-length-10
-same-length-10 c = c .before .before .before .before .before .before .before .before .before .before .before .before .before .before .before .before .before .before .before .before .before .work-judged .kept .1 .1 .1 .1 .1 .1 .1 .1 .1 .1 .1 .1 .1 .1 .0
+same-length-10 c = c .before .before .before .before .before .before .before .before .before .before .before .before .before .before .before .before .before .before .before .before .work-judged .kept .1 .1 .1 .1 .1 .1 .1 .1 .1 .1 .1 .1 .1 .1 .0
 
 same-length-11 : tie.Need-same-length-11
-same-length-11 c = c .before .before .before .before .before .before .before .before .before .before .before .before .before .before .before .before .before .before .before .before .before .work-judged .kept .1 .1 .1 .1 .1 .1 .1 .1 .1 .1 .1 .1 .1 .1 .1 .0
+same-length-11 c = c .before .before .before .before .before .before .before .before .before .before .before .before .before .before .before .before .before .before .before .before .work-judged .kept .1 .1 .1 .1 .1 .1 .1 .1 .1 .1 .1 .1 .1 .1 .1 .0
 
 same-length-12 : tie.Need-same-length-12
-same-length-12 c = c .before .before .before .before .before .before .before .before .before .before .before .before .before .before .before .before .before .before .before .before .before .work-judged .kept .1 .1 .1 .1 .1 .1 .1 .1 .1 .1 .1 .1 .1 .1 .1 .1 .0
+same-length-12 c = c .before .before .before .before .before .before .before .before .before .before .before .before .before .before .before .before .before .before .before .before .work-judged .kept .1 .1 .1 .1 .1 .1 .1 .1 .1 .1 .1 .1 .1 .1 .1 .1 .0
 
 returns-2 : tie.Need-returns-2
 unfolding called lentTo backOf
 returns-2 c =
-    let s = c .before .before .before .before .before .before .before .before .before .before .before .before .before .before .before .before .before .before .before .before .before .before .before .before .before .before .before .before .before .before .before .before .before .before .before .before .before .before in
-    let given = given-is (c .before .before .before .before .before .before .before .before .before .before .before .before .before .before .before .before .before .before .before .before .before) in
-    let t = accepted (called s) (lentTo s) (s .pre) (c .before .before .before .before .before .before .before .before .before .answer .given .1) given in
-    let tallied = rw (part-is (c .before .before .before .before .before), c .before .before .before .before .is-paint .ensures) at (c .before .tally-shown .ensures) in
+    let s = c .before .before .before .before .before .before .before .before .before .before .before .before .before .before .before .before .before .before .before .before .before .before .before .before .before .before .before .before .before .before .before .before .before .before .before .before .before in
+    let given = given-is (c .before .before .before .before .before .before .before .before .before .before .before .before .before .before .before .before .before .before .before .before) in
+    let t = accepted (called s) (lentTo s) (s .pre) (c .before .before .before .before .before .before .before .before .answer .given .1) given in
+    let tallied = rw (part-is (c .before .before .before .before), c .before .before .before .is-paint .ensures) at (c .before .tally-shown .ensures) in
     record { works = given; line-is = λ e. line-done (called s) (lentTo s) (s .pre) t (c .before .tally-shown .result) tallied (c .line-of .ensures) }
 
 pub work-line-spec : {M : Type 1} → statement M

@@ -1,0 +1,3 @@
+-- Laws of the walk that paints a tile's layers.
+pub mod Freeing
+pub mod Walks
