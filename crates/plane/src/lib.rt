@@ -1,13 +1,12 @@
 // The coverages of a part in a lent plane, at row × 16 + column.
 pub mod area;
 pub mod column;
+pub mod shade;
 
 use cover::Cover;
 use cover::carry;
 use cover_statements::plane::Painted;
-use mark::weights;
 use styling::FillRule;
-use weight::tile;
 ghost use mathlib.Core.Path.{_≡_};
 ghost use mathlib.Core.Bool.{true};
 ghost use Prim.Native.Nat.{_≤_};
@@ -35,9 +34,7 @@ fn paint_judged(part: &[u64], cover: Cover, rule: FillRule, plane: &mut [f32]) -
     if !area::judged_areas(part, cover, &mut areas) {
         return Painted::CoverTooLarge;
     }
-    tile::weigh(&mut areas, rule);
-    tile::write_plane(&areas, plane);
-    Painted::Mark(weights::mark_of(&areas))
+    Painted::Mark(shade::paint(&mut areas, rule, plane))
 }
 
 // The coverages of a part that nothing refuses, and their mark.

@@ -5,12 +5,16 @@ use styling::FillRule;
 ghost use mathlib.Core.Path.{_≡_};
 ghost use Prim.Native.Nat.{_+_, _*_, _≤_, _<_};
 ghost use lib.ListN.{length};
-ghost use Rattle.laws.specs.Lists.{over};
+ghost use lib.Seq.{paste};
+ghost use Rattle.laws.specs.Lists.{over, tabulate};
 ghost use Rattle.weight_table.specs.Rest.{curve};
 ghost use Rattle.styling.specs.declared.FillRule.the-variants.{NonZero, EvenOdd};
+ghost use Rattle.cover_statements.specs.Cover.{coverAt};
+ghost use Rattle.cover_statements.specs.Plane.{inPlaces};
 ghost use Rattle.cover_statements.specs.Weighed.{
   InRange,
   Weighed,
+  weightIn,
   weightsOf,
   coveragesIn,
   weightsPlane,
@@ -51,6 +55,37 @@ pub fn weigh(areas: &mut [i16], rule: FillRule)
             let weights = weight_table::weights();
             weigh_even_odd(&weights, areas)
         }
+    }
+}
+
+// Row y of the EvenOdd weights, from doubled areas that stand by columns.
+fn weigh_row(table: &[u16; 1024], areas: &[i16], y: usize, weights: &mut [i16])
+    requires { ⌜ (now table ≡ curve) × (256 ≤ length (now areas)) × (y < 16)
+        × (y * 16 + 16 ≤ length (now weights)) ⌝ }
+    ensures { λ _. ⌜ now (weights .exit)
+        ≡ paste (now (weights .entry)) (y * 16)
+        (tabulate 16 (λ x. weightIn EvenOdd (coverAt (now (areas .entry)) (x * 16 + y)))) 16 ⌝ }
+{
+    let mut x = 0;
+    while x < 16 {
+        weights[y * 16 + x] = crate::even_odd_in(table, areas[x * 16 + y]) as i16;
+        x += 1;
+    }
+}
+
+// The EvenOdd weights in the order of a plane, from 256 doubled areas that stand by columns: each is looked up alone,
+// so the exchange of the two places costs nothing here.
+pub fn weigh_rows(areas: &[i16], weights: &mut [i16])
+    requires { ⌜ (256 ≤ length (now areas)) × (256 ≤ length (now weights)) ⌝ }
+    ensures { λ _. ⌜ now (weights .exit)
+        ≡ over (inPlaces 16 (λ x y. weightIn EvenOdd (coverAt (now (areas .entry)) (x * 16 + y))))
+        (now (weights .entry)) ⌝ }
+{
+    let table = weight_table::weights();
+    let mut y = 0;
+    while y < 16 {
+        weigh_row(&table, areas, y, weights);
+        y += 1;
     }
 }
 

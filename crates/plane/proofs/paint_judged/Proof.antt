@@ -7,7 +7,7 @@ use native.Mathlib.Omega.{arith}
 use borrow.Author.Tests.{not-true, not-false}
 use borrow.Author.Needs.{needs}
 use lib.Ieee.{Float, nan}
-use lib.ListN.{length, length-map}
+use lib.ListN.{length}
 use Rattle.laws.specs.Lists.{over}
 use Rattle.pixel_segment.specs.Field.{cpu}
 use Rattle.cover_statements.specs.Area.{areasOf}
@@ -17,10 +17,10 @@ use Rattle.cover_statements.specs.Cover.{coverAt}
 use Rattle.cover_statements.specs.Mark.{markOf}
 use Rattle.cover_statements.specs.Paint.{partPlane}
 use Rattle.cover_statements.specs.Plane.{coveragesOf, exchange}
-use Rattle.cover_statements.specs.Weighed.{weightIn, Weighed, coveragesIn, weightsPlane}
+use Rattle.cover_statements.specs.Weighed.{weightsOf, weightsPlane}
 use Rattle.cover_statements.proofs.Paintings.{paint-heavy, paint-done}
 use Rattle.cover_statements.proofs.Planes.{areas-length, areas-in-range, plane-of-areas}
-use Rattle.cover_statements.proofs.Weighings.{weights-are, coverages-are}
+use Rattle.cover_statements.proofs.Weighings.{coverages-are}
 use Rattle.plane.proofs.paint_judged.Statement.{statement}
 use Rattle.plane.proofs.paint_judged.Tie as tie
 
@@ -68,59 +68,33 @@ areas-are c = c .before .judged-areas .ensures .areas-are (not-false _ (c .if3 .
 areas-long : (c : tie.Else3) → length (c .before .judged-areas .last .1 .1 .0) ≡ 256
 areas-long c = ap length (areas-are c) ∙ areas-length cpu 16 (coverAt (c .before .before .before .before .before .before .args .cover .covers)) (c .before .before .before .before .before .before .args .part .now)
 
-slice-aggregate-weigh : tie.Need-slice-aggregate-weigh
-slice-aggregate-weigh c = sym (areas-long (c .before))
+slice-aggregate-paint : tie.Need-slice-aggregate-paint
+slice-aggregate-paint c = sym (areas-long (c .before))
 
-weigh-requires : tie.Need-weigh-requires
-weigh-requires c κs =
-    let s = c .before .before .before .before .before .before .before in
-    areas-in-range cpu 16 (s .args .cover .covers) (s .args .part .now) refl (accepted (c .before)) (areas-are (c .before))
-
-slice-aggregate-write-plane : tie.Need-slice-aggregate-write-plane
-slice-aggregate-write-plane c = search needs
-
-weights-long : (w : tie.After-weigh) → length (w .weigh .last .0) ≡ 256
-weights-long w =
-    let t = w .before .before in
-    ap length (w .weigh .ensures) ∙ length-map (t .before .judged-areas .last .1 .1 .0) (weightIn (w .before .before .before .before .before .before .before .before .args .rule)) ∙ areas-long t
-
-weighed : (w : tie.After-weigh) → Weighed (w .weigh .last .0)
-weighed w = weights-are (w .before .before .before .before .before .before .before .before .args .rule) (w .before .before .before .judged-areas .last .1 .1 .0) (w .weigh .ensures)
+paint-requires-2 : tie.Need-paint-requires-2
+paint-requires-2 c κs =
+    let t = c .before .before in
+    let s = t .before .before .before .before .before .before in
+    (areas-in-range cpu 16 (s .args .cover .covers) (s .args .part .now) refl (accepted t) (areas-are t), omega (arith, areas-long t), s .pre)
 
 -- the coverages of the weights are the plane
-plane-is : (w : tie.After-weigh) → weightsPlane 16 (w .weigh .last .0) ≡ partPlane cpu (w .before .before .before .before .before .before .before .before .args .rule) (w .before .before .before .before .before .before .before .before .args .cover .covers) (w .before .before .before .before .before .before .before .before .args .part .now)
-plane-is w =
-    let t = w .before .before in
-    let s = w .before .before .before .before .before .before .before .before in
-    ap (exchange nan 16)
-    (ap coveragesIn (w .weigh .ensures)
-    ∙ coverages-are (s .args .rule) (t .before .judged-areas .last .1 .1 .0)
-    ∙ ap (coveragesOf (s .args .rule)) (areas-are t))
+plane-is : (t : tie.Else3) → weightsPlane 16 (weightsOf (t .before .before .before .before .before .before .args .rule) (t .before .judged-areas .last .1 .1 .0)) ≡ partPlane cpu (t .before .before .before .before .before .before .args .rule) (t .before .before .before .before .before .before .args .cover .covers) (t .before .before .before .before .before .before .args .part .now)
+plane-is t =
+    let s = t .before .before .before .before .before .before in
+    ap (exchange nan 16) (coverages-are (s .args .rule) (t .before .judged-areas .last .1 .1 .0) ∙ ap (coveragesOf (s .args .rule)) (areas-are t))
     ∙ plane-of-areas cpu 16 (s .args .rule) (coverAt (s .args .cover .covers)) (s .args .part .now) nan
-
-write-plane-requires : tie.Need-write-plane-requires
-write-plane-requires c κs =
-    let w = c .before .before .before in
-    (weighed w, omega (arith, weights-long w), w .before .before .before .before .before .before .before .before .pre)
-
-slice-aggregate-mark-of : tie.Need-slice-aggregate-mark-of
-slice-aggregate-mark-of c = search needs
-
-mark-of-requires : tie.Need-mark-of-requires
-mark-of-requires c κs =
-    let w = c .before .before .before .before .before .before .before in
-    (weighed w, omega (arith, weights-long w))
 
 same-length-2 : tie.Need-same-length-2
 same-length-2 c = search needs
 
 returns-4 : tie.Need-returns-4
 returns-4 c =
-    let w = c .before .before .before .before .before .before .before .before in
-    let s = w .before .before .before .before .before .before .before .before in
-    paint-done (s .pre) (accepted (w .before .before))
-    (c .before .before .before .before .write-plane .ensures ∙ ap (λ (l : List Float). over l (s .args .plane .now)) (plane-is w))
-    (c .mark-of .ensures ∙ ap markOf (plane-is w))
+    let p = c .before .before .before in
+    let t = p .before .before .before in
+    let s = t .before .before .before .before .before .before in
+    paint-done (s .pre) (accepted t)
+    (p .paint2 .ensures .0 ∙ ap (λ (l : List Float). over l (s .args .plane .now)) (plane-is t))
+    (p .paint2 .ensures .1 ∙ ap markOf (plane-is t))
 
 pub paint-judged-spec : {M : Type 1} → statement M
 paint-judged-spec =
@@ -133,11 +107,7 @@ paint-judged-spec =
     returns-2
     judged-areas-requires
     returns-3
-    slice-aggregate-weigh
-    weigh-requires
-    slice-aggregate-write-plane
-    write-plane-requires
-    slice-aggregate-mark-of
-    mark-of-requires
+    slice-aggregate-paint
+    paint-requires-2
     same-length-2
     returns-4)

@@ -1,0 +1,2 @@
+-- What the contracts say is of cover_statements, but for inner steps.
+pub mod InnerTotal

@@ -1,0 +1,58 @@
+-- `plane::shade::paint_non_zero` meets its contract. Assumes nothing.
+use mathlib.Core.Path.{_≡_, ap, _∙_}
+use mathlib.Core.List.{List}
+use native.Mathlib.Omega.{arith}
+use borrow.Author.Needs.{needs}
+use lib.IntN.{ℤ}
+use lib.ListN.{length, length-map}
+use Rattle.laws.specs.Lists.{over}
+use Rattle.styling.specs.declared.FillRule.the-variants.{NonZero}
+use Rattle.cover_statements.specs.Mark.{markOf}
+use Rattle.cover_statements.specs.Weighed.{Weighed, weightIn, weightsPlane}
+use Rattle.cover_statements.proofs.Weighings.{weights-are}
+use Rattle.plane.proofs.shade.paint_non_zero.Statement.{statement}
+use Rattle.plane.proofs.shade.paint_non_zero.Tie as tie
+
+weigh-requires : tie.Need-weigh-requires
+weigh-requires c κs = c .before .before .pre .0
+
+weighed : (w : tie.After-weigh) → Weighed (w .weigh .last .0)
+weighed w = weights-are NonZero (w .before .before .before .args .areas .now) (w .weigh .ensures)
+
+weights-long : (w : tie.After-weigh) → length (w .weigh .last .0) ≡ length (w .before .before .before .args .areas .now)
+weights-long w = ap length (w .weigh .ensures) ∙ length-map (w .before .before .before .args .areas .now) (weightIn NonZero)
+
+write-plane-requires : tie.Need-write-plane-requires
+write-plane-requires c κs =
+    let w = c .before .before .before in
+    let s = w .before .before .before in
+    (weighed w, omega (arith, weights-long w, s .pre .1), s .pre .2)
+
+mark-of-requires : tie.Need-mark-of-requires
+mark-of-requires c κs =
+    let w = c .before .before .before .before .before .before .before in
+    (weighed w, omega (arith, weights-long w, w .before .before .before .pre .1))
+
+same-length : tie.Need-same-length
+same-length c = search needs
+
+same-length-2 : tie.Need-same-length-2
+same-length-2 c = search needs
+
+returns : tie.Need-returns
+returns c =
+    let p = c .before .before .before .before in
+    let w = p .before .before .before .before in
+    let s = w .before .before .before in
+    (p .write-plane .ensures ∙ ap (λ (l : List ℤ). over (weightsPlane 16 l) (s .args .plane .now)) (w .weigh .ensures), c .mark-of .ensures ∙ ap (λ (l : List ℤ). markOf (weightsPlane 16 l)) (w .weigh .ensures))
+
+pub paint-non-zero-spec : {M : Type 1} → statement M
+paint-non-zero-spec =
+    tie.close
+    (tie.spec
+    weigh-requires
+    write-plane-requires
+    mark-of-requires
+    same-length
+    same-length-2
+    returns)
