@@ -19,7 +19,7 @@ use Rattle.layer_workbench.specs.declared.PreviousClear.{PreviousClear}
 use Rattle.row_statements.specs.Lent.{Columns, ListColumns, LentTable}
 use Rattle.row_statements.specs.State.{State, stateIn, isWrongNext}
 use Rattle.row_statements.specs.Conditions.{firstFive}
-use Rattle.row_statements.specs.TileWork.{WorkCall, WorkLent, WorkGiven, TileAnswer, workCall, workLent, workOf}
+use Rattle.row_statements.specs.TileWork.{WorkCall, WorkGiven, TileAnswer, workCall, workLent, workOf}
 use Rattle.row_statements.specs.Painting.{PaintGiven, paintCall, paintOf}
 use Rattle.row_lines.specs.Calls.{shownBy, paintedBy}
 use Rattle.batch_statements.specs.BatchLent.{BatchLent, sided, planesIn, isBatchShort, keptAt, keptOver, tileNumbers, bottomsOver, planeAt}
