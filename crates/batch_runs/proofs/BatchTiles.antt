@@ -50,7 +50,7 @@ use Rattle.row_lines.proofs.Accepted.{AllPass, shown-pass}
 use Rattle.row_lines.proofs.Calls.{tilesPast}
 use Rattle.batch_statements.specs.BatchLent.{planeAt}
 use Rattle.batch_statements.specs.Batch.{BatchRow, BatchAt, batchRow, BatchGiven, ownList, workAt, turnBy, turnOf, nextBy, tilesFrom, PlanesAt, paintedPast, paintAt, paintsFrom}
-use Rattle.batch_runs.specs.BatchCalls.{worksHere, workedBy, paintsHere, paintedAs, PaintCalls, TileCalls}
+use Rattle.batch_runs.specs.BatchCalls.{worksHere, workGivenAs, paintsHere, paintedAs, PaintCalls, TileCalls}
 use Rattle.batch_statements.proofs.ShownFew.{shown-few}
 
 pub run-append : {o : OpenRow} {h h′ h″ : Held} {es fs : List Event} → Run o h es h′ → Run o h′ fs h″ → Run o h (es ++ fs) h″
@@ -204,12 +204,12 @@ module _ (o : OpenRow) (is-open : IsOpen o) (keeps : Bool) (clear : Color) (prev
     work-given = subst (λ (out : WorkGiven). GivesWork out told lentBack) (sym (work-due is-open holds works same)) work-told
 
     -- what it gave is what the batch's definition asks
-    pub worked-is : workedBy told lentBack ≡ workAt over s
+    pub worked-is : workGivenAs told lentBack ≡ workAt over s
     worked-is =
         (λ i. record { answer = work-given .answer i; state = work-given .state i; kept = work-given .kept i; lent = work-given .lent-is i })
         ∙ ap (λ (x : State). workOf (workCall x (s .tile) (o .row) (o .table) (works .kept) clear previous (s .lent .queue)) (works .lent)) (sym es)
 
-    pub turn-is : turnOf over s ≡ turnBy over (workAnswer (told .answer)) s (workedBy told lentBack)
+    pub turn-is : turnOf over s ≡ turnBy over (workAnswer (told .answer)) s (workGivenAs told lentBack)
     unfolding turnOf
     turn-is = sym (ap (λ (g : WorkGiven). turnBy over (g .answer) s g) worked-is)
 
@@ -317,7 +317,7 @@ module _ (o : OpenRow) (is-open : IsOpen o) (keeps : Bool) (clear : Color) (prev
     by-answer (refused m) ea e =
         let r = told n clip h s holds es eq in
         let back = lentBack n clip h s holds es eq in
-        let t = turn-is n clip h s holds es eq ∙ ap (λ (a : Answer TileAnswer). turnBy over a s (workedBy r back)) ea in
+        let t = turn-is n clip h s holds es eq ∙ ap (λ (a : Answer TileAnswer). turnBy over a s (workGivenAs r back)) ea in
         let held = refused-held (r .answer) (stateIn (r .state)) h (s .lent .queue) back ea in
         subst (DrivenTo o over planes (suc k) h s) (sym (turned t e))
         (record {
@@ -331,11 +331,11 @@ module _ (o : OpenRow) (is-open : IsOpen o) (keeps : Bool) (clear : Color) (prev
     by-answer (given t) ea e =
         let r = told n clip h s holds es eq in
         let back = lentBack n clip h s holds es eq in
-        let turn = turn-is n clip h s holds es eq ∙ ap (λ (a : Answer TileAnswer). turnBy over a s (workedBy r back)) ea in
+        let turn = turn-is n clip h s holds es eq ∙ ap (λ (a : Answer TileAnswer). turnBy over a s (workGivenAs r back)) ea in
         let free = ltb-false planes (s .used + 256) e in
         let room : (s .used + length (paintedBy t back)) * 256 ≤ length (s .lent .planes) = let few = painted-few n clip h s holds es eq ea in omega (arith, few, free, long) in
         let painted = paintings (paintedBy t back) n option.none (heldPast n clip h s holds es eq) (s .used) (s .lent .planes) (s .lent .painted) (holds-past n clip h s holds es eq ea) room (painted-pass n clip h s holds es eq ea) in
-        let s′ = turnBy over (given t) s (workedBy r back) .at in
+        let s′ = turnBy over (given t) s (workGivenAs r back) .at in
         let next : pos (o .from + n + 1) ≡ tileOf (suc n) = ap pos (omega arith) in
         let rest = go (suc n) (painted .clip) (painted .after) s′ (painted .holds) (sym (painted .state-is)) (sym (painted .queue-is)) next (let same = painted .planes-long in omega (arith, same, long)) in
         let held = given-held (r .answer) (stateIn (r .state)) h (s .lent .queue) back ea in

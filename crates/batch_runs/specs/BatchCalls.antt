@@ -43,8 +43,8 @@ paintsHere tile queue p id = record { tile = tile; layer = id; queue = queue; pl
 -- ---- what is noted
 
 -- what a work gave, as it was answered and left
-abbrev pub workedBy : TileWorked → WorkLent → WorkGiven
-workedBy r back = record { answer = workAnswer (r .answer); state = stateIn (r .state); kept = r .kept; lent = back }
+abbrev pub workGivenAs : TileWorked → WorkLent → WorkGiven
+workGivenAs r back = record { answer = workAnswer (r .answer); state = stateIn (r .state); kept = r .kept; lent = back }
 
 abbrev pub paintedAs : Painted → List Float → ℕ → ℕ → PlanesAt → PlanesAt
 paintedAs r back id mark p =
@@ -76,5 +76,5 @@ pub data TileCalls (c : BatchRow) (planes : ℕ) : ℕ → BatchAt → List Even
       ltb planes (s .used + 256) ≡ false →
       workAnswer (r .answer) ≡ given t →
       PaintCalls (s .tile) (s .lent .queue) (startPlanes s r) (paintedBy t back) ps p →
-      TileCalls c planes k (turnBy c (given t) s (workedBy r back) .at) es g →
+      TileCalls c planes k (turnBy c (given t) s (workGivenAs r back) .at) es g →
       TileCalls c planes (suc k) s (Event.work (worksHere c s) r back ∷ (ps ++ es)) g

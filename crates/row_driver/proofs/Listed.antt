@@ -62,7 +62,7 @@ id-at (l ∷ ls) zero h = refl
 id-at (l ∷ ls) (suc i) h = id-at ls i (le-of-suc-le-suc h)
 
 -- the front of a lent column
-pub front {ℓ} : {A : Type ℓ} (ws old : List A) (n : ℕ) → n ≡ length ws → take n (over ws old) ≡ ws
+front {ℓ} : {A : Type ℓ} (ws old : List A) (n : ℕ) → n ≡ length ws → take n (over ws old) ≡ ws
 unfolding over
 front ws old n e = ap (λ (k : ℕ). take k (over ws old)) e ∙ take-append-seam ws (drop (length ws) old)
 
@@ -119,13 +119,13 @@ module _ (a : WorkCall) (lent : WorkLent) (ready : Workable a lent) where
       let z : _≡_ {A = ℕ} 0 1 = cc in omega arith
 
   -- as many flags as layers
-  pub flags-long : length (saysFor a .outcome .unmasked) ≡ length (listedFor a)
+  flags-long : length (saysFor a .outcome .unmasked) ≡ length (listedFor a)
   unfolding outcomeByEntries
   flags-long =
       outcome-long (a .clear) (clearUnchanged (a .previous) (a .clear)) (countFrom (previousCount (a .kept))) (map (itemOf (layersOf (a .table))) (map (entryOf (layersOf (a .table))) (listedFor a)))
       ∙ length-map (map (entryOf (layersOf (a .table))) (listedFor a)) (itemOf (layersOf (a .table))) ∙ length-map (listedFor a) (entryOf (layersOf (a .table)))
 
-  pub ids-long : length (idsIn (incomingOf (listedFor a))) ≡ length (listedFor a)
+  ids-long : length (idsIn (incomingOf (listedFor a))) ≡ length (listedFor a)
   ids-long = length-map (incomingOf (listedFor a)) (λ c. c .id) ∙ length-map (listedFor a) (λ x. record { id = x .id; cover = x .cover })
 
   module _ {d : TileDone} {s : RowState} {back : WorkLent} (t : Accepted d s back) where
@@ -138,10 +138,10 @@ module _ (a : WorkCall) (lent : WorkLent) (ready : Workable a lent) where
     pub few : (d .listed ≤ 256) × (s .left ≤ 256)
     few = (omega (arith, count, listable .few), omega (arith, t .left, listable .few, handed-few (layersOf (a .table)) (listedFor a)))
 
-    pub ids-front : take (d .listed) (back .list .ids) ≡ idsIn (incomingOf (listedFor a))
+    ids-front : take (d .listed) (back .list .ids) ≡ idsIn (incomingOf (listedFor a))
     ids-front = ap (take (d .listed)) (t .list-ids) ∙ front (idsIn (incomingOf (listedFor a))) (lent .list .ids) (d .listed) (count ∙ sym ids-long)
 
-    pub unmasked-front : take (d .listed) (back .list .unmasked) ≡ saysFor a .outcome .unmasked
+    unmasked-front : take (d .listed) (back .list .unmasked) ≡ saysFor a .outcome .unmasked
     unmasked-front = ap (take (d .listed)) (t .list-unmasked) ∙ front (saysFor a .outcome .unmasked) (lent .list .unmasked) (d .listed) (count ∙ sym flags-long)
 
     pub walkable : Walkable (layersOf (a .table)) (carriesIn (a .state .left) (a .queue)) (tilePart (a .tile) (a .row)) (back .list .ids) (back .list .unmasked) (d .listed)

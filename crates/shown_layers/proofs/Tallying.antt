@@ -27,10 +27,10 @@ module _ (ids : List ℕ) (shown : List Bool) (n i : ℕ) (p : i < n) (li : n �
       (drop-cons (take n shown) i false (omega (arith, length-take-le n shown ls)) ∙ ap (λ (s : Bool). s ∷ drop (suc i) (take n shown)) (getD-take n shown i false p))
       (drop-cons (take n ids) i 0 (omega (arith, length-take-le n ids li)) ∙ ap (λ (id : ℕ). id ∷ drop (suc i) (take n ids)) (getD-take n ids i 0 p))
 
-  pub rest-shown : getD shown i false ≡ true → shownIn i (take n shown) (take n ids) ≡ getD ids i 0 ∷ shownIn (i + 1) (take n shown) (take n ids)
+  rest-shown : getD shown i false ≡ true → shownIn i (take n shown) (take n ids) ≡ getD ids i 0 ∷ shownIn (i + 1) (take n shown) (take n ids)
   rest-shown e = rest-by ∙ rw (e, add-one i)
 
-  pub rest-masked : getD shown i false ≡ false → shownIn i (take n shown) (take n ids) ≡ shownIn (i + 1) (take n shown) (take n ids)
+  rest-masked : getD shown i false ≡ false → shownIn i (take n shown) (take n ids) ≡ shownIn (i + 1) (take n shown) (take n ids)
   rest-masked e = rest-by ∙ rw (e, add-one i)
 
 -- ---- the walk

@@ -1,19 +1,18 @@
 -- A batch as the loop over its tiles goes: what is left, from where it stands, gives what the whole batch gives. Assumes nothing.
-use mathlib.Core.Path.{_≡_, refl, ap, ap₂, sym, subst, _∙_}
+use mathlib.Core.Path.{_≡_, refl, ap, ap₂, sym, _∙_}
 use mathlib.Core.Bool.{Bool, true, false, cond, _&&_}
-use Prim.Native.Nat.{ℕ, zero, suc, _+_, _-_, _*_, _≤_, _<_}
+use Prim.Native.Nat.{ℕ, suc, _+_, _-_, _≤_, _<_}
 use native.Mathlib.Omega.{arith}
 use borrow.Author.Tests.{le-ltb, lt-ltb, ltb-false, ltb-true, leb-false, leb-true}
 use lib.Dec.{ltb, leb}
 use lib.IntN.{pos}
-use lib.ListN.{length}
 use Rattle.refusals.specs.Refusal.{Judgement, pass, refuse}
 use Rattle.row_statements.specs.Lent.{ListColumns, isListShort}
 use Rattle.row_statements.specs.State.{State}
 use Rattle.batch_statements.specs.BatchLent.{BatchLent, sided}
-use Rattle.batch_statements.specs.Batch.{BatchRow, BatchAt, BatchGiven, turnOf, nextBy, tilesFrom, GivesBatch}
+use Rattle.batch_statements.specs.Batch.{BatchRow, BatchAt, turnOf, nextBy, tilesFrom, GivesBatch}
 use Rattle.batch_statements.specs.declared.Batch.{Batch}
-use Rattle.tile_batch.specs.InnerTurns.{batchIn, Standing, Turnable, GivesTurn, BatchRoom}
+use Rattle.tile_batch.specs.InnerTurns.{batchIn, BatchStands, Turnable, BatchRoom}
 use Rattle.tile_batch.proofs.Turning.{SameRoom}
 
 -- memory as it lies, and as it stood
@@ -25,7 +24,7 @@ pub other-side : (b : Bool) (m n : BatchLent) → m ≡ sided b n → sided b m 
 other-side b m n e = ap (sided b) e ∙ side-back b n
 
 -- what the code's value stands for after a tile
-pub at-is : (c : BatchRow) (s : BatchAt) {r : Batch} {back : BatchLent} → GivesBatch (turnOf c s) r back → Standing c (turnOf c s .at) → batchIn r (sided (r .first) back) ≡ turnOf c s .at
+pub at-is : (c : BatchRow) (s : BatchAt) {r : Batch} {back : BatchLent} → GivesBatch (turnOf c s) r back → BatchStands c (turnOf c s .at) → batchIn r (sided (r .first) back) ≡ turnOf c s .at
 at-is c s {r} {back} g st =
     let tile : pos (r .state .next) ≡ turnOf c s .at .tile = ap (λ (x : State). pos (x .next)) (g .state) ∙ sym (st .is-tile) in
     let lent : sided (r .first) back ≡ turnOf c s .at .lent = ap₂ sided (g .first) (g .lent-is) ∙ side-back (turnOf c s .at .first) (turnOf c s .at .lent) in
@@ -41,13 +40,13 @@ goes a b x y e = by (ltb a b) (leb x y) refl refl e
     by false q ep eq h = absurd (let z : _≡_ {A = ℕ} 0 1 = cc in omega arith)
 
 pub record Going (c : BatchRow) (planes tiles : ℕ) (s₀ s : BatchAt) : Type 0 where
-  pub stands : Standing c s
+  pub stands : BatchStands c s
   pub room : BatchRoom (c .keeps) tiles planes (s .lent)
   pub within : s .worked ≤ tiles
   pub rest : tilesFrom c planes (tiles - s .worked) s ≡ tilesFrom c planes tiles s₀
 
 module _ (c : BatchRow) (spare tiles : ℕ) (s₀ : BatchAt) where
-  pub start : Standing c s₀ → BatchRoom (c .keeps) tiles (spare + 256) (s₀ .lent) → s₀ .worked ≡ 0 → Going c (spare + 256) tiles s₀ s₀
+  pub start : BatchStands c s₀ → BatchRoom (c .keeps) tiles (spare + 256) (s₀ .lent) → s₀ .worked ≡ 0 → Going c (spare + 256) tiles s₀ s₀
   start stands room e =
       let all : tiles - s₀ .worked ≡ tiles = omega (arith, e) in
       record { stands = stands; room = room; within = omega (arith, e); rest = ap (λ (k : ℕ). tilesFrom c (spare + 256) k s₀) all }
@@ -76,7 +75,7 @@ module _ (c : BatchRow) (spare tiles : ℕ) (s₀ : BatchAt) where
       stopped e = sym (by-turn ∙ ap (λ (j : Judgement). nextBy c j (turnOf c s) (tilesFrom c (spare + 256) (tiles - (s .worked + 1)) (turnOf c s .at))) e) ∙ v .rest
 
       -- past a tile that is accepted
-      pub next : turnOf c s .end ≡ pass → Standing c (turnOf c s .at) × SameRoom (s .lent) (turnOf c s .at .lent) × (turnOf c s .at .worked ≡ s .worked + 1) → Going c (spare + 256) tiles s₀ (turnOf c s .at)
+      pub next : turnOf c s .end ≡ pass → BatchStands c (turnOf c s .at) × SameRoom (s .lent) (turnOf c s .at .lent) × (turnOf c s .at .worked ≡ s .worked + 1) → Going c (spare + 256) tiles s₀ (turnOf c s .at)
       next e h =
           let r = v .room in
           let stands = h .0 in

@@ -1,31 +1,29 @@
 -- The shown layers of a tile that is accepted: none of their paintings is refused, and the walk over them is the succession of the paintings. Assumes
 -- nothing.
-use mathlib.Core.Path.{_≡_, refl, ap, ap₂, sym, subst, _∙_}
-use mathlib.Core.Bool.{Bool, true, false, cond, _||_}
+use mathlib.Core.Path.{_≡_, refl, ap, sym, _∙_}
+use mathlib.Core.Bool.{Bool, true, false, cond}
 use mathlib.Core.List.{List, [], _∷_}
-use mathlib.Core.Option.{Option, none}
-use Prim.Native.Nat.{ℕ, suc, _+_, _*_, _≤_, _<_}
+use mathlib.Core.Option.{Option}
+use Prim.Native.Nat.{ℕ, _+_, _*_, _≤_, _<_}
 use native.Mathlib.Omega.{arith}
 use borrow.Author.Tests.{le-ltb, lt-leb, eq-eqb}
-use lib.Dec.{ltb}
 use lib.Ieee.{Float}
-use lib.IntN.{ℤ, pos}
-use lib.ListN.{length, take, drop, length-drop}
+use lib.ListN.{length, drop, length-drop}
 use lib.Seq.{sets, length-sets, length-take-le}
 use Rattle.laws.specs.Lists.{over}
 use Rattle.refusals.specs.Refusal.{Judgement, pass, andThen}
 use Rattle.segment_rows.specs.Search.{tilePart}
 use Rattle.styling.specs.declared.Layer.{Layer}
 use Rattle.queue_statements.specs.Queue.{Carry}
-use Rattle.row_statements.specs.Lent.{Columns, carriesIn, layersOf}
-use Rattle.row_statements.specs.State.{State, nextState, withClip, isStray, isNotWorked, isWrongWorked}
-use Rattle.row_statements.specs.Painting.{PaintSays, PaintGiven, paintCall, callVerdict, ownVerdict, paintVerdict, paintSays, paintOut, layerVerdict}
-use Rattle.row_statements.proofs.Works.{InRow, in-row}
+use Rattle.row_statements.specs.Lent.{carriesIn, layersOf}
+use Rattle.row_statements.specs.State.{State, nextState, withClip, isWrongWorked}
+use Rattle.row_statements.specs.Painting.{PaintSays, paintCall, callVerdict, ownVerdict, paintVerdict, paintSays, paintOut, layerVerdict}
+use Rattle.row_statements.proofs.Works.{in-row}
 use Rattle.row_lines.proofs.Accepted.{AllPass}
 use Rattle.batch_statements.specs.BatchLent.{planeAt}
 use Rattle.batch_statements.specs.Batch.{BatchRow, BatchAt, PlanesAt, paintedPast, paintAt, paintsFrom}
-use Rattle.tile_batch.specs.InnerShown.{WalkAt, paintStep, walkNext, walkFrom, PlaneRoom}
-use Rattle.tile_batch.specs.InnerTurns.{Standing}
+use Rattle.tile_batch.specs.InnerShown.{WalkAt, paintStep, walkNext, walkFrom}
+use Rattle.tile_batch.specs.InnerTurns.{BatchStands}
 
 -- ---- a layer that is counted, and one that is painted
 
@@ -65,7 +63,7 @@ walk-unpainted table queue part (id ∷ ids) x = walk-unpainted table queue part
 
 -- ---- the paintings
 
-module _ (c : BatchRow) (s : BatchAt) (stands : Standing c s) (inside : s .state .next < s .state .to) (left : ℕ) where
+module _ (c : BatchRow) (s : BatchAt) (stands : BatchStands c s) (inside : s .state .next < s .state .to) (left : ℕ) where
   abbrev pub base : State
   base = nextState (s .state) left
 

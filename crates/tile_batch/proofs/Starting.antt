@@ -1,7 +1,7 @@
 -- A batch before its first tile: what 1 to 5 leave lets the tiles be worked, and a refusal leaves everything as it was. Assumes nothing.
-use mathlib.Core.Path.{_≡_, refl, ap, ap₂, sym, subst, _∙_}
+use mathlib.Core.Path.{_≡_, refl, ap, ap₂, sym, subst}
 use mathlib.Core.Bool.{Bool, true, false, not, _&&_, _||_}
-use Prim.Native.Nat.{ℕ, suc, _+_, _-_, _*_, _/_, _≤_, min}
+use Prim.Native.Nat.{ℕ, suc, _+_, _-_, _*_, _/_, _≤_}
 use native.Mathlib.Omega.{arith}
 use borrow.Author.Tests.{ltb-false, not-false}
 use lib.Dec.{ltb}
@@ -22,7 +22,7 @@ use Rattle.row_statements.proofs.Works.{is-next}
 use Rattle.batch_statements.specs.BatchLent.{BatchLent, planesIn, isBatchShort}
 use Rattle.batch_statements.specs.Batch.{BatchRow, BatchCall, BatchAt, BatchGiven, batchCall, batchVerdict, batchBy, batchOf, tilesFrom, GivesBatch}
 use Rattle.batch_statements.specs.declared.Batch.{Batch}
-use Rattle.tile_batch.specs.InnerTurns.{batchIn, starting, Standing, BatchRoom, Startable}
+use Rattle.tile_batch.specs.InnerTurns.{batchIn, starting, Startable}
 
 and-false : (a b : Bool) → (a && b) ≡ false → a ≡ true → b ≡ false
 and-false true b e h = e

@@ -3,16 +3,16 @@
 use mathlib.Core.Path.{_≡_, refl, ap, ap₂, sym, subst, _∙_}
 use mathlib.Core.Bool.{Bool, true, false, cond, not, _||_}
 use mathlib.Core.List.{List, [], _∷_}
-use mathlib.Core.Option.{Option, none}
+use mathlib.Core.Option.{none}
 use Prim.Native.Nat.{ℕ, suc, _+_, _*_, _≤_, _<_}
 use native.Mathlib.Omega.{arith}
-use borrow.Author.Tests.{le-ltb, lt-leb, eq-eqb, leb-false}
-use lib.Dec.{ltb, leb}
+use borrow.Author.Tests.{le-ltb, eq-eqb, leb-false}
+use lib.Dec.{leb}
 use lib.Ieee.{Float}
 use lib.IntN.{ℤ, pos}
-use lib.ListN.{length, take, drop, length-map, length-drop}
+use lib.ListN.{length, take}
 use lib.Seq.{sets, length-sets}
-use Rattle.laws.specs.Answer.{Answer, refused, given}
+use Rattle.laws.specs.Answer.{refused}
 use Rattle.laws.specs.Integer.{plus}
 use Rattle.refusals.specs.Refusal.{Judgement, pass, refuse, unless, andThen, numberOf}
 use Rattle.refusals.specs.declared.Refusal.{Refusal}
@@ -29,46 +29,34 @@ use Rattle.cached_tile.specs.declared.kept.Kept as kept
 use Rattle.queue_statements.specs.Queue.{Carry, idsIn, isQueue}
 use Rattle.queue_statements.proofs.Judging as queue-judging
 use Rattle.queue_statements.proofs.Queues.{ids-queue}
-use Rattle.tile_layers.specs.Listing.{Listed, incomingOf}
+use Rattle.tile_layers.specs.Listing.{incomingOf}
 use Rattle.tile_layers.proofs.Ordering.{list-ascends}
-use Rattle.layer_carrying.specs.Carrying.{handedOn}
 use Rattle.layer_carrying.proofs.Handing.{handed-few, handed-wide}
 use Rattle.row_carries.proofs.Handed.{handed-ascends}
 use Rattle.pass_statements.specs.Decision.{TileDecision, decisionIn}
-use Rattle.pass_statements.specs.Decide.{Outcome}
 use Rattle.row_statements.specs.Lent.{Columns, ListColumns, carriesIn, isListShort, layersOf}
 use Rattle.row_statements.specs.State.{State, stateIn, nextState, withClip, isStray, isNotNext, isNotWorked}
-use Rattle.row_statements.specs.TileWork.{WorkCall, WorkLent, WorkGiven, TileAnswer, workLent, listedFor, saysFor, argsVerdict, layersVerdict, tileAnswer, workOut, workAnswer, GivesWork}
+use Rattle.row_statements.specs.TileWork.{WorkLent, WorkGiven, workLent, listedFor, saysFor, argsVerdict, layersVerdict, tileAnswer, workOut, workAnswer, GivesWork}
 use Rattle.row_statements.specs.InnerWork.{workedBy}
 use Rattle.row_statements.specs.declared.TileDone.{TileDone}
 use Rattle.row_statements.specs.declared.TileWorked.{TileWorked}
 use Rattle.row_statements.specs.declared.WorkAnswer.the-variants as worked
 use Rattle.row_statements.specs.InnerHolding.{HoldsQueue}
 use Rattle.row_statements.proofs.Holding.{holds-written}
-use Rattle.row_statements.proofs.Works.{Listable, in-row, list-passed, args-passed, judged}
-use Rattle.row_lines.specs.Shown.{flagged, shownIn}
+use Rattle.row_statements.proofs.Works.{Listable, list-passed, args-passed, judged}
+use Rattle.row_lines.specs.Shown.{shownIn}
 use Rattle.row_lines.specs.Lines.{isPaint}
-use Rattle.row_lines.specs.Calls.{shownBy, paintedBy}
+use Rattle.row_lines.specs.Calls.{shownBy}
 use Rattle.row_lines.proofs.Accepted.{AllPass, shown-pass}
 use Rattle.row_driver.specs.InnerSteps as driver
-use Rattle.row_driver.proofs.Listed.{front, flags-long, ids-long, Accepted, accepted, ids-front, unmasked-front}
+use Rattle.tile_batch.proofs.Listed.{front, flags-long, ids-long, Accepted, accepted, ids-front, unmasked-front}
 use Rattle.batch_statements.specs.BatchLent.{BatchLent, batchLent, sided, keptAt, keptOver, tileNumbers, bottomsOver}
 use Rattle.batch_statements.specs.Batch.{BatchRow, BatchAt, BatchGiven, PlanesAt, ownList, callAt, planesPast, lentPast, tilePast, turnBy, turnOf, paintsFrom, GivesBatch}
-use Rattle.tile_batch.specs.InnerTurns.{batchIn, Standing, NotesTile, alike, GivesTurn}
+use Rattle.tile_batch.specs.InnerTurns.{batchIn, BatchStands, NotesTile, sameFlag, GivesTurn}
 use Rattle.tile_batch.specs.InnerShown.{WalkAt, walkFrom, PlaneRoom}
 use Rattle.tile_batch.proofs.Paintings.{planesOn, PaintsAre, paints-are, worked-right, walk-paints, walk-shown}
 use Rattle.batch_statements.specs.declared.Batch.{Batch}
-
--- as many ids are shown as are listed, at most
-flagged-few : (ss : List Bool) (ids : List ℕ) → length (flagged ss ids) ≤ length ids
-unfolding flagged
-flagged-few [] ids = omega arith
-flagged-few (s ∷ ss) [] = omega arith
-flagged-few (true ∷ ss) (id ∷ ids) = let h = flagged-few ss ids in omega (arith, h)
-flagged-few (false ∷ ss) (id ∷ ids) = let h = flagged-few ss ids in omega (arith, h)
-
-pub shown-few : (k : ℕ) (us : List Bool) (ids : List ℕ) → length (shownIn k us ids) ≤ length ids
-shown-few k us ids = let h = flagged-few (drop k us) (drop k ids) in omega (arith, h, length-drop k ids)
+use Rattle.batch_statements.proofs.ShownFew.{shown-few}
 
 two-false : (b : Bool) → (b || false || false) ≡ b
 two-false true = refl
@@ -92,11 +80,11 @@ kept-long : (keeps : Bool) (bytes : List ℕ) (i : ℕ) (k : kept.Kept) → leng
 kept-long true bytes i k = length-sets bytes (i * 8) (tileBytes (k .tile))
 kept-long false bytes i k = refl
 
-alike-not : (b : Bool) → alike b (not b) ≡ false
+alike-not : (b : Bool) → sameFlag b (not b) ≡ false
 alike-not true = refl
 alike-not false = refl
 
-alike-same : (b : Bool) → alike b b ≡ true
+alike-same : (b : Bool) → sameFlag b b ≡ true
 alike-same true = refl
 alike-same false = refl
 
@@ -108,7 +96,7 @@ pub record SameRoom (m n : BatchLent) : Type 0 where
   pub planes : length (n .planes) ≡ length (m .planes)
   pub painted : length (n .painted) ≡ length (m .painted)
 
-module _ (c : BatchRow) (s : BatchAt) (stands : Standing c s) where
+module _ (c : BatchRow) (s : BatchAt) (stands : BatchStands c s) where
   -- 2 and 6
   abbrev pub ownJudged : Judgement
   ownJudged = unless (leb (s .state .to) (s .state .next)) 2 (unless (tagOutOfRange (keptAt (c .keeps) (s .lent .kept) (s .worked))) 6 pass)
@@ -238,7 +226,7 @@ module _ (c : BatchRow) (s : BatchAt) (stands : Standing c s) where
       unfolding past
       state-past = ap (λ (p : PlanesAt). p .state) planes-told ∙ painted-here .state-is
 
-      stands-past : Standing c past
+      stands-past : BatchStands c past
       unfolding past workOut
       stands-past =
           let base = nextState (s .state) (length (saysFor (callAt c s) .handed)) in
@@ -266,10 +254,10 @@ module _ (c : BatchRow) (s : BatchAt) (stands : Standing c s) where
             painted = ap (λ (p : PlanesAt). length (p .painted)) planes-told ∙ painted-here .words-long;
           }
 
-      pub stands-next : Standing c (turnOf c s .at) × SameRoom (s .lent) (turnOf c s .at .lent) × (turnOf c s .at .worked ≡ s .worked + 1)
+      pub stands-next : BatchStands c (turnOf c s .at) × SameRoom (s .lent) (turnOf c s .at .lent) × (turnOf c s .at .worked ≡ s .worked + 1)
       unfolding past
       stands-next =
-          subst (λ (g : BatchGiven). Standing c (g .at) × SameRoom (s .lent) (g .at .lent) × (g .at .worked ≡ s .worked + 1)) (sym (turn-passed v)) (stands-past, room-past, refl)
+          subst (λ (g : BatchGiven). BatchStands c (g .at) × SameRoom (s .lent) (g .at .lent) × (g .at .worked ≡ s .worked + 1)) (sym (turn-passed v)) (stands-past, room-past, refl)
 
       -- ---- what the code leaves of an accepted tile
 
@@ -332,7 +320,7 @@ module _ (c : BatchRow) (s : BatchAt) (stands : Standing c s) where
               end = n .verdict;
               lent-is =
                   (λ i. record { queue = s .lent .queue; other = done .lent-is i .queue; kept = kept-is i; told = told-is i; bottoms = bottoms-are i; planes = (n .planes-are ∙ ap (λ (x : PlanesAt). x .planes) p) i; painted = (n .painted-are ∙ ap (λ (x : PlanesAt). x .painted) p) i })
-                  ∙ sym (ap (λ (x : Bool). sided x (lentPast c s (tileAnswer (saysFor (callAt c s))) doneWith (planesPast c s (tileAnswer (saysFor (callAt c s))) doneWith))) (ap (λ (x : Bool). alike x (not (s .first))) first ∙ alike-not (s .first)));
+                  ∙ sym (ap (λ (x : Bool). sided x (lentPast c s (tileAnswer (saysFor (callAt c s))) doneWith (planesPast c s (tileAnswer (saysFor (callAt c s))) doneWith))) (ap (λ (x : Bool). sameFlag x (not (s .first))) first ∙ alike-not (s .first)));
             })
 
 -- ---- a tile that is refused leaves everything as it was
@@ -344,7 +332,7 @@ turn-left c s b r m k is e er =
     record { state = refl; worked = refl; used = refl; first-is = refl; end = refl; lent-is = sym (ap (λ (x : Bool). sided x m) (alike-same (b .first))) } in
     subst (λ (x : Batch). GivesTurn (b .first) (turnOf c s) x m) (sym er) (subst (λ (x : BatchGiven). GivesTurn (b .first) x (record { state = b .state; worked = b .worked; used = b .used; first = b .first; verdict = verdict.Refuse k }) m) (sym (e ∙ ap (λ (x : BatchAt). record { at = x; end = refuse (numberOf k) }) is)) g)
 
-module _ (c : BatchRow) (b : Batch) (m : BatchLent) (stands : Standing c (batchIn b m)) (own : ownJudged c (batchIn b m) stands ≡ pass) (list : ListColumns) (list-long : isListShort list ≡ false) {w : TileWorked} {back : WorkLent} (g : GivesWork (workedBy (callAt c (batchIn b m)) (workLent (m .other) list)) w back) where
+module _ (c : BatchRow) (b : Batch) (m : BatchLent) (stands : BatchStands c (batchIn b m)) (own : ownJudged c (batchIn b m) stands ≡ pass) (list : ListColumns) (list-long : isListShort list ≡ false) {w : TileWorked} {back : WorkLent} (g : GivesWork (workedBy (callAt c (batchIn b m)) (workLent (m .other) list)) w back) where
   -- an accepted work's verdict passes
   pub both-pass : {d : TileDone} → w .answer ≡ worked.Done d → andThen (ownJudged c (batchIn b m) stands) (layersVerdict (callAt c (batchIn b m))) ≡ pass
   both-pass e =

@@ -1,16 +1,34 @@
 -- The walk over a tile's shown layers: what is left of it, from where it stands, gives what the whole list gives. Assumes nothing.
 use mathlib.Core.Path.{_≡_, refl, ap, ap₂, sym, subst, _∙_}
 use mathlib.Core.Bool.{Bool, true, false, cond}
-use mathlib.Core.List.{List, [], _∷_}
-use Prim.Native.Nat.{ℕ, _+_, _≤_, _<_}
+use mathlib.Core.List.{List, _∷_}
+use Prim.Native.Nat.{ℕ, suc, _+_, _≤_, _<_}
+use native.Mathlib.Numerals.{add-one}
 use native.Mathlib.Omega.{arith}
-use lib.ListN.{length, take, getD, drop-of-length-le}
-use lib.Seq.{length-take-le}
+use lib.ListN.{length, drop, take, getD, drop-of-length-le}
+use lib.Seq.{drop-cons, getD-take, length-take-le}
 use Rattle.styling.specs.declared.Layer.{Layer}
 use Rattle.queue_statements.specs.Queue.{Carry}
 use Rattle.row_lines.specs.Shown.{flagged, shownIn}
-use Rattle.shown_layers.proofs.Tallying.{rest-shown, rest-masked}
 use Rattle.tile_batch.specs.InnerShown.{WalkAt, walkNext, walkFrom}
+
+-- ---- the shown layers, from a place on
+
+module _ (ids : List ℕ) (shown : List Bool) (n i : ℕ) (p : i < n) (li : n ≤ length ids) (ls : n ≤ length shown) where
+  rest-by : shownIn i (take n shown) (take n ids) ≡ cond (getD shown i false) (getD ids i 0 ∷ shownIn (suc i) (take n shown) (take n ids)) (shownIn (suc i) (take n shown) (take n ids))
+  unfolding flagged
+  rest-by =
+      ap₂ flagged
+      (drop-cons (take n shown) i false (omega (arith, length-take-le n shown ls)) ∙ ap (λ (s : Bool). s ∷ drop (suc i) (take n shown)) (getD-take n shown i false p))
+      (drop-cons (take n ids) i 0 (omega (arith, length-take-le n ids li)) ∙ ap (λ (id : ℕ). id ∷ drop (suc i) (take n ids)) (getD-take n ids i 0 p))
+
+  rest-shown : getD shown i false ≡ true → shownIn i (take n shown) (take n ids) ≡ getD ids i 0 ∷ shownIn (i + 1) (take n shown) (take n ids)
+  rest-shown e = rest-by ∙ rw (e, add-one i)
+
+  rest-masked : getD shown i false ≡ false → shownIn i (take n shown) (take n ids) ≡ shownIn (i + 1) (take n shown) (take n ids)
+  rest-masked e = rest-by ∙ rw (e, add-one i)
+
+-- ---- the walk
 
 pub record Walking (paints : Bool) (table : List Layer) (queue : List Carry) (part ids : List ℕ) (shown : List Bool) (skipped n : ℕ) (x₀ x : WalkAt) (i : ℕ) : Type 0 where
   pub few : x .shown ≤ i

@@ -63,7 +63,7 @@ pub record NoteRoom (keeps : Bool) (i : ℕ) (m : BatchLent) : Type 0 where
   pub bottoms : (i + 1) * 4 ≤ length (m .bottoms)
 
 -- what stands after 1 to 5: the state is one of a row's, the row, the table and the carries are in order, and both queues have room
-pub record Standing (c : BatchRow) (s : BatchAt) : Type 0 where
+pub record BatchStands (c : BatchRow) (s : BatchAt) : Type 0 where
   pub is-tile : s .tile ≡ pos (s .state .next)
   pub in-state : isStray (s .state) ≡ false
   pub words : Words (c .row)
@@ -76,22 +76,22 @@ pub record Standing (c : BatchRow) (s : BatchAt) : Type 0 where
 
 -- what a tile asks
 pub record Turnable (c : BatchRow) (s : BatchAt) (list : ListColumns) : Type 0 where
-  pub stands : Standing c s
+  pub stands : BatchStands c s
   pub list-long : isListShort list ≡ false
   pub notes : NoteRoom (c .keeps) (s .worked) (s .lent)
   pub planes : PlaneRoom (s .used) 256 (s .lent .planes) (s .lent .painted)
 
 -- what the work on it asks, once 2 and 6 don't refuse it
-pub record Workable (c : BatchRow) (s : BatchAt) (list : ListColumns) (tile : ℤ) (held : kept.Kept) : Type 0 where
+pub record HereWorkable (c : BatchRow) (s : BatchAt) (list : ListColumns) (tile : ℤ) (held : kept.Kept) : Type 0 where
   pub turns : Turnable c s list
   pub tile-is : tile ≡ s .tile
   pub held-is : held ≡ keptAt (c .keeps) (s .lent .kept) (s .worked)
   pub passes : unless (leb (s .state .to) (s .state .next)) 2 (unless (tagOutOfRange held) 6 pass) ≡ pass
 
 -- whether a flag is as it was
-abbrev pub alike : Bool → Bool → Bool
-alike true b = b
-alike false b = not b
+abbrev pub sameFlag : Bool → Bool → Bool
+sameFlag true b = b
+sameFlag false b = not b
 
 -- what a tile gives, to memory whose first queue holds the carries where `first` says so
 pub record GivesTurn (first : Bool) (g : BatchGiven) (r : Batch) (back : BatchLent) : Type 0 where
@@ -100,7 +100,7 @@ pub record GivesTurn (first : Bool) (g : BatchGiven) (r : Batch) (back : BatchLe
   pub used : r .used ≡ g .at .used
   pub first-is : r .first ≡ g .at .first
   pub end : judgementIn (r .verdict) ≡ g .end
-  pub lent-is : back ≡ sided (alike first (g .at .first)) (g .at .lent)
+  pub lent-is : back ≡ sided (sameFlag first (g .at .first)) (g .at .lent)
 
 -- ---- tiles one after the other
 
@@ -118,5 +118,5 @@ starting s = record { state = s; worked = 0; used = 0; first = true; verdict = P
 
 -- what the tiles ask
 pub record Startable (c : BatchRow) (s : RowState) (tiles planes : ℕ) (m : BatchLent) : Type 0 where
-  pub stands : Standing c (batchIn (starting s) m)
+  pub stands : BatchStands c (batchIn (starting s) m)
   pub room : BatchRoom (c .keeps) tiles planes m

@@ -230,8 +230,8 @@ fn work_listed(
 }
 
 // Works and paints up to `tiles` tiles from the tile `tile` on, while 256 planes are free. The first queue comes in;
-// where `keeps` is set, each tile's cached tile is its eight bytes of `kept`. Five numbers of `told` are written for each
-// tile, and four of `bottoms` where it is solid; for each shown layer of a painted tile a plane and two words of
+// where `keeps` is set, each tile's cached tile is its eight bytes of `kept`. Five numbers of `told` are written for
+// each tile, and four of `bottoms` where it is solid; for each shown layer of a painted tile a plane and two words of
 // `painted`.
 pub fn work_tiles(
     state: RowState,
@@ -256,7 +256,8 @@ pub fn work_tiles(
 ) -> Batch
     ensures { λ r. ⌜ GivesBatch
         (batchOf
-        (batchCall (stateIn state) tile tiles (batchRow (now (row .entry)) (lentTable (now (layers .entry)) (now (colors .entry)) count)
+        (batchCall (stateIn state) tile tiles
+        (batchRow (now (row .entry)) (lentTable (now (layers .entry)) (now (colors .entry)) count)
         keeps clear previous))
         (batchLent (columns (now («a_ids» .entry)) (now («a_covers» .entry)))
         (columns (now («b_ids» .entry)) (now («b_covers» .entry)))

@@ -12,8 +12,8 @@ ghost use lib.Seq.{sets};
 ghost use Rattle.layer_table.specs.Table.{tableOf};
 ghost use Rattle.queue_statements.specs.Queue.{queueOf};
 ghost use Rattle.row_lines.specs.Shown.{shownIn};
-ghost use Rattle.shown_layers.specs.Counting.{Painter, Paintable, Walkable};
 ghost use Rattle.tile_batch.specs.InnerShown.{walkAt, walkNext, walkFrom, PlaneRoom};
+ghost use Rattle.tile_batch.specs.InnerShown.{TilePainter, LayerPaintable, ListWalk};
 
 // The state with the painter's clip, how many planes are used, and how many layers were shown so far.
 pub struct Planes {
@@ -23,8 +23,15 @@ pub struct Planes {
 }
 
 fn with_clip(state: RowState, clip: Clip) -> RowState
-    ensures { λ r. ⌜ r ≡ record { «tile_y» = state .«tile_y»; from = state .from; to = state .to; next = state .next;
-        left = state .left; taken = state .taken; clip = clip } ⌝ }
+    ensures { λ r. ⌜ r ≡ record {
+      «tile_y» = state .«tile_y»;
+      from = state .from;
+      to = state .to;
+      next = state .next;
+      left = state .left;
+      taken = state .taken;
+      clip = clip;
+    } ⌝ }
 {
     RowState {
         tile_y: state.tile_y,
@@ -60,8 +67,8 @@ fn paint_layer(
     planes: &mut [f32],
     painted: &mut [u32],
 ) -> Planes
-    requires { ⌜ Painter n (now ids) (now covers) (now part) (now layers) (now colors) count
-        × Paintable (tableOf (now layers) (now colors) count) (queueOf n (now ids) (now covers)) (now part) id
+    requires { ⌜ TilePainter n (now ids) (now covers) (now part) (now layers) (now colors) count
+        × LayerPaintable (tableOf (now layers) (now colors) count) (queueOf n (now ids) (now covers)) (now part) id
         × PlaneRoom (at .used) 1 (now planes) (now painted) × (at .shown ≤ 256) ⌝ }
     ensures { λ r. ⌜ (walkAt r (now (planes .exit)) (now (painted .exit)) ≡ walkNext paints
         (tableOf (now (layers .entry)) (now (colors .entry)) count)
@@ -122,8 +129,8 @@ fn paint_entry(
     planes: &mut [f32],
     painted: &mut [u32],
 ) -> Planes
-    requires { ⌜ Painter n (now ids) (now covers) (now part) (now layers) (now colors) count
-        × Paintable (tableOf (now layers) (now colors) count) (queueOf n (now ids) (now covers)) (now part) id
+    requires { ⌜ TilePainter n (now ids) (now covers) (now part) (now layers) (now colors) count
+        × LayerPaintable (tableOf (now layers) (now colors) count) (queueOf n (now ids) (now covers)) (now part) id
         × PlaneRoom (at .used) 1 (now planes) (now painted) × (at .shown ≤ 256) ⌝ }
     ensures { λ r. ⌜ (walkAt r (now (planes .exit)) (now (painted .exit)) ≡ cond unmasked (walkNext paints
         (tableOf (now (layers .entry)) (now (colors .entry)) count)
@@ -171,8 +178,8 @@ pub fn paint_shown(
     planes: &mut [f32],
     painted: &mut [u32],
 ) -> Planes
-    requires { ⌜ Painter n (now ids) (now covers) (now part) (now layers) (now colors) count
-        × Walkable (tableOf (now layers) (now colors) count) (queueOf n (now ids) (now covers)) (now part)
+    requires { ⌜ TilePainter n (now ids) (now covers) (now part) (now layers) (now colors) count
+        × ListWalk (tableOf (now layers) (now colors) count) (queueOf n (now ids) (now covers)) (now part)
         (now «list_ids») (now «list_unmasked») listed
         × PlaneRoom used 256 (now planes) (now painted) ⌝ }
     ensures { λ r. ⌜ walkAt r (now (planes .exit)) (now (painted .exit))

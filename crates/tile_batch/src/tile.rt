@@ -24,15 +24,20 @@ ghost use Rattle.cached_tile.specs.Kept.{tagOutOfRange};
 ghost use Rattle.queue_statements.specs.Queue.{queueOf};
 ghost use Rattle.row_statements.specs.Lent.{columns, listColumns, lentTable};
 ghost use Rattle.row_statements.specs.State.{stateIn};
-ghost use Rattle.shown_layers.specs.Counting.{Painter, Walkable};
 ghost use Rattle.batch_statements.specs.BatchLent.{batchLent, sided};
 ghost use Rattle.batch_statements.specs.Batch.{batchRow, turnOf, GivesBatch};
-ghost use Rattle.tile_batch.specs.InnerShown.{PlaneRoom};
-ghost use Rattle.tile_batch.specs.InnerTurns.{batchIn, walkPast, NotesTile, NoteRoom, Turnable, Workable, GivesTurn};
+ghost use Rattle.tile_batch.specs.InnerShown.{PlaneRoom, TilePainter, ListWalk};
+ghost use Rattle.tile_batch.specs.InnerTurns.{batchIn, walkPast, NotesTile, NoteRoom};
+ghost use Rattle.tile_batch.specs.InnerTurns.{Turnable, HereWorkable, GivesTurn};
 
 fn refused(at: Batch, refusal: Refusal) -> Batch
-    ensures { λ r. ⌜ r ≡ record { state = at .state; worked = at .worked; used = at .used; first = at .first;
-        verdict = verdict.Refuse refusal } ⌝ }
+    ensures { λ r. ⌜ r ≡ record {
+      state = at .state;
+      worked = at .worked;
+      used = at .used;
+      first = at .first;
+      verdict = verdict.Refuse refusal;
+    } ⌝ }
 {
     let state = at.state;
     Batch {
@@ -78,8 +83,8 @@ fn note_tile(
     planes: &mut [f32],
     painted: &mut [u32],
 ) -> Batch
-    requires { ⌜ Painter n (now ids) (now covers) (now part) (now layers) (now colors) count
-        × Walkable (tableOf (now layers) (now colors) count) (queueOf n (now ids) (now covers)) (now part)
+    requires { ⌜ TilePainter n (now ids) (now covers) (now part) (now layers) (now colors) count
+        × ListWalk (tableOf (now layers) (now colors) count) (queueOf n (now ids) (now covers)) (now part)
         (now «list_ids») (now «list_unmasked») (done .listed)
         × NoteRoom keeps (at .worked) (batchLent (columns (now ids) (now covers)) (columns (now ids) (now covers))
         (now kept) (now told) (now bottoms) (now planes) (now painted))
@@ -154,7 +159,7 @@ fn work_here(
     planes: &mut [f32],
     painted: &mut [u32],
 ) -> Batch
-    requires { ⌜ Workable (batchRow (now row) (lentTable (now layers) (now colors) count) keeps clear previous)
+    requires { ⌜ HereWorkable (batchRow (now row) (lentTable (now layers) (now colors) count) keeps clear previous)
         (batchIn at (batchLent (columns (now ids) (now covers)) (columns (now «next_ids») (now «next_covers»))
         (now kept) (now told) (now bottoms) (now planes) (now painted)))
         (listColumns (now «list_ids») (now «list_covers») (now «list_flags») (now «list_unmasked»)) tile held ⌝ }

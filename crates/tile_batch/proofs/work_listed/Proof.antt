@@ -1,6 +1,6 @@
 -- `work_listed` meets its contract. Assumes nothing.
-use borrow.Author.Needs.{needs}
 use mathlib.Core.Path.{refl}
+use borrow.Author.Needs.{needs}
 use Rattle.tile_batch.proofs.work_listed.Statement.{statement}
 use Rattle.tile_batch.proofs.work_listed.Tie as tie
 

@@ -1,8 +1,8 @@
 -- `work_many` meets its contract: each turn is a tile of `Turning`, and what is left goes by `Going`. Assumes nothing.
-use borrow.Author.Needs.{needs}
 use mathlib.Core.Path.{_≡_, refl, ap, sym, subst, _∙_}
 use Prim.Native.Nat.{_+_, _-_}
 use native.Mathlib.Omega.{arith}
+use borrow.Author.Needs.{needs}
 use lib.ListN.{length}
 use Rattle.refusals.specs.Refusal.{pass, judgementIn}
 use Rattle.row_statements.specs.Lent.{ListColumns, columns, lentTable}
@@ -39,7 +39,6 @@ abbrev μ-loop : tie.MeasureT-loop
 
 abbrev rowOf : tie.Start Inv-loop μ-loop → BatchRow
 rowOf s = let a = s .args in batchRow (a .row .now) (lentTable (a .layers .now) (a .colors .now) (a .count)) (a .keeps) (a .clear) (a .previous)
-
 
 loop-holds : tie.Need-loop-holds Inv-loop μ-loop
 loop-holds c = (start (rowOf (c .before .before .before .before .before .before .before .before .before .before .before .before .before)) (c .before .before .before .before .before .before .before .before .before .before .before .before .before .args .spare) (c .before .before .before .before .before .before .before .before .before .before .before .before .before .args .tiles) _ (c .before .before .before .before .before .before .before .before .before .before .before .before .before .pre .0 .stands) (c .before .before .before .before .before .before .before .before .before .before .before .before .before .pre .0 .room) refl, refl, refl, refl, refl, refl, refl, refl, refl, refl, refl, refl, refl, refl, refl)
@@ -156,8 +155,7 @@ loop-again c =
     let h = goes (l .at .worked) (a .tiles) (l .at .used) (a .spare) (sym (c .before .before .before .before .before .before .before .before .before .before .before .before .before .before .before .before .before .before .before .before .before .before .before .before .before .before .before .before .before .before .before .before .before .before .before .before .before .before .before .before .goes-on .ensures) ∙ c .before .before .before .before .before .before .before .before .before .before .before .before .before .before .before .before .before .before .before .before .before .before .before .before .before .before .before .before .before .before .before .before .before .before .before .before .before .before .before .if1 .taken) in
     let t = turnable (rowOf s) (a .spare) (a .tiles) s₀ at (v .0) list long (h .0) (h .1) in
     let e = sym (c .before .before .before .before .before .before .before .before .before .before .before .before .before .before .before .before .before .before .before .before .before .before .before .before .before .turn .ensures .end) ∙ ap judgementIn (c .enum-told2 .given .1) in
-    let past = stands-next (rowOf s) at (v .0 .stands) (verdict-of (rowOf s) at (v .0 .stands) e) (t .planes) in
-    (
+    let past = stands-next (rowOf s) at (v .0 .stands) (verdict-of (rowOf s) at (v .0 .stands) e) (t .planes) in (
       subst (Going (rowOf s) (a .spare + 256) (a .tiles) s₀) (sym (at-is (rowOf s) at (c .before .before .before .before .before .before .before .before .before .before .before .before .before .before .before .before .before .before .before .before .before .before .before .before .before .turn .ensures) (past .0))) (next (rowOf s) (a .spare) (a .tiles) s₀ at (v .0) (h .0) (h .1) e past),
       ap judgementIn (c .enum-told2 .given .1),
       c .before .before .before .before .before .before .before .before .before .before .before .before .before .before .before .before .before .before .before .before .before .before .before .before .before .turn .kept .1 .1 .1 .1 .1 .1 .1 .1 .0 ∙ v .2,

@@ -1,7 +1,6 @@
 -- `work_tiles` meets its contract. Assumes nothing.
+use mathlib.Core.Path.{_≡_, ap, sym, _∙_}
 use borrow.Author.Needs.{needs}
-use mathlib.Core.Path.{_≡_, refl, ap, sym, subst, _∙_}
-use native.Mathlib.Omega.{arith}
 use mir.Facts.{toZ-ofZ}
 use Rattle.refusals.specs.Refusal.{pass, judgementIn}
 use Rattle.row_statements.specs.Lent.{columns, lentTable}
@@ -29,7 +28,6 @@ told c =
 passes : (c : tie.After-enum-told) → let s = c .before .before .before .before .before .before .before .before .before .before .before .before .before .before .before .before .before .before .before .before .before .before .before .before in batchVerdict (batchCall (stateIn (s .args .state)) (s .args .tile) (s .args .tiles) (rowOf s)) (lentOf s) ≡ pass
 passes c = sym (told (c .before .before)) ∙ ap judgementIn (c .enum-told .given .1)
 
-
 is-short-requires : tie.Need-is-short-requires
 is-short-requires c κs = search needs
 
@@ -46,10 +44,10 @@ count-planes-requires : tie.Need-count-planes-requires
 count-planes-requires c κs = search needs
 
 sub-work-listed : tie.Need-sub-work-listed
-sub-work-listed c =     rw (c .count-planes .ensures) (enough (c .before .before .before .before .before .before .before .before .before .before .before .before .before .before .before .before .before .before .before .before .before .before .before .before .before .before .before .args .state) (c .before .before .before .before .before .before .before .before .before .before .before .before .before .before .before .before .before .before .before .before .before .before .before .before .before .before .before .args .tile) (c .before .before .before .before .before .before .before .before .before .before .before .before .before .before .before .before .before .before .before .before .before .before .before .before .before .before .before .args .tiles) (rowOf (c .before .before .before .before .before .before .before .before .before .before .before .before .before .before .before .before .before .before .before .before .before .before .before .before .before .before .before)) (lentOf (c .before .before .before .before .before .before .before .before .before .before .before .before .before .before .before .before .before .before .before .before .before .before .before .before .before .before .before)) (passes (c .before .before .before)))
+sub-work-listed c = rw (c .count-planes .ensures) (enough (c .before .before .before .before .before .before .before .before .before .before .before .before .before .before .before .before .before .before .before .before .before .before .before .before .before .before .before .args .state) (c .before .before .before .before .before .before .before .before .before .before .before .before .before .before .before .before .before .before .before .before .before .before .before .before .before .before .before .args .tile) (c .before .before .before .before .before .before .before .before .before .before .before .before .before .before .before .before .before .before .before .before .before .before .before .before .before .before .before .args .tiles) (rowOf (c .before .before .before .before .before .before .before .before .before .before .before .before .before .before .before .before .before .before .before .before .before .before .before .before .before .before .before)) (lentOf (c .before .before .before .before .before .before .before .before .before .before .before .before .before .before .before .before .before .before .before .before .before .before .before .before .before .before .before)) (passes (c .before .before .before)))
 
 work-listed-requires : tie.Need-work-listed-requires
-work-listed-requires c κs =     let s = c .before .before .before .before .before .before .before .before .before .before .before .before .before .before .before .before .before .before .before .before .before .before .before .before .before .before .before .before .before .before .before .before .before .before .before .before in rw (c .before .before .before .before .before .before .before .before .before .count-planes .ensures) (startable (s .args .state) (s .args .tile) (s .args .tiles) (rowOf s) (lentOf s) (passes (c .before .before .before .before .before .before .before .before .before .before .before .before)) (record { small = λ i. c .before .before .before .before .before .before .before .before .before .before .before .before .before .before .before .before .before .before .before .before .before .before .before .before .before .before .before .before .before .before .before .before .before .before .before .shared-slice-known .given i .fits }))
+work-listed-requires c κs = let s = c .before .before .before .before .before .before .before .before .before .before .before .before .before .before .before .before .before .before .before .before .before .before .before .before .before .before .before .before .before .before .before .before .before .before .before .before in rw (c .before .before .before .before .before .before .before .before .before .count-planes .ensures) (startable (s .args .state) (s .args .tile) (s .args .tiles) (rowOf s) (lentOf s) (passes (c .before .before .before .before .before .before .before .before .before .before .before .before)) (record { small = λ i. c .before .before .before .before .before .before .before .before .before .before .before .before .before .before .before .before .before .before .before .before .before .before .before .before .before .before .before .before .before .before .before .before .before .before .before .shared-slice-known .given i .fits }))
 
 same-length : tie.Need-same-length
 same-length c = search needs
@@ -79,7 +77,7 @@ same-length-9 : tie.Need-same-length-9
 same-length-9 c = search needs
 
 returns : tie.Need-returns
-returns c =     let s = c .before .before .before .before .before .before .before .before .before .before .before .before .before .before .before .before .before .before .before .before .before .before .before .before .before in batch-refused (s .args .state) (s .args .tile) (s .args .tiles) (rowOf s) (lentOf s) (sym (told (c .before .before .before)) ∙ ap judgementIn (c .before .refusal .given .1))
+returns c = let s = c .before .before .before .before .before .before .before .before .before .before .before .before .before .before .before .before .before .before .before .before .before .before .before .before .before in batch-refused (s .args .state) (s .args .tile) (s .args .tiles) (rowOf s) (lentOf s) (sym (told (c .before .before .before)) ∙ ap judgementIn (c .before .refusal .given .1))
 
 same-length-10 : tie.Need-same-length-10
 same-length-10 c = c .before .before .before .before .before .before .before .before .before .before .before .before .before .before .before .before .work-listed .kept .1 .1 .1 .1 .1 .1 .1 .1 .1 .1 .0
@@ -109,7 +107,7 @@ same-length-18 : tie.Need-same-length-18
 same-length-18 c = c .before .before .before .before .before .before .before .before .before .before .before .before .before .before .before .before .work-listed .kept .1 .1 .1 .1 .1 .1 .1 .1 .1 .1 .1 .1 .1 .1 .1 .1 .1 .1 .0
 
 returns-2 : tie.Need-returns-2
-returns-2 c =     let s = c .before .before .before .before .before .before .before .before .before .before .before .before .before .before .before .before .before .before .before .before .before .before .before .before .before .before .before .before .before .before .before .before .before .before .before .before .before .before .before .before .before .before .before .before .before .before .before .before .before .before .before .before .before in batch-passed (s .args .state) (s .args .tile) (s .args .tiles) (rowOf s) (lentOf s) (passes (c .before .before .before .before .before .before .before .before .before .before .before .before .before .before .before .before .before .before .before .before .before .before .before .before .before .before .before .before .before)) (rw (c .before .before .before .before .before .before .before .before .before .before .before .before .before .before .before .before .before .before .before .before .before .before .before .before .before .before .count-planes .ensures) at (c .before .before .before .before .before .before .before .before .before .before .before .before .before .before .before .before .work-listed .ensures))
+returns-2 c = let s = c .before .before .before .before .before .before .before .before .before .before .before .before .before .before .before .before .before .before .before .before .before .before .before .before .before .before .before .before .before .before .before .before .before .before .before .before .before .before .before .before .before .before .before .before .before .before .before .before .before .before .before .before .before in batch-passed (s .args .state) (s .args .tile) (s .args .tiles) (rowOf s) (lentOf s) (passes (c .before .before .before .before .before .before .before .before .before .before .before .before .before .before .before .before .before .before .before .before .before .before .before .before .before .before .before .before .before)) (rw (c .before .before .before .before .before .before .before .before .before .before .before .before .before .before .before .before .before .before .before .before .before .before .before .before .before .before .count-planes .ensures) at (c .before .before .before .before .before .before .before .before .before .before .before .before .before .before .before .before .work-listed .ensures))
 
 pub work-tiles-spec : {M : Type 1} → statement M
 work-tiles-spec =

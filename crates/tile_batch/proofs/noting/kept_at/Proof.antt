@@ -1,10 +1,10 @@
 -- `noting::kept_at` meets its contract. Assumes nothing.
-use borrow.Author.Needs.{needs}
-use mathlib.Core.Path.{_≡_, refl, ap, sym, subst, _∙_}
+use mathlib.Core.Path.{_≡_, ap, _∙_}
+use mathlib.Core.Bool.{true}
 use Prim.Native.Nat.{ℕ, _+_, _*_, _-_}
 use native.Mathlib.Omega.{arith}
+use borrow.Author.Needs.{needs}
 use lib.ListN.{take, drop}
-use mathlib.Core.Bool.{true}
 use Rattle.ffi_numbers.specs.Cached.{keptOf}
 use Rattle.tile_batch.proofs.noting.kept_at.Statement.{statement}
 use Rattle.tile_batch.proofs.noting.kept_at.Tie as tie

@@ -1,6 +1,5 @@
 -- `noting::put_bottom` meets its contract. Assumes nothing.
 use borrow.Author.Needs.{needs}
-use mathlib.Core.Path.{_≡_, refl, ap, sym, subst, _∙_}
 use Rattle.tile_batch.proofs.noting.put_bottom.Statement.{statement}
 use Rattle.tile_batch.proofs.noting.put_bottom.Tie as tie
 

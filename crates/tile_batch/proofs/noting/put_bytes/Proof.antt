@@ -1,8 +1,8 @@
 -- `noting::put_bytes` meets its contract. Assumes nothing.
-use borrow.Author.Needs.{needs}
 use mathlib.Core.Path.{_≡_, _∙_}
 use Prim.Native.Nat.{suc, _+_, _<_}
 use native.Mathlib.Omega.{arith}
+use borrow.Author.Needs.{needs}
 use lib.ListN.{length, set, length-set, getD}
 use Rattle.tile_batch.proofs.Stores.{below}
 use Rattle.tile_batch.proofs.noting.put_bytes.Statement.{statement}

@@ -1,9 +1,9 @@
 -- `noting::put_four` meets its contract. Assumes nothing.
-use borrow.Author.Needs.{needs}
 use mathlib.Core.Path.{_≡_, _∙_}
 use Prim.Native.Nat.{suc, _+_, _<_}
 use native.Mathlib.Omega.{arith}
-use lib.ListN.{length, set, length-set, getD}
+use borrow.Author.Needs.{needs}
+use lib.ListN.{length, set, length-set}
 use Rattle.tile_batch.proofs.Stores.{below}
 use Rattle.tile_batch.proofs.noting.put_four.Statement.{statement}
 use Rattle.tile_batch.proofs.noting.put_four.Tie as tie

@@ -1,6 +1,6 @@
 -- `noting::put_kept` meets its contract. Assumes nothing.
-use borrow.Author.Needs.{needs}
 use native.Mathlib.Omega.{arith}
+use borrow.Author.Needs.{needs}
 use Rattle.tile_batch.proofs.noting.put_kept.Statement.{statement}
 use Rattle.tile_batch.proofs.noting.put_kept.Tie as tie
 

@@ -1,7 +1,7 @@
 -- `shown::paint_entry` meets its contract. Assumes nothing.
-use borrow.Author.Needs.{needs}
-use native.Mathlib.Omega.{arith}
 use mathlib.Core.Path.{refl}
+use native.Mathlib.Omega.{arith}
+use borrow.Author.Needs.{needs}
 use Rattle.tile_batch.proofs.shown.paint_entry.Statement.{statement}
 use Rattle.tile_batch.proofs.shown.paint_entry.Tie as tie
 

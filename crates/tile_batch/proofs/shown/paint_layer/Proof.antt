@@ -1,9 +1,7 @@
 -- `shown::paint_layer` meets its contract. Assumes nothing.
-use borrow.Author.Needs.{needs}
-use mathlib.Core.Path.{_≡_, refl, ap, sym, subst, _∙_}
 use native.Mathlib.Omega.{arith}
+use borrow.Author.Needs.{needs}
 use borrow.Author.Tests.{not-true, not-false}
-use lib.ListN.{length}
 use Rattle.tile_batch.specs.InnerShown.{walkAt}
 use Rattle.tile_batch.proofs.Stores.{put-plane, plane-room}
 use Rattle.tile_batch.proofs.Paintings.{unpainted, painted}
@@ -73,9 +71,9 @@ returns-2 c =
     let p = rw (c .before .before .before .before .before .before .before .before .before .before .record-of .ensures) at (c .before .before .before .before .before .before .before .before .paint .ensures) in
     let room = c .before .before .before .before .before .before .before .before .before .before .before .before .before .before .before .before .before .before .before .pre .2 .planes-long in (
       rw (c .before .with-clip .ensures)
-      (painted _ _ _ (walkAt (a .at) (a .planes .now) (a .painted .now)) _ (not-false _ (c .before .before .before .before .before .before .before .before .before .before .before .if1 .left)) (p .clip-is) (p .mark-is)
-      (put-plane (a .at .used) (a .planes .now) _ _ (omega (arith, room)) (p .plane-is) (c .before .before .before .before .before .before .before .before .paint .kept .1 .1 .1 .1 .1 .1 .1 .1 .1 .1 .0))
-      (c .before .before .before .before .put-words .ensures)),
+          (painted _ _ _ (walkAt (a .at) (a .planes .now) (a .painted .now)) _ (not-false _ (c .before .before .before .before .before .before .before .before .before .before .before .if1 .left)) (p .clip-is) (p .mark-is)
+          (put-plane (a .at .used) (a .planes .now) _ _ (omega (arith, room)) (p .plane-is) (c .before .before .before .before .before .before .before .before .paint .kept .1 .1 .1 .1 .1 .1 .1 .1 .1 .1 .0))
+          (c .before .before .before .before .put-words .ensures)),
       omega arith,
       omega arith,
     )

@@ -1,5 +1,4 @@
 -- `shown::paint_shown` meets its contract: the invariant and its steps are those of `Walking`. Assumes nothing.
-use borrow.Author.Needs.{needs}
 use mathlib.Core.Path.{_≡_, refl, _∙_}
 use Prim.Native.Nat.{_-_}
 use native.Mathlib.Omega.{arith}

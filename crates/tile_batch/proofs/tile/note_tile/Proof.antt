@@ -1,8 +1,8 @@
 -- `tile::note_tile` meets its contract. Assumes nothing.
-use borrow.Author.Needs.{needs}
-use mathlib.Core.Path.{_≡_, refl, ap, sym, subst, _∙_}
+use mathlib.Core.Path.{refl, ap, _∙_}
 use Prim.Native.Nat.{ℕ, _*_}
 use native.Mathlib.Omega.{arith}
+use borrow.Author.Needs.{needs}
 use lib.Seq.{sets}
 use Rattle.row_statements.specs.TileWork.{tileAnswerIn}
 use Rattle.batch_statements.specs.BatchLent.{tileNumbers}

@@ -1,23 +1,21 @@
 -- `tile::work_here` meets its contract. Assumes nothing.
-use borrow.Author.Needs.{needs}
-use mathlib.Core.Path.{_≡_, refl, ap, sym, subst, _∙_}
-use Prim.Native.Nat.{_≤_}
+use mathlib.Core.Path.{_≡_, refl, subst}
 use native.Mathlib.Omega.{arith}
+use borrow.Author.Needs.{needs}
+use lib.Dec.{leb}
 use mir.Syntax.{w16}
 use mir.Val.{SFits}
 use mir.Facts.{toZ-ofZ}
 use Rattle.laws.proofs.Machine.{sfits}
-use Rattle.laws.proofs.Parts.{whole}
 use Rattle.refusals.specs.Refusal.{pass, unless}
 use Rattle.segment_rows.specs.Search.{tilePart}
 use Rattle.cached_tile.specs.Kept.{tagOutOfRange}
 use Rattle.cached_tile.specs.declared.kept.Kept as kept
-use lib.Dec.{leb}
 use Rattle.row_statements.specs.Lent.{ListColumns, columns, listColumns, lentTable}
 use Rattle.row_statements.specs.TileWork.{WorkLent, workLent, GivesWork}
 use Rattle.row_statements.specs.InnerWork.{workedBy}
 use Rattle.row_driver.specs.InnerSteps as driver
-use Rattle.row_driver.proofs.Listed.{painter, accepted, walkable}
+use Rattle.tile_batch.proofs.Listed.{painter, accepted, walkable}
 use Rattle.batch_statements.specs.BatchLent.{batchLent}
 use Rattle.batch_statements.specs.Batch.{BatchRow, BatchAt, batchRow, callAt}
 use Rattle.tile_batch.specs.InnerTurns.{batchIn}
@@ -64,9 +62,8 @@ given-is c = let s = c .before .before .before .before .before .before .before .
 part-is : (c : tie.After-in-tile) → c .in-tile .result .now ≡ tilePart (standOf (c .before .before .before .before .before .before .before .before .before .before .before .before .before .before .before .before .before .before .before .before .before .before .before .before .before .before .before .before .before .before .before .before .before .before .before) .tile) (c .before .before .before .before .before .before .before .before .before .before .before .before .before .before .before .before .before .before .before .before .before .before .before .before .before .before .before .before .before .before .before .before .before .before .before .args .row .now)
 part-is c = let s = c .before .before .before .before .before .before .before .before .before .before .before .before .before .before .before .before .before .before .before .before .before .before .before .before .before .before .before .before .before .before .before .before .before .before .before in rw (toZ-ofZ (s .fits .tile), toZ-ofZ (tile-fits s), s .pre .tile-is) at (c .in-tile .ensures)
 
-
 work-judged-requires : tie.Need-work-judged-requires
-work-judged-requires c κs =     let s = c .before .before .before .before .before .before .before .before .before .before .before .before .before .before .before .before .before .before .before .before in rw (toZ-ofZ (s .fits .tile), s .pre .tile-is, s .pre .held-is) (ready s .judged)
+work-judged-requires c κs = let s = c .before .before .before .before .before .before .before .before .before .before .before .before .before .before .before .before .before .before .before .before in rw (toZ-ofZ (s .fits .tile), s .pre .tile-is, s .pre .held-is) (ready s .judged)
 
 enum-known-answer : tie.Need-enum-known-answer
 enum-known-answer c = search needs

@@ -1,11 +1,10 @@
 -- `tile::work_next` meets its contract. Assumes nothing.
-use borrow.Author.Needs.{needs}
-use mathlib.Core.Path.{_≡_, refl, ap, sym, subst, _∙_}
+use mathlib.Core.Path.{refl, ap, sym, _∙_}
 use Prim.Native.Nat.{_<_, _^_}
 use native.Mathlib.Omega.{arith}
+use borrow.Author.Needs.{needs}
 use lib.IntN.{pos}
 use mir.Syntax.{w32}
-use mir.Val.{toZ}
 use mir.Facts.{toZ-pos}
 use Rattle.laws.proofs.Machine.{small}
 use Rattle.refusals.specs.Refusal.{Judgement, judgementIn, andThen}
@@ -15,8 +14,8 @@ use Rattle.row_statements.proofs.Works.{in-row}
 use Rattle.row_statements.specs.State.{stateIn}
 use Rattle.batch_statements.specs.BatchLent.{batchLent}
 use Rattle.batch_statements.specs.Batch.{BatchRow, BatchAt, batchRow, callAt}
-use Rattle.tile_batch.specs.InnerTurns.{batchIn, starting}
-use Rattle.tile_batch.proofs.Turning.{ownJudged, turn-refused, turn-left}
+use Rattle.tile_batch.specs.InnerTurns.{batchIn}
+use Rattle.tile_batch.proofs.Turning.{turn-refused, turn-left}
 use Rattle.tile_batch.proofs.tile.work_next.Statement.{statement}
 use Rattle.tile_batch.proofs.tile.work_next.Tie as tie
 
@@ -31,7 +30,6 @@ standOf s =
 -- the tile is a small number
 low : (s : tie.Start) → s .args .at .state .next < 2 ^ 31
 low s = let r = in-row (stateIn (s .args .at .state)) (s .pre .stands .in-state) in omega (arith, r .last, r .within)
-
 
 kept-at-requires : tie.Need-kept-at-requires
 kept-at-requires c κs = c .before .before .before .before .before .before .before .before .before .before .before .before .before .before .before .pre .notes .kept
