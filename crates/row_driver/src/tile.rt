@@ -37,7 +37,7 @@ fn clear_color() -> Color
     }
 }
 
-fn is_paint(decision: Decision) -> bool
+pub fn is_paint(decision: Decision) -> bool
     ensures { λ r. ⌜ r ≡ isPaint (decisionIn decision) ⌝ }
 {
     match decision {

@@ -1,0 +1,80 @@
+-- The public calls that a batch stands for: the work on each tile, and where it is painted the painting of each shown layer, ascending. What is noted is
+-- read from what the calls answered and left in lent memory, as a caller reads it. proofs/BatchTiles has that a batch in a run is such calls.
+use mathlib.Core.Path.{_≡_}
+use mathlib.Core.Bool.{true, false}
+use mathlib.Core.List.{List, [], _∷_, _++_}
+use Prim.Native.Nat.{ℕ, zero, suc, _+_, _*_}
+use lib.Dec.{ltb}
+use lib.Ieee.{Float}
+use lib.IntN.{ℤ}
+use lib.Seq.{sets}
+use Rattle.laws.specs.Answer.{refused, given}
+use Rattle.refusals.specs.Refusal.{pass, refuse}
+use Rattle.row_statements.specs.Lent.{Columns}
+use Rattle.row_statements.specs.State.{stateIn}
+use Rattle.row_statements.specs.TileWork.{WorkLent, WorkGiven, TileAnswer, workAnswer}
+use Rattle.row_statements.specs.Painting.{paintAnswer}
+use Rattle.row_statements.specs.Due.{WorkChoice, PaintChoice}
+use Rattle.row_statements.specs.Run.{Event}
+use Rattle.row_statements.specs.declared.TileWorked.{TileWorked}
+use Rattle.row_statements.specs.declared.Painted.{Painted}
+use Rattle.row_lines.specs.Calls.{paintedBy}
+use Rattle.batch_statements.specs.BatchLent.{keptAt, planeAt}
+use Rattle.batch_statements.specs.Batch.{BatchRow, BatchAt, BatchGiven, PlanesAt, ownList, turnBy}
+
+-- ---- what a caller chooses
+
+-- for the work on the tile where the batch stands
+abbrev pub worksHere : BatchRow → BatchAt → WorkChoice
+worksHere c s =
+    record {
+      tile = s .tile;
+      kept = keptAt (c .keeps) (s .lent .kept) (s .worked);
+      clear = c .clear;
+      previous = c .previous;
+      queue = s .lent .queue;
+      lent = record { queue = s .lent .other; list = ownList c };
+    }
+
+-- for the painting of a layer of the tile that took in the queue, into the next plane
+abbrev pub paintsHere : ℤ → Columns → PlanesAt → ℕ → PaintChoice
+paintsHere tile queue p id = record { tile = tile; layer = id; queue = queue; plane = planeAt (p .used) (p .planes) }
+
+-- ---- what is noted
+
+-- what a work gave, as it was answered and left
+abbrev pub workGivenAs : TileWorked → WorkLent → WorkGiven
+workGivenAs r back = record { answer = workAnswer (r .answer); state = stateIn (r .state); kept = r .kept; lent = back }
+
+abbrev pub paintedAs : Painted → List Float → ℕ → ℕ → PlanesAt → PlanesAt
+paintedAs r back id mark p =
+    record { state = stateIn (r .state); used = p .used + 1; planes = sets (p .planes) (p .used * 256) back; painted = sets (p .painted) (p .used * 2) (id ∷ mark ∷ []) }
+
+-- ---- the calls
+
+-- layers painted in turn, each accepted: the planes before and after them
+pub data PaintCalls (tile : ℤ) (queue : Columns) : PlanesAt → List ℕ → List Event → PlanesAt → Type 0 where
+  none : {p : PlanesAt} → PaintCalls tile queue p [] [] p
+  next : {p q : PlanesAt} {id mark : ℕ} {ids : List ℕ} {r : Painted} {back : List Float} {es : List Event} →
+      paintAnswer (r .answer) ≡ given mark →
+      PaintCalls tile queue (paintedAs r back id mark p) ids es q →
+      PaintCalls tile queue p (id ∷ ids) (Event.paint (paintsHere tile queue p id) r back ∷ es) q
+
+-- the planes that the paintings of a tile leave are those that its definition tells
+abbrev pub startPlanes : BatchAt → TileWorked → PlanesAt
+startPlanes s r = record { state = stateIn (r .state); used = s .used; planes = s .lent .planes; painted = s .lent .painted }
+
+-- tile after tile, k that are left, while 256 of the planes are free, up to the first that is refused; and how that ends
+pub data TileCalls (c : BatchRow) (planes : ℕ) : ℕ → BatchAt → List Event → BatchGiven → Type 0 where
+  none : {s : BatchAt} → TileCalls c planes zero s [] (record { at = s; end = pass })
+  full : {k : ℕ} {s : BatchAt} → ltb planes (s .used + 256) ≡ true → TileCalls c planes (suc k) s [] (record { at = s; end = pass })
+  turned-down : {k number : ℕ} {s : BatchAt} {r : TileWorked} {back : WorkLent} →
+      ltb planes (s .used + 256) ≡ false →
+      workAnswer (r .answer) ≡ refused number →
+      TileCalls c planes (suc k) s (Event.work (worksHere c s) r back ∷ []) (record { at = s; end = refuse number })
+  next : {k : ℕ} {s : BatchAt} {r : TileWorked} {back : WorkLent} {t : TileAnswer} {p : PlanesAt} {ps es : List Event} {g : BatchGiven} →
+      ltb planes (s .used + 256) ≡ false →
+      workAnswer (r .answer) ≡ given t →
+      PaintCalls (s .tile) (s .lent .queue) (startPlanes s r) (paintedBy t back) ps p →
+      TileCalls c planes k (turnBy c (given t) s (workGivenAs r back) .at) es g →
+      TileCalls c planes (suc k) s (Event.work (worksHere c s) r back ∷ (ps ++ es)) g

@@ -1,0 +1,267 @@
+-- `work_many` meets its contract: each turn is a tile of `Turning`, and what is left goes by `Going`. Assumes nothing.
+use mathlib.Core.Path.{_≡_, refl, ap, sym, subst, _∙_}
+use Prim.Native.Nat.{_+_, _-_}
+use native.Mathlib.Omega.{arith}
+use borrow.Author.Needs.{needs}
+use lib.ListN.{length}
+use Rattle.refusals.specs.Refusal.{pass, judgementIn}
+use Rattle.row_statements.specs.Lent.{ListColumns, columns, lentTable}
+use Rattle.row_driver.proofs.Turning.{list-kept}
+use Rattle.batch_statements.specs.BatchLent.{batchLent, sided}
+use Rattle.batch_statements.specs.Batch.{BatchRow, BatchGiven, batchRow, GivesBatch}
+use Rattle.tile_batch.specs.InnerTurns.{batchIn, starting}
+use Rattle.tile_batch.proofs.Turning.{stands-next, verdict-of}
+use Rattle.tile_batch.proofs.Going.{Going, goes, start, turnable, stopped, next, ended, at-is, side-back}
+use Rattle.tile_batch.proofs.work_many.Statement.{statement}
+use Rattle.tile_batch.proofs.work_many.Tie as tie
+
+abbrev Inv-loop : tie.InvT-loop
+Inv-loop tiles spare row layers colors count keeps clear previous a-ids₀ a-covers₀ b-ids₀ b-covers₀ list-ids₀ list-covers₀ list-flags₀ list-unmasked₀ kept₀ told₀ bottoms₀ planes₀ painted₀ at₀ a-ids a-covers b-ids b-covers list-ids list-covers list-flags list-unmasked kept told bottoms planes painted at =
+    Going (batchRow row (lentTable layers colors count) keeps clear previous) (spare + 256) tiles (batchIn at₀ (batchLent (columns (a-ids₀) (a-covers₀)) (columns (b-ids₀) (b-covers₀)) (kept₀) (told₀) (bottoms₀) (planes₀) (painted₀))) (batchIn at (sided (at .first) (batchLent (columns (a-ids) (a-covers)) (columns (b-ids) (b-covers)) (kept) (told) (bottoms) (planes) (painted))))
+    × (judgementIn (at .verdict) ≡ pass)
+    × (length a-ids ≡ length a-ids₀)
+    × (length a-covers ≡ length a-covers₀)
+    × (length b-ids ≡ length b-ids₀)
+    × (length b-covers ≡ length b-covers₀)
+    × (length list-ids ≡ length list-ids₀)
+    × (length list-covers ≡ length list-covers₀)
+    × (length list-flags ≡ length list-flags₀)
+    × (length list-unmasked ≡ length list-unmasked₀)
+    × (length kept ≡ length kept₀)
+    × (length told ≡ length told₀)
+    × (length bottoms ≡ length bottoms₀)
+    × (length planes ≡ length planes₀)
+    × (length painted ≡ length painted₀)
+
+abbrev μ-loop : tie.MeasureT-loop
+μ-loop tiles spare row layers colors count keeps clear previous a-ids₀ a-covers₀ b-ids₀ b-covers₀ list-ids₀ list-covers₀ list-flags₀ list-unmasked₀ kept₀ told₀ bottoms₀ planes₀ painted₀ at₀ a-ids a-covers b-ids b-covers list-ids list-covers list-flags list-unmasked kept told bottoms planes painted at =
+    tiles - at .worked
+
+abbrev rowOf : tie.Start Inv-loop μ-loop → BatchRow
+rowOf s = let a = s .args in batchRow (a .row .now) (lentTable (a .layers .now) (a .colors .now) (a .count)) (a .keeps) (a .clear) (a .previous)
+
+loop-holds : tie.Need-loop-holds Inv-loop μ-loop
+loop-holds c = (start (rowOf (c .before .before .before .before .before .before .before .before .before .before .before .before .before)) (c .before .before .before .before .before .before .before .before .before .before .before .before .before .args .spare) (c .before .before .before .before .before .before .before .before .before .before .before .before .before .args .tiles) _ (c .before .before .before .before .before .before .before .before .before .before .before .before .before .pre .0 .stands) (c .before .before .before .before .before .before .before .before .before .before .before .before .before .pre .0 .room) refl, refl, refl, refl, refl, refl, refl, refl, refl, refl, refl, refl, refl, refl, refl)
+
+goes-on-requires : tie.Need-goes-on-requires Inv-loop μ-loop
+goes-on-requires c κs = search needs
+
+turn-requires : tie.Need-turn-requires Inv-loop μ-loop
+turn-requires c κs =
+    let s = c .before .before .before .before .before .before .before .before .before .before .before .before .before .before .before .before .before .before .before .before .before .before .before .before .before .before .before .before .before in
+    let a = s .args in
+    let l = c .before .before .before .before .before .before .before .before .before .before .before .before .before .before .before .loop in
+    let v = l .inv in
+    let m = batchLent (columns (l .a-ids) (l .a-covers)) (columns (l .b-ids) (l .b-covers)) (l .kept) (l .told) (l .bottoms) (l .planes) (l .painted) in
+    let at = batchIn (l .at) (sided (l .at .first) m) in
+    let s₀ = batchIn (starting (a .state)) (batchLent (columns (a .a-ids .now) (a .a-covers .now)) (columns (a .b-ids .now) (a .b-covers .now)) (a .kept .now) (a .told .now) (a .bottoms .now) (a .planes .now) (a .painted .now)) in
+    let list₀ : ListColumns = record { ids = a .list-ids .now; covers = a .list-covers .now; flags = a .list-flags .now; unmasked = a .list-unmasked .now } in
+    let list : ListColumns = record { ids = l .list-ids; covers = l .list-covers; flags = l .list-flags; unmasked = l .list-unmasked } in
+    let long = list-kept list₀ list (v .6) (v .7) (v .8) (v .9) (s .pre .1) in
+    let h = goes (l .at .worked) (a .tiles) (l .at .used) (a .spare) (sym (c .before .before .before .before .before .before .before .before .before .before .before .before .before .before .goes-on .ensures) ∙ c .before .before .before .before .before .before .before .before .before .before .before .before .before .if1 .taken) in
+    turnable (rowOf s) (a .spare) (a .tiles) s₀ at (v .0) list long (h .0) (h .1)
+
+enum-told : tie.Need-enum-told Inv-loop μ-loop
+enum-told c = search needs
+
+same-length : tie.Need-same-length Inv-loop μ-loop
+same-length c = c .before .before .before .before .before .before .before .before .before .before .before .before .before .before .before .before .before .before .before .before .before .before .before .before .before .turn .kept .1 .1 .1 .1 .1 .1 .1 .1 .0 ∙ c .before .before .before .before .before .before .before .before .before .before .before .before .before .before .before .before .before .before .before .before .before .before .before .before .before .before .before .before .before .before .before .before .before .before .before .before .before .before .before .before .before .loop .inv .2
+
+same-length-2 : tie.Need-same-length-2 Inv-loop μ-loop
+same-length-2 c = c .before .before .before .before .before .before .before .before .before .before .before .before .before .before .before .before .before .before .before .before .before .before .before .before .before .turn .kept .1 .1 .1 .1 .1 .1 .1 .1 .1 .0 ∙ c .before .before .before .before .before .before .before .before .before .before .before .before .before .before .before .before .before .before .before .before .before .before .before .before .before .before .before .before .before .before .before .before .before .before .before .before .before .before .before .before .before .loop .inv .3
+
+same-length-3 : tie.Need-same-length-3 Inv-loop μ-loop
+same-length-3 c = c .before .before .before .before .before .before .before .before .before .before .before .before .before .before .before .before .before .before .before .before .before .before .before .before .before .turn .kept .1 .1 .1 .1 .1 .1 .1 .1 .1 .1 .0 ∙ c .before .before .before .before .before .before .before .before .before .before .before .before .before .before .before .before .before .before .before .before .before .before .before .before .before .before .before .before .before .before .before .before .before .before .before .before .before .before .before .before .before .loop .inv .4
+
+same-length-4 : tie.Need-same-length-4 Inv-loop μ-loop
+same-length-4 c = c .before .before .before .before .before .before .before .before .before .before .before .before .before .before .before .before .before .before .before .before .before .before .before .before .before .turn .kept .1 .1 .1 .1 .1 .1 .1 .1 .1 .1 .1 .0 ∙ c .before .before .before .before .before .before .before .before .before .before .before .before .before .before .before .before .before .before .before .before .before .before .before .before .before .before .before .before .before .before .before .before .before .before .before .before .before .before .before .before .before .loop .inv .5
+
+same-length-5 : tie.Need-same-length-5 Inv-loop μ-loop
+same-length-5 c = c .before .before .before .before .before .before .before .before .before .before .before .before .before .before .before .before .before .before .before .before .before .before .before .before .before .turn .kept .1 .1 .1 .1 .1 .1 .1 .1 .1 .1 .1 .1 .0 ∙ c .before .before .before .before .before .before .before .before .before .before .before .before .before .before .before .before .before .before .before .before .before .before .before .before .before .before .before .before .before .before .before .before .before .before .before .before .before .before .before .before .before .loop .inv .6
+
+same-length-6 : tie.Need-same-length-6 Inv-loop μ-loop
+same-length-6 c = c .before .before .before .before .before .before .before .before .before .before .before .before .before .before .before .before .before .before .before .before .before .before .before .before .before .turn .kept .1 .1 .1 .1 .1 .1 .1 .1 .1 .1 .1 .1 .1 .0 ∙ c .before .before .before .before .before .before .before .before .before .before .before .before .before .before .before .before .before .before .before .before .before .before .before .before .before .before .before .before .before .before .before .before .before .before .before .before .before .before .before .before .before .loop .inv .7
+
+same-length-7 : tie.Need-same-length-7 Inv-loop μ-loop
+same-length-7 c = c .before .before .before .before .before .before .before .before .before .before .before .before .before .before .before .before .before .before .before .before .before .before .before .before .before .turn .kept .1 .1 .1 .1 .1 .1 .1 .1 .1 .1 .1 .1 .1 .1 .0 ∙ c .before .before .before .before .before .before .before .before .before .before .before .before .before .before .before .before .before .before .before .before .before .before .before .before .before .before .before .before .before .before .before .before .before .before .before .before .before .before .before .before .before .loop .inv .8
+
+same-length-8 : tie.Need-same-length-8 Inv-loop μ-loop
+same-length-8 c = c .before .before .before .before .before .before .before .before .before .before .before .before .before .before .before .before .before .before .before .before .before .before .before .before .before .turn .kept .1 .1 .1 .1 .1 .1 .1 .1 .1 .1 .1 .1 .1 .1 .1 .0 ∙ c .before .before .before .before .before .before .before .before .before .before .before .before .before .before .before .before .before .before .before .before .before .before .before .before .before .before .before .before .before .before .before .before .before .before .before .before .before .before .before .before .before .loop .inv .9
+
+same-length-9 : tie.Need-same-length-9 Inv-loop μ-loop
+same-length-9 c = c .before .before .before .before .before .before .before .before .before .before .before .before .before .before .before .before .before .before .before .before .before .before .before .before .before .turn .kept .1 .1 .1 .1 .1 .1 .1 .1 .1 .1 .1 .1 .1 .1 .1 .1 .0 ∙ c .before .before .before .before .before .before .before .before .before .before .before .before .before .before .before .before .before .before .before .before .before .before .before .before .before .before .before .before .before .before .before .before .before .before .before .before .before .before .before .before .before .loop .inv .10
+
+same-length-10 : tie.Need-same-length-10 Inv-loop μ-loop
+same-length-10 c = c .before .before .before .before .before .before .before .before .before .before .before .before .before .before .before .before .before .before .before .before .before .before .before .before .before .turn .kept .1 .1 .1 .1 .1 .1 .1 .1 .1 .1 .1 .1 .1 .1 .1 .1 .1 .0 ∙ c .before .before .before .before .before .before .before .before .before .before .before .before .before .before .before .before .before .before .before .before .before .before .before .before .before .before .before .before .before .before .before .before .before .before .before .before .before .before .before .before .before .loop .inv .11
+
+same-length-11 : tie.Need-same-length-11 Inv-loop μ-loop
+same-length-11 c = c .before .before .before .before .before .before .before .before .before .before .before .before .before .before .before .before .before .before .before .before .before .before .before .before .before .turn .kept .1 .1 .1 .1 .1 .1 .1 .1 .1 .1 .1 .1 .1 .1 .1 .1 .1 .1 .0 ∙ c .before .before .before .before .before .before .before .before .before .before .before .before .before .before .before .before .before .before .before .before .before .before .before .before .before .before .before .before .before .before .before .before .before .before .before .before .before .before .before .before .before .loop .inv .12
+
+same-length-12 : tie.Need-same-length-12 Inv-loop μ-loop
+same-length-12 c = c .before .before .before .before .before .before .before .before .before .before .before .before .before .before .before .before .before .before .before .before .before .before .before .before .before .turn .kept .1 .1 .1 .1 .1 .1 .1 .1 .1 .1 .1 .1 .1 .1 .1 .1 .1 .1 .1 .0 ∙ c .before .before .before .before .before .before .before .before .before .before .before .before .before .before .before .before .before .before .before .before .before .before .before .before .before .before .before .before .before .before .before .before .before .before .before .before .before .before .before .before .before .loop .inv .13
+
+same-length-13 : tie.Need-same-length-13 Inv-loop μ-loop
+same-length-13 c = c .before .before .before .before .before .before .before .before .before .before .before .before .before .before .before .before .before .before .before .before .before .before .before .before .before .turn .kept .1 .1 .1 .1 .1 .1 .1 .1 .1 .1 .1 .1 .1 .1 .1 .1 .1 .1 .1 .1 .0 ∙ c .before .before .before .before .before .before .before .before .before .before .before .before .before .before .before .before .before .before .before .before .before .before .before .before .before .before .before .before .before .before .before .before .before .before .before .before .before .before .before .before .before .loop .inv .14
+
+returns : tie.Need-returns Inv-loop μ-loop
+returns c =
+    let s = c .before .before .before .before .before .before .before .before .before .before .before .before .before .before .before .before .before .before .before .before .before .before .before .before .before .before .before .before .before .before .before .before .before .before .before .before .before .before .before .before .before .before .before .before .before .before .before .before .before .before .before .before .before .before .before in
+    let a = s .args in
+    let l = c .before .before .before .before .before .before .before .before .before .before .before .before .before .before .before .before .before .before .before .before .before .before .before .before .before .before .before .before .before .before .before .before .before .before .before .before .before .before .before .before .before .loop in
+    let v = l .inv in
+    let m = batchLent (columns (l .a-ids) (l .a-covers)) (columns (l .b-ids) (l .b-covers)) (l .kept) (l .told) (l .bottoms) (l .planes) (l .painted) in
+    let at = batchIn (l .at) (sided (l .at .first) m) in
+    let s₀ = batchIn (starting (a .state)) (batchLent (columns (a .a-ids .now) (a .a-covers .now)) (columns (a .b-ids .now) (a .b-covers .now)) (a .kept .now) (a .told .now) (a .bottoms .now) (a .planes .now) (a .painted .now)) in
+    let list₀ : ListColumns = record { ids = a .list-ids .now; covers = a .list-covers .now; flags = a .list-flags .now; unmasked = a .list-unmasked .now } in
+    let list : ListColumns = record { ids = l .list-ids; covers = l .list-covers; flags = l .list-flags; unmasked = l .list-unmasked } in
+    let long = list-kept list₀ list (v .6) (v .7) (v .8) (v .9) (s .pre .1) in
+    let h = goes (l .at .worked) (a .tiles) (l .at .used) (a .spare) (sym (c .before .before .before .before .before .before .before .before .before .before .before .before .before .before .before .before .before .before .before .before .before .before .before .before .before .before .before .before .before .before .before .before .before .before .before .before .before .before .before .before .goes-on .ensures) ∙ c .before .before .before .before .before .before .before .before .before .before .before .before .before .before .before .before .before .before .before .before .before .before .before .before .before .before .before .before .before .before .before .before .before .before .before .before .before .before .before .if1 .taken) in
+    let e = sym (c .before .before .before .before .before .before .before .before .before .before .before .before .before .before .before .before .before .before .before .before .before .before .before .before .before .turn .ensures .end) ∙ ap judgementIn (c .enum-told .given .1) in
+    subst (λ (g : BatchGiven). GivesBatch g (c .before .before .before .before .before .before .before .before .before .before .before .before .before .before .before .before .before .before .before .before .before .before .before .before .before .turn .result) (batchLent (columns (c .before .before .before .before .before .before .before .before .before .before .before .before .before .before .before .before .before .before .before .before .before .before .before .before .before .turn .last .1 .1 .1 .1 .1 .1 .1 .1 .0) (c .before .before .before .before .before .before .before .before .before .before .before .before .before .before .before .before .before .before .before .before .before .before .before .before .before .turn .last .1 .1 .1 .1 .1 .1 .1 .1 .1 .0)) (columns (c .before .before .before .before .before .before .before .before .before .before .before .before .before .before .before .before .before .before .before .before .before .before .before .before .before .turn .last .1 .1 .1 .1 .1 .1 .1 .1 .1 .1 .0) (c .before .before .before .before .before .before .before .before .before .before .before .before .before .before .before .before .before .before .before .before .before .before .before .before .before .turn .last .1 .1 .1 .1 .1 .1 .1 .1 .1 .1 .1 .0)) (c .before .before .before .before .before .before .before .before .before .before .before .before .before .before .before .before .before .before .before .before .before .before .before .before .before .turn .last .1 .1 .1 .1 .1 .1 .1 .1 .1 .1 .1 .1 .1 .1 .1 .1 .0) (c .before .before .before .before .before .before .before .before .before .before .before .before .before .before .before .before .before .before .before .before .before .before .before .before .before .turn .last .1 .1 .1 .1 .1 .1 .1 .1 .1 .1 .1 .1 .1 .1 .1 .1 .1 .0) (c .before .before .before .before .before .before .before .before .before .before .before .before .before .before .before .before .before .before .before .before .before .before .before .before .before .turn .last .1 .1 .1 .1 .1 .1 .1 .1 .1 .1 .1 .1 .1 .1 .1 .1 .1 .1 .0) (c .before .before .before .before .before .before .before .before .before .before .before .before .before .before .before .before .before .before .before .before .before .before .before .before .before .turn .last .1 .1 .1 .1 .1 .1 .1 .1 .1 .1 .1 .1 .1 .1 .1 .1 .1 .1 .1 .0) (c .before .before .before .before .before .before .before .before .before .before .before .before .before .before .before .before .before .before .before .before .before .before .before .before .before .turn .last .1 .1 .1 .1 .1 .1 .1 .1 .1 .1 .1 .1 .1 .1 .1 .1 .1 .1 .1 .1 .0))) (stopped (rowOf s) (a .spare) (a .tiles) s₀ at (v .0) (h .0) (h .1) e) (c .before .before .before .before .before .before .before .before .before .before .before .before .before .before .before .before .before .before .before .before .before .before .before .before .before .turn .ensures)
+
+enum-told-2 : tie.Need-enum-told-2 Inv-loop μ-loop
+enum-told-2 c = search needs
+
+loop-less : tie.Need-loop-less Inv-loop μ-loop
+loop-less c =
+    let s = c .before .before .before .before .before .before .before .before .before .before .before .before .before .before .before .before .before .before .before .before .before .before .before .before .before .before .before .before .before .before .before .before .before .before .before .before .before .before .before .before .before .before .before .before .before .before .before .before .before .before .before .before .before .before .before in
+    let a = s .args in
+    let l = c .before .before .before .before .before .before .before .before .before .before .before .before .before .before .before .before .before .before .before .before .before .before .before .before .before .before .before .before .before .before .before .before .before .before .before .before .before .before .before .before .before .loop in
+    let v = l .inv in
+    let m = batchLent (columns (l .a-ids) (l .a-covers)) (columns (l .b-ids) (l .b-covers)) (l .kept) (l .told) (l .bottoms) (l .planes) (l .painted) in
+    let at = batchIn (l .at) (sided (l .at .first) m) in
+    let s₀ = batchIn (starting (a .state)) (batchLent (columns (a .a-ids .now) (a .a-covers .now)) (columns (a .b-ids .now) (a .b-covers .now)) (a .kept .now) (a .told .now) (a .bottoms .now) (a .planes .now) (a .painted .now)) in
+    let list₀ : ListColumns = record { ids = a .list-ids .now; covers = a .list-covers .now; flags = a .list-flags .now; unmasked = a .list-unmasked .now } in
+    let list : ListColumns = record { ids = l .list-ids; covers = l .list-covers; flags = l .list-flags; unmasked = l .list-unmasked } in
+    let long = list-kept list₀ list (v .6) (v .7) (v .8) (v .9) (s .pre .1) in
+    let h = goes (l .at .worked) (a .tiles) (l .at .used) (a .spare) (sym (c .before .before .before .before .before .before .before .before .before .before .before .before .before .before .before .before .before .before .before .before .before .before .before .before .before .before .before .before .before .before .before .before .before .before .before .before .before .before .before .before .goes-on .ensures) ∙ c .before .before .before .before .before .before .before .before .before .before .before .before .before .before .before .before .before .before .before .before .before .before .before .before .before .before .before .before .before .before .before .before .before .before .before .before .before .before .before .if1 .taken) in
+    let t = turnable (rowOf s) (a .spare) (a .tiles) s₀ at (v .0) list long (h .0) (h .1) in
+    let e = sym (c .before .before .before .before .before .before .before .before .before .before .before .before .before .before .before .before .before .before .before .before .before .before .before .before .before .turn .ensures .end) ∙ ap judgementIn (c .enum-told2 .given .1) in
+    let past = stands-next (rowOf s) at (v .0 .stands) (verdict-of (rowOf s) at (v .0 .stands) e) (t .planes) in
+    omega (arith, past .2, c .before .before .before .before .before .before .before .before .before .before .before .before .before .before .before .before .before .before .before .before .before .before .before .before .before .turn .ensures .worked, h .0)
+
+loop-again : tie.Need-loop-again Inv-loop μ-loop
+loop-again c =
+    let s = c .before .before .before .before .before .before .before .before .before .before .before .before .before .before .before .before .before .before .before .before .before .before .before .before .before .before .before .before .before .before .before .before .before .before .before .before .before .before .before .before .before .before .before .before .before .before .before .before .before .before .before .before .before .before .before in
+    let a = s .args in
+    let l = c .before .before .before .before .before .before .before .before .before .before .before .before .before .before .before .before .before .before .before .before .before .before .before .before .before .before .before .before .before .before .before .before .before .before .before .before .before .before .before .before .before .loop in
+    let v = l .inv in
+    let m = batchLent (columns (l .a-ids) (l .a-covers)) (columns (l .b-ids) (l .b-covers)) (l .kept) (l .told) (l .bottoms) (l .planes) (l .painted) in
+    let at = batchIn (l .at) (sided (l .at .first) m) in
+    let s₀ = batchIn (starting (a .state)) (batchLent (columns (a .a-ids .now) (a .a-covers .now)) (columns (a .b-ids .now) (a .b-covers .now)) (a .kept .now) (a .told .now) (a .bottoms .now) (a .planes .now) (a .painted .now)) in
+    let list₀ : ListColumns = record { ids = a .list-ids .now; covers = a .list-covers .now; flags = a .list-flags .now; unmasked = a .list-unmasked .now } in
+    let list : ListColumns = record { ids = l .list-ids; covers = l .list-covers; flags = l .list-flags; unmasked = l .list-unmasked } in
+    let long = list-kept list₀ list (v .6) (v .7) (v .8) (v .9) (s .pre .1) in
+    let h = goes (l .at .worked) (a .tiles) (l .at .used) (a .spare) (sym (c .before .before .before .before .before .before .before .before .before .before .before .before .before .before .before .before .before .before .before .before .before .before .before .before .before .before .before .before .before .before .before .before .before .before .before .before .before .before .before .before .goes-on .ensures) ∙ c .before .before .before .before .before .before .before .before .before .before .before .before .before .before .before .before .before .before .before .before .before .before .before .before .before .before .before .before .before .before .before .before .before .before .before .before .before .before .before .if1 .taken) in
+    let t = turnable (rowOf s) (a .spare) (a .tiles) s₀ at (v .0) list long (h .0) (h .1) in
+    let e = sym (c .before .before .before .before .before .before .before .before .before .before .before .before .before .before .before .before .before .before .before .before .before .before .before .before .before .turn .ensures .end) ∙ ap judgementIn (c .enum-told2 .given .1) in
+    let past = stands-next (rowOf s) at (v .0 .stands) (verdict-of (rowOf s) at (v .0 .stands) e) (t .planes) in (
+      subst (Going (rowOf s) (a .spare + 256) (a .tiles) s₀) (sym (at-is (rowOf s) at (c .before .before .before .before .before .before .before .before .before .before .before .before .before .before .before .before .before .before .before .before .before .before .before .before .before .turn .ensures) (past .0))) (next (rowOf s) (a .spare) (a .tiles) s₀ at (v .0) (h .0) (h .1) e past),
+      ap judgementIn (c .enum-told2 .given .1),
+      c .before .before .before .before .before .before .before .before .before .before .before .before .before .before .before .before .before .before .before .before .before .before .before .before .before .turn .kept .1 .1 .1 .1 .1 .1 .1 .1 .0 ∙ v .2,
+      c .before .before .before .before .before .before .before .before .before .before .before .before .before .before .before .before .before .before .before .before .before .before .before .before .before .turn .kept .1 .1 .1 .1 .1 .1 .1 .1 .1 .0 ∙ v .3,
+      c .before .before .before .before .before .before .before .before .before .before .before .before .before .before .before .before .before .before .before .before .before .before .before .before .before .turn .kept .1 .1 .1 .1 .1 .1 .1 .1 .1 .1 .0 ∙ v .4,
+      c .before .before .before .before .before .before .before .before .before .before .before .before .before .before .before .before .before .before .before .before .before .before .before .before .before .turn .kept .1 .1 .1 .1 .1 .1 .1 .1 .1 .1 .1 .0 ∙ v .5,
+      c .before .before .before .before .before .before .before .before .before .before .before .before .before .before .before .before .before .before .before .before .before .before .before .before .before .turn .kept .1 .1 .1 .1 .1 .1 .1 .1 .1 .1 .1 .1 .0 ∙ v .6,
+      c .before .before .before .before .before .before .before .before .before .before .before .before .before .before .before .before .before .before .before .before .before .before .before .before .before .turn .kept .1 .1 .1 .1 .1 .1 .1 .1 .1 .1 .1 .1 .1 .0 ∙ v .7,
+      c .before .before .before .before .before .before .before .before .before .before .before .before .before .before .before .before .before .before .before .before .before .before .before .before .before .turn .kept .1 .1 .1 .1 .1 .1 .1 .1 .1 .1 .1 .1 .1 .1 .0 ∙ v .8,
+      c .before .before .before .before .before .before .before .before .before .before .before .before .before .before .before .before .before .before .before .before .before .before .before .before .before .turn .kept .1 .1 .1 .1 .1 .1 .1 .1 .1 .1 .1 .1 .1 .1 .1 .0 ∙ v .9,
+      c .before .before .before .before .before .before .before .before .before .before .before .before .before .before .before .before .before .before .before .before .before .before .before .before .before .turn .kept .1 .1 .1 .1 .1 .1 .1 .1 .1 .1 .1 .1 .1 .1 .1 .1 .0 ∙ v .10,
+      c .before .before .before .before .before .before .before .before .before .before .before .before .before .before .before .before .before .before .before .before .before .before .before .before .before .turn .kept .1 .1 .1 .1 .1 .1 .1 .1 .1 .1 .1 .1 .1 .1 .1 .1 .1 .0 ∙ v .11,
+      c .before .before .before .before .before .before .before .before .before .before .before .before .before .before .before .before .before .before .before .before .before .before .before .before .before .turn .kept .1 .1 .1 .1 .1 .1 .1 .1 .1 .1 .1 .1 .1 .1 .1 .1 .1 .1 .0 ∙ v .12,
+      c .before .before .before .before .before .before .before .before .before .before .before .before .before .before .before .before .before .before .before .before .before .before .before .before .before .turn .kept .1 .1 .1 .1 .1 .1 .1 .1 .1 .1 .1 .1 .1 .1 .1 .1 .1 .1 .1 .0 ∙ v .13,
+      c .before .before .before .before .before .before .before .before .before .before .before .before .before .before .before .before .before .before .before .before .before .before .before .before .before .turn .kept .1 .1 .1 .1 .1 .1 .1 .1 .1 .1 .1 .1 .1 .1 .1 .1 .1 .1 .1 .1 .0 ∙ v .14,
+    )
+
+same-length-14 : tie.Need-same-length-14 Inv-loop μ-loop
+same-length-14 c = c .before .before .loop .inv .2
+
+same-length-15 : tie.Need-same-length-15 Inv-loop μ-loop
+same-length-15 c = c .before .before .loop .inv .3
+
+same-length-16 : tie.Need-same-length-16 Inv-loop μ-loop
+same-length-16 c = c .before .before .loop .inv .4
+
+same-length-17 : tie.Need-same-length-17 Inv-loop μ-loop
+same-length-17 c = c .before .before .loop .inv .5
+
+same-length-18 : tie.Need-same-length-18 Inv-loop μ-loop
+same-length-18 c = c .before .before .loop .inv .6
+
+same-length-19 : tie.Need-same-length-19 Inv-loop μ-loop
+same-length-19 c = c .before .before .loop .inv .7
+
+same-length-20 : tie.Need-same-length-20 Inv-loop μ-loop
+same-length-20 c = c .before .before .loop .inv .8
+
+same-length-21 : tie.Need-same-length-21 Inv-loop μ-loop
+same-length-21 c = c .before .before .loop .inv .9
+
+same-length-22 : tie.Need-same-length-22 Inv-loop μ-loop
+same-length-22 c = c .before .before .loop .inv .10
+
+same-length-23 : tie.Need-same-length-23 Inv-loop μ-loop
+same-length-23 c = c .before .before .loop .inv .11
+
+same-length-24 : tie.Need-same-length-24 Inv-loop μ-loop
+same-length-24 c = c .before .before .loop .inv .12
+
+same-length-25 : tie.Need-same-length-25 Inv-loop μ-loop
+same-length-25 c = c .before .before .loop .inv .13
+
+same-length-26 : tie.Need-same-length-26 Inv-loop μ-loop
+same-length-26 c = c .before .before .loop .inv .14
+
+returns-2 : tie.Need-returns-2 Inv-loop μ-loop
+returns-2 c =
+    let s = c .before .before .before .before .before .before .before .before .before .before .before .before .before .before .before .before in
+    let a = s .args in
+    let l = c .before .before .loop in
+    let v = l .inv in
+    let m = batchLent (columns (l .a-ids) (l .a-covers)) (columns (l .b-ids) (l .b-covers)) (l .kept) (l .told) (l .bottoms) (l .planes) (l .painted) in
+    let at = batchIn (l .at) (sided (l .at .first) m) in
+    let s₀ = batchIn (starting (a .state)) (batchLent (columns (a .a-ids .now) (a .a-covers .now)) (columns (a .b-ids .now) (a .b-covers .now)) (a .kept .now) (a .told .now) (a .bottoms .now) (a .planes .now) (a .painted .now)) in
+    subst (λ (g : BatchGiven). GivesBatch g (l .at) m) (ended (rowOf s) (a .spare) (a .tiles) s₀ at (v .0) (sym (c .before .goes-on .ensures) ∙ c .if1 .left))
+    (record { state = refl; worked = refl; used = refl; first = refl; end = v .1; lent-is = sym (side-back (l .at .first) m) })
+
+pub work-many-spec : {M : Type 1} → statement M
+work-many-spec =
+    tie.close
+    (tie.spec
+    Inv-loop
+    μ-loop
+    loop-holds
+    goes-on-requires
+    turn-requires
+    enum-told
+    same-length
+    same-length-2
+    same-length-3
+    same-length-4
+    same-length-5
+    same-length-6
+    same-length-7
+    same-length-8
+    same-length-9
+    same-length-10
+    same-length-11
+    same-length-12
+    same-length-13
+    returns
+    enum-told-2
+    loop-less
+    loop-again
+    same-length-14
+    same-length-15
+    same-length-16
+    same-length-17
+    same-length-18
+    same-length-19
+    same-length-20
+    same-length-21
+    same-length-22
+    same-length-23
+    same-length-24
+    same-length-25
+    same-length-26
+    returns-2)

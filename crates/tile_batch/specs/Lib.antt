@@ -1,0 +1,3 @@
+-- A batch of tiles: what the inner functions ask and give.
+pub mod InnerShown
+pub mod InnerTurns

@@ -1,0 +1,390 @@
+// One tile of a batch: judged by what the tile itself can be refused for, worked, noted, and its shown layers painted.
+use crate::noting;
+use crate::shown;
+use batch_statements::Batch;
+use cached_tile::kept::Kept;
+use layer_workbench::PreviousClear;
+use refusals::Refusal;
+use refusals::Verdict;
+use row_driver::tile::is_paint;
+use row_statements::RowState;
+use row_statements::TileDone;
+use row_statements::TileWorked;
+use row_statements::WorkAnswer;
+use segment_rows::parts;
+use styling::Color;
+ghost use mathlib.Core.Path.{_≡_};
+ghost use mathlib.Core.Bool.{not};
+ghost use Prim.Native.Nat.{_≤_};
+ghost use lib.Dec.{leb};
+ghost use Rattle.refusals.specs.Refusal.{judgementIn, pass, unless};
+ghost use Rattle.refusals.specs.declared.Verdict.the-variants as verdict;
+ghost use Rattle.layer_table.specs.Table.{tableOf};
+ghost use Rattle.cached_tile.specs.Kept.{tagOutOfRange};
+ghost use Rattle.queue_statements.specs.Queue.{queueOf};
+ghost use Rattle.row_statements.specs.Lent.{columns, listColumns, lentTable};
+ghost use Rattle.row_statements.specs.State.{stateIn};
+ghost use Rattle.batch_statements.specs.BatchLent.{batchLent, sided};
+ghost use Rattle.batch_statements.specs.Batch.{batchRow, turnOf, GivesBatch};
+ghost use Rattle.tile_batch.specs.InnerShown.{PlaneRoom, TilePainter, ListWalk};
+ghost use Rattle.tile_batch.specs.InnerTurns.{batchIn, walkPast, NotesTile, NoteRoom};
+ghost use Rattle.tile_batch.specs.InnerTurns.{Turnable, HereWorkable, GivesTurn};
+
+fn refused(at: Batch, refusal: Refusal) -> Batch
+    ensures { λ r. ⌜ r ≡ record {
+      state = at .state;
+      worked = at .worked;
+      used = at .used;
+      first = at .first;
+      verdict = verdict.Refuse refusal;
+    } ⌝ }
+{
+    let state = at.state;
+    Batch {
+        state: state,
+        worked: at.worked,
+        used: at.used,
+        first: at.first,
+        verdict: Verdict::Refuse(refusal),
+    }
+}
+
+// Refusals 2 and 6: no tile is left, or the cached tile's tag is above 3.
+fn judge_next(state: RowState, kept: Kept) -> Verdict
+    ensures { λ r. ⌜ judgementIn r ≡ unless (leb (state .to) (state .next)) 2 (unless (tagOutOfRange kept) 6 pass) ⌝ }
+{
+    if state.to <= state.next {
+        return Verdict::Refuse(Refusal::Tile);
+    }
+    if kept.is_tag_out_of_range() {
+        return Verdict::Refuse(Refusal::Tag);
+    }
+    Verdict::Pass
+}
+
+// Paints the shown layers of a tile that is accepted, and notes the tile.
+fn note_tile(
+    at: Batch,
+    worked: TileWorked,
+    done: TileDone,
+    n: usize,
+    part: &[u64],
+    layers: &[u32],
+    colors: &[f32],
+    count: usize,
+    keeps: bool,
+    ids: &[u32],
+    covers: &[i8],
+    list_ids: &[u32],
+    list_unmasked: &[bool],
+    kept: &mut [u8],
+    told: &mut [usize],
+    bottoms: &mut [f32],
+    planes: &mut [f32],
+    painted: &mut [u32],
+) -> Batch
+    requires { ⌜ TilePainter n (now ids) (now covers) (now part) (now layers) (now colors) count
+        × ListWalk (tableOf (now layers) (now colors) count) (queueOf n (now ids) (now covers)) (now part)
+        (now «list_ids») (now «list_unmasked») (done .listed)
+        × NoteRoom keeps (at .worked) (batchLent (columns (now ids) (now covers)) (columns (now ids) (now covers))
+        (now kept) (now told) (now bottoms) (now planes) (now painted))
+        × PlaneRoom (at .used) 256 (now planes) (now painted) ⌝ }
+    ensures { λ r. ⌜ NotesTile keeps at worked done
+        (walkPast at worked done (tableOf (now (layers .entry)) (now (colors .entry)) count)
+        (queueOf n (now (ids .entry)) (now (covers .entry))) (now (part .entry))
+        (now («list_ids» .entry)) (now («list_unmasked» .entry)) (now (planes .entry)) (now (painted .entry)))
+        (now (kept .entry)) (now (told .entry)) (now (bottoms .entry))
+        r (now (kept .exit)) (now (told .exit)) (now (bottoms .exit)) (now (planes .exit)) (now (painted .exit)) ⌝ }
+{
+    let after = worked.state;
+    let tile = worked.kept;
+    let decision = done.decision;
+    let skipped = done.skipped;
+    let i = at.worked;
+    let next = i + 1;
+    let made = shown::paint_shown(
+        is_paint(decision),
+        ids,
+        covers,
+        n,
+        part,
+        layers,
+        colors,
+        count,
+        list_ids,
+        list_unmasked,
+        skipped.0,
+        done.listed,
+        after,
+        at.used,
+        planes,
+        painted,
+    );
+    noting::put_kept(keeps, kept, i, tile);
+    noting::put_told(told, i, done, made.shown);
+    noting::put_bottom(bottoms, i, decision);
+    let state = made.state;
+    Batch {
+        state: state,
+        worked: next,
+        used: made.used,
+        first: !at.first,
+        verdict: Verdict::Pass,
+    }
+}
+
+// Works a tile that neither 2 nor 6 refuses.
+fn work_here(
+    at: Batch,
+    tile: i32,
+    row: &[u64],
+    layers: &[u32],
+    colors: &[f32],
+    count: usize,
+    keeps: bool,
+    held: Kept,
+    clear: Color,
+    previous: PreviousClear,
+    ids: &[u32],
+    covers: &[i8],
+    next_ids: &mut [u32],
+    next_covers: &mut [i8],
+    list_ids: &mut [u32],
+    list_covers: &mut [i8],
+    list_flags: &mut [bool],
+    list_unmasked: &mut [bool],
+    kept: &mut [u8],
+    told: &mut [usize],
+    bottoms: &mut [f32],
+    planes: &mut [f32],
+    painted: &mut [u32],
+) -> Batch
+    requires { ⌜ HereWorkable (batchRow (now row) (lentTable (now layers) (now colors) count) keeps clear previous)
+        (batchIn at (batchLent (columns (now ids) (now covers)) (columns (now «next_ids») (now «next_covers»))
+        (now kept) (now told) (now bottoms) (now planes) (now painted)))
+        (listColumns (now «list_ids») (now «list_covers») (now «list_flags») (now «list_unmasked»)) tile held ⌝ }
+    ensures { λ r. ⌜ GivesTurn (at .first)
+        (turnOf (batchRow (now (row .entry)) (lentTable (now (layers .entry)) (now (colors .entry)) count)
+        keeps clear previous)
+        (batchIn at (batchLent (columns (now (ids .entry)) (now (covers .entry)))
+        (columns (now («next_ids» .entry)) (now («next_covers» .entry)))
+        (now (kept .entry)) (now (told .entry)) (now (bottoms .entry)) (now (planes .entry))
+        (now (painted .entry)))))
+        r
+        (batchLent (columns (now (ids .entry)) (now (covers .entry)))
+        (columns (now («next_ids» .exit)) (now («next_covers» .exit)))
+        (now (kept .exit)) (now (told .exit)) (now (bottoms .exit)) (now (planes .exit)) (now (painted .exit))) ⌝ }
+{
+    let state = at.state;
+    let worked = row_working::work_judged(
+        state,
+        tile,
+        row,
+        layers,
+        colors,
+        count,
+        held,
+        clear,
+        previous,
+        ids,
+        covers,
+        next_ids,
+        next_covers,
+        list_ids,
+        list_covers,
+        list_flags,
+        list_unmasked,
+    );
+    let answer = worked.answer;
+    match answer {
+        WorkAnswer::Refused(refusal) => refused(at, refusal),
+        WorkAnswer::Done(done) => {
+            let part = parts::in_tile(row, tile as i16);
+            note_tile(
+                at,
+                worked,
+                done,
+                state.left,
+                part,
+                layers,
+                colors,
+                count,
+                keeps,
+                ids,
+                covers,
+                list_ids,
+                list_unmasked,
+                kept,
+                told,
+                bottoms,
+                planes,
+                painted,
+            )
+        }
+    }
+}
+
+// Works the next tile, whose carries come in by the first of the two queues and go out by the second.
+fn work_next(
+    at: Batch,
+    row: &[u64],
+    layers: &[u32],
+    colors: &[f32],
+    count: usize,
+    keeps: bool,
+    clear: Color,
+    previous: PreviousClear,
+    ids: &[u32],
+    covers: &[i8],
+    next_ids: &mut [u32],
+    next_covers: &mut [i8],
+    list_ids: &mut [u32],
+    list_covers: &mut [i8],
+    list_flags: &mut [bool],
+    list_unmasked: &mut [bool],
+    kept: &mut [u8],
+    told: &mut [usize],
+    bottoms: &mut [f32],
+    planes: &mut [f32],
+    painted: &mut [u32],
+) -> Batch
+    requires { ⌜ Turnable (batchRow (now row) (lentTable (now layers) (now colors) count) keeps clear previous)
+        (batchIn at (batchLent (columns (now ids) (now covers)) (columns (now «next_ids») (now «next_covers»))
+        (now kept) (now told) (now bottoms) (now planes) (now painted)))
+        (listColumns (now «list_ids») (now «list_covers») (now «list_flags») (now «list_unmasked»)) ⌝ }
+    ensures { λ r. ⌜ GivesTurn (at .first)
+        (turnOf (batchRow (now (row .entry)) (lentTable (now (layers .entry)) (now (colors .entry)) count)
+        keeps clear previous)
+        (batchIn at (batchLent (columns (now (ids .entry)) (now (covers .entry)))
+        (columns (now («next_ids» .entry)) (now («next_covers» .entry)))
+        (now (kept .entry)) (now (told .entry)) (now (bottoms .entry)) (now (planes .entry))
+        (now (painted .entry)))))
+        r
+        (batchLent (columns (now (ids .entry)) (now (covers .entry)))
+        (columns (now («next_ids» .exit)) (now («next_covers» .exit)))
+        (now (kept .exit)) (now (told .exit)) (now (bottoms .exit)) (now (planes .exit)) (now (painted .exit))) ⌝ }
+{
+    let state = at.state;
+    let held = noting::kept_at(keeps, kept, at.worked);
+    match judge_next(state, held) {
+        Verdict::Refuse(refusal) => refused(at, refusal),
+        Verdict::Pass => work_here(
+            at,
+            state.next as i32,
+            row,
+            layers,
+            colors,
+            count,
+            keeps,
+            held,
+            clear,
+            previous,
+            ids,
+            covers,
+            next_ids,
+            next_covers,
+            list_ids,
+            list_covers,
+            list_flags,
+            list_unmasked,
+            kept,
+            told,
+            bottoms,
+            planes,
+            painted,
+        ),
+    }
+}
+
+// Works the next tile from the queue that holds the carries, and writes the other.
+pub fn turn(
+    at: Batch,
+    row: &[u64],
+    layers: &[u32],
+    colors: &[f32],
+    count: usize,
+    keeps: bool,
+    clear: Color,
+    previous: PreviousClear,
+    a_ids: &mut [u32],
+    a_covers: &mut [i8],
+    b_ids: &mut [u32],
+    b_covers: &mut [i8],
+    list_ids: &mut [u32],
+    list_covers: &mut [i8],
+    list_flags: &mut [bool],
+    list_unmasked: &mut [bool],
+    kept: &mut [u8],
+    told: &mut [usize],
+    bottoms: &mut [f32],
+    planes: &mut [f32],
+    painted: &mut [u32],
+) -> Batch
+    requires { ⌜ Turnable (batchRow (now row) (lentTable (now layers) (now colors) count) keeps clear previous)
+        (batchIn at (sided (at .first)
+        (batchLent (columns (now «a_ids») (now «a_covers»)) (columns (now «b_ids») (now «b_covers»))
+        (now kept) (now told) (now bottoms) (now planes) (now painted))))
+        (listColumns (now «list_ids») (now «list_covers») (now «list_flags») (now «list_unmasked»)) ⌝ }
+    ensures { λ r. ⌜ GivesBatch
+        (turnOf (batchRow (now (row .entry)) (lentTable (now (layers .entry)) (now (colors .entry)) count)
+        keeps clear previous)
+        (batchIn at (sided (at .first)
+        (batchLent (columns (now («a_ids» .entry)) (now («a_covers» .entry)))
+        (columns (now («b_ids» .entry)) (now («b_covers» .entry)))
+        (now (kept .entry)) (now (told .entry)) (now (bottoms .entry)) (now (planes .entry))
+        (now (painted .entry))))))
+        r
+        (batchLent (columns (now («a_ids» .exit)) (now («a_covers» .exit)))
+        (columns (now («b_ids» .exit)) (now («b_covers» .exit)))
+        (now (kept .exit)) (now (told .exit)) (now (bottoms .exit)) (now (planes .exit)) (now (painted .exit))) ⌝ }
+{
+    if at.first {
+        work_next(
+            at,
+            row,
+            layers,
+            colors,
+            count,
+            keeps,
+            clear,
+            previous,
+            a_ids,
+            a_covers,
+            b_ids,
+            b_covers,
+            list_ids,
+            list_covers,
+            list_flags,
+            list_unmasked,
+            kept,
+            told,
+            bottoms,
+            planes,
+            painted,
+        )
+    } else {
+        work_next(
+            at,
+            row,
+            layers,
+            colors,
+            count,
+            keeps,
+            clear,
+            previous,
+            b_ids,
+            b_covers,
+            a_ids,
+            a_covers,
+            list_ids,
+            list_covers,
+            list_flags,
+            list_unmasked,
+            kept,
+            told,
+            bottoms,
+            planes,
+            painted,
+        )
+    }
+}
