@@ -3,8 +3,8 @@
 // compared and how many differ.
 mod covers;
 mod decidings;
-mod listings;
 mod kept;
+mod listings;
 mod paints;
 mod rows;
 mod tiles;

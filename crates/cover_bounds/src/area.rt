@@ -9,7 +9,7 @@ ghost use lib.IntN.{pos, _*ℤ_};
 ghost use lib.ListN.{length};
 ghost use Rattle.pixel_segment.specs.Field.{cpu, multiplierOf};
 ghost use Rattle.cover_statements.specs.Area.{areasOf};
-ghost use Rattle.cover_statements.specs.Cell.{noCells, Accumulated};
+ghost use Rattle.cover_statements.specs.InnerCell.{noCells, Accumulated};
 ghost use Rattle.cover_statements.specs.Carry.{isLight};
 ghost use Rattle.cover_statements.specs.Cover.{coverAt};
 ghost use Rattle.cover_bounds_statements.specs.Chosen.{chosen};

@@ -16,7 +16,7 @@ ghost use Rattle.laws.specs.Lists.{tabulate};
 ghost use Rattle.refusals.specs.Refusal.{judgementIn};
 ghost use Rattle.pixel_segment.specs.Field.{cpu};
 ghost use Rattle.cover_statements.specs.Cover.{coverAt};
-ghost use Rattle.cover_statements.specs.Load.{Capped, loadsOf};
+ghost use Rattle.cover_statements.specs.InnerLoad.{Capped, loadsOf};
 ghost use Rattle.cover_bounds_statements.specs.Chosen.{chosen, heavier, isLightWithin};
 ghost use Rattle.cover_bounds_statements.specs.Within.{boundsCall, boundPlanes, boundAt, boundsVerdict};
 ghost use Rattle.cover_bounds_statements.specs.Within.{lacksRoom, isCover, isBounded, areBounded, isCarryBounded};

@@ -20,7 +20,7 @@ use Rattle.pixel_segment.proofs.Ranges.{Layout}
 use Rattle.pixel_segment.proofs.Covers.{with-field, with-cover}
 use Rattle.cover_statements.specs.Area.{isBefore, isOwn, coverBefore, ownArea, doubledArea}
 use Rattle.cover_statements.specs.Carry.{inRow, absCover, loadIn}
-use Rattle.cover_statements.specs.Cell.{cellOf}
+use Rattle.cover_statements.specs.InnerCell.{cellOf}
 use Rattle.cover_bounds_statements.specs.Chosen.{chosen, chosenArea, HeldCovers, heavier}
 
 -- ---- the words

@@ -14,7 +14,7 @@ use Rattle.laws.proofs.Rows.{filled, filled-more, filled-all, length-tabulate, 
 use Rattle.laws.proofs.Sums.{sum-step}
 use Rattle.pixel_segment.specs.Field.{cpu, localXOf, localYOf, coverOf, doubleAreaOf}
 use Rattle.cover_statements.specs.Carry.{inRow, absCover, loadIn}
-use Rattle.cover_statements.specs.Cell.{cellOf, noCells, Accumulated}
+use Rattle.cover_statements.specs.InnerCell.{cellOf, noCells, Accumulated}
 use Rattle.cover_statements.specs.Cover.{coverAt}
 use Rattle.cover_statements.proofs.Areas.{area-weight}
 use Rattle.cover_statements.proofs.Filled.{filled-whole, getD-default}

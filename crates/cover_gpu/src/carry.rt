@@ -8,7 +8,7 @@ ghost use mathlib.Core.Bool.{true};
 ghost use Rattle.pixel_segment.specs.Field.{gpu};
 ghost use Rattle.cover_statements.specs.Carry.{isLight, carryOf};
 ghost use Rattle.cover.specs.Adding.{AddingTo};
-ghost use Rattle.cover_statements.specs.Load.{Capped, Magnitudes, loadsOf, allLight};
+ghost use Rattle.cover_statements.specs.InnerLoad.{Capped, Magnitudes, loadsOf, allLight};
 
 // What adding answers: the carry, or refusal 9 and the cover as it came. An enum can't hold the array of a cover, so a
 // flag tells the two.

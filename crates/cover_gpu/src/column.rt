@@ -13,7 +13,7 @@ ghost use Rattle.pixel_segment.specs.Field.{gpu};
 ghost use Rattle.cover_statements.specs.Carry.{isLight};
 ghost use Rattle.cover_statements.specs.Cover.{coverAt};
 ghost use Rattle.cover_statements.specs.Plane.{planeOf};
-ghost use Rattle.cover_statements.specs.Weighed.{columnAreas, repeated, putRow};
+ghost use Rattle.cover_statements.specs.InnerWeighed.{columnAreas, repeated, putRow};
 
 // What the pixels of a column see: 32 times the cover that comes in.
 fn column_areas(cover: GpuCover) -> [i16; 4]

@@ -14,7 +14,7 @@ ghost use Rattle.pixel_segment.specs.Field.{gpu};
 ghost use Rattle.cover_statements.specs.Carry.{isLight};
 ghost use Rattle.cover_statements.specs.Cover.{coverAt};
 ghost use Rattle.cover_statements.specs.Plane.{planeOf};
-ghost use Rattle.cover_statements.specs.Weighed.{Weighed, weightsPlane, weightsRow, putRow};
+ghost use Rattle.cover_statements.specs.InnerWeighed.{Weighed, weightsPlane, weightsRow, putRow};
 ghost use Rattle.cover_gpu.specs.GpuPaint.{GpuPainting};
 
 // What painting answers: done, refusal 1 or refusal 9.

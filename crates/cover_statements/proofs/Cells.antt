@@ -15,7 +15,7 @@ use Rattle.laws.specs.Sum.{sumℤ}
 use Rattle.pixel_segment.specs.Field.{localXOf, localYOf}
 use Rattle.cover_statements.specs.Area.{isOwn}
 use Rattle.cover_statements.specs.Carry.{inRow}
-use Rattle.cover_statements.specs.Cell.{cellOf, cellsOf}
+use Rattle.cover_statements.specs.InnerCell.{cellOf, cellsOf}
 use Rattle.cover_statements.specs.Cover.{coverAt}
 
 module _ (ws : List ℕ) (n : ℕ) (low : (w : ℕ) → localYOf ws w < n) where

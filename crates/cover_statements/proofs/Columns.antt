@@ -19,7 +19,7 @@ use Rattle.laws.proofs.Sums.{abs-add}
 use Rattle.laws.specs.Sum.{sumℤ}
 use Rattle.pixel_segment.specs.Field.{localYOf, coverOf, doubleAreaOf, widthOf}
 use Rattle.cover_statements.specs.Area.{isOwn, coverBefore, ownArea, doubledArea, areasOf}
-use Rattle.cover_statements.specs.Cell.{cellOf, cellsOf, Accumulated, Shadable, Shaded}
+use Rattle.cover_statements.specs.InnerCell.{cellOf, cellsOf, Accumulated, Shadable, Shaded}
 use Rattle.cover_statements.specs.Cover.{coverAt}
 use Rattle.cover_statements.proofs.Areas.{before-none, before-next, before-bound, below-next, area-bound}
 use Rattle.cover_statements.proofs.Carries.{Light}

@@ -21,9 +21,9 @@ use Rattle.laws.proofs.Sums.{abs-add, sum-step, sum-end}
 use Rattle.laws.specs.Sum.{sumℤ}
 use Rattle.pixel_segment.specs.Field.{localXOf, localYOf}
 use Rattle.cover_statements.specs.Carry.{inRow, absCover, loadIn}
-use Rattle.cover_statements.specs.Cell.{cellOf, cellsOf, noCells}
+use Rattle.cover_statements.specs.InnerCell.{cellOf, cellsOf, noCells}
 use Rattle.cover_statements.specs.Cover.{coverAt}
-use Rattle.cover_statements.specs.Load.{loadsOf, allLight}
+use Rattle.cover_statements.specs.InnerLoad.{loadsOf, allLight}
 use Rattle.cover_statements.proofs.Filled.{getD-default}
 use Rattle.cover_statements.proofs.Loads.{loads-light}
 use Rattle.cover_statements.proofs.Tables.{keyed}

@@ -24,7 +24,7 @@ use Rattle.cover_statements.proofs.Filled.{filled-whole, getD-default}
 use Rattle.cover_statements.proofs.Testing.{all-every}
 use Rattle.cover_statements.specs.Carry.{inRow, absCover, loadIn, lightAt, isLight}
 use Rattle.cover_statements.specs.Cover.{coverAt}
-use Rattle.cover_statements.specs.Load.{Capped, Magnitudes, loadsOf, allLight}
+use Rattle.cover_statements.specs.InnerLoad.{Capped, Magnitudes, loadsOf, allLight}
 
 pub capped-set : {loads : List ℕ} {k v : ℕ} → Capped loads → k < length loads → v ≤ 128 → Capped (set loads k v)
 capped-set {loads} {k} {v} c h q =

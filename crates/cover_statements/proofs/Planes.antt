@@ -20,7 +20,7 @@ use Rattle.cover_statements.specs.Carry.{isLight}
 use Rattle.cover_statements.specs.Coverage.{areaCoverage}
 use Rattle.cover_statements.specs.Cover.{coverAt}
 use Rattle.cover_statements.specs.Plane.{placeOf, columnOf, rowOf, sizeOf, inPlaces, pixelOf, planeOf, coveragesOf, byColumns, exchange, exchangeBack}
-use Rattle.cover_statements.specs.Weighed.{InRange}
+use Rattle.cover_statements.specs.InnerWeighed.{InRange}
 use Rattle.cover_statements.proofs.Areas.{area-bound}
 use Rattle.cover_statements.proofs.Carries.{light}
 

@@ -19,7 +19,7 @@ use Rattle.cover_statements.specs.Cover.{coverAt}
 use Rattle.cover_statements.specs.Coverage.{areaCoverage, isAbove}
 use Rattle.cover_statements.specs.Mark.{isOctetUsed, aboveAt, usedOctets, bit, binaryNumber, markOf, someAbove}
 use Rattle.cover_statements.specs.Plane.{pixelOf, planeOf, coveragesOf}
-use Rattle.cover_statements.specs.Weighed.{InRange, columnAreas, repeated}
+use Rattle.cover_statements.specs.InnerWeighed.{InRange, columnAreas, repeated}
 use Rattle.cover_statements.proofs.Carries.{light}
 use Rattle.cover_statements.proofs.FromRow.{area-alone}
 use Rattle.cover_statements.proofs.Marks.{some-ext, used-length, used-at}

@@ -14,7 +14,7 @@ use lib.ListN.{length, set, length-set}
 use lib.Seq.{getD-set-same, getD-set-other}
 use Rattle.laws.proofs.Bools.{both, left, right, same, not-right}
 use Rattle.laws.proofs.Orders.{eq-or-ne}
-use Rattle.cover_statements.specs.Cell.{Shaded}
+use Rattle.cover_statements.specs.InnerCell.{Shaded}
 use Rattle.cover_statements.specs.Cover.{coverAt}
 use Rattle.cover_statements.proofs.Areas.{below-next}
 

@@ -17,7 +17,7 @@ use Rattle.cover_statements.specs.Coverage.{coverageOf, isAbove}
 use Rattle.cover_statements.specs.Mark.{some, someAbove}
 use Rattle.cover_statements.specs.Plane.{coveragesOf}
 use Rattle.cover_statements.specs.Weight.{weightOf}
-use Rattle.cover_statements.specs.Weighed.{weightIn, weightsOf, Weighed, coverageIn, coveragesIn}
+use Rattle.cover_statements.specs.InnerWeighed.{weightIn, weightsOf, Weighed, coverageIn, coveragesIn}
 use Rattle.cover_statements.proofs.Coverages.{coverage-above}
 use Rattle.cover_statements.proofs.Marks.{offset, offset-is, some-ext}
 use Rattle.cover_statements.proofs.Weights.{weight-le}

@@ -24,7 +24,7 @@ abbrev pub decideNumbers : List ℕ → List ℕ → List Float → DecideNumber
 decideNumbers k told bottom = record { kept = k; told = told; bottom = bottom }
 
 -- what they are after a deciding; a refusal leaves every one as it was
-abbrev pub decidedNumbers : Answer deciding.DecideTold → Kept → DecideNumbers → DecideNumbers
+abbrev pub decidedNumbers : Answer deciding.DecideSays → Kept → DecideNumbers → DecideNumbers
 decidedNumbers (refused number) k old = old
 decidedNumbers (given t) k old =
     record {

@@ -2,14 +2,14 @@
 use ffi_numbers::plates;
 use plate::Crop;
 ghost use mathlib.Core.Path.{_≡_};
-ghost use Rattle.plate.specs.Rows.{castOf, startOf, rowPlace};
+ghost use Rattle.plate.specs.Rows.{castOf, rowsStart, rowPlace};
 ghost use Rattle.plate.specs.Crop.{isInCrop};
 ghost use Rattle.ffi.specs.Plates.{cropOf};
 
 // Where the segments start that have no negative tile y.
 #[no_mangle]
 pub extern "C" fn ffi_find_not_negative(segments: &[u64]) -> usize
-    ensures { λ r. ⌜ r ≡ startOf (now (segments .entry)) ⌝ }
+    ensures { λ r. ⌜ r ≡ rowsStart (now (segments .entry)) ⌝ }
 {
     plate::find_not_negative(segments)
 }

@@ -14,7 +14,7 @@ use Rattle.row_statements.specs.declared.RowState.{RowState}
 use Rattle.row_statements.specs.declared.Opened.the-variants as opened
 use Rattle.row_statements.proofs.Run.{accepted, is-open, held-first}
 use Rattle.row_statements.proofs.Runs.{workResult, work-named, work-gives, as-held, heldWork, work-goes}
-use Rattle.listing_runs.specs.Run.{heldWith, Call, CallStep, Calls}
+use Rattle.listing_runs.specs.Run.{heldWith, RowCall, CallStep, RowCalls}
 use Rattle.two_rows.specs.Apart.{MadeCall}
 use Rattle.kept_rows.specs.History.{AcceptedWork}
 
@@ -39,11 +39,11 @@ module _ (call : OpenCall) (lent back : Columns) (s : RowState) (words : Words (
         lent = lent;
         back = back;
         state = s;
-        calls = Call.row (Event.work (heldWork held c) (workResult (workDue (openRow call) atFirst (heldWork held c))) (workDue (openRow call) atFirst (heldWork held c) .lent)) ∷ [];
+        calls = RowCall.row (Event.work (heldWork held c) (workResult (workDue (openRow call) atFirst (heldWork held c))) (workDue (openRow call) atFirst (heldWork held c) .lent)) ∷ [];
         held = _;
         words = words;
         opens = opens;
-        run = Calls.next (CallStep.row {h = heldWith held []} (Step.work {c = heldWork held c} as-held (work-goes row-open holds c))) Calls.none;
+        run = RowCalls.next (CallStep.row {h = heldWith held []} (Step.work {c = heldWork held c} as-held (work-goes row-open holds c))) RowCalls.none;
         past = atFirst;
         choice = heldWork held c;
         result = workResult (workDue (openRow call) atFirst (heldWork held c));

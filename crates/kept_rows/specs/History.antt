@@ -24,7 +24,7 @@ use Rattle.row_statements.specs.Run.{openRow, heldFirst, Event}
 use Rattle.row_statements.specs.declared.RowState.{RowState}
 use Rattle.row_statements.specs.declared.TileWorked.{TileWorked}
 use Rattle.row_statements.specs.declared.Opened.the-variants as opened
-use Rattle.listing_runs.specs.Run.{HeldAll, heldWith, Call, Calls}
+use Rattle.listing_runs.specs.Run.{HeldAll, heldWith, RowCall, RowCalls}
 use Rattle.two_rows.specs.Apart.{MadeCall}
 use Rattle.kept_frames.specs.Display.{Display, ShowsBytes, displayed}
 use Rattle.kept_frames.specs.Stays.{listStays}
@@ -38,16 +38,16 @@ pub record AcceptedWork : Type 0 where
   pub lent : Columns
   pub back : Columns
   pub state : RowState
-  pub calls : List Call
+  pub calls : List RowCall
   pub held : HeldAll
   pub words : Words (call .row)
   pub opens : OpensRow (openOf call lent) (opened.Row state) back
-  pub run : Calls (openRow call) (heldWith (heldFirst state back) []) calls held
+  pub run : RowCalls (openRow call) (heldWith (heldFirst state back) []) calls held
   pub past : Past
   pub choice : WorkChoice
   pub result : TileWorked
   pub list : WorkLent
-  pub made : MadeCall (openRow call) atFirst calls past (Call.row (Event.work choice result list))
+  pub made : MadeCall (openRow call) atFirst calls past (RowCall.row (Event.work choice result list))
   pub answer : TileAnswer
   pub accepted : workAnswer (result .answer) ≡ given answer
 

@@ -21,7 +21,7 @@ use Rattle.queue_statements.specs.Queue.{Carry, queueOf, idsIn, coversIn, zeros
 use Rattle.queue_statements.proofs.Columns.{isWide, areWide, length-covers}
 use Rattle.tile_layers.specs.Listing.{Listed, layersIn, areLight}
 use Rattle.layer_carrying.specs.Carrying.{carryFor, isCarried, handedOn, Hands, Puts, QueueRoom}
-use Rattle.tile_layers.specs.Walk.{listedAt, layersLeft, Stepped, Moved}
+use Rattle.tile_layers.specs.InnerWalk.{listedAt, layersLeft, Stepped, Moved}
 use Rattle.tile_layers.specs.declared.walk.Next.{Next}
 use Rattle.tile_layers.proofs.Walking.{Walking, walk-start, walk-here, walk-next, walk-end}
 use Rattle.tile_layers.proofs.Filling.{put-filled}

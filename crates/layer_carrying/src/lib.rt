@@ -13,7 +13,7 @@ ghost use Rattle.layer_table.specs.Table.{Table, tableOf};
 ghost use Rattle.queue_statements.specs.Queue.{queueOf};
 ghost use Rattle.tile_layers.specs.Listing.{layersIn, areLight};
 ghost use Rattle.layer_carrying.specs.Carrying.{ruleIn, handedOn, Hands, Puts, QueueRoom};
-ghost use Rattle.tile_layers.specs.Walk.{Walks};
+ghost use Rattle.tile_layers.specs.InnerWalk.{Walks};
 
 // The fill rule of a layer.
 pub fn rule_of(layers: &[u32], colors: &[f32], count: usize, hint: usize, id: u32) -> FillRule

@@ -16,7 +16,7 @@ use Rattle.styling.specs.declared.Layer.{Layer}
 use Rattle.queue_statements.specs.Queue.{queueOf, zeros}
 use Rattle.tile_layers.specs.Listing.{Listed, layersIn, areKnown, areLight}
 use Rattle.layer_listing.specs.Survey.{Surveyed}
-use Rattle.tile_layers.specs.Walk.{Stepped, Moved}
+use Rattle.tile_layers.specs.InnerWalk.{Stepped, Moved}
 use Rattle.tile_layers.specs.declared.walk.Next.{Next}
 use Rattle.tile_layers.proofs.Walking.{Walking, walk-start, walk-here, walk-next, walk-end, walk-all}
 

@@ -14,7 +14,7 @@ use Rattle.queue_statements.specs.Queue.{Carry, queueOf, idsIn, coversIn, zeros
 use Rattle.queue_statements.proofs.Columns.{areWide, length-covers}
 use Rattle.tile_layers.specs.Groups.{groupsOf}
 use Rattle.tile_layers.specs.Listing.{Listed, layersIn, incomingOf, segmentsOf, hasAny, ListRoom}
-use Rattle.tile_layers.specs.Walk.{Stepped, Moved}
+use Rattle.tile_layers.specs.InnerWalk.{Stepped, Moved}
 use Rattle.tile_layers.specs.declared.walk.Next.{Next}
 use Rattle.tile_layers.proofs.Walking.{Walking, walk-start, walk-here, walk-next, walk-all}
 use Rattle.tile_layers.proofs.Wide.{queue-wide, list-wide}

@@ -14,7 +14,7 @@ ghost use Rattle.layer_table.specs.Lookup.{lookup};
 ghost use Rattle.layer_table.specs.Table.{Table, tableOf};
 ghost use Rattle.queue_statements.specs.Queue.{queueOf};
 ghost use Rattle.tile_layers.specs.Listing.{layersIn, Lists, ListRoom};
-ghost use Rattle.tile_layers.specs.Walk.{Walks};
+ghost use Rattle.tile_layers.specs.InnerWalk.{Walks};
 ghost use Rattle.layer_listing.specs.Survey.{Surveyed};
 ghost use Rattle.layer_listing.specs.InnerWriting.{Writes};
 

@@ -13,7 +13,7 @@ use Rattle.laws.proofs.Sums.{sum-ext, sum-filter}
 use Rattle.pixel_segment.specs.Field.{gpu, layerIdOf, localYOf, coverOf}
 use Rattle.cover_statements.specs.Carry.{inRow, absCover, coverIn, loadIn, isLight, carryOf}
 use Rattle.cover_statements.specs.Cover.{coverAt, noCover}
-use Rattle.cover_statements.specs.Load.{loadsOf, allLight}
+use Rattle.cover_statements.specs.InnerLoad.{loadsOf, allLight}
 use Rattle.cover_statements.proofs.Carries.{light}
 use Rattle.cover_statements.proofs.Loads.{loads-judge}
 use Rattle.layer_row_gpu.specs.InnerCovers.{layerWithin, coverWithin}

@@ -8,7 +8,7 @@ ghost use lib.ListN.{replicate};
 ghost use Rattle.pixel_segment.specs.Field.{gpu};
 ghost use Rattle.cover_statements.specs.Carry.{isLight, carryOf};
 ghost use Rattle.cover_statements.specs.Cover.{noCover};
-ghost use Rattle.cover_statements.specs.Load.{loadsOf};
+ghost use Rattle.cover_statements.specs.InnerLoad.{loadsOf};
 ghost use Rattle.layer_row_gpu.specs.InnerCovers.{coverWithin, layerWithin};
 
 // The cover of a segment of the layer; 0 for one of another.

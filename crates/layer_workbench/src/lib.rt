@@ -14,7 +14,7 @@ ghost use lib.ListN.{length};
 ghost use Rattle.layer_table.specs.Table.{Table, tableOf};
 ghost use Rattle.queue_statements.specs.Queue.{queueOf};
 ghost use Rattle.tile_layers.specs.Listing.{layersIn, areLight};
-ghost use Rattle.tile_layers.specs.Walk.{Walks};
+ghost use Rattle.tile_layers.specs.InnerWalk.{Walks};
 ghost use Rattle.cached_tile.specs.Tile.{countIn};
 ghost use Rattle.pass_statements.specs.Entry.{entriesOf};
 ghost use Rattle.pass_statements.specs.Decision.{decisionIn};

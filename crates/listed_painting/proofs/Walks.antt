@@ -27,7 +27,7 @@ use Rattle.cover_statements.specs.Entry.{coverEntry}
 use Rattle.queue_statements.specs.Queue.{queueOf, idsIn, heldIn, zeros, Queued}
 use Rattle.queue_statements.proofs.Queues.{ids-queue}
 use Rattle.tile_layers.specs.Listing.{Listed, noListed, layersIn}
-use Rattle.tile_layers.specs.Walk.{Walks, listedAt, Stepped, Moved}
+use Rattle.tile_layers.specs.InnerWalk.{Walks, listedAt, Stepped, Moved}
 use Rattle.tile_layers.specs.declared.walk.Next.{Next}
 use Rattle.tile_layers.proofs.Filling.{has-between}
 use Rattle.tile_layers.proofs.Ordering.{list-ascends}

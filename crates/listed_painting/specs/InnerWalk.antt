@@ -13,7 +13,7 @@ use Rattle.layer_table.specs.Table.{Table}
 use Rattle.styling.specs.declared.Layer.{Layer}
 use Rattle.queue_statements.specs.Queue.{Carry, queueOf, Queued}
 use Rattle.tile_layers.specs.Listing.{noListed, layersIn}
-use Rattle.tile_layers.specs.Walk.{Walks, layersLeft}
+use Rattle.tile_layers.specs.InnerWalk.{Walks, layersLeft}
 use Rattle.painter.specs.Clip.{clipIn}
 use Rattle.painter.specs.Painting.{isLightIn, Paints}
 use Rattle.listed_painting.specs.InnerFreeing.{freeFrom}

@@ -11,7 +11,7 @@ use Rattle.row_statements.specs.InnerHolding.{IsOpen, Holds}
 use Rattle.row_statements.proofs.Run.{facts, step-right, still-holds, accepted, is-open, held-first}
 use Rattle.listing_statements.specs.Listing.{ListCall, ListLent, listedBy, listingOut, listingOf, ListsTile}
 use Rattle.listing_statements.specs.declared.TileListed.{TileListed}
-use Rattle.listing_runs.specs.Run.{HeldList, HeldAll, heldWith, Call, listsPast, CallStep, Calls}
+use Rattle.listing_runs.specs.Run.{HeldList, HeldAll, heldWith, RowCall, listsPast, CallStep, RowCalls}
 use Rattle.listing_runs.specs.Claim.{RightOtherListing, RightCall, pastCall, AllCallsRight, ListingClaim}
 use Rattle.listing_runs.specs.InnerHolding.{HoldsAll}
 use Rattle.listing_runs.proofs.Lists.{found}
@@ -27,7 +27,7 @@ other-list holds a lent {r} {back} es g n e =
 
 -- ---- one call, and any list of them
 
-pub call-right : {o : OpenRow} {p : Past} {h h′ : HeldAll} {e : Call} → IsOpen o → HoldsAll o p h → CallStep o h e h′ → RightCall o p e × HoldsAll o (pastCall o e p) h′
+pub call-right : {o : OpenRow} {p : Past} {h h′ : HeldAll} {e : RowCall} → IsOpen o → HoldsAll o p h → CallStep o h e h′ → RightCall o p e × HoldsAll o (pastCall o e p) h′
 call-right {o} {p} is-open holds (CallStep.row {h = h} {e = e} step) =
     let u = step-right is-open (holds .row) step in
     (u .0, record { row = u .1; lists = after-event is-open p e (h .lists) (u .0) (holds .lists) })
@@ -40,9 +40,9 @@ call-right is-open holds (CallStep.otherList {a = a} {lent = lent} {n = n} es e 
     (right, record { row = still-holds (holds .row) (right n e .state); lists = holds .lists })
 call-right is-open holds (CallStep.otherDecide g) = (g, holds)
 
-pub calls-right : {o : OpenRow} {p : Past} {h h′ : HeldAll} {es : List Call} → IsOpen o → HoldsAll o p h → Calls o h es h′ → AllCallsRight o p es
-calls-right is-open holds Calls.none = tt
-calls-right is-open holds (Calls.next s rest) =
+pub calls-right : {o : OpenRow} {p : Past} {h h′ : HeldAll} {es : List RowCall} → IsOpen o → HoldsAll o p h → RowCalls o h es h′ → AllCallsRight o p es
+calls-right is-open holds RowCalls.none = tt
+calls-right is-open holds (RowCalls.next s rest) =
     let u = call-right is-open holds s in
     (u .0, calls-right is-open (u .1) rest)
 
@@ -59,6 +59,6 @@ abbrev pub listsPastAll : List Event → List HeldList → List HeldList
 listsPastAll [] ls = ls
 listsPastAll (e ∷ es) ls = listsPastAll es (listsPast e ls)
 
-pub as-calls : {o : OpenRow} {h h′ : Held} (es : List Event) (ls : List HeldList) → Run o h es h′ → Calls o (heldWith h ls) (map Call.row es) (heldWith h′ (listsPastAll es ls))
-as-calls es ls Run.none = Calls.none
-as-calls es ls (Run.next {e = e} {es = rest} step run-on) = Calls.next (CallStep.row step) (as-calls rest (listsPast e ls) run-on)
+pub as-calls : {o : OpenRow} {h h′ : Held} (es : List Event) (ls : List HeldList) → Run o h es h′ → RowCalls o (heldWith h ls) (map RowCall.row es) (heldWith h′ (listsPastAll es ls))
+as-calls es ls Run.none = RowCalls.none
+as-calls es ls (Run.next {e = e} {es = rest} step run-on) = RowCalls.next (CallStep.row step) (as-calls rest (listsPast e ls) run-on)

@@ -24,7 +24,7 @@ use Rattle.row_statements.specs.Run.{Held, Step}
 use Rattle.row_statements.specs.InnerHolding.{IsOpen}
 use Rattle.row_statements.proofs.Runs.{stateOut, state-back, decisionOut, decision-back, listed-named, as-held, heldWork, heldPaint, work-goes, paint-goes}
 use Rattle.listing_statements.specs.Listing.{ListGiven, isTileListShort, listingOut, listingOf, ListsTile}
-use Rattle.listing_statements.specs.Deciding.{DecideTold, DecideGiven, decidingOut, decidingOf, DecidesTile}
+use Rattle.listing_statements.specs.Deciding.{DecideSays, DecideGiven, decidingOut, decidingOf, DecidesTile}
 use Rattle.listing_statements.specs.declared.ListAnswer.{ListAnswer}
 use Rattle.listing_statements.specs.declared.ListAnswer.the-variants as listed
 use Rattle.listing_statements.specs.declared.TileListed.{TileListed}
@@ -32,7 +32,7 @@ use Rattle.listing_statements.specs.declared.DecideAnswer.{DecideAnswer}
 use Rattle.listing_statements.specs.declared.DecideAnswer.the-variants as decided
 use Rattle.listing_statements.specs.declared.TileDecided.{TileDecided}
 use Rattle.listing_runs.specs.Due.{ListChoice, listDueVerdict, listDue, DecideChoice, outcomeDue, nthOn, decideDueVerdict, decideDue}
-use Rattle.listing_runs.specs.Run.{HeldList, HeldAll, SameEntries, Call, listOn, decideOn, CallStep, Calls}
+use Rattle.listing_runs.specs.Run.{HeldList, HeldAll, SameEntries, RowCall, listOn, decideOn, CallStep, RowCalls}
 use Rattle.listing_runs.specs.Example.{CallChoice, isPast, callChoicesDue, callDuesOf}
 use Rattle.listing_runs.specs.InnerHolding.{HoldsAll}
 use Rattle.listing_runs.proofs.Lists.{past-list}
@@ -45,7 +45,7 @@ abbrev listedOut : Answer ℕ → ListAnswer
 listedOut (refused n) = listed.Refused (refusalOf n)
 listedOut (given n) = listed.Listed n
 
-abbrev decidedOut : Answer DecideTold → DecideAnswer
+abbrev decidedOut : Answer DecideSays → DecideAnswer
 decidedOut (refused n) = decided.Refused (refusalOf n)
 decidedOut (given t) = decided.Decided (decisionOut (t .decision)) (record { 0 = t .skipped })
 
@@ -116,9 +116,9 @@ placed o n tile e =
 
 module _ {o : OpenRow} (is-open : IsOpen o) where
   pub record Goes (p : Past) (h : HeldAll) (cs : List CallChoice) : Type 0 where
-    pub events : List Call
+    pub events : List RowCall
     pub after : HeldAll
-    pub runs : Calls o h events after
+    pub runs : RowCalls o h events after
     pub dues : callDuesOf o p events ≡ callChoicesDue o p cs
 
   -- a deciding, where a list of the tile is held
@@ -126,7 +126,7 @@ module _ {o : OpenRow} (is-open : IsOpen o) where
     pub list : HeldList
     pub result : TileDecided
     pub masks : List Bool
-    pub step : CallStep o h (Call.decide (heldDeciding list c) result masks) h
+    pub step : CallStep o h (RowCall.decide (heldDeciding list c) result masks) h
 
   pub decide-goes : {p : Past} {h : HeldAll} → HoldsAll o p h → (c : DecideChoice) → isPast o (p .tiles) (c .tile) ≡ true → Decides h c
   decide-goes {p} {h} holds c e =
@@ -147,7 +147,7 @@ module _ {o : OpenRow} (is-open : IsOpen o) where
       record {
         events = _ ∷ rest .events;
         after = rest .after;
-        runs = Calls.next (decide-goes holds c e .step) (rest .runs);
+        runs = RowCalls.next (decide-goes holds c e .step) (rest .runs);
         dues = rw e (ap (λ (vs : List Judgement). decideDueVerdict c ∷ vs) (rest .dues));
       }
 
@@ -160,17 +160,17 @@ module _ {o : OpenRow} (is-open : IsOpen o) where
 
   pub exists : {p : Past} {h : HeldAll} → HoldsAll o p h → (cs : List CallChoice) → Goes p h cs
   unfolding callDuesOf callChoicesDue
-  exists {p} {h} holds [] = record { events = []; after = h; runs = Calls.none; dues = refl }
+  exists {p} {h} holds [] = record { events = []; after = h; runs = RowCalls.none; dues = refl }
   exists {p} {h} holds (CallChoice.work c ∷ cs) =
       let step = CallStep.row {h = h} (Step.work {c = heldWork (h .row) c} as-held (work-goes is-open (holds .row) c)) in
       let rest = exists (call-right is-open holds step .1) cs in
-      record { events = _ ∷ rest .events; after = rest .after; runs = Calls.next step (rest .runs); dues = ap (λ (vs : List Judgement). workDueVerdict o (p .tiles) c ∷ vs) (rest .dues) }
+      record { events = _ ∷ rest .events; after = rest .after; runs = RowCalls.next step (rest .runs); dues = ap (λ (vs : List Judgement). workDueVerdict o (p .tiles) c ∷ vs) (rest .dues) }
   exists {p} {h} holds (CallChoice.paint c ∷ cs) =
       let step = CallStep.row {h = h} (Step.paint {c = heldPaint (h .row) c} as-held (paint-goes is-open (holds .row) c)) in
       let rest = exists (call-right is-open holds step .1) cs in
-      record { events = _ ∷ rest .events; after = rest .after; runs = Calls.next step (rest .runs); dues = ap (λ (vs : List Judgement). paintDueVerdict o (p .tiles) c ∷ vs) (rest .dues) }
+      record { events = _ ∷ rest .events; after = rest .after; runs = RowCalls.next step (rest .runs); dues = ap (λ (vs : List Judgement). paintDueVerdict o (p .tiles) c ∷ vs) (rest .dues) }
   exists {p} {h} holds (CallChoice.list c ∷ cs) =
       let step = CallStep.list {h = h} {c = heldListing (h .row) c} as-held (list-goes holds c) in
       let rest = exists (call-right is-open holds step .1) cs in
-      record { events = _ ∷ rest .events; after = rest .after; runs = Calls.next step (rest .runs); dues = ap (λ (vs : List Judgement). listDueVerdict o (p .tiles) c ∷ vs) (rest .dues) }
+      record { events = _ ∷ rest .events; after = rest .after; runs = RowCalls.next step (rest .runs); dues = ap (λ (vs : List Judgement). listDueVerdict o (p .tiles) c ∷ vs) (rest .dues) }
   exists {p} {h} holds (CallChoice.decide c ∷ cs) = decide-first c cs (isPast o (p .tiles) (c .tile)) refl holds (exists holds cs)

@@ -24,7 +24,7 @@ use Rattle.listing_statements.specs.Deciding.{decidingOf, DecidesTile}
 use Rattle.listing_statements.specs.declared.TileListed.{TileListed}
 use Rattle.listing_statements.specs.declared.TileDecided.{TileDecided}
 use Rattle.listing_runs.specs.Due.{ListChoice, listDueVerdict, listDue, DecideChoice, nthOn, decideDueVerdict, outcomeDue, decideDue}
-use Rattle.listing_runs.specs.Run.{HeldAll, heldWith, Call, Calls}
+use Rattle.listing_runs.specs.Run.{HeldAll, heldWith, RowCall, RowCalls}
 
 -- ---- what is right of a call
 
@@ -51,22 +51,22 @@ RightOtherListing o p a lent r back =
     (n : ℕ) → listingVerdict a lent ≡ refuse n → ListsTile (record { answer = refused n; state = stateOn o p; lent = lent }) r back
 
 -- of a deciding from another list, or by another table, its contract alone speaks
-abbrev pub RightCall : OpenRow → Past → Call → Type 0
-RightCall o p (Call.row e) = row.Right o p e
-RightCall o p (Call.list c r back) = RightListing o p c r back
-RightCall o p (Call.decide c r back) = RightDeciding o p c r back
-RightCall o p (Call.otherList a lent r back) = RightOtherListing o p a lent r back
-RightCall o p (Call.otherDecide a unmasked r back) = DecidesTile (decidingOf a unmasked) r back
+abbrev pub RightCall : OpenRow → Past → RowCall → Type 0
+RightCall o p (RowCall.row e) = row.Right o p e
+RightCall o p (RowCall.list c r back) = RightListing o p c r back
+RightCall o p (RowCall.decide c r back) = RightDeciding o p c r back
+RightCall o p (RowCall.otherList a lent r back) = RightOtherListing o p a lent r back
+RightCall o p (RowCall.otherDecide a unmasked r back) = DecidesTile (decidingOf a unmasked) r back
 
 -- what the calls tell of the past, by the verdicts that are due: a listing ends a tile as a work does, and a deciding tells nothing
-abbrev pub pastCall : OpenRow → Call → Past → Past
-pastCall o (Call.row e) p = row.pastAfter o e p
-pastCall o (Call.list c r back) p = pastWork (listDueVerdict o (p .tiles) c) p
-pastCall o (Call.decide c r back) p = p
-pastCall o (Call.otherList a lent r back) p = p
-pastCall o (Call.otherDecide a unmasked r back) p = p
+abbrev pub pastCall : OpenRow → RowCall → Past → Past
+pastCall o (RowCall.row e) p = row.pastAfter o e p
+pastCall o (RowCall.list c r back) p = pastWork (listDueVerdict o (p .tiles) c) p
+pastCall o (RowCall.decide c r back) p = p
+pastCall o (RowCall.otherList a lent r back) p = p
+pastCall o (RowCall.otherDecide a unmasked r back) p = p
 
-abbrev pub AllCallsRight : OpenRow → Past → List Call → Type 0
+abbrev pub AllCallsRight : OpenRow → Past → List RowCall → Type 0
 AllCallsRight o p [] = Unit {0}
 AllCallsRight o p (e ∷ es) = RightCall o p e × AllCallsRight o (pastCall o e p) es
 
@@ -74,8 +74,8 @@ AllCallsRight o p (e ∷ es) = RightCall o p e × AllCallsRight o (pastCall o e 
 
 abbrev pub ListingClaim : Type 0
 ListingClaim =
-    (c : OpenCall) (lent back : Columns) (s : RowState) (es : List Call) (h : HeldAll) →
+    (c : OpenCall) (lent back : Columns) (s : RowState) (es : List RowCall) (h : HeldAll) →
     Words (c .row) →
     OpensRow (openOf c lent) (opened.Row s) back →
-    Calls (openRow c) (heldWith (heldFirst s back) []) es h →
+    RowCalls (openRow c) (heldWith (heldFirst s back) []) es h →
     ((n : ℕ) → TileFacts (openRow c) n) × AllCallsRight (openRow c) atFirst es

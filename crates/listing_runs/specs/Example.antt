@@ -26,7 +26,7 @@ use Rattle.row_statements.specs.declared.RowState.{RowState}
 use Rattle.row_statements.specs.declared.Opened.the-variants as opened
 use Rattle.listing_statements.specs.Listing.{TileList, tileList, listLent}
 use Rattle.listing_runs.specs.Due.{ListChoice, listDueVerdict, DecideChoice, decideDueVerdict}
-use Rattle.listing_runs.specs.Run.{HeldAll, heldWith, Call, Calls}
+use Rattle.listing_runs.specs.Run.{HeldAll, heldWith, RowCall, RowCalls}
 use Rattle.listing_runs.specs.Claim.{pastCall}
 
 -- ---- what is due of a list of calls
@@ -51,16 +51,16 @@ callChoicesDue o p (CallChoice.list c ∷ cs) = listDueVerdict o (p .tiles) c �
 callChoicesDue o p (CallChoice.decide c ∷ cs) = cond (isPast o (p .tiles) (c .tile)) (decideDueVerdict c ∷ callChoicesDue o p cs) (callChoicesDue o p cs)
 
 -- the verdicts that are due of the calls of a run
-unfoldable pub callDuesOf : OpenRow → Past → List Call → List Judgement
+unfoldable pub callDuesOf : OpenRow → Past → List RowCall → List Judgement
 callDuesOf o p [] = []
-callDuesOf o p (Call.row (Event.work c r back) ∷ es) = workDueVerdict o (p .tiles) c ∷ callDuesOf o (pastCall o (Call.row (Event.work c r back)) p) es
-callDuesOf o p (Call.row (Event.paint c r back) ∷ es) = paintDueVerdict o (p .tiles) c ∷ callDuesOf o (pastCall o (Call.row (Event.paint c r back)) p) es
-callDuesOf o p (Call.row (Event.otherWork a lent r back) ∷ es) = callDuesOf o p es
-callDuesOf o p (Call.row (Event.otherPaint a plane r back) ∷ es) = callDuesOf o p es
-callDuesOf o p (Call.list c r back ∷ es) = listDueVerdict o (p .tiles) c ∷ callDuesOf o (pastCall o (Call.list c r back) p) es
-callDuesOf o p (Call.decide c r back ∷ es) = decideDueVerdict c ∷ callDuesOf o p es
-callDuesOf o p (Call.otherList a lent r back ∷ es) = callDuesOf o p es
-callDuesOf o p (Call.otherDecide a unmasked r back ∷ es) = callDuesOf o p es
+callDuesOf o p (RowCall.row (Event.work c r back) ∷ es) = workDueVerdict o (p .tiles) c ∷ callDuesOf o (pastCall o (RowCall.row (Event.work c r back)) p) es
+callDuesOf o p (RowCall.row (Event.paint c r back) ∷ es) = paintDueVerdict o (p .tiles) c ∷ callDuesOf o (pastCall o (RowCall.row (Event.paint c r back)) p) es
+callDuesOf o p (RowCall.row (Event.otherWork a lent r back) ∷ es) = callDuesOf o p es
+callDuesOf o p (RowCall.row (Event.otherPaint a plane r back) ∷ es) = callDuesOf o p es
+callDuesOf o p (RowCall.list c r back ∷ es) = listDueVerdict o (p .tiles) c ∷ callDuesOf o (pastCall o (RowCall.list c r back) p) es
+callDuesOf o p (RowCall.decide c r back ∷ es) = decideDueVerdict c ∷ callDuesOf o p es
+callDuesOf o p (RowCall.otherList a lent r back ∷ es) = callDuesOf o p es
+callDuesOf o p (RowCall.otherDecide a unmasked r back ∷ es) = callDuesOf o p es
 
 -- ---- the row and the table of row_statements/specs/Example, over three tiles
 
@@ -96,12 +96,12 @@ listingChoices =
 pub record CallsRan : Type 0 where
   pub back : Columns
   pub state : RowState
-  pub events : List Call
+  pub events : List RowCall
   pub after : HeldAll
   -- the claim's premises
   pub words : Words (threeTiles .row)
   pub opens : OpensRow (openOf threeTiles (room 256)) (opened.Row state) back
-  pub runs : Calls (openRow threeTiles) (heldWith (heldFirst state back) []) events after
+  pub runs : RowCalls (openRow threeTiles) (heldWith (heldFirst state back) []) events after
   -- which calls are refused, and by which number
   pub dues : callDuesOf (openRow threeTiles) atFirst events
       ≡ refuse 2 ∷ refuse 1 ∷ pass ∷ pass ∷ pass ∷ refuse 6 ∷ pass ∷ pass ∷ pass ∷ pass ∷ pass ∷ pass ∷ []

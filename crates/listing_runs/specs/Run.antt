@@ -55,12 +55,12 @@ pub record SameEntries (n : ℕ) (a b : TileList) : Type 0 where
 
 -- a call as it went: a work or a painting, a listing, a deciding from a list of the row; a listing with another row, table or queue that is turned
 -- down; and a deciding from any list, by any table
-pub data Call : Type 0 where
-  row : (e : Event) → Call
-  list : (c : ListChoice) (r : TileListed) (back : ListLent) → Call
-  decide : (c : DecideChoice) (r : TileDecided) (back : List Bool) → Call
-  otherList : (a : ListCall) (lent : ListLent) (r : TileListed) (back : ListLent) → Call
-  otherDecide : (a : DecideCall) (unmasked : List Bool) (r : TileDecided) (back : List Bool) → Call
+pub data RowCall : Type 0 where
+  row : (e : Event) → RowCall
+  list : (c : ListChoice) (r : TileListed) (back : ListLent) → RowCall
+  decide : (c : DecideChoice) (r : TileDecided) (back : List Bool) → RowCall
+  otherList : (a : ListCall) (lent : ListLent) (r : TileListed) (back : ListLent) → RowCall
+  otherDecide : (a : DecideCall) (unmasked : List Bool) (r : TileDecided) (back : List Bool) → RowCall
 
 abbrev pub listOn : OpenRow → Held → ListChoice → ListCall
 listOn o h c = listCall (h .state) (c .tile) (o .row) (o .table) (c .queue)
@@ -89,28 +89,28 @@ listsPast (Event.paint c r back) ls = ls
 listsPast (Event.otherWork a lent r back) ls = ls
 listsPast (Event.otherPaint a plane r back) ls = ls
 
-pub data CallStep (o : OpenRow) : HeldAll → Call → HeldAll → Type 0 where
+pub data CallStep (o : OpenRow) : HeldAll → RowCall → HeldAll → Type 0 where
   row : {h : HeldAll} {e : Event} {k : Held} →
       Step o (h .row) e k →
-      CallStep o h (Call.row e) (heldWith k (listsPast e (h .lists)))
+      CallStep o h (RowCall.row e) (heldWith k (listsPast e (h .lists)))
   list : {h : HeldAll} {c : ListChoice} {r : TileListed} {back : ListLent} →
       SameCarries (h .row .state .left) (h .row .queue) (c .queue) →
       ListsTile (listingOf (listOn o (h .row) c) (c .lent)) r back →
-      CallStep o h (Call.list c r back)
+      CallStep o h (RowCall.list c r back)
       (heldWith (rowAfter (r .answer) (stateIn (r .state)) (h .row) (c .queue) back) (listsAfter (r .answer) (c .tile) (back .list) (h .lists)))
   decide : {h : HeldAll} {l : HeldList} {c : DecideChoice} {r : TileDecided} {back : List Bool} →
       AmongLists l (h .lists) → l .tile ≡ c .tile → SameEntries (l .count) (l .list) (c .list) →
       DecidesTile (decidingOf (decideOn o l c) (c .unmasked)) r back →
-      CallStep o h (Call.decide c r back) h
+      CallStep o h (RowCall.decide c r back) h
   otherList : {h : HeldAll} {a : ListCall} {lent : ListLent} {n : ℕ} {r : TileListed} {back : ListLent} →
       a .state ≡ h .row .state → listingVerdict a lent ≡ refuse n →
       ListsTile (listingOf a lent) r back →
-      CallStep o h (Call.otherList a lent r back) (heldWith (record { state = stateIn (r .state); queue = h .row .queue; taken = h .row .taken }) (h .lists))
+      CallStep o h (RowCall.otherList a lent r back) (heldWith (record { state = stateIn (r .state); queue = h .row .queue; taken = h .row .taken }) (h .lists))
   otherDecide : {h : HeldAll} {a : DecideCall} {unmasked : List Bool} {r : TileDecided} {back : List Bool} →
       DecidesTile (decidingOf a unmasked) r back →
-      CallStep o h (Call.otherDecide a unmasked r back) h
+      CallStep o h (RowCall.otherDecide a unmasked r back) h
 
 -- any list of calls
-pub data Calls (o : OpenRow) : HeldAll → List Call → HeldAll → Type 0 where
-  none : {h : HeldAll} → Calls o h [] h
-  next : {h h′ h″ : HeldAll} {e : Call} {es : List Call} → CallStep o h e h′ → Calls o h′ es h″ → Calls o h (e ∷ es) h″
+pub data RowCalls (o : OpenRow) : HeldAll → List RowCall → HeldAll → Type 0 where
+  none : {h : HeldAll} → RowCalls o h [] h
+  next : {h h′ h″ : HeldAll} {e : RowCall} {es : List RowCall} → CallStep o h e h′ → RowCalls o h′ es h″ → RowCalls o h (e ∷ es) h″

@@ -66,12 +66,12 @@ decidingVerdict c unmasked = linesFor (isDecidingShort c unmasked) (c .list .ids
 
 -- ---- what a deciding gives: its answer, the cached tile, and the mask column at exit
 
-pub record DecideTold : Type 0 where
+pub record DecideSays : Type 0 where
   pub decision : TileDecision
   pub skipped : ℕ
 
 pub record DecideGiven : Type 0 where
-  pub answer : Answer DecideTold
+  pub answer : Answer DecideSays
   pub kept : kept.Kept
   pub unmasked : List Bool
 
@@ -91,7 +91,7 @@ decidingOf c unmasked = decidingOut (decidingVerdict c unmasked) (decidedOutcome
 -- ---- the promise
 
 -- the cases of the code's answer
-abbrev pub decideAnswer : DecideAnswer → Answer DecideTold
+abbrev pub decideAnswer : DecideAnswer → Answer DecideSays
 decideAnswer (Refused r) = refused (numberOf r)
 decideAnswer (Decided d skipped) = given (record { decision = decisionIn d; skipped = skipped .0 })
 

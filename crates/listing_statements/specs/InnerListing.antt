@@ -9,7 +9,7 @@ use Rattle.laws.specs.Integer.{plus, minus}
 use Rattle.refusals.specs.declared.Refusal.{Refusal}
 use Rattle.segment_rows.specs.Search.{tilePart}
 use Rattle.layer_table.specs.Table.{Table}
-use Rattle.tile_layers.specs.Walk.{Walks}
+use Rattle.tile_layers.specs.InnerWalk.{Walks}
 use Rattle.layer_carrying.specs.Carrying.{handedOn}
 use Rattle.painter.specs.declared.Clip.the-variants.{Absent}
 use Rattle.row_statements.specs.Lent.{layersOf}

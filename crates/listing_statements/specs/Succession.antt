@@ -11,7 +11,7 @@ use Rattle.row_statements.specs.Lent.{listColumns}
 use Rattle.row_statements.specs.State.{State}
 use Rattle.row_statements.specs.TileWork.{WorkCall, WorkLent, WorkGiven, TileAnswer, argsVerdict, workOf}
 use Rattle.listing_statements.specs.Listing.{ListCall, ListLent, ListGiven, listCall, listLent, tileList, listingOf}
-use Rattle.listing_statements.specs.Deciding.{DecideCall, DecideTold, DecideGiven, decideCall, decidingVerdict, decidingOf}
+use Rattle.listing_statements.specs.Deciding.{DecideCall, DecideSays, DecideGiven, decideCall, decidingVerdict, decidingOf}
 
 -- ---- the listing of a work
 
@@ -31,7 +31,7 @@ decidingPart c back n = decideCall (back .list) n (c .table) (c .kept) (c .clear
 
 -- ---- what both give
 
-abbrev pub bothTold : ℕ → Answer DecideTold → Answer TileAnswer
+abbrev pub bothTold : ℕ → Answer DecideSays → Answer TileAnswer
 bothTold n (refused number) = refused number
 bothTold n (given t) = given (record { decision = t .decision; listed = n; skipped = t .skipped })
 

@@ -18,7 +18,7 @@ use Rattle.cover_statements.specs.Cover.{coverAt}
 use Rattle.cover_statements.specs.Coverage.{isAbove}
 use Rattle.cover_statements.specs.Mark.{some, aboveAt, isOctetUsed}
 use Rattle.cover_statements.specs.Plane.{placeOf}
-use Rattle.cover_statements.specs.Weighed.{Weighed, coverageIn, coveragesIn}
+use Rattle.cover_statements.specs.InnerWeighed.{Weighed, coverageIn, coveragesIn}
 use Rattle.cover_statements.proofs.Coverages.{coverage-above}
 use Rattle.cover_statements.proofs.Marks.{some-ext}
 use Rattle.cover_statements.proofs.Weighings.{map-lt}

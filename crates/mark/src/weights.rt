@@ -7,7 +7,7 @@ ghost use lib.ListN.{length, getD};
 ghost use Rattle.laws.specs.Lists.{tabulate};
 ghost use Rattle.cover_statements.specs.Cover.{coverAt};
 ghost use Rattle.cover_statements.specs.Mark.{markOf, someAbove};
-ghost use Rattle.cover_statements.specs.Weighed.{Weighed, coveragesIn, weightsPlane, repeated};
+ghost use Rattle.cover_statements.specs.InnerWeighed.{Weighed, coveragesIn, weightsPlane, repeated};
 ghost use Rattle.mark.specs.InnerTotal.{octetTotals};
 
 // Whether one of the eight weights from 8 times the octet on is above 0.

@@ -7,7 +7,7 @@ ghost use Prim.Native.Nat.{_+_, _≤_};
 ghost use lib.IntN.{natAbs};
 ghost use lib.ListN.{length, take};
 ghost use Rattle.styling.specs.Ascending.{strictlyAscends};
-ghost use Rattle.queue_statements.specs.Sums.{keyIn, Placing, Placed, Summing, Summed};
+ghost use Rattle.queue_statements.specs.InnerSums.{keyIn, Placing, Placed, Summing, OpeningSummed};
 
 // The place of a segment's sum: its layer's entry, its pixel row.
 fn place_of(word: u64, ids: &[u32], n: usize) -> usize
@@ -44,7 +44,7 @@ fn add_segment(word: u64, place: usize, sums: &mut [i8], loads: &mut [u8]) -> bo
 // The covers of all segments added; false where number 9 applies to a layer.
 pub fn add_segments(left: &[u64], ids: &[u32], n: usize, sums: &mut [i8]) -> bool
     requires { ⌜ Summing (now left) n (now ids) (now sums) ⌝ }
-    ensures { λ r. ⌜ Summed (now (left .entry)) n r (now (sums .exit)) ⌝ }
+    ensures { λ r. ⌜ OpeningSummed (now (left .entry)) n r (now (sums .exit)) ⌝ }
 {
     let mut loads = [0u8; 4096];
     let mut i = 0;

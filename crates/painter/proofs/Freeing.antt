@@ -15,7 +15,7 @@ use Rattle.styling.specs.declared.Layer.{Layer}
 use Rattle.cover_statements.specs.Entry as entries
 use Rattle.queue_statements.specs.Queue.{queueOf, zeros}
 use Rattle.tile_layers.specs.Listing.{Listed, layersIn}
-use Rattle.tile_layers.specs.Walk.{listedAt, layersLeft, Stepped, Moved}
+use Rattle.tile_layers.specs.InnerWalk.{listedAt, layersLeft, Stepped, Moved}
 use Rattle.tile_layers.specs.declared.walk.Next.{Next}
 use Rattle.tile_layers.proofs.Walking.{Walking, walk-start, walk-here, walk-next, walk-end}
 use Rattle.tile_layers.proofs.Filling.{has-between}
@@ -25,7 +25,7 @@ use Rattle.pass_statements.specs.Item.{itemFor, itemFrom, itemOf, itemsOf}
 use Rattle.pass_statements.specs.Rules.{lastReached, latestClip, isFreed}
 use Rattle.pass_statements.specs.declared.item.Item.{Item}
 use Rattle.layer_workbench.specs.Work.{entryOf}
-use Rattle.painter.specs.Freed.{freedAfter, freedBy}
+use Rattle.painter.specs.InnerFreed.{freedAfter, freedBy}
 use Rattle.painter.specs.Painting.{itemsIn}
 
 module _ (table : List Layer) (id : ℕ) where

@@ -1,5 +1,5 @@
 -- Painting one layer in one tile: what its contracts say.
 pub mod Clip
 pub mod Painting
-pub mod Freed
+pub mod InnerFreed
 pub mod InnerOwn

@@ -23,7 +23,7 @@ use Rattle.cover_statements.specs.Mark.{markOf}
 use Rattle.cover_statements.specs.Paint.{partPlane}
 use Rattle.queue_statements.specs.Queue.{Carry, heldIn, Queued}
 use Rattle.tile_layers.specs.Listing.{Listed, layersIn}
-use Rattle.tile_layers.specs.Walk.{Walks}
+use Rattle.tile_layers.specs.InnerWalk.{Walks}
 use Rattle.pass_statements.specs.Item.{itemsOf}
 use Rattle.pass_statements.specs.Rules.{needsClip}
 use Rattle.pass_statements.specs.declared.item.Item.{Item}

@@ -13,11 +13,11 @@ ghost use Rattle.layer_table.specs.Lookup.{lookup};
 ghost use Rattle.layer_table.specs.Table.{Table, tableOf};
 ghost use Rattle.queue_statements.specs.Queue.{queueOf};
 ghost use Rattle.tile_layers.specs.Listing.{layersIn};
-ghost use Rattle.tile_layers.specs.Walk.{Walks};
+ghost use Rattle.tile_layers.specs.InnerWalk.{Walks};
 ghost use Rattle.pass_statements.specs.Item.{itemFor};
 ghost use Rattle.pass_statements.specs.Rules.{latestClip, isFreed, needsClip};
 ghost use Rattle.painter.specs.Painting.{itemsIn};
-ghost use Rattle.painter.specs.Freed.{freedAfter, freedBy};
+ghost use Rattle.painter.specs.InnerFreed.{freedAfter, freedBy};
 
 // Whether a draw of layer `id` is freed once the layer `at` is met: a clip below it decides anew, and all else leaves
 // it.

@@ -10,7 +10,7 @@ use Rattle.laws.proofs.Maps.{map-tabulate}
 use Rattle.styling.specs.declared.FillRule.{FillRule}
 use Rattle.cover_statements.specs.Cover.{coverAt}
 use Rattle.cover_statements.specs.Plane.{columnOf, rowOf, inPlaces}
-use Rattle.cover_statements.specs.Weighed.{weightIn, weightsOf, Weighed, coverageIn, coveragesIn, weightsPlane}
+use Rattle.cover_statements.specs.InnerWeighed.{weightIn, weightsOf, Weighed, coverageIn, coveragesIn, weightsPlane}
 use Rattle.cover_statements.proofs.Planes.{places-ext, by-columns-lt}
 use Rattle.cover_statements.proofs.Weighings.{map-lt, weights-are}
 

@@ -14,7 +14,7 @@ ghost use Rattle.pixel_segment.specs.Field.{cpu};
 ghost use Rattle.cover_statements.specs.Carry.{isLight};
 ghost use Rattle.cover_statements.specs.Mark.{markOf};
 ghost use Rattle.cover_statements.specs.Paint.{partPlane};
-ghost use Rattle.cover_statements.specs.Weighed.{columnAreas, repeated, putRow};
+ghost use Rattle.cover_statements.specs.InnerWeighed.{columnAreas, repeated, putRow};
 
 // What the pixels of a column see: 32 times the cover that comes in.
 fn column_areas(cover: Cover) -> [i16; 16]

@@ -9,7 +9,7 @@ ghost use lib.ListN.{length};
 ghost use Rattle.laws.specs.Lists.{over};
 ghost use Rattle.styling.specs.declared.FillRule.the-variants.{NonZero, EvenOdd};
 ghost use Rattle.cover_statements.specs.Mark.{markOf};
-ghost use Rattle.cover_statements.specs.Weighed.{InRange, weightsOf, weightsPlane};
+ghost use Rattle.cover_statements.specs.InnerWeighed.{InRange, weightsOf, weightsPlane};
 
 // Weights by columns, many at a time; the exchange of the two places is in the writing.
 fn paint_non_zero(areas: &mut [i16], plane: &mut [f32]) -> u32

@@ -19,7 +19,7 @@ use Rattle.segment_rows.proofs.Halving.{after-le, found-lt, found-equal}
 use Rattle.plate.specs.declared.Part.{Part}
 use Rattle.plate.specs.declared.Crop.{Crop}
 use Rattle.plate.specs.Crop.{isInCrop}
-use Rattle.plate.specs.Rows.{castOf, pastOf, startOf, placeBy, rowPlace}
+use Rattle.plate.specs.Rows.{castOf, pastOf, rowsStart, placeBy, rowPlace}
 use Rattle.plate.specs.Print.{skipped, row, printRow}
 use Rattle.plate.proofs.Neighbours.{compared}
 
@@ -58,8 +58,8 @@ module _ (t : ℤ) (l : List ℕ) where
       by (absent i) e = (omega arith, omega arith)
 
 -- so does the first segment without a negative tile y
-pub start-le : (l : List ℕ) → startOf l ≤ length l
-unfolding startOf
+pub start-le : (l : List ℕ) → rowsStart l ≤ length l
+unfolding rowsStart
 start-le l = by (searchOf (orderAt (TileYNotNegative false)) l) refl
   where
     by : (p : Place) → searchOf (orderAt (TileYNotNegative false)) l ≡ p → pastOf p ≤ length l

@@ -22,7 +22,7 @@ use Rattle.segment_rows.specs.declared.search.Key.the-variants.{TileY, TileYNot
 use Rattle.segment_rows.proofs.Sorted.{Split, splits, sorted-search, above-from, below-to}
 use Rattle.segment_rows.proofs.Keys.{tile-suc, le-tile}
 use Rattle.segment_rows.proofs.TileParts.{after-search, having-part, search-below, from-part}
-use Rattle.plate.specs.Rows.{castOf, pastOf, startOf, notNegative, placeBy, rowPlace, rowPart}
+use Rattle.plate.specs.Rows.{castOf, pastOf, rowsStart, notNegative, placeBy, rowPlace, rowPart}
 use Rattle.plate.proofs.Neighbours.{neighbours, rank-up, tile-order, is-row}
 
 -- ---- two keys, of which `before` is the one before `at`: an element is below the one exactly where it is not above the other
@@ -126,7 +126,7 @@ module _ (l : List ℕ) (o : Ordered (tileYOf cpu) l) where
 
   -- what is not skipped
   pub not-negative : notNegative l ≡ filter (λ w. leb 1 (tileYOf cpu w)) l
-  unfolding notNegative startOf
+  unfolding notNegative rowsStart
   not-negative =
       let f : ℕ → ℕ = λ w. tileYOf cpu w in
       let key : orderAt (TileYNotNegative false) ≡ (λ w. compareBool (leb 1 (f w)) false) =

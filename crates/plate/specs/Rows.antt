@@ -21,12 +21,12 @@ pastOf (found last) = suc last
 pastOf (absent i) = 0
 
 -- where the segments start that are past the last one with a negative tile y
-unfoldable pub startOf : List ℕ → ℕ
-startOf l = pastOf (searchOf (orderAt (TileYNotNegative false)) l)
+unfoldable pub rowsStart : List ℕ → ℕ
+rowsStart l = pastOf (searchOf (orderAt (TileYNotNegative false)) l)
 
 -- those segments
 unfoldable pub notNegative : List ℕ → List ℕ
-notNegative l = drop (startOf l) l
+notNegative l = drop (rowsStart l) l
 
 -- where the segments of tile row t stand whose last one was found: from the last one of the row above, looked for in what stands before
 unfoldable pub placeBy : ℤ → List ℕ → Place → Part

@@ -7,7 +7,7 @@ ghost use mathlib.Core.Path.{_≡_};
 ghost use Prim.Native.Nat.{_≤_};
 ghost use lib.ListN.{length};
 ghost use Rattle.segment_rows.specs.Search.{between};
-ghost use Rattle.plate.specs.Rows.{castOf, startOf, notNegative, rowPlace, rowPart};
+ghost use Rattle.plate.specs.Rows.{castOf, rowsStart, notNegative, rowPlace, rowPart};
 ghost use Rattle.plate.specs.Crop.{isInCrop};
 ghost use Rattle.plate.specs.Print.{printingIn, printRow, printedPart};
 
@@ -39,7 +39,7 @@ fn cast(j: usize) -> i16
 // Where the segments start whose tile y is not negative: past the last one that `for_each_row` finds with a negative
 // tile y, or at 0.
 pub fn find_not_negative(segments: &[u64]) -> usize
-    ensures { λ r. ⌜ r ≡ startOf (now (segments .entry)) ⌝ }
+    ensures { λ r. ⌜ r ≡ rowsStart (now (segments .entry)) ⌝ }
 {
     match search::search_last_by_tile_y_not_negative(segments, false) {
         Found::At(last) => last + 1,

@@ -9,7 +9,7 @@ ghost use lib.ListN.{length, take};
 ghost use Rattle.laws.specs.Lists.{over};
 ghost use Rattle.queue_statements.specs.Queue.{LentQueueRoom};
 ghost use Rattle.queue_statements.specs.Opening.{openingAnswer, Opens};
-ghost use Rattle.queue_statements.specs.Gather.{writtenCount, Clear, Gathered};
+ghost use Rattle.queue_statements.specs.InnerGather.{writtenCount, Clear, Gathered};
 
 // How many carries an opening writes: none where it is refused.
 fn count_of(opening: Opening) -> usize

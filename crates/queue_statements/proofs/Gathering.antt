@@ -11,9 +11,9 @@ use Rattle.laws.specs.Answer.{Answer, refused, given}
 use Rattle.laws.specs.Lists.{over}
 use Rattle.queue_statements.specs.Queue.{idsIn, coversIn}
 use Rattle.queue_statements.specs.Opening.{openQueue, writtenIf, Opens}
-use Rattle.queue_statements.specs.Gather.{writtenCount, listIf, Clear, Gathered}
-use Rattle.queue_statements.specs.Insert.{Collected}
-use Rattle.queue_statements.specs.Sums.{Summing, Summed}
+use Rattle.queue_statements.specs.InnerGather.{writtenCount, listIf, Clear, Gathered}
+use Rattle.queue_statements.specs.InnerInsert.{Collected}
+use Rattle.queue_statements.specs.InnerSums.{Summing, OpeningSummed}
 
 module _ {left : List ℕ} {n : ℕ} {ids : List ℕ} (c : Collected left n ids) where
   pub many : (covers : List ℤ) → 256 < n → Gathered left (refused 7) ids covers
@@ -32,7 +32,7 @@ module _ {left : List ℕ} {n : ℕ} {ids : List ℕ} (c : Collected left n ids)
     pub summing : {covers : List ℤ} → length ids ≡ 256 → length covers ≡ 4096 → Clear covers → Summing left n ids covers
     summing l e z = record { few = few; long = omega arith; listed = c .listed few; room = e; clear = z }
 
-    module _ {r : Bool} {covers : List ℤ} (s : Summed left n r covers) where
+    module _ {r : Bool} {covers : List ℤ} (s : OpeningSummed left n r covers) where
       pub light : r ≡ true → Gathered left (given n) ids covers
       light e =
           record {

@@ -20,7 +20,7 @@ use Rattle.cover_statements.specs.Carry.{inRow}
 use Rattle.queue_statements.specs.Queue.{idsIn}
 use Rattle.queue_statements.specs.Opening.{openQueue, ofLayer}
 use Rattle.queue_statements.specs.Rank.{rankOf}
-use Rattle.queue_statements.specs.Sums.{keyIn}
+use Rattle.queue_statements.specs.InnerSums.{keyIn}
 use Rattle.queue_statements.proofs.Ranks.{Held, rank-is}
 use Rattle.queue_statements.proofs.Inserting.{hasId, has-at, Somewhere, at, has-place}
 use Rattle.queue_statements.proofs.Openings.{opening-ascends, opening-has}

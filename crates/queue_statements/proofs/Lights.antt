@@ -20,7 +20,7 @@ use Rattle.cover_statements.proofs.Tables.{keyed, weighed}
 use Rattle.queue_statements.specs.Queue.{idsIn, coversIn, zeros}
 use Rattle.queue_statements.specs.Opening.{openQueue, ofLayer, isLightOpening}
 use Rattle.queue_statements.specs.Rank.{rankOf}
-use Rattle.queue_statements.specs.Sums.{keyIn}
+use Rattle.queue_statements.specs.InnerSums.{keyIn}
 use Rattle.queue_statements.proofs.Queues.{noCarry, length-ids, getD-ids, held-at}
 use Rattle.queue_statements.proofs.Columns.{length-covers, covers-at}
 use Rattle.queue_statements.proofs.Openings.{opening-ascends, opening-wide, opening-at}

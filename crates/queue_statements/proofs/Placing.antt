@@ -10,7 +10,7 @@ use lib.ListN.{set}
 use Rattle.laws.proofs.Sums.{abs-add}
 use Rattle.pixel_segment.specs.Field.{cpu, coverOf}
 use Rattle.cover_statements.specs.Cover.{coverAt}
-use Rattle.queue_statements.specs.Sums.{loadWith, Placing, Placed}
+use Rattle.queue_statements.specs.InnerSums.{loadWith, Placing, Placed}
 
 module _ {place w : ℕ} {sums : List ℤ} {loads : List ℕ} where
   pub placed-light : {load : ℕ} {sum : ℤ} → load ≡ loadWith loads place w → load ≤ 127 → sum ≡ coverAt sums place +ℤ coverOf cpu w → Placed place w sums loads true (set sums place sum) (set loads place load)

@@ -10,7 +10,7 @@ use lib.Seq.{length-take-le}
 use Rattle.styling.specs.Ascending.{strictlyAscends}
 use Rattle.queue_statements.specs.Queue.{idsIn}
 use Rattle.queue_statements.specs.Opening.{openQueue}
-use Rattle.queue_statements.specs.Sums.{keyIn, Placed, Summing, Summed}
+use Rattle.queue_statements.specs.InnerSums.{keyIn, Placed, Summing, OpeningSummed}
 use Rattle.queue_statements.proofs.Queues.{length-ids}
 use Rattle.queue_statements.proofs.Openings.{opening-ascends}
 use Rattle.queue_statements.proofs.Keys.{opening-there}
@@ -37,7 +37,7 @@ module _ {left : List ℕ} {n : ℕ} {ids : List ℕ} {sums : List ℤ} (c : Sum
 
   module _ {i : ℕ} {now : List ℤ} {loads : List ℕ} (t : Tallying (keyOf left) left i now loads) where
     -- all words are in
-    pub end : length left ≤ i → Summed left n true now
+    pub end : length left ≤ i → OpeningSummed left n true now
     end h =
         record {
           light = sym (opening-light left (tally-light t h));
@@ -45,7 +45,7 @@ module _ {left : List ℕ} {n : ℕ} {ids : List ℕ} {sums : List ℤ} (c : Sum
         }
 
     -- a word that is refused
-    pub refuse : {place : ℕ} {r : Bool} {now′ : List ℤ} {loads′ : List ℕ} → i < length left → place ≡ keyOf left (getD left i 0) → Placed place (getD left i 0) now loads r now′ loads′ → r ≡ false → Summed left n false now′
+    pub refuse : {place : ℕ} {r : Bool} {now′ : List ℤ} {loads′ : List ℕ} → i < length left → place ≡ keyOf left (getD left i 0) → Placed place (getD left i 0) now loads r now′ loads′ → r ≡ false → OpeningSummed left n false now′
     refuse h p a e =
         record {
           light = sym (opening-heavy left i h (tally-heavy t h p a e));

@@ -20,7 +20,7 @@ use Rattle.pixel_segment.specs.Field.{cpu, coverOf}
 use Rattle.cover_statements.specs.Carry.{absCover}
 use Rattle.cover_statements.specs.Cover.{coverAt}
 use Rattle.cover_statements.proofs.Tables.{keyed, weighed}
-use Rattle.queue_statements.specs.Sums.{loadWith, Placing, Placed}
+use Rattle.queue_statements.specs.InnerSums.{loadWith, Placing, Placed}
 
 -- a word's own goes from what is left to the table
 module _ {A : Type 0} (add : A → A → A) (z : A) (idr : (a : A) → add a z ≡ a) (assoc : (a b c : A) → add (add a b) c ≡ add a (add b c)) (key : ℕ → ℕ) (f : ℕ → A) where

@@ -2,7 +2,7 @@
 pub mod Queue
 pub mod Rank
 pub mod Opening
-pub mod Gather
-pub mod Insert
-pub mod Sums
+pub mod InnerGather
+pub mod InnerInsert
+pub mod InnerSums
 pub mod Opposite

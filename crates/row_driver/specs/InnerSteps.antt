@@ -17,7 +17,7 @@ use Rattle.refusals.specs.Refusal.{pass}
 use Rattle.row_statements.specs.Lent.{Columns, ListColumns, lentTable, carriesIn, isQueueShort, isListShort, layersOf}
 use Rattle.row_statements.specs.State.{stateIn}
 use Rattle.row_statements.specs.TileWork.{WorkCall, WorkLent, workCall, workLent, listedFor, saysFor, layersVerdict, GivesWork}
-use Rattle.row_statements.specs.InnerWork.{workedBy, Judged}
+use Rattle.row_statements.specs.InnerWork.{workedBy, WorkJudged}
 use Rattle.row_statements.specs.Due.{OpenRow, atFirst}
 use Rattle.row_statements.specs.InnerHolding.{IsOpen, Holds}
 use Rattle.row_statements.specs.Run.{Held}
@@ -52,7 +52,7 @@ argsOf s tile row words floats count queue = workCall (stateIn s) tile row (lent
 
 -- what the work of a tile asks
 pub record Workable (a : WorkCall) (lent : WorkLent) : Type 0 where
-  pub judged : Judged a lent
+  pub judged : WorkJudged a lent
   pub in-queue : isQueue (a .state .left) (a .queue .ids) ≡ true
 
 -- the work, and the tile's line where it is accepted

@@ -32,7 +32,7 @@ use Rattle.row_statements.specs.Lent.{ListColumns, LentTable, carriesIn,
 use Rattle.row_statements.specs.State.{State, nextState, isStray, isNotNext, isWrongNext}
 use Rattle.row_statements.specs.Conditions.{firstFive}
 use Rattle.row_statements.specs.TileWork.{WorkCall, WorkLent, listVerdict, argsVerdict, isShortFor, saysFor, workOut, GivesWork}
-use Rattle.row_statements.specs.InnerWork.{judgedBy, judgedWith, refusedWork, doneWork, Judged}
+use Rattle.row_statements.specs.InnerWork.{judgedBy, judgedWith, refusedWork, doneWork, WorkJudged}
 use Rattle.row_statements.specs.declared.RowState.{RowState}
 use Rattle.row_statements.specs.declared.TileWorked.{TileWorked}
 use Rattle.row_statements.specs.State.{stateIn}
@@ -171,7 +171,7 @@ module _ (c : WorkCall) (lent : WorkLent) where
         queue-covers = q .covers-long;
       }
 
-  pub judged : Words (c .row) → Passed → Judged c lent
+  pub judged : Words (c .row) → Passed → WorkJudged c lent
   judged w p =
       let n = p .next in
       let q = queue-judging.ordered (c .state .left) (c .queue .ids) (p .in-queue) in

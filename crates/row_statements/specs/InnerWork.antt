@@ -14,7 +14,7 @@ use Rattle.styling.specs.declared.Layer.{Layer}
 use Rattle.cached_tile.specs.Kept.{tagOutOfRange}
 use Rattle.cached_tile.specs.declared.kept.Kept as kept
 use Rattle.tile_layers.specs.Listing.{Listed}
-use Rattle.tile_layers.specs.Walk.{Walks}
+use Rattle.tile_layers.specs.InnerWalk.{Walks}
 use Rattle.layer_workbench.specs.Work.{Rooms}
 use Rattle.layer_workbench.specs.declared.Worked.{Worked}
 use Rattle.painter.specs.declared.Clip.the-variants.{Absent}
@@ -55,7 +55,7 @@ doneWork s w =
     }
 
 -- what 1 to 6 leave: the tile is one of a row's, the queue and the tile's part ascend, the table is in order, and there is room
-pub record Judged (c : WorkCall) (lent : WorkLent) : Type 0 where
+pub record WorkJudged (c : WorkCall) (lent : WorkLent) : Type 0 where
   pub tile-natural : minus (c .tile) ≡ 0
   pub tile-low : plus (c .tile) ≤ 4094
   pub next-low : c .state .next ≤ 4094

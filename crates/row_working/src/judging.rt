@@ -15,7 +15,7 @@ ghost use Rattle.layer_table.specs.Table.{Table, tableOf};
 ghost use Rattle.queue_statements.specs.Queue.{queueOf};
 ghost use Rattle.cached_tile.specs.Kept.{tagOutOfRange};
 ghost use Rattle.tile_layers.specs.Listing.{layersIn};
-ghost use Rattle.tile_layers.specs.Walk.{Walks};
+ghost use Rattle.tile_layers.specs.InnerWalk.{Walks};
 ghost use Rattle.row_statements.specs.Lent.{lentTable, listColumns, areEntriesShort, isListShort};
 ghost use Rattle.row_statements.specs.State.{stateIn};
 ghost use Rattle.row_statements.specs.InnerWork.{judgedBy, judgedWith, JudgesList};

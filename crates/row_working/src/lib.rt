@@ -21,7 +21,7 @@ ghost use Rattle.cached_tile.specs.Kept.{KeptSettled};
 ghost use Rattle.row_statements.specs.Lent.{columns, listColumns, lentTable};
 ghost use Rattle.row_statements.specs.State.{stateIn};
 ghost use Rattle.row_statements.specs.TileWork.{workCall, workLent, layersVerdict, saysFor, workOut, workOf, GivesWork};
-ghost use Rattle.row_statements.specs.InnerWork.{refusedWork, doneWork, Judged, workedBy};
+ghost use Rattle.row_statements.specs.InnerWork.{refusedWork, doneWork, WorkJudged, workedBy};
 
 fn refuse(state: RowState, kept: Kept, refusal: Refusal) -> TileWorked
     ensures { λ r. ⌜ r ≡ refusedWork state kept refusal ⌝ }
@@ -84,7 +84,7 @@ pub fn work_judged(
     list_flags: &mut [bool],
     list_unmasked: &mut [bool],
 ) -> TileWorked
-    requires { ⌜ Judged
+    requires { ⌜ WorkJudged
         (workCall (stateIn state) tile (now row) (lentTable (now layers) (now colors) count)
         kept clear previous (columns (now ids) (now covers)))
         (workLent (columns (now «next_ids») (now «next_covers»))

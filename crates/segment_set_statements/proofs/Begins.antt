@@ -20,7 +20,7 @@ use Rattle.pixel_segment.specs.Field.{cpu, localYOf}
 use Rattle.cover_statements.specs.Area.{doubledArea, areasOf}
 use Rattle.cover_statements.specs.Carry.{inRow, absCover, loadIn, isLight, carryOf}
 use Rattle.cover_statements.specs.Cover.{coverAt}
-use Rattle.cover_statements.specs.Load.{Magnitudes}
+use Rattle.cover_statements.specs.InnerLoad.{Magnitudes}
 use Rattle.cover_statements.proofs.Carries.{light, carry-none}
 use Rattle.cover_statements.proofs.Planes.{areas-length, areas-at}
 use Rattle.segment_set_statements.specs.Effect.{areasAfter, carryAfter, loadsAfter}

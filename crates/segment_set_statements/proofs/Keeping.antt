@@ -23,7 +23,7 @@ use Rattle.pixel_segment.specs.Field.{cpu, localYOf}
 use Rattle.cover_statements.specs.Area.{areasOf}
 use Rattle.cover_statements.specs.Carry.{absCover, isLight, carryOf}
 use Rattle.cover_statements.specs.Cover.{coverAt}
-use Rattle.cover_statements.specs.Weighed.{InRange}
+use Rattle.cover_statements.specs.InnerWeighed.{InRange}
 use Rattle.cover_statements.proofs.Planes.{areas-length, areas-in-range}
 use Rattle.segment_set_statements.specs.Effect.{areasAfter, carryAfter, loadsAfter}
 use Rattle.segment_set_statements.specs.Set.{SetState, state, Beginning, beginVerdict, nothing, freshState, heldOf, isHere, isWordHeld, heldPlace, loadsFrom, takeVerdict, takenIn, letVerdict, letOut, Gives, beginOf, takeOf, letOf, settled}

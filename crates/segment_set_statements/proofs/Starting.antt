@@ -12,7 +12,7 @@ use Rattle.pixel_segment.specs.Field.{cpu}
 use Rattle.cover_statements.specs.Area.{areasOf}
 use Rattle.cover_statements.specs.Carry.{carryOf}
 use Rattle.cover_statements.specs.Cover.{coverAt}
-use Rattle.cover_statements.specs.Load.{Magnitudes}
+use Rattle.cover_statements.specs.InnerLoad.{Magnitudes}
 use Rattle.cover_statements.proofs.Carries.{carry-none}
 use Rattle.cover_statements.proofs.Planes.{areas-length}
 use Rattle.segment_set_statements.specs.Set.{SetState, state, Beginning, freshState, freshSet, loadsFrom}

@@ -14,7 +14,7 @@ use Rattle.layer_table.specs.Lookup.{lookup}
 use Rattle.layer_table.specs.Table.{Table}
 use Rattle.styling.specs.declared.Layer.{Layer}
 use Rattle.queue_statements.specs.Queue.{Carry, Queued}
-use Rattle.tile_layers.specs.Walk.{Walks}
+use Rattle.tile_layers.specs.InnerWalk.{Walks}
 use Rattle.painter.specs.Painting.{isLightIn}
 use Rattle.row_statements.specs.State.{stateIn, withClip}
 use Rattle.row_statements.specs.Painting.{PaintSays, paintSays, layerIn}

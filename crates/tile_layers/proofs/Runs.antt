@@ -19,7 +19,7 @@ use Rattle.segment_rows.proofs.Sorted.{Split, splits, sorted-search}
 use Rattle.pixel_segment.proofs.Lexical.{compare-equal}
 use Rattle.segment_rows.proofs.Keys.{sorted-by, is-eq}
 use Rattle.tile_layers.specs.Groups.{Group, single, joinTo, groupsOf}
-use Rattle.tile_layers.specs.Walk.{GroupEnds}
+use Rattle.tile_layers.specs.InnerWalk.{GroupEnds}
 
 -- a list that is not empty has a first group, of its first segment's layer
 pub record First (id : ℕ) (gs : List Group) : Type 0 where

@@ -17,7 +17,7 @@ use Rattle.cover_statements.specs.Entry.{coverEntry}
 use Rattle.queue_statements.specs.Queue.{Carry, carryAt, queueOf, zeros}
 use Rattle.tile_layers.specs.Groups.{Group, groupsOf}
 use Rattle.tile_layers.specs.Listing.{carried, fresh, joined, listOf}
-use Rattle.tile_layers.specs.Walk.{GroupEnds, Stepped}
+use Rattle.tile_layers.specs.InnerWalk.{GroupEnds, Stepped}
 
 -- ---- merging, by what stands first
 

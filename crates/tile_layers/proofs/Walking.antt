@@ -9,7 +9,7 @@ use Rattle.laws.proofs.Drops.{nil-le, cons-lt, cons-rest}
 use Rattle.queue_statements.specs.Queue.{queueOf}
 use Rattle.tile_layers.specs.Groups.{groupsOf}
 use Rattle.tile_layers.specs.Listing.{listOf, layersIn}
-use Rattle.tile_layers.specs.Walk.{layersLeft, listedAt, Stepped, Moved}
+use Rattle.tile_layers.specs.InnerWalk.{layersLeft, listedAt, Stepped, Moved}
 use Rattle.tile_layers.specs.declared.walk.Next.{Next}
 use Rattle.tile_layers.proofs.Steps.{queue-past, no-groups, nothing}
 

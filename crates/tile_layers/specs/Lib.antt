@@ -1,4 +1,4 @@
 -- One tile: its list of layers. What the contracts say.
 pub mod Groups
 pub mod Listing
-pub mod Walk
+pub mod InnerWalk

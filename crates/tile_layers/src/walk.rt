@@ -15,7 +15,7 @@ ghost use Rattle.pixel_segment.specs.Field.{cpu, layerIdOf};
 ghost use Rattle.segment_rows.specs.Rows.{Ordered};
 ghost use Rattle.cover_statements.specs.Entry.{coverEntry};
 ghost use Rattle.queue_statements.specs.Queue.{zeros};
-ghost use Rattle.tile_layers.specs.Walk.{Walks, GroupEnds, Stepped, Moved};
+ghost use Rattle.tile_layers.specs.InnerWalk.{Walks, GroupEnds, Stepped, Moved};
 
 // The next layer: its id, whether it has a carry, and the places after it in the queue and in the part.
 pub struct Next {

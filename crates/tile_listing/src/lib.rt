@@ -15,7 +15,7 @@ ghost use lib.ListN.{length};
 ghost use Rattle.layer_table.specs.Table.{Table, tableOf};
 ghost use Rattle.queue_statements.specs.Queue.{queueOf};
 ghost use Rattle.tile_layers.specs.Listing.{layersIn, areLight, Lists};
-ghost use Rattle.tile_layers.specs.Walk.{Walks};
+ghost use Rattle.tile_layers.specs.InnerWalk.{Walks};
 ghost use Rattle.layer_carrying.specs.Carrying.{handedOn, Hands};
 ghost use Rattle.row_statements.specs.Lent.{columns, lentTable};
 ghost use Rattle.row_statements.specs.State.{stateIn};

@@ -31,14 +31,14 @@ use Rattle.row_statements.proofs.Run.{accepted, is-open, held-first}
 use Rattle.listing_statements.specs.Listing.{ListLent, entriesFrom, listAnswer, listingOut}
 use Rattle.listing_statements.specs.declared.TileListed.{TileListed}
 use Rattle.listing_runs.specs.Due.{ListChoice, listDueVerdict}
-use Rattle.listing_runs.specs.Run.{Call}
+use Rattle.listing_runs.specs.Run.{RowCall}
 use Rattle.listing_runs.specs.Claim.{RightListing, RightCall, AllCallsRight}
 use Rattle.listing_runs.proofs.Run.{run}
 use Rattle.two_rows.specs.Apart.{AgreeOn, entryIn, carryIn, MadeCall, TileResult, ResultOf, SameTile, Apart, LayersApart}
 use Rattle.two_rows.proofs.Same.{same-layer}
 
 -- every call of a run is right
-pub made-right : {o : OpenRow} {p q : Past} {es : List Call} {e : Call} → AllCallsRight o p es → MadeCall o p es q e → RightCall o q e
+pub made-right : {o : OpenRow} {p q : Past} {es : List RowCall} {e : RowCall} → AllCallsRight o p es → MadeCall o p es q e → RightCall o q e
 made-right all MadeCall.here = all .0
 made-right all (MadeCall.later m) = made-right (all .1) m
 
@@ -78,7 +78,7 @@ module _ (o : OpenRow) where
             carries = ap (λ (x : State). carriesIn (x .left) (back .queue)) s ∙ right .queue-read e;
           }
 
-  result-read : (p : Past) {e : Call} {t : TileResult} → RightCall o p e → ResultOf e t → IsRows (p .tiles) t
+  result-read : (p : Past) {e : RowCall} {t : TileResult} → RightCall o p e → ResultOf e t → IsRows (p .tiles) t
   result-read p right (ResultOf.work a) = work-read right a
   result-read p right (ResultOf.list a) = list-read right a
 
@@ -106,9 +106,9 @@ module _ {o o′ : OpenRow} (i : IsOpen o) (i′ : IsOpen o′) {id : ℕ} (agre
         carry = ap (λ (q : List Carry). carryIn q id) (w .carries) ∙ next .carry ∙ ap (λ (m : ℕ). carryIn (queueOn o′ (suc m)) id) e ∙ sym (ap (λ (q : List Carry). carryIn q id) (w′ .carries));
       }
 
-  module _ {es es′ : List Call} (all : AllCallsRight o atFirst es) (all′ : AllCallsRight o′ atFirst es′) where
+  module _ {es es′ : List RowCall} (all : AllCallsRight o atFirst es) (all′ : AllCallsRight o′ atFirst es′) where
     paint-same : {p p′ : Past} {c c′ : PaintChoice} {r r′ : Painted} {back back′ : List Float} {mark mark′ : ℕ}
-        → MadeCall o atFirst es p (Call.row (Event.paint c r back)) → MadeCall o′ atFirst es′ p′ (Call.row (Event.paint c′ r′ back′)) → p .tiles ≡ p′ .tiles → c .layer ≡ id → c′ .layer ≡ id
+        → MadeCall o atFirst es p (RowCall.row (Event.paint c r back)) → MadeCall o′ atFirst es′ p′ (RowCall.row (Event.paint c′ r′ back′)) → p .tiles ≡ p′ .tiles → c .layer ≡ id → c′ .layer ≡ id
         → paintAnswer (r .answer) ≡ given mark → paintAnswer (r′ .answer) ≡ given mark′ → take 256 back ≡ take 256 back′
     paint-same {p} {p′} {c} {c′} {r} {r′} {back} {back′} m m′ e l l′ a a′ =
         paint-read o p c (made-right all m) a

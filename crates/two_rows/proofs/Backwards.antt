@@ -35,11 +35,11 @@ use Rattle.row_statements.specs.declared.TileWorked.{TileWorked}
 use Rattle.row_statements.specs.declared.Painted.{Painted}
 use Rattle.row_statements.proofs.Run.{accepted, held-first}
 use Rattle.listing_statements.specs.Listing.{ListLent, listingOut, ListsTile}
-use Rattle.listing_statements.specs.Deciding.{DecideTold, DecideGiven, decidingOut, decidingOf, DecidesTile}
+use Rattle.listing_statements.specs.Deciding.{DecideSays, DecideGiven, decidingOut, decidingOf, DecidesTile}
 use Rattle.listing_statements.specs.declared.TileListed.{TileListed}
 use Rattle.listing_statements.specs.declared.TileDecided.{TileDecided}
 use Rattle.listing_runs.specs.Due.{ListChoice, listDueVerdict, DecideChoice, nthOn, decideDueVerdict, outcomeDue}
-use Rattle.listing_runs.specs.Run.{Call}
+use Rattle.listing_runs.specs.Run.{RowCall}
 use Rattle.listing_runs.specs.Claim.{RightListing, RightDeciding, RightCall, pastCall, AllCallsRight}
 use Rattle.listing_runs.proofs.Run as calls
 use Rattle.two_rows.specs.Backwards.{oppositeCall, listRead, masksRead, carriesRead, entriesRead, decidedRead, planeRead, BackWork, BackPaint, BackList, BackDecide, BackCall, BackCalls, OpensBoth, Backwards}
@@ -157,17 +157,17 @@ module _ (o : OpenRow) (mild : areMild cpu (o .row) ≡ true) (p : Past) where
             answer = g′ .answer ∙ sym (g .answer);
             kept = g′ .kept ∙ sym (a .kept) ∙ sym (g .kept);
             masks =
-                ap (λ (t : Answer DecideTold). decidedRead t (length (layersOn o (nthOn o c))) back′) (g′ .answer)
-                ∙ sym (ap (λ (t : Answer DecideTold). decidedRead t (length (layersOn o (nthOn o c))) back) (g .answer));
+                ap (λ (t : Answer DecideSays). decidedRead t (length (layersOn o (nthOn o c))) back′) (g′ .answer)
+                ∙ sym (ap (λ (t : Answer DecideSays). decidedRead t (length (layersOn o (nthOn o c))) back) (g .answer));
           }
       by pass e e′ g g′ =
           record {
             answer = g′ .answer ∙ (λ i. given (record { decision = outcome i .decision; skipped = outcome i .skipped })) ∙ sym (g .answer);
             kept = g′ .kept ∙ (λ i. keptAfter (outcome i) (sym (a .kept) i) (listed i)) ∙ sym (g .kept);
             masks =
-                ap (λ (t : Answer DecideTold). decidedRead t (length (layersOn o (nthOn o c))) back′) (g′ .answer)
+                ap (λ (t : Answer DecideSays). decidedRead t (length (layersOn o (nthOn o c))) back′) (g′ .answer)
                 ∙ ap (λ (n : ℕ). take n back′) (sym listed) ∙ x′ .unmasked-read e′ ∙ ap (λ (d : Outcome). d .unmasked) outcome
-                ∙ sym (ap (λ (t : Answer DecideTold). decidedRead t (length (layersOn o (nthOn o c))) back) (g .answer) ∙ x .unmasked-read e);
+                ∙ sym (ap (λ (t : Answer DecideSays). decidedRead t (length (layersOn o (nthOn o c))) back) (g .answer) ∙ x .unmasked-read e);
           }
 
   back-paint : {c c′ : PaintChoice} {r r′ : Painted} {back back′ : List Float} → AlikePaints c c′ → RightPaint o p c r back → RightPaint (oppositeRow o) p c′ r′ back′ → BackPaint r r′ back back′
@@ -208,7 +208,7 @@ module _ (o : OpenRow) (mild : areMild cpu (o .row) ≡ true) (p : Past) where
   past-paint (refuse n) id = refl
   past-paint pass id = refl
 
-  pub call-back : {e e′ : Call} → AlikeCall e e′ → RightCall o p e → RightCall (oppositeRow o) p e′ → BackCall o e e′ × (pastCall (oppositeRow o) e′ p ≡ pastCall o e p)
+  pub call-back : {e e′ : RowCall} → AlikeCall e e′ → RightCall o p e → RightCall (oppositeRow o) p e′ → BackCall o e e′ × (pastCall (oppositeRow o) e′ p ≡ pastCall o e p)
   call-back (AlikeCall.work a) x x′ = (BackCall.work (back-work a x x′), ap (λ (v : Judgement). pastWork v p) (work-verdict o mild (p .tiles) a))
   call-back (AlikeCall.paint {c = c} {c′ = c′} a) x x′ = (
     BackCall.paint (back-paint a x x′),
@@ -235,7 +235,7 @@ module _ (o : OpenRow) (mild : areMild cpu (o .row) ≡ true) (p : Past) where
 
 -- ---- any list of them
 
-calls-back : (o : OpenRow) → areMild cpu (o .row) ≡ true → (p : Past) {es es′ : List Call} → AlikeCalls es es′ → AllCallsRight o p es → AllCallsRight (oppositeRow o) p es′ → BackCalls o es es′
+calls-back : (o : OpenRow) → areMild cpu (o .row) ≡ true → (p : Past) {es es′ : List RowCall} → AlikeCalls es es′ → AllCallsRight o p es → AllCallsRight (oppositeRow o) p es′ → BackCalls o es es′
 calls-back o mild p AlikeCalls.none all all′ = BackCalls.none
 calls-back o mild p (AlikeCalls.next {e = e} {e′ = e′} {es = es} {es′ = es′} a rest) all all′ =
     let u = call-back o mild p a (all .0) (all′ .0) in

@@ -15,7 +15,7 @@ use Rattle.row_statements.specs.declared.Opened.the-variants as opened
 use Rattle.row_statements.proofs.Run.{accepted, is-open, held-first}
 use Rattle.row_statements.proofs.Runs.{as-held, heldWork, heldPaint, work-goes, paint-goes}
 use Rattle.listing_runs.specs.Due.{listDueVerdict, DecideChoice, decideDueVerdict}
-use Rattle.listing_runs.specs.Run.{HeldAll, Call, CallStep, Calls}
+use Rattle.listing_runs.specs.Run.{HeldAll, RowCall, CallStep, RowCalls}
 use Rattle.listing_runs.specs.Claim.{pastCall}
 use Rattle.listing_runs.specs.Example.{CallChoice, isPast, callChoicesDue, callDuesOf}
 use Rattle.listing_runs.specs.InnerHolding.{HoldsAll}
@@ -28,19 +28,19 @@ use Rattle.two_rows.proofs.Backwards.{call-back, open-turned}
 
 module _ (o : OpenRow) (mild : areMild cpu (o .row) ≡ true) (one : IsOpen o) (other : IsOpen (oppositeRow o)) where
   pub record Both (p : Past) (h h′ : HeldAll) (cs : List CallChoice) : Type 0 where
-    pub events : List Call
-    pub events′ : List Call
+    pub events : List RowCall
+    pub events′ : List RowCall
     pub after : HeldAll
     pub after′ : HeldAll
-    pub runs : Calls o h events after
-    pub runs′ : Calls (oppositeRow o) h′ events′ after′
+    pub runs : RowCalls o h events after
+    pub runs′ : RowCalls (oppositeRow o) h′ events′ after′
     pub alike : AlikeCalls events events′
     pub dues : callDuesOf o p events ≡ callChoicesDue o p cs
 
   -- one call more on both sides
-  onward : {p : Past} {h h′ k k′ : HeldAll} {e e′ : Call} (c : CallChoice) (cs : List CallChoice) (v : Judgement) → HoldsAll o p h → HoldsAll (oppositeRow o) p h′
+  onward : {p : Past} {h h′ k k′ : HeldAll} {e e′ : RowCall} (c : CallChoice) (cs : List CallChoice) (v : Judgement) → HoldsAll o p h → HoldsAll (oppositeRow o) p h′
       → CallStep o h e k → CallStep (oppositeRow o) h′ e′ k′ → AlikeCall e e′
-      → ((es : List Call) → callDuesOf o p (e ∷ es) ≡ v ∷ callDuesOf o (pastCall o e p) es) → callChoicesDue o p (c ∷ cs) ≡ v ∷ callChoicesDue o (pastCall o e p) cs
+      → ((es : List RowCall) → callDuesOf o p (e ∷ es) ≡ v ∷ callDuesOf o (pastCall o e p) es) → callChoicesDue o p (c ∷ cs) ≡ v ∷ callChoicesDue o (pastCall o e p) cs
       → (HoldsAll o (pastCall o e p) k → HoldsAll (oppositeRow o) (pastCall o e p) k′ → Both (pastCall o e p) k k′ cs) → Both p h h′ (c ∷ cs)
   onward {p} {h} {h′} {k} {k′} {e} {e′} c cs v holds holds′ step step′ a d q rest =
       let u = call-right one holds step in
@@ -52,8 +52,8 @@ module _ (o : OpenRow) (mild : areMild cpu (o .row) ≡ true) (one : IsOpen o) (
         events′ = e′ ∷ r .events′;
         after = r .after;
         after′ = r .after′;
-        runs = Calls.next step (r .runs);
-        runs′ = Calls.next step′ (r .runs′);
+        runs = RowCalls.next step (r .runs);
+        runs′ = RowCalls.next step′ (r .runs′);
         alike = AlikeCalls.next a (r .alike);
         dues = d (r .events) ∙ ap (λ (vs : List Judgement). v ∷ vs) (r .dues) ∙ sym q;
       }
@@ -71,7 +71,7 @@ module _ (o : OpenRow) (mild : areMild cpu (o .row) ≡ true) (one : IsOpen o) (
 
   both : (p : Past) {h h′ : HeldAll} → HoldsAll o p h → HoldsAll (oppositeRow o) p h′ → (cs : List CallChoice) → Both p h h′ cs
   unfolding callDuesOf callChoicesDue
-  both p {h} {h′} holds holds′ [] = record { events = []; events′ = []; after = h; after′ = h′; runs = Calls.none; runs′ = Calls.none; alike = AlikeCalls.none; dues = refl }
+  both p {h} {h′} holds holds′ [] = record { events = []; events′ = []; after = h; after′ = h′; runs = RowCalls.none; runs′ = RowCalls.none; alike = AlikeCalls.none; dues = refl }
   both p {h} {h′} holds holds′ (CallChoice.work c ∷ cs) =
       onward (CallChoice.work c) cs (workDueVerdict o (p .tiles) c) holds holds′
       (CallStep.row {h = h} (Step.work {c = heldWork (h .row) c} as-held (work-goes one (holds .row) c)))

@@ -31,7 +31,7 @@ use Rattle.row_statements.specs.declared.Painted.{Painted}
 use Rattle.listing_statements.specs.Listing.{ListLent, entriesFrom, listAnswer}
 use Rattle.listing_statements.specs.declared.TileListed.{TileListed}
 use Rattle.listing_runs.specs.Due.{ListChoice}
-use Rattle.listing_runs.specs.Run.{HeldAll, heldWith, Call, Calls}
+use Rattle.listing_runs.specs.Run.{HeldAll, heldWith, RowCall, RowCalls}
 use Rattle.listing_runs.specs.Claim.{pastCall}
 
 -- a word without its tile y: the two rows may be different tile rows
@@ -77,23 +77,23 @@ pub record SameLayer (id : ℕ) (o o′ : OpenRow) (n : ℕ) : Type 0 where
 -- ---- along two runs of listings, decidings, works and paintings
 
 -- a call of a run, with what the calls before it tell
-pub data MadeCall (o : OpenRow) : Past → List Call → Past → Call → Type 0 where
-  here : {p : Past} {e : Call} {es : List Call} → MadeCall o p (e ∷ es) p e
-  later : {p q : Past} {e f : Call} {es : List Call} → MadeCall o (pastCall o e p) es q f → MadeCall o p (e ∷ es) q f
+pub data MadeCall (o : OpenRow) : Past → List RowCall → Past → RowCall → Type 0 where
+  here : {p : Past} {e : RowCall} {es : List RowCall} → MadeCall o p (e ∷ es) p e
+  later : {p q : Past} {e f : RowCall} {es : List RowCall} → MadeCall o (pastCall o e p) es q f → MadeCall o p (e ∷ es) q f
 
 -- a tile's list and the carries past it, read back from what an accepted work or an accepted listing answered and left
 pub record TileResult : Type 0 where
   pub entries : List Entry
   pub carries : List Carry
 
-pub data ResultOf : Call → TileResult → Type 0 where
+pub data ResultOf : RowCall → TileResult → Type 0 where
   work : {c : WorkChoice} {r : TileWorked} {back : WorkLent} {t : TileAnswer} →
       workAnswer (r .answer) ≡ given t →
-      ResultOf (Call.row (Event.work c r back))
+      ResultOf (RowCall.row (Event.work c r back))
       (record { entries = entriesIn (t .listed) (back .list); carries = carriesIn (stateIn (r .state) .left) (back .queue) })
   list : {c : ListChoice} {r : TileListed} {back : ListLent} {n : ℕ} →
       listAnswer (r .answer) ≡ given n →
-      ResultOf (Call.list c r back)
+      ResultOf (RowCall.list c r back)
       (record { entries = entriesFrom n (back .list); carries = carriesIn (stateIn (r .state) .left) (back .queue) })
 
 -- what two of them say of the layer: whether and how it is listed, and the carry handed on
@@ -103,9 +103,9 @@ pub record SameTile (id : ℕ) (t t′ : TileResult) : Type 0 where
 
 -- of two runs after accepted openings: the carry that each opens with; every tile that both work or list; and the 256 coverages of the layer wherever
 -- both paint it. Only the calls that are compared need be accepted
-pub record Apart (id : ℕ) (o o′ : OpenRow) (s s′ : State) (opened opened′ : Columns) (es es′ : List Call) : Type 0 where
+pub record Apart (id : ℕ) (o o′ : OpenRow) (s s′ : State) (opened opened′ : Columns) (es es′ : List RowCall) : Type 0 where
   pub opening : carryIn (carriesIn (s .left) opened) id ≡ carryIn (carriesIn (s′ .left) opened′) id
-  pub tile : {p p′ : Past} {e e′ : Call} {t t′ : TileResult} →
+  pub tile : {p p′ : Past} {e e′ : RowCall} {t t′ : TileResult} →
       MadeCall o atFirst es p e →
       MadeCall o′ atFirst es′ p′ e′ →
       p .tiles ≡ p′ .tiles →
@@ -113,8 +113,8 @@ pub record Apart (id : ℕ) (o o′ : OpenRow) (s s′ : State) (opened opened�
       ResultOf e′ t′ →
       SameTile id t t′
   pub paint : {p p′ : Past} {c c′ : PaintChoice} {r r′ : Painted} {back back′ : List Float} {mark mark′ : ℕ} →
-      MadeCall o atFirst es p (Call.row (Event.paint c r back)) →
-      MadeCall o′ atFirst es′ p′ (Call.row (Event.paint c′ r′ back′)) →
+      MadeCall o atFirst es p (RowCall.row (Event.paint c r back)) →
+      MadeCall o′ atFirst es′ p′ (RowCall.row (Event.paint c′ r′ back′)) →
       p .tiles ≡ p′ .tiles →
       c .layer ≡ id →
       c′ .layer ≡ id →
@@ -125,12 +125,12 @@ pub record Apart (id : ℕ) (o o′ : OpenRow) (s s′ : State) (opened opened�
 -- the claim: whatever else differs
 abbrev pub LayersApart : Type 0
 LayersApart =
-    (id : ℕ) (c c′ : OpenCall) (lent lent′ back back′ : Columns) (s s′ : RowState) (es es′ : List Call) (h h′ : HeldAll) →
+    (id : ℕ) (c c′ : OpenCall) (lent lent′ back back′ : Columns) (s s′ : RowState) (es es′ : List RowCall) (h h′ : HeldAll) →
     Words (c .row) →
     Words (c′ .row) →
     OpensRow (openOf c lent) (opened.Row s) back →
     OpensRow (openOf c′ lent′) (opened.Row s′) back′ →
     AgreeOn id (openRow c) (openRow c′) →
-    Calls (openRow c) (heldWith (heldFirst s back) []) es h →
-    Calls (openRow c′) (heldWith (heldFirst s′ back′) []) es′ h′ →
+    RowCalls (openRow c) (heldWith (heldFirst s back) []) es h →
+    RowCalls (openRow c′) (heldWith (heldFirst s′ back′) []) es′ h′ →
     Apart id (openRow c) (openRow c′) (stateIn s) (stateIn s′) back back′ es es′

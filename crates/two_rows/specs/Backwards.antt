@@ -29,11 +29,11 @@ use Rattle.row_statements.specs.declared.RowState.{RowState}
 use Rattle.row_statements.specs.declared.TileWorked.{TileWorked}
 use Rattle.row_statements.specs.declared.Painted.{Painted}
 use Rattle.listing_statements.specs.Listing.{ListCall, ListLent, TileList, entriesFrom, listAnswer, listingVerdict}
-use Rattle.listing_statements.specs.Deciding.{DecideCall, DecideTold, decideAnswer}
+use Rattle.listing_statements.specs.Deciding.{DecideCall, DecideSays, decideAnswer}
 use Rattle.listing_statements.specs.declared.TileListed.{TileListed}
 use Rattle.listing_statements.specs.declared.TileDecided.{TileDecided}
 use Rattle.listing_runs.specs.Due.{ListChoice, DecideChoice, nthOn}
-use Rattle.listing_runs.specs.Run.{HeldAll, heldWith, Call, Calls}
+use Rattle.listing_runs.specs.Run.{HeldAll, heldWith, RowCall, RowCalls}
 use Rattle.listing_runs.specs.Example.{CallChoice, callChoicesDue, callDuesOf}
 use Rattle.two_rows.specs.SameCalls.{AlikeCalls}
 
@@ -60,7 +60,7 @@ entriesRead (refused number) back = []
 entriesRead (given n) back = entriesFrom n back
 
 -- of a column of masks whose list has n entries
-abbrev pub decidedRead : Answer DecideTold → ℕ → List Bool → List Bool
+abbrev pub decidedRead : Answer DecideSays → ℕ → List Bool → List Bool
 decidedRead (refused number) n back = []
 decidedRead (given t) n back = take n back
 
@@ -100,27 +100,27 @@ pub record BackDecide (n : ℕ) (r r′ : TileDecided) (back back′ : List Bool
 
 -- calls with another row, table or queue, where both are turned down by one number, answer it and leave one state; a deciding from any list says the
 -- same of the same call
-pub data BackCall (o : OpenRow) : Call → Call → Type 0 where
-  work : {c c′ : WorkChoice} {r r′ : TileWorked} {back back′ : WorkLent} → BackWork r r′ back back′ → BackCall o (Call.row (Event.work c r back)) (Call.row (Event.work c′ r′ back′))
-  paint : {c c′ : PaintChoice} {r r′ : Painted} {back back′ : List Float} → BackPaint r r′ back back′ → BackCall o (Call.row (Event.paint c r back)) (Call.row (Event.paint c′ r′ back′))
-  list : {c c′ : ListChoice} {r r′ : TileListed} {back back′ : ListLent} → BackList r r′ back back′ → BackCall o (Call.list c r back) (Call.list c′ r′ back′)
-  decide : {c c′ : DecideChoice} {r r′ : TileDecided} {back back′ : List Bool} → BackDecide (length (layersOn o (nthOn o c))) r r′ back back′ → BackCall o (Call.decide c r back) (Call.decide c′ r′ back′)
+pub data BackCall (o : OpenRow) : RowCall → RowCall → Type 0 where
+  work : {c c′ : WorkChoice} {r r′ : TileWorked} {back back′ : WorkLent} → BackWork r r′ back back′ → BackCall o (RowCall.row (Event.work c r back)) (RowCall.row (Event.work c′ r′ back′))
+  paint : {c c′ : PaintChoice} {r r′ : Painted} {back back′ : List Float} → BackPaint r r′ back back′ → BackCall o (RowCall.row (Event.paint c r back)) (RowCall.row (Event.paint c′ r′ back′))
+  list : {c c′ : ListChoice} {r r′ : TileListed} {back back′ : ListLent} → BackList r r′ back back′ → BackCall o (RowCall.list c r back) (RowCall.list c′ r′ back′)
+  decide : {c c′ : DecideChoice} {r r′ : TileDecided} {back back′ : List Bool} → BackDecide (length (layersOn o (nthOn o c))) r r′ back back′ → BackCall o (RowCall.decide c r back) (RowCall.decide c′ r′ back′)
   otherWork : {a a′ : WorkCall} {lent lent′ : WorkLent} {r r′ : TileWorked} {back back′ : WorkLent} →
       ((n : ℕ) → workVerdict a lent ≡ refuse n → workVerdict a′ lent′ ≡ refuse n → (workAnswer (r′ .answer) ≡ workAnswer (r .answer)) × (stateIn (r′ .state) ≡ stateIn (r .state))) →
-      BackCall o (Call.row (Event.otherWork a lent r back)) (Call.row (Event.otherWork a′ lent′ r′ back′))
+      BackCall o (RowCall.row (Event.otherWork a lent r back)) (RowCall.row (Event.otherWork a′ lent′ r′ back′))
   otherPaint : {a a′ : PaintCall} {plane plane′ : List Float} {r r′ : Painted} {back back′ : List Float} →
       ((n : ℕ) → paintVerdict a plane ≡ refuse n → paintVerdict a′ plane′ ≡ refuse n → (paintAnswer (r′ .answer) ≡ paintAnswer (r .answer)) × (stateIn (r′ .state) ≡ stateIn (r .state))) →
-      BackCall o (Call.row (Event.otherPaint a plane r back)) (Call.row (Event.otherPaint a′ plane′ r′ back′))
+      BackCall o (RowCall.row (Event.otherPaint a plane r back)) (RowCall.row (Event.otherPaint a′ plane′ r′ back′))
   otherList : {a a′ : ListCall} {lent lent′ : ListLent} {r r′ : TileListed} {back back′ : ListLent} →
       ((n : ℕ) → listingVerdict a lent ≡ refuse n → listingVerdict a′ lent′ ≡ refuse n → (listAnswer (r′ .answer) ≡ listAnswer (r .answer)) × (stateIn (r′ .state) ≡ stateIn (r .state))) →
-      BackCall o (Call.otherList a lent r back) (Call.otherList a′ lent′ r′ back′)
+      BackCall o (RowCall.otherList a lent r back) (RowCall.otherList a′ lent′ r′ back′)
   otherDecide : {a a′ : DecideCall} {masks masks′ : List Bool} {r r′ : TileDecided} {back back′ : List Bool} →
       (a ≡ a′ → masks ≡ masks′ → (decideAnswer (r′ .answer) ≡ decideAnswer (r .answer)) × (r′ .kept ≡ r .kept) × (back′ ≡ back)) →
-      BackCall o (Call.otherDecide a masks r back) (Call.otherDecide a′ masks′ r′ back′)
+      BackCall o (RowCall.otherDecide a masks r back) (RowCall.otherDecide a′ masks′ r′ back′)
 
-pub data BackCalls (o : OpenRow) : List Call → List Call → Type 0 where
+pub data BackCalls (o : OpenRow) : List RowCall → List RowCall → Type 0 where
   none : BackCalls o [] []
-  next : {e e′ : Call} {es es′ : List Call} → BackCall o e e′ → BackCalls o es es′ → BackCalls o (e ∷ es) (e′ ∷ es′)
+  next : {e e′ : RowCall} {es es′ : List RowCall} → BackCall o e e′ → BackCalls o es es′ → BackCalls o (e ∷ es) (e′ ∷ es′)
 
 -- the opening: one state, and the carries negated
 pub record BackOpening (s s′ : State) (back back′ : Columns) : Type 0 where
@@ -141,13 +141,13 @@ OpensBoth =
 
 abbrev pub Backwards : Type 0
 Backwards =
-    (c : OpenCall) (lent lent′ back back′ : Columns) (s s′ : RowState) (es es′ : List Call) (h h′ : HeldAll) →
+    (c : OpenCall) (lent lent′ back back′ : Columns) (s s′ : RowState) (es es′ : List RowCall) (h h′ : HeldAll) →
     Words (c .row) →
     Mild cpu (c .row) →
     OpensRow (openOf c lent) (opened.Row s) back →
     OpensRow (openOf (oppositeCall c) lent′) (opened.Row s′) back′ →
-    Calls (openRow c) (heldWith (heldFirst s back) []) es h →
-    Calls (openRow (oppositeCall c)) (heldWith (heldFirst s′ back′) []) es′ h′ →
+    RowCalls (openRow c) (heldWith (heldFirst s back) []) es h →
+    RowCalls (openRow (oppositeCall c)) (heldWith (heldFirst s′ back′) []) es′ h′ →
     AlikeCalls es es′ →
     BackOpening (stateIn s) (stateIn s′) back back′ × BackCalls (openRow c) es es′
 
@@ -157,12 +157,12 @@ Backwards =
 pub record RanBoth (c : OpenCall) (lent′ back : Columns) (s : RowState) (cs : List CallChoice) : Type 0 where
   pub back′ : Columns
   pub opens′ : OpensRow (openOf (oppositeCall c) lent′) (opened.Row s) back′
-  pub events : List Call
-  pub events′ : List Call
+  pub events : List RowCall
+  pub events′ : List RowCall
   pub after : HeldAll
   pub after′ : HeldAll
-  pub runs : Calls (openRow c) (heldWith (heldFirst s back) []) events after
-  pub runs′ : Calls (openRow (oppositeCall c)) (heldWith (heldFirst s back′) []) events′ after′
+  pub runs : RowCalls (openRow c) (heldWith (heldFirst s back) []) events after
+  pub runs′ : RowCalls (openRow (oppositeCall c)) (heldWith (heldFirst s back′) []) events′ after′
   pub alike : AlikeCalls events events′
   pub dues : callDuesOf (openRow c) atFirst events ≡ callChoicesDue (openRow c) atFirst cs
 

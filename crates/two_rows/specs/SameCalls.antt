@@ -19,7 +19,7 @@ use Rattle.listing_statements.specs.Deciding.{DecideCall}
 use Rattle.listing_statements.specs.declared.TileListed.{TileListed}
 use Rattle.listing_statements.specs.declared.TileDecided.{TileDecided}
 use Rattle.listing_runs.specs.Due.{ListChoice, DecideChoice}
-use Rattle.listing_runs.specs.Run.{Call}
+use Rattle.listing_runs.specs.Run.{RowCall}
 
 pub record AlikeWorks (c c′ : WorkChoice) : Type 0 where
   pub tile : c .tile ≡ c′ .tile
@@ -46,16 +46,16 @@ pub record AlikeDecides (c c′ : DecideChoice) : Type 0 where
   pub room : ltb (length (c .unmasked)) 256 ≡ ltb (length (c′ .unmasked)) 256
 
 -- of calls with another row, table, queue or list nothing is asked
-pub data AlikeCall : Call → Call → Type 0 where
-  work : {c c′ : WorkChoice} {r r′ : TileWorked} {back back′ : WorkLent} → AlikeWorks c c′ → AlikeCall (Call.row (Event.work c r back)) (Call.row (Event.work c′ r′ back′))
-  paint : {c c′ : PaintChoice} {r r′ : Painted} {back back′ : List Float} → AlikePaints c c′ → AlikeCall (Call.row (Event.paint c r back)) (Call.row (Event.paint c′ r′ back′))
-  list : {c c′ : ListChoice} {r r′ : TileListed} {back back′ : ListLent} → AlikeLists c c′ → AlikeCall (Call.list c r back) (Call.list c′ r′ back′)
-  decide : {c c′ : DecideChoice} {r r′ : TileDecided} {back back′ : List Bool} → AlikeDecides c c′ → AlikeCall (Call.decide c r back) (Call.decide c′ r′ back′)
-  otherWork : {a a′ : WorkCall} {lent lent′ : WorkLent} {r r′ : TileWorked} {back back′ : WorkLent} → AlikeCall (Call.row (Event.otherWork a lent r back)) (Call.row (Event.otherWork a′ lent′ r′ back′))
-  otherPaint : {a a′ : PaintCall} {plane plane′ : List Float} {r r′ : Painted} {back back′ : List Float} → AlikeCall (Call.row (Event.otherPaint a plane r back)) (Call.row (Event.otherPaint a′ plane′ r′ back′))
-  otherList : {a a′ : ListCall} {lent lent′ : ListLent} {r r′ : TileListed} {back back′ : ListLent} → AlikeCall (Call.otherList a lent r back) (Call.otherList a′ lent′ r′ back′)
-  otherDecide : {a a′ : DecideCall} {masks masks′ : List Bool} {r r′ : TileDecided} {back back′ : List Bool} → AlikeCall (Call.otherDecide a masks r back) (Call.otherDecide a′ masks′ r′ back′)
+pub data AlikeCall : RowCall → RowCall → Type 0 where
+  work : {c c′ : WorkChoice} {r r′ : TileWorked} {back back′ : WorkLent} → AlikeWorks c c′ → AlikeCall (RowCall.row (Event.work c r back)) (RowCall.row (Event.work c′ r′ back′))
+  paint : {c c′ : PaintChoice} {r r′ : Painted} {back back′ : List Float} → AlikePaints c c′ → AlikeCall (RowCall.row (Event.paint c r back)) (RowCall.row (Event.paint c′ r′ back′))
+  list : {c c′ : ListChoice} {r r′ : TileListed} {back back′ : ListLent} → AlikeLists c c′ → AlikeCall (RowCall.list c r back) (RowCall.list c′ r′ back′)
+  decide : {c c′ : DecideChoice} {r r′ : TileDecided} {back back′ : List Bool} → AlikeDecides c c′ → AlikeCall (RowCall.decide c r back) (RowCall.decide c′ r′ back′)
+  otherWork : {a a′ : WorkCall} {lent lent′ : WorkLent} {r r′ : TileWorked} {back back′ : WorkLent} → AlikeCall (RowCall.row (Event.otherWork a lent r back)) (RowCall.row (Event.otherWork a′ lent′ r′ back′))
+  otherPaint : {a a′ : PaintCall} {plane plane′ : List Float} {r r′ : Painted} {back back′ : List Float} → AlikeCall (RowCall.row (Event.otherPaint a plane r back)) (RowCall.row (Event.otherPaint a′ plane′ r′ back′))
+  otherList : {a a′ : ListCall} {lent lent′ : ListLent} {r r′ : TileListed} {back back′ : ListLent} → AlikeCall (RowCall.otherList a lent r back) (RowCall.otherList a′ lent′ r′ back′)
+  otherDecide : {a a′ : DecideCall} {masks masks′ : List Bool} {r r′ : TileDecided} {back back′ : List Bool} → AlikeCall (RowCall.otherDecide a masks r back) (RowCall.otherDecide a′ masks′ r′ back′)
 
-pub data AlikeCalls : List Call → List Call → Type 0 where
+pub data AlikeCalls : List RowCall → List RowCall → Type 0 where
   none : AlikeCalls [] []
-  next : {e e′ : Call} {es es′ : List Call} → AlikeCall e e′ → AlikeCalls es es′ → AlikeCalls (e ∷ es) (e′ ∷ es′)
+  next : {e e′ : RowCall} {es es′ : List RowCall} → AlikeCall e e′ → AlikeCalls es es′ → AlikeCalls (e ∷ es) (e′ ∷ es′)

@@ -11,7 +11,7 @@ ghost use Rattle.weight_table.specs.Rest.{curve};
 ghost use Rattle.styling.specs.declared.FillRule.the-variants.{NonZero, EvenOdd};
 ghost use Rattle.cover_statements.specs.Cover.{coverAt};
 ghost use Rattle.cover_statements.specs.Plane.{inPlaces};
-ghost use Rattle.cover_statements.specs.Weighed.{
+ghost use Rattle.cover_statements.specs.InnerWeighed.{
   InRange,
   Weighed,
   weightIn,

@@ -4,18 +4,6 @@ use mir.Facts.{toZ-ofZ}
 use Rattle.cover.proofs.is_row_empty.Statement.{statement}
 use Rattle.cover.proofs.is_row_empty.Tie as tie
 
-enum-told : tie.Need-enum-told
-enum-told c = search needs
-
-cover-magnitude-requires : tie.Need-cover-magnitude-requires
-cover-magnitude-requires c κs = search needs
-
-enum-told-2 : tie.Need-enum-told-2
-enum-told-2 c = search needs
-
-rest-of-cover-requires : tie.Need-rest-of-cover-requires
-rest-of-cover-requires c κs = search needs
-
 returns : tie.Need-returns
 returns c =
     let s = c .before .before .before in
@@ -30,9 +18,6 @@ pub is-row-empty-spec : {M : Type 1} → statement M
 is-row-empty-spec =
     tie.close
     (tie.spec
-    enum-told
-    cover-magnitude-requires
-    enum-told-2
-    rest-of-cover-requires
+    (λ c. search needs) (λ c κs. search needs) (λ c. search needs) (λ c κs. search needs)
     returns
     returns-2)

@@ -3,7 +3,7 @@ use mathlib.Core.Path.{_≡_, refl, sym, ap, _∙_}
 use borrow.Author.Needs.{needs}
 use mir.Facts.{toZ-ofZ}
 use Rattle.refusals.specs.Refusal.{judgementIn}
-use Rattle.cover_statements.specs.Cell.{noCells}
+use Rattle.cover_statements.specs.InnerCell.{noCells}
 use Rattle.cover_bounds_statements.specs.Within.{boundsCall, boundPlanes, boundsVerdict}
 use Rattle.cover_bounds_statements.proofs.Calls.{bounds-passed, low-addable, low-light, high-addable, high-light, areas-upward}
 use Rattle.cover_bounds_statements.proofs.Promises.{refused-part, written-part}

@@ -17,20 +17,8 @@ todayOf s = lentMembers (s .args .ids .now) (s .args .kinds .now) (s .args .n)
 passes : (c : tie.After-enum-told) → keepVerdict (lastOf (c .before .before .before .before .before .before .before)) (todayOf (c .before .before .before .before .before .before .before)) (c .before .before .before .before .before .before .before .args .kept) ≡ pass
 passes c = sym (c .before .before .judge-keeping .ensures) ∙ ap judgementIn (c .enum-told .given .1)
 
-judge-keeping-requires : tie.Need-judge-keeping-requires
-judge-keeping-requires c κs = search needs
-
-enum-known-refusal : tie.Need-enum-known-refusal
-enum-known-refusal c = search needs
-
-enum-told : tie.Need-enum-told
-enum-told c = search needs
-
 stay-requires : tie.Need-stay-requires
 stay-requires c κs = keep-passed _ _ _ (passes c)
-
-keep-or-drop-requires : tie.Need-keep-or-drop-requires
-keep-or-drop-requires c κs = search needs
 
 returns : tie.Need-returns
 returns c = refused-by _ (sym (c .before .before .before .judge-keeping .ensures) ∙ ap judgementIn (c .before .refusal .given .1))
@@ -42,10 +30,8 @@ pub keep-count-spec : {M : Type 1} → statement M
 keep-count-spec =
     tie.close
     (tie.spec
-    judge-keeping-requires
-    enum-known-refusal
-    enum-told
+    (λ c κs. search needs) (λ c. search needs) (λ c. search needs)
     stay-requires
-    keep-or-drop-requires
+    (λ c κs. search needs)
     returns
     returns-2)

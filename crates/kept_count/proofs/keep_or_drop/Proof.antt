@@ -4,9 +4,6 @@ use borrow.Author.Needs.{needs}
 use Rattle.kept_count.proofs.keep_or_drop.Statement.{statement}
 use Rattle.kept_count.proofs.keep_or_drop.Tie as tie
 
-drop-count-requires : tie.Need-drop-count-requires
-drop-count-requires c κs = search needs
-
 returns : tie.Need-returns
 returns c = rw (c .if1 .taken) refl
 
@@ -14,4 +11,4 @@ returns-2 : tie.Need-returns-2
 returns-2 c = rw (c .before .if1 .left, c .drop-count .ensures) refl
 
 pub keep-or-drop-spec : {M : Type 1} → statement M
-keep-or-drop-spec = tie.close (tie.spec drop-count-requires returns returns-2)
+keep-or-drop-spec = tie.close (tie.spec (λ c κs. search needs) returns returns-2)

@@ -67,9 +67,6 @@ add-segments-requires c κs =
 rule-of-requires : tie.Need-rule-of-requires Inv-loop μ-loop
 rule-of-requires c κs = c .before .before .before .before .before .before .before .before .before .before .before .pre .2
 
-is-empty-requires : tie.Need-is-empty-requires Inv-loop μ-loop
-is-empty-requires c κs = search needs
-
 put-carry-requires : tie.Need-put-carry-requires Inv-loop μ-loop
 put-carry-requires c κs =
     let a = c .before .before .before .before .before .before .before .before .before .before .before .before .before .before .before in
@@ -124,7 +121,7 @@ hand-on-spec =
     part-add-segments-end
     add-segments-requires
     rule-of-requires
-    is-empty-requires
+    (λ c κs. search needs)
     put-carry-requires
     loop-less
     loop-again

@@ -5,20 +5,11 @@ use Rattle.layer_table.proofs.Looking.{at-place, at-none}
 use Rattle.layer_carrying.proofs.rule_of.Statement.{statement}
 use Rattle.layer_carrying.proofs.rule_of.Tie as tie
 
-find-from-requires : tie.Need-find-from-requires
-find-from-requires c κs = search needs
-
-enum-known-p : tie.Need-enum-known-p
-enum-known-p c = search needs
-
 layer-at-requires : tie.Need-layer-at-requires
 layer-at-requires c κs =
     let s = c .before .before .before .before .before .before in
     let found = at-place {floats = s .args .colors .now} (c .before .p .given .1) (c .before .before .before .find-from .ensures) (s .pre .ascending) in
     omega (arith, found .within, s .pre .words-long, s .pre .floats-long)
-
-enum-told : tie.Need-enum-told
-enum-told c = search needs
 
 returns : tie.Need-returns
 returns c =
@@ -33,4 +24,4 @@ returns-2 c =
 
 pub rule-of-spec : {M : Type 1} → statement M
 rule-of-spec =
-    tie.close (tie.spec find-from-requires enum-known-p layer-at-requires enum-told returns returns-2)
+    tie.close (tie.spec (λ c κs. search needs) (λ c. search needs) layer-at-requires (λ c. search needs) returns returns-2)

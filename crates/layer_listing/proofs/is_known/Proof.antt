@@ -4,15 +4,6 @@ use Rattle.layer_table.proofs.Looking.{at-place, at-none}
 use Rattle.layer_listing.proofs.is_known.Statement.{statement}
 use Rattle.layer_listing.proofs.is_known.Tie as tie
 
-find-from-requires : tie.Need-find-from-requires
-find-from-requires c κs = search needs
-
-enum-told : tie.Need-enum-told
-enum-told c = search needs
-
-enum-told-2 : tie.Need-enum-told-2
-enum-told-2 c = search needs
-
 returns : tie.Need-returns
 returns c =
     let s = c .before .before .before .before .before in
@@ -24,4 +15,4 @@ returns-2 c =
     rw ((at-none {floats = s .args .colors .now} (c .enum-told2 .given .1) (c .before .before .find-from .ensures)) .looked)
 
 pub is-known-spec : {M : Type 1} → statement M
-is-known-spec = tie.close (tie.spec find-from-requires enum-told enum-told-2 returns returns-2)
+is-known-spec = tie.close (tie.spec (λ c κs. search needs) (λ c. search needs) (λ c. search needs) returns returns-2)

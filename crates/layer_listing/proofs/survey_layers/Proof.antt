@@ -51,9 +51,6 @@ part-is-light-start c = omega (arith, c .before .before .next-layer .ensures .1)
 part-is-light-end : tie.Need-part-is-light-end Inv-loop μ-loop
 part-is-light-end c = omega (arith, c .before .before .next-layer .ensures .1)
 
-is-light-requires : tie.Need-is-light-requires Inv-loop μ-loop
-is-light-requires c κs = search needs
-
 add-total : tie.Need-add-total Inv-loop μ-loop
 add-total c = omega (arith, c .before .before .before .before .before .before .loop .inv .walking, c .before .before .before .before .before .before .before .before .before .before .before .pre .0)
 
@@ -88,7 +85,7 @@ survey-layers-spec =
     sub-is-light
     part-is-light-start
     part-is-light-end
-    is-light-requires
+    (λ c κs. search needs)
     add-total
     loop-less
     loop-again

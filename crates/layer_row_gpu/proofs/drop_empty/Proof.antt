@@ -4,12 +4,6 @@ use borrow.Author.Needs.{needs}
 use Rattle.layer_row_gpu.proofs.drop_empty.Statement.{statement}
 use Rattle.layer_row_gpu.proofs.drop_empty.Tie as tie
 
-is-empty-requires : tie.Need-is-empty-requires
-is-empty-requires c κs = search needs
-
-default-requires : tie.Need-default-requires
-default-requires c κs = search needs
-
 returns : tie.Need-returns
 returns c = rw (sym (c .before .before .is-empty .ensures) ∙ c .before .if1 .taken) (c .default .ensures)
 
@@ -17,4 +11,4 @@ returns-2 : tie.Need-returns-2
 returns-2 c = rw (sym (c .before .is-empty .ensures) ∙ c .if1 .left)
 
 pub drop-empty-spec : {M : Type 1} → statement M
-drop-empty-spec = tie.close (tie.spec is-empty-requires default-requires returns returns-2)
+drop-empty-spec = tie.close (tie.spec (λ c κs. search needs) (λ c κs. search needs) returns returns-2)

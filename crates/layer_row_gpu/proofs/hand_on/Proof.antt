@@ -5,9 +5,6 @@ use borrow.Author.Needs.{needs}
 use Rattle.layer_row_gpu.proofs.hand_on.Statement.{statement}
 use Rattle.layer_row_gpu.proofs.hand_on.Tie as tie
 
-drop-empty-requires : tie.Need-drop-empty-requires
-drop-empty-requires c κs = search needs
-
 add-t5 : tie.Need-add-t5
 add-t5 c = omega (arith, c .before .before .pre)
 
@@ -26,4 +23,4 @@ returns c =
     }
 
 pub hand-on-spec : {M : Type 1} → statement M
-hand-on-spec = tie.close (tie.spec drop-empty-requires add-t5 returns)
+hand-on-spec = tie.close (tie.spec (λ c κs. search needs) add-t5 returns)

@@ -27,23 +27,11 @@ left-told c =
     ap (layerWithin (s .args .layer-id)) (rw (toZ-ofZ (s .fits .from), toZ-ofZ (first-fits s)) at (c .left-of-tile .ensures))
     ∙ left-from _ (record { small = λ i. k .shared-slice-known .given i .fits }) (s .pre .in-order) (s .args .from) (s .pre .first .0) (s .args .layer-id)
 
-natural-requires : tie.Need-natural-requires
-natural-requires c κs = search needs
-
 cast-left-of-tile : tie.Need-cast-left-of-tile
 cast-left-of-tile c = rw (toZ-ofZ (c .before .before .fits .from)) (first-fits (c .before .before))
 
-left-of-tile-requires : tie.Need-left-of-tile-requires
-left-of-tile-requires c κs = search needs
-
 sum-requires : tie.Need-sum-requires
 sum-requires c κs = ap (isLight gpu 4 (noCover 4)) (left-told c) ∙ c .before .before .before .pre .light
-
-natural-requires-2 : tie.Need-natural-requires-2
-natural-requires-2 c κs = search needs
-
-natural-requires-3 : tie.Need-natural-requires-3
-natural-requires-3 c κs = search needs
 
 returns : tie.Need-returns
 returns c =
@@ -61,10 +49,9 @@ pub open-spec : {M : Type 1} → statement M
 open-spec =
     tie.close
     (tie.spec
-    natural-requires
+    (λ c κs. search needs)
     cast-left-of-tile
-    left-of-tile-requires
+    (λ c κs. search needs)
     sum-requires
-    natural-requires-2
-    natural-requires-3
+    (λ c κs. search needs) (λ c κs. search needs)
     returns)

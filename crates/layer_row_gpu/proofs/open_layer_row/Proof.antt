@@ -21,18 +21,6 @@ told c =
 passes : (c : tie.After-enum-told) → callVerdictOf (called (c .before .before .before .before)) ≡ pass
 passes c = sym (told (c .before .before)) ∙ ap judgementIn (c .enum-told .given .1)
 
-judge-opening-requires : tie.Need-judge-opening-requires
-judge-opening-requires c κs = search needs
-
-enum-known-refusal : tie.Need-enum-known-refusal
-enum-known-refusal c = search needs
-
-closed-requires : tie.Need-closed-requires
-closed-requires c κs = search needs
-
-enum-told : tie.Need-enum-told
-enum-told c = search needs
-
 open-requires : tie.Need-open-requires
 open-requires c κs =
     let s = c .before .before .before .before in
@@ -60,10 +48,7 @@ pub open-layer-row-spec : {M : Type 1} → statement M
 open-layer-row-spec =
     tie.close
     (tie.spec
-    judge-opening-requires
-    enum-known-refusal
-    closed-requires
-    enum-told
+    (λ c κs. search needs) (λ c. search needs) (λ c κs. search needs) (λ c. search needs)
     open-requires
     returns
     returns-2)

@@ -40,9 +40,6 @@ add-segments-requires c κs =
 hand-on-requires : tie.Need-hand-on-requires
 hand-on-requires c κs = c .before .before .before .before .before .before .before .before .before .pre .next
 
-same-length : tie.Need-same-length
-same-length c = search needs
-
 returns : tie.Need-returns
 returns c =
     let a = c .before in
@@ -57,4 +54,4 @@ returns c =
 pub work-spec : {M : Type 1} → statement M
 work-spec =
     tie.close
-    (tie.spec layer-part-requires paint-requires add-segments-requires hand-on-requires same-length returns)
+    (tie.spec layer-part-requires paint-requires add-segments-requires hand-on-requires (λ c. search needs) returns)

@@ -21,22 +21,10 @@ told c = rw (toZ-ofZ (c .before .before .before .before .fits .tile)) at (c .jud
 passes : (c : tie.After-enum-told) → let a = c .before .before .before .before .before .before .args in workLayerVerdict (layerStateIn (a .state)) (a .tile) (a .row .now) (a .plane .now) ≡ pass
 passes c = sym (told (c .before .before)) ∙ ap judgementIn (c .enum-told .given .1)
 
-judge-work-requires : tie.Need-judge-work-requires
-judge-work-requires c κs = search needs
-
-enum-known-refusal : tie.Need-enum-known-refusal
-enum-known-refusal c = search needs
-
-enum-told : tie.Need-enum-told
-enum-told c = search needs
-
 work-requires : tie.Need-work-requires
 work-requires c κs =
     let a = c .before .before .before .before .before .before .before .args in
     workable (layerStateIn (a .state)) (a .tile) (a .row .now) (a .plane .now) (passes (c .before))
-
-same-length : tie.Need-same-length
-same-length c = search needs
 
 returns : tie.Need-returns
 returns c =
@@ -49,9 +37,6 @@ returns c =
       state-is = sym (ap (λ (k : Judgement). workedState k s (a .tile) (a .row .now)) v);
       plane-is = sym (ap (λ (k : Judgement). workedPlane k s (a .tile) (a .row .now) (a .plane .now)) v);
     }
-
-same-length-2 : tie.Need-same-length-2
-same-length-2 c = search needs
 
 returns-2 : tie.Need-returns-2
 returns-2 c =
@@ -77,11 +62,9 @@ pub work-tile-spec : {M : Type 1} → statement M
 work-tile-spec =
     tie.close
     (tie.spec
-    judge-work-requires
-    enum-known-refusal
-    enum-told
+    (λ c κs. search needs) (λ c. search needs) (λ c. search needs)
     work-requires
-    same-length
+    (λ c. search needs)
     returns
-    same-length-2
+    (λ c. search needs)
     returns-2)

@@ -18,36 +18,15 @@ returns c = none _ _ (c .if1 .taken)
 loop-holds : tie.Need-loop-holds Inv-loop μ-loop
 loop-holds c = begin _ _ _ (omega arith)
 
-add-id-at : tie.Need-add-id-at Inv-loop μ-loop
-add-id-at c = omega arith
-
-id-at-requires : tie.Need-id-at-requires Inv-loop μ-loop
-id-at-requires c κs = omega arith
-
-add-start : tie.Need-add-start Inv-loop μ-loop
-add-start c = omega arith
-
-sub-len : tie.Need-sub-len Inv-loop μ-loop
-sub-len c = omega arith
-
-loop-less : tie.Need-loop-less Inv-loop μ-loop
-loop-less c = omega arith
-
 loop-again : tie.Need-loop-again Inv-loop μ-loop
 loop-again c =
     let turn = c .before .before in
     upper (turn .before .loop .inv) (turn .before .before .before .before .pre .1) (omega arith) (omega (arith, c .before .id-at .ensures))
 
-loop-less-2 : tie.Need-loop-less-2 Inv-loop μ-loop
-loop-less-2 c = omega arith
-
 loop-again-2 : tie.Need-loop-again-2 Inv-loop μ-loop
 loop-again-2 c =
     let turn = c .before .before in
     lower (turn .before .loop .inv) (turn .before .before .before .before .pre .1) (omega arith) (omega (arith, c .before .id-at .ensures))
-
-id-at-requires-2 : tie.Need-id-at-requires-2 Inv-loop μ-loop
-id-at-requires-2 c κs = omega arith
 
 returns-2 : tie.Need-returns-2 Inv-loop μ-loop
 returns-2 c =
@@ -67,14 +46,10 @@ find-spec =
     μ-loop
     returns
     loop-holds
-    add-id-at
-    id-at-requires
-    add-start
-    sub-len
-    loop-less
+    (λ c. omega arith) (λ c κs. omega arith) (λ c. omega arith) (λ c. omega arith) (λ c. omega arith)
     loop-again
-    loop-less-2
+    (λ c. omega arith)
     loop-again-2
-    id-at-requires-2
+    (λ c κs. omega arith)
     returns-2
     returns-3)

@@ -16,9 +16,6 @@ Inv-loop layers colors count ok₀ low₀ i₀ ok low i = Judging layers count i
 abbrev μ-loop : tie.MeasureT-loop
 μ-loop layers colors count ok₀ low₀ i₀ ok low i = count - i
 
-is-short-requires : tie.Need-is-short-requires Inv-loop μ-loop
-is-short-requires c κs = search needs
-
 returns : tie.Need-returns Inv-loop μ-loop
 returns c = sym (table-short _ _ _ (sym (c .before .is-short .ensures) ∙ c .if1 .taken))
 
@@ -31,21 +28,6 @@ fits c = sym (c .before .before .before .is-short .ensures) ∙ c .before .befor
 
 words-at-requires : tie.Need-words-at-requires Inv-loop μ-loop
 words-at-requires c κs = omega (arith, long (fits c))
-
-cast-id : tie.Need-cast-id Inv-loop μ-loop
-cast-id c = omega arith
-
-is-in-range-requires : tie.Need-is-in-range-requires Inv-loop μ-loop
-is-in-range-requires c κs = search needs
-
-add-low : tie.Need-add-low Inv-loop μ-loop
-add-low c = omega arith
-
-add-i : tie.Need-add-i Inv-loop μ-loop
-add-i c = omega arith
-
-loop-less : tie.Need-loop-less Inv-loop μ-loop
-loop-less c = omega arith
 
 loop-again : tie.Need-loop-again Inv-loop μ-loop
 loop-again c =
@@ -64,14 +46,10 @@ is-table-spec =
     (tie.spec
     Inv-loop
     μ-loop
-    is-short-requires
+    (λ c κs. search needs)
     returns
     loop-holds
     words-at-requires
-    cast-id
-    is-in-range-requires
-    add-low
-    add-i
-    loop-less
+    (λ c. omega arith) (λ c κs. search needs) (λ c. omega arith) (λ c. omega arith) (λ c. omega arith)
     loop-again
     returns-2)

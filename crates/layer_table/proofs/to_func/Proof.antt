@@ -6,12 +6,6 @@ use borrow.Author.Tests.{eq-eqb, ne-eqb}
 use Rattle.layer_table.proofs.to_func.Statement.{statement}
 use Rattle.layer_table.proofs.to_func.Tie as tie
 
-fill-requires : tie.Need-fill-requires
-fill-requires c κs = search needs
-
-blend-mode-requires : tie.Need-blend-mode-requires
-blend-mode-requires c κs = search needs
-
 returns : tie.Need-returns
 returns c = rw (eq-eqb _ _ (c .before .if1 .taken), c .before .before .before .blend-mode .ensures, c .before .before .before .before .fill .ensures) refl
 
@@ -19,4 +13,4 @@ returns-2 : tie.Need-returns-2
 returns-2 c = rw (ne-eqb _ _ (c .if1 .left)) refl
 
 pub to-func-spec : {M : Type 1} → statement M
-to-func-spec = tie.close (tie.spec fill-requires blend-mode-requires returns returns-2)
+to-func-spec = tie.close (tie.spec (λ c κs. search needs) (λ c κs. search needs) returns returns-2)

@@ -3,11 +3,8 @@ use borrow.Author.Needs.{needs}
 use Rattle.listed_painting.proofs.needs_clip.Statement.{statement}
 use Rattle.listed_painting.proofs.needs_clip.Tie as tie
 
-is-clipped-requires : tie.Need-is-clipped-requires
-is-clipped-requires c κs = search needs
-
 returns : tie.Need-returns
 returns c = rw (c .is-clipped .ensures)
 
 pub needs-clip-spec : {M : Type 1} → statement M
-needs-clip-spec = tie.close (tie.spec is-clipped-requires returns)
+needs-clip-spec = tie.close (tie.spec (λ c κs. search needs) returns)

@@ -20,12 +20,6 @@ next-layer-requires c κs =
 incoming-cover-requires : tie.Need-incoming-cover-requires
 incoming-cover-requires c κs = λ e. omega (arith, c .next-layer .ensures .1 .has e, c .before .before .before .before .before .before .pre .0 .queued .covers-long)
 
-find-from-requires : tie.Need-find-from-requires
-find-from-requires c κs = search needs
-
-enum-known-p : tie.Need-enum-known-p
-enum-known-p c = search needs
-
 layer-at-requires : tie.Need-layer-at-requires
 layer-at-requires c κs =
     let s = c .before .before .before .before .before .before .before .before .before .before .before in
@@ -33,20 +27,8 @@ layer-at-requires c κs =
     let found = at-place {floats = s .args .colors .now} (c .before .p .given .1) (c .before .before .before .find-from .ensures) (t .ascending) in
     omega (arith, found .within, t .words-long, t .floats-long)
 
-needs-clip-requires : tie.Need-needs-clip-requires
-needs-clip-requires c κs = search needs
-
 mul-own : tie.Need-mul-own
 mul-own c = let s = c .before .before .before .before .before .before .before .before .before .before .before .before .before .before in omega (arith, s .pre .1 .segments-in, s .fits)
-
-sub-own : tie.Need-sub-own
-sub-own c = search needs
-
-part-own-start : tie.Need-part-own-start
-part-own-start c = search needs
-
-part-own-end : tie.Need-part-own-end
-part-own-end c = search needs
 
 paint-own-requires : tie.Need-paint-own-requires
 paint-own-requires c κs =
@@ -56,9 +38,6 @@ paint-own-requires c κs =
     let found = at-place {floats = a .colors .now} (c .before .before .before .before .before .before .p .given .1) (c .before .before .before .before .before .before .before .before .find-from .ensures) (s .pre .0 .in-table .ascending) in
     (light-is (tableOf (a .layers .now) (a .colors .now) (a .count)) (a .n) (a .ids .now) (a .covers .now) (a .part .now) (s .pre .1) (n .result) (n .ensures .0 (a .covers .now)) (n .ensures .1) (s .pre .0 .queued) (s .pre .0 .walks) (c .before .before .before .before .before .before .before .before .before .incoming-cover .ensures) refl (s .pre .2), s .pre .3, last-small (s .pre .0 .in-table) (n .result .id) (c .before .before .before .before .layer-at .result) (found .looked ∙ ap given (sym (c .before .before .before .before .layer-at .ensures))))
 
-free-after-requires : tie.Need-free-after-requires
-free-after-requires c κs = search needs
-
 add-step : tie.Need-add-step
 add-step c =
     let s = c .before .before .before .before .before .before .before .before .before .before .before .before .before .before .before .before .before .before .before .before in
@@ -67,15 +46,6 @@ add-step c =
 
 step-requires : tie.Need-step-requires
 step-requires c κs = let s = c .before .before .before .before .before .before .before .before .before .before .before .before .before .before .before .before .before .before .before .before in omega (arith, s .pre .1 .few, s .pre .1 .carries-in, s .pre .1 .segments-in, s .pre .0 .walks .few)
-
-enum-told : tie.Need-enum-told
-enum-told c = search needs
-
-step-requires-2 : tie.Need-step-requires-2
-step-requires-2 c κs = search needs
-
-same-length : tie.Need-same-length
-same-length c = search needs
 
 returns : tie.Need-returns
 returns c =
@@ -100,20 +70,15 @@ paint-next-spec =
     (tie.spec
     next-layer-requires
     incoming-cover-requires
-    find-from-requires
-    enum-known-p
+    (λ c κs. search needs) (λ c. search needs)
     layer-at-requires
-    needs-clip-requires
+    (λ c κs. search needs)
     mul-own
-    sub-own
-    part-own-start
-    part-own-end
+    (λ c. search needs) (λ c. search needs) (λ c. search needs)
     paint-own-requires
-    free-after-requires
+    (λ c κs. search needs)
     add-step
     step-requires
-    enum-told
-    step-requires-2
-    same-length
+    (λ c. search needs) (λ c κs. search needs) (λ c. search needs)
     returns
     returns-2)

@@ -19,21 +19,12 @@ next-layer-requires c κs =
 incoming-cover-requires : tie.Need-incoming-cover-requires
 incoming-cover-requires c κs = λ e. omega (arith, c .next-layer .ensures .1 .has e, c .before .before .before .before .before .pre .0 .queued .covers-long)
 
-find-from-requires : tie.Need-find-from-requires
-find-from-requires c κs = search needs
-
-enum-known-p : tie.Need-enum-known-p
-enum-known-p c = search needs
-
 layer-at-requires : tie.Need-layer-at-requires
 layer-at-requires c κs =
     let s = c .before .before .before .before .before .before .before .before .before .before in
     let t = s .pre .0 .in-table in
     let found = at-place {floats = s .args .colors .now} (c .before .p .given .1) (c .before .before .before .find-from .ensures) (t .ascending) in
     omega (arith, found .within, t .words-long, t .floats-long)
-
-free-after-requires : tie.Need-free-after-requires
-free-after-requires c κs = search needs
 
 add-step : tie.Need-add-step
 add-step c =
@@ -43,12 +34,6 @@ add-step c =
 
 step-requires : tie.Need-step-requires
 step-requires c κs = let s = c .before .before .before .before .before .before .before .before .before .before .before .before .before in omega (arith, s .pre .2, s .pre .1 .few, s .pre .1 .carries-in, s .pre .1 .segments-in, s .pre .0 .walks .few)
-
-enum-told : tie.Need-enum-told
-enum-told c = search needs
-
-step-requires-2 : tie.Need-step-requires-2
-step-requires-2 c κs = search needs
 
 returns : tie.Need-returns
 returns c =
@@ -73,13 +58,11 @@ pass-over-spec =
     (tie.spec
     next-layer-requires
     incoming-cover-requires
-    find-from-requires
-    enum-known-p
+    (λ c κs. search needs) (λ c. search needs)
     layer-at-requires
-    free-after-requires
+    (λ c κs. search needs)
     add-step
     step-requires
-    enum-told
-    step-requires-2
+    (λ c. search needs) (λ c κs. search needs)
     returns
     returns-2)

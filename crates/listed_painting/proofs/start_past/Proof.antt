@@ -17,9 +17,6 @@ Inv-loop ids covers n part layers colors count skipped at₀ i₀ at i =
 abbrev μ-loop : tie.MeasureT-loop
 μ-loop ids covers n part layers colors count skipped at₀ i₀ at i = skipped - i
 
-start-requires : tie.Need-start-requires Inv-loop μ-loop
-start-requires c κs = search needs
-
 loop-holds : tie.Need-loop-holds Inv-loop μ-loop
 loop-holds c =
     let a = c .before .before .before .before .before .args in
@@ -53,7 +50,7 @@ start-past-spec =
     (tie.spec
     Inv-loop
     μ-loop
-    start-requires
+    (λ c κs. search needs)
     loop-holds
     pass-over-requires
     add-i

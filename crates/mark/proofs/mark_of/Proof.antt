@@ -14,25 +14,16 @@ abbrev μ-loop : tie.MeasureT-loop
 loop-holds : tie.Need-loop-holds Inv-loop μ-loop
 loop-holds c = mark-start
 
-sub-octet : tie.Need-sub-octet Inv-loop μ-loop
-sub-octet c = omega arith
-
 mul-mark : tie.Need-mul-mark Inv-loop μ-loop
 mul-mark c = omega (arith, mark-small (c .before .loop .inv) (c .loop-test .taken))
 
 is-used-requires : tie.Need-is-used-requires Inv-loop μ-loop
 is-used-requires c κs = omega (arith, c .before .loop .inv .reached)
 
-cast-mark : tie.Need-cast-mark Inv-loop μ-loop
-cast-mark c = search needs
-
 add-mark : tie.Need-add-mark Inv-loop μ-loop
 add-mark c =
     let t = c .before in
     omega (arith, mark-small (t .before .loop .inv) (t .loop-test .taken), bit-lt (c .is-used .result))
-
-loop-less : tie.Need-loop-less Inv-loop μ-loop
-loop-less c = omega arith
 
 loop-again : tie.Need-loop-again Inv-loop μ-loop
 loop-again c = mark-next (c .before .before .loop .inv) (c .before .loop-test .taken) (c .is-used .ensures)
@@ -47,11 +38,11 @@ mark-of-spec =
     Inv-loop
     μ-loop
     loop-holds
-    sub-octet
+    (λ c. omega arith)
     mul-mark
     is-used-requires
-    cast-mark
+    (λ c. search needs)
     add-mark
-    loop-less
+    (λ c. omega arith)
     loop-again
     returns)

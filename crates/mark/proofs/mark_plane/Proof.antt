@@ -4,9 +4,6 @@ use borrow.Author.Needs.{needs}
 use Rattle.mark.proofs.mark_plane.Statement.{statement}
 use Rattle.mark.proofs.mark_plane.Tie as tie
 
-mark-of-requires : tie.Need-mark-of-requires
-mark-of-requires c κs = search needs
-
 returns : tie.Need-returns
 returns c = rw (lt-ltb _ 256 (c .if1 .taken))
 
@@ -14,4 +11,4 @@ returns-2 : tie.Need-returns-2
 returns-2 c = rw (le-ltb _ 256 (c .before .if1 .left), c .mark-of .ensures)
 
 pub mark-plane-spec : {M : Type 1} → statement M
-mark-plane-spec = tie.close (tie.spec mark-of-requires returns returns-2)
+mark-plane-spec = tie.close (tie.spec (λ c κs. search needs) returns returns-2)

@@ -16,21 +16,6 @@ same m n e = cc
 never : (k n : ℕ) → _≡_ {A = Answer ℕ} (refused k) (given n) → ⊥
 never k n e = let z : _≡_ {A = ℕ} 0 1 = cc in omega arith
 
-paint-judged-requires : tie.Need-paint-judged-requires
-paint-judged-requires c κs = search needs
-
-enum-known-mark : tie.Need-enum-known-mark
-enum-known-mark c = search needs
-
-enum-told : tie.Need-enum-told
-enum-told c = search needs
-
-enum-told-2 : tie.Need-enum-told-2
-enum-told-2 c = search needs
-
-same-length : tie.Need-same-length
-same-length c = search needs
-
 returns : tie.Need-returns
 returns c =
     let p = c .before .before .before .before .before in
@@ -38,17 +23,11 @@ returns c =
     let e = ap paintedAnswer (sym (c .before .mark .given .1)) ∙ paint-answer (p .paint-judged .ensures) (s .pre .1) (s .pre .0) in
     (paint-plane (p .paint-judged .ensures) (s .pre .1) (s .pre .0), same _ _ e)
 
-same-length-2 : tie.Need-same-length-2
-same-length-2 c = search needs
-
 returns-2 : tie.Need-returns-2
 returns-2 c =
     let p = c .before .before .before .before in
     let s = p .before .before .before .before in
     absurd (never 1 _ (ap paintedAnswer (sym (c .enum-told .given .1)) ∙ paint-answer (p .paint-judged .ensures) (s .pre .1) (s .pre .0)))
-
-same-length-3 : tie.Need-same-length-3
-same-length-3 c = search needs
 
 returns-3 : tie.Need-returns-3
 returns-3 c =
@@ -60,13 +39,9 @@ pub paint-spec : {M : Type 1} → statement M
 paint-spec =
     tie.close
     (tie.spec
-    paint-judged-requires
-    enum-known-mark
-    enum-told
-    enum-told-2
-    same-length
+    (λ c κs. search needs) (λ c. search needs) (λ c. search needs) (λ c. search needs) (λ c. search needs)
     returns
-    same-length-2
+    (λ c. search needs)
     returns-2
-    same-length-3
+    (λ c. search needs)
     returns-3)

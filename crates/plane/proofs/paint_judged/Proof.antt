@@ -12,20 +12,17 @@ use Rattle.laws.specs.Lists.{over}
 use Rattle.pixel_segment.specs.Field.{cpu}
 use Rattle.cover_statements.specs.Area.{areasOf}
 use Rattle.cover_statements.specs.Carry.{isLight}
-use Rattle.cover_statements.specs.Cell.{noCells}
+use Rattle.cover_statements.specs.InnerCell.{noCells}
 use Rattle.cover_statements.specs.Cover.{coverAt}
 use Rattle.cover_statements.specs.Mark.{markOf}
 use Rattle.cover_statements.specs.Paint.{partPlane}
 use Rattle.cover_statements.specs.Plane.{coveragesOf, exchange}
-use Rattle.cover_statements.specs.Weighed.{weightsOf, weightsPlane}
+use Rattle.cover_statements.specs.InnerWeighed.{weightsOf, weightsPlane}
 use Rattle.cover_statements.proofs.Paintings.{paint-heavy, paint-done}
 use Rattle.cover_statements.proofs.Planes.{areas-length, areas-in-range, plane-of-areas}
 use Rattle.cover_statements.proofs.Weighings.{coverages-are}
 use Rattle.plane.proofs.paint_judged.Statement.{statement}
 use Rattle.plane.proofs.paint_judged.Tie as tie
-
-is-light-requires : tie.Need-is-light-requires
-is-light-requires c κs = search needs
 
 returns : tie.Need-returns
 returns c = paint-heavy (c .before .before .before .before .before .pre) (sym (c .before .is-light .ensures) ∙ not-true _ (c .if2 .taken))
@@ -38,9 +35,6 @@ paint-requires : tie.Need-paint-requires
 paint-requires c κs =
     let s = c .before .before .before .before .before .before in
     (rw (none (s .args .part .now) (c .before .before .before .if1 .taken)) at (sym (c .before .before .is-light .ensures) ∙ not-false _ (c .before .if2 .left)), s .pre)
-
-same-length : tie.Need-same-length
-same-length c = search needs
 
 returns-2 : tie.Need-returns-2
 returns-2 c =
@@ -84,9 +78,6 @@ plane-is t =
     ap (exchange nan 16) (coverages-are (s .args .rule) (t .before .judged-areas .last .1 .1 .0) ∙ ap (coveragesOf (s .args .rule)) (areas-are t))
     ∙ plane-of-areas cpu 16 (s .args .rule) (coverAt (s .args .cover .covers)) (s .args .part .now) nan
 
-same-length-2 : tie.Need-same-length-2
-same-length-2 c = search needs
-
 returns-4 : tie.Need-returns-4
 returns-4 c =
     let p = c .before .before .before in
@@ -100,14 +91,14 @@ pub paint-judged-spec : {M : Type 1} → statement M
 paint-judged-spec =
     tie.close
     (tie.spec
-    is-light-requires
+    (λ c κs. search needs)
     returns
     paint-requires
-    same-length
+    (λ c. search needs)
     returns-2
     judged-areas-requires
     returns-3
     slice-aggregate-paint
     paint-requires-2
-    same-length-2
+    (λ c. search needs)
     returns-4)

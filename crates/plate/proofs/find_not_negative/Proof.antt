@@ -7,7 +7,7 @@ use borrow.Author.Needs.{needs}
 use Rattle.segment_rows.specs.Search.{found, placeIn, searchOf, orderAt}
 use Rattle.segment_rows.specs.declared.search.Key.the-variants.{TileYNotNegative}
 use Rattle.segment_rows.proofs.Halving.{found-lt}
-use Rattle.plate.specs.Rows.{startOf, pastOf}
+use Rattle.plate.specs.Rows.{rowsStart, pastOf}
 use Rattle.plate.proofs.find_not_negative.Statement.{statement}
 use Rattle.plate.proofs.find_not_negative.Tie as tie
 
@@ -22,11 +22,11 @@ add-result c =
     (arith, found-lt (orderAt (TileYNotNegative false)) (c .before .before .before .before .before .args .segments .now) (c .before .last .given .0 .0) (at-last c))
 
 returns : tie.Need-returns
-unfolding startOf
+unfolding rowsStart
 returns c = add-one (c .before .last .given .0 .0) ∙ sym (ap pastOf (at-last c))
 
 returns-2 : tie.Need-returns-2
-unfolding startOf
+unfolding rowsStart
 returns-2 c = sym (ap pastOf (sym (c .before .before .search-last-by-tile-y-not-negative .ensures) ∙ ap placeIn (c .enum-told .given .1)))
 
 pub find-not-negative-spec : {M : Type 1} → statement M

@@ -15,21 +15,6 @@ abbrev μ-loop : tie.MeasureT-loop
 loop-holds : tie.Need-loop-holds Inv-loop μ-loop
 loop-holds c = make-start _ refl
 
-record-from-requires : tie.Need-record-from-requires Inv-loop μ-loop
-record-from-requires c κs = omega arith
-
-mul-queue : tie.Need-mul-queue Inv-loop μ-loop
-mul-queue c = omega arith
-
-array-set-from-queue : tie.Need-array-set-from-queue Inv-loop μ-loop
-array-set-from-queue c = omega arith
-
-add-i : tie.Need-add-i Inv-loop μ-loop
-add-i c = omega arith
-
-loop-less : tie.Need-loop-less Inv-loop μ-loop
-loop-less c = omega arith
-
 loop-again : tie.Need-loop-again Inv-loop μ-loop
 loop-again c =
     let l = c .before .before .before .before in
@@ -48,10 +33,6 @@ records-of-spec =
     Inv-loop
     μ-loop
     loop-holds
-    record-from-requires
-    mul-queue
-    array-set-from-queue
-    add-i
-    loop-less
+    (λ c κs. omega arith) (λ c. omega arith) (λ c. omega arith) (λ c. omega arith) (λ c. omega arith)
     loop-again
     returns)

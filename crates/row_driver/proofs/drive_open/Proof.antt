@@ -4,24 +4,6 @@ use Rattle.row_driver.proofs.drive_open.Statement.{statement}
 use Rattle.row_driver.proofs.drive_open.Tie as tie
 use Rattle.row_driver.proofs.Opening.{drivable}
 
-slice-aggregate-drive-tiles : tie.Need-slice-aggregate-drive-tiles
-slice-aggregate-drive-tiles c = search needs
-
-slice-aggregate-drive-tiles-2 : tie.Need-slice-aggregate-drive-tiles-2
-slice-aggregate-drive-tiles-2 c = search needs
-
-slice-aggregate-drive-tiles-3 : tie.Need-slice-aggregate-drive-tiles-3
-slice-aggregate-drive-tiles-3 c = search needs
-
-slice-aggregate-drive-tiles-4 : tie.Need-slice-aggregate-drive-tiles-4
-slice-aggregate-drive-tiles-4 c = search needs
-
-slice-aggregate-drive-tiles-5 : tie.Need-slice-aggregate-drive-tiles-5
-slice-aggregate-drive-tiles-5 c = search needs
-
-slice-aggregate-drive-tiles-6 : tie.Need-slice-aggregate-drive-tiles-6
-slice-aggregate-drive-tiles-6 c = search needs
-
 drive-tiles-requires : tie.Need-drive-tiles-requires
 drive-tiles-requires c κs = drivable (c .before .before .before .before .before .before .before .before .before .before .before .before .before .before .pre)
 
@@ -41,12 +23,8 @@ pub drive-open-spec : {M : Type 1} → statement M
 drive-open-spec =
     tie.close
     (tie.spec
-    slice-aggregate-drive-tiles
-    slice-aggregate-drive-tiles-2
-    slice-aggregate-drive-tiles-3
-    slice-aggregate-drive-tiles-4
-    slice-aggregate-drive-tiles-5
-    slice-aggregate-drive-tiles-6
+    (λ c. search needs) (λ c. search needs) (λ c. search needs) (λ c. search needs) (λ c. search needs)
+    (λ c. search needs)
     drive-tiles-requires
     same-length
     same-length-2

@@ -18,30 +18,6 @@ called s = let a = s .args in openCall (a .tile-y) (a .from) (a .to) (a .row .no
 due-is : (c : tie.After-due-tiles) → c .due-tiles .result ≡ dueTiles (c .before .before .before .before .args .from) (c .before .before .before .before .args .to) (c .before .before .before .before .args .tiles)
 due-is c = rw (toZ-ofZ (c .before .before .before .before .fits .from), toZ-ofZ (c .before .before .before .before .fits .to), toZ-ofZ (c .before .before .before .before .fits .tiles)) at (c .due-tiles .ensures)
 
-due-tiles-requires : tie.Need-due-tiles-requires
-due-tiles-requires c κs = search needs
-
-slice-aggregate-open-tile-row : tie.Need-slice-aggregate-open-tile-row
-slice-aggregate-open-tile-row c = search needs
-
-slice-aggregate-open-tile-row-2 : tie.Need-slice-aggregate-open-tile-row-2
-slice-aggregate-open-tile-row-2 c = search needs
-
-open-tile-row-requires : tie.Need-open-tile-row-requires
-open-tile-row-requires c κs = search needs
-
-enum-known-refusal : tie.Need-enum-known-refusal
-enum-known-refusal c = search needs
-
-enum-known-state : tie.Need-enum-known-state
-enum-known-state c = search needs
-
-slice-aggregate-drive-open : tie.Need-slice-aggregate-drive-open
-slice-aggregate-drive-open c = search needs
-
-slice-aggregate-drive-open-2 : tie.Need-slice-aggregate-drive-open-2
-slice-aggregate-drive-open-2 c = search needs
-
 drive-open-requires : tie.Need-drive-open-requires
 unfolding called
 drive-open-requires c κs =
@@ -67,14 +43,8 @@ pub drive-row-spec : {M : Type 1} → statement M
 drive-row-spec =
     tie.close
     (tie.spec
-    due-tiles-requires
-    slice-aggregate-open-tile-row
-    slice-aggregate-open-tile-row-2
-    open-tile-row-requires
-    enum-known-refusal
-    enum-known-state
-    slice-aggregate-drive-open
-    slice-aggregate-drive-open-2
+    (λ c κs. search needs) (λ c. search needs) (λ c. search needs) (λ c κs. search needs) (λ c. search needs)
+    (λ c. search needs) (λ c. search needs) (λ c. search needs)
     drive-open-requires
     returns
     returns-2)

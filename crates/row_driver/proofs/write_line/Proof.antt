@@ -12,18 +12,6 @@ use Rattle.row_driver.proofs.write_line.Tie as tie
 below : (l : List ℕ) (i k x : ℕ) → k < length l → k < length (set l i x)
 below l i k x h = rw (length-set l i x) h
 
-mul-lines : tie.Need-mul-lines
-mul-lines c = search needs
-
-slice-write-lines : tie.Need-slice-write-lines
-slice-write-lines c = search needs
-
-add-lines : tie.Need-add-lines
-add-lines c = search needs
-
-mul-lines-2 : tie.Need-mul-lines-2
-mul-lines-2 c = search needs
-
 slice-write-lines-2 : tie.Need-slice-write-lines-2
 slice-write-lines-2 c =
     let at = c .args .at in
@@ -31,12 +19,6 @@ slice-write-lines-2 c =
     let l0 = c .args .lines .now in
     let h : at + 1 < length l0 = omega (arith, c .pre) in
     below l0 at (at + 1) (line .decision) h
-
-add-lines-2 : tie.Need-add-lines-2
-add-lines-2 c = search needs
-
-mul-lines-3 : tie.Need-mul-lines-3
-mul-lines-3 c = search needs
 
 slice-write-lines-3 : tie.Need-slice-write-lines-3
 slice-write-lines-3 c =
@@ -46,12 +28,6 @@ slice-write-lines-3 c =
     let l1 = set l0 at (line .decision) in
     let h : at + 2 < length l0 = omega (arith, c .pre) in
     below l1 (at + 1) (at + 2) (line .listed) (below l0 at (at + 2) (line .decision) h)
-
-add-lines-3 : tie.Need-add-lines-3
-add-lines-3 c = search needs
-
-mul-lines-4 : tie.Need-mul-lines-4
-mul-lines-4 c = search needs
 
 slice-write-lines-4 : tie.Need-slice-write-lines-4
 slice-write-lines-4 c =
@@ -63,12 +39,6 @@ slice-write-lines-4 c =
     let h : at + 3 < length l0 = omega (arith, c .pre) in
     below l2 (at + 2) (at + 3) (line .shown) (below l1 (at + 1) (at + 3) (line .listed) (below l0 at (at + 3) (line .decision) h))
 
-add-lines-4 : tie.Need-add-lines-4
-add-lines-4 c = search needs
-
-mul-lines-5 : tie.Need-mul-lines-5
-mul-lines-5 c = search needs
-
 slice-write-lines-5 : tie.Need-slice-write-lines-5
 slice-write-lines-5 c =
     let at = c .args .at in
@@ -79,9 +49,6 @@ slice-write-lines-5 c =
     let l3 = set l2 (at + 2) (line .shown) in
     let h : at + 4 < length l0 = omega (arith, c .pre) in
     below l3 (at + 3) (at + 4) (line .octets) (below l2 (at + 2) (at + 4) (line .shown) (below l1 (at + 1) (at + 4) (line .listed) (below l0 at (at + 4) (line .decision) h)))
-
-same-length : tie.Need-same-length
-same-length c = search needs
 
 returns : tie.Need-returns
 returns c =
@@ -96,19 +63,13 @@ pub write-line-spec : {M : Type 1} → statement M
 write-line-spec =
     tie.close
     (tie.spec
-    mul-lines
-    slice-write-lines
-    add-lines
-    mul-lines-2
+    (λ c. search needs) (λ c. search needs) (λ c. search needs) (λ c. search needs)
     slice-write-lines-2
-    add-lines-2
-    mul-lines-3
+    (λ c. search needs) (λ c. search needs)
     slice-write-lines-3
-    add-lines-3
-    mul-lines-4
+    (λ c. search needs) (λ c. search needs)
     slice-write-lines-4
-    add-lines-4
-    mul-lines-5
+    (λ c. search needs) (λ c. search needs)
     slice-write-lines-5
-    same-length
+    (λ c. search needs)
     returns)

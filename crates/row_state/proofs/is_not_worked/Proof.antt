@@ -7,9 +7,6 @@ use Rattle.laws.proofs.Machine.{within}
 use Rattle.row_state.proofs.is_not_worked.Statement.{statement}
 use Rattle.row_state.proofs.is_not_worked.Tie as tie
 
-natural-requires : tie.Need-natural-requires
-natural-requires c κs = search needs
-
 add-result : tie.Need-add-result
 add-result c =
     let s = c .before .before in
@@ -23,6 +20,6 @@ pub is-not-worked-spec : {M : Type 1} → statement M
 is-not-worked-spec =
     tie.close
     (tie.spec
-    natural-requires
+    (λ c κs. search needs)
     add-result
     returns)

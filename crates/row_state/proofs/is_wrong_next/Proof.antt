@@ -4,14 +4,8 @@ use mir.Facts.{toZ-ofZ}
 use Rattle.row_state.proofs.is_wrong_next.Statement.{statement}
 use Rattle.row_state.proofs.is_wrong_next.Tie as tie
 
-is-stray-requires : tie.Need-is-stray-requires
-is-stray-requires c κs = search needs
-
-is-not-next-requires : tie.Need-is-not-next-requires
-is-not-next-requires c κs = search needs
-
 returns : tie.Need-returns
 returns c = rw (c .before .is-stray .ensures, c .is-not-next .ensures, toZ-ofZ (c .before .before .fits .tile))
 
 pub is-wrong-next-spec : {M : Type 1} → statement M
-is-wrong-next-spec = tie.close (tie.spec is-stray-requires is-not-next-requires returns)
+is-wrong-next-spec = tie.close (tie.spec (λ c κs. search needs) (λ c κs. search needs) returns)

@@ -4,11 +4,8 @@ use mir.Facts.{toZ-ofZ}
 use Rattle.row_state.proofs.natural.Statement.{statement}
 use Rattle.row_state.proofs.natural.Tie as tie
 
-natural-requires : tie.Need-natural-requires
-natural-requires c κs = search needs
-
 returns : tie.Need-returns
 returns c = rw (c .natural .ensures, toZ-ofZ (c .before .fits .z))
 
 pub natural-spec : {M : Type 1} → statement M
-natural-spec = tie.close (tie.spec natural-requires returns)
+natural-spec = tie.close (tie.spec (λ c κs. search needs) returns)

@@ -25,9 +25,6 @@ loop-holds c = let a = c .before .before .before .before .before .before .args i
 shared-slice-read-tally-entry : tie.Need-shared-slice-read-tally-entry Inv-loop μ-loop
 shared-slice-read-tally-entry c = omega (arith, c .before .loop-test .taken, c .before .before .before .before .before .before .before .before .before .pre .1 .unmasked-long)
 
-slice-aggregate-tally-entry : tie.Need-slice-aggregate-tally-entry Inv-loop μ-loop
-slice-aggregate-tally-entry c = search needs
-
 tally-entry-requires : tie.Need-tally-entry-requires Inv-loop μ-loop
 tally-entry-requires c κs =
     let p = c .before .before .before .before .before .before .before .before .before .before .pre in
@@ -65,7 +62,7 @@ paint-shown-spec =
     start-past-requires
     loop-holds
     shared-slice-read-tally-entry
-    slice-aggregate-tally-entry
+    (λ c. search needs)
     tally-entry-requires
     add-i
     loop-less

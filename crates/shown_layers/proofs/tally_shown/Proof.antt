@@ -5,15 +5,6 @@ use Rattle.shown_layers.proofs.Painting.{not-painted}
 use Rattle.shown_layers.proofs.tally_shown.Statement.{statement}
 use Rattle.shown_layers.proofs.tally_shown.Tie as tie
 
-paint-shown-requires : tie.Need-paint-shown-requires
-paint-shown-requires c κs = search needs
-
-start-requires : tie.Need-start-requires
-start-requires c κs = search needs
-
-count-shown-requires : tie.Need-count-shown-requires
-count-shown-requires c κs = search needs
-
 returns : tie.Need-returns
 returns c = rw (c .before .if1 .taken) (c .paint-shown .ensures)
 
@@ -25,4 +16,4 @@ returns-2 c =
 
 pub tally-shown-spec : {M : Type 1} → statement M
 tally-shown-spec =
-    tie.close (tie.spec paint-shown-requires start-requires count-shown-requires returns returns-2)
+    tie.close (tie.spec (λ c κs. search needs) (λ c κs. search needs) (λ c κs. search needs) returns returns-2)

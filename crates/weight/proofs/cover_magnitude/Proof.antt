@@ -17,9 +17,6 @@ wide s = sfits-widen tt (s .fits .cover)
 cast-magnitude : tie.Need-cast-magnitude
 cast-magnitude c = rw (toZ-ofZ (c .fits .cover)) (wide c)
 
-magnitude-requires : tie.Need-magnitude-requires
-magnitude-requires c κs = search needs
-
 returns : tie.Need-returns
 returns c =
     let s = c .before in
@@ -28,4 +25,4 @@ returns c =
     (e, omega (arith, within w8 z (s .fits .cover), whole z))
 
 pub cover-magnitude-spec : {M : Type 1} → statement M
-cover-magnitude-spec = tie.close (tie.spec cast-magnitude magnitude-requires returns)
+cover-magnitude-spec = tie.close (tie.spec cast-magnitude (λ c κs. search needs) returns)

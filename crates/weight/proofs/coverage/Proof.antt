@@ -4,11 +4,8 @@ use Rattle.cover_statements.proofs.Coverages.{coverage-product}
 use Rattle.weight.proofs.coverage.Statement.{statement}
 use Rattle.weight.proofs.coverage.Tie as tie
 
-int-to-float-result : tie.Need-int-to-float-result
-int-to-float-result c = search needs
-
 returns : tie.Need-returns
 returns c = coverage-product (c .before .args .weight) (search needs)
 
 pub coverage-spec : {M : Type 1} → statement M
-coverage-spec = tie.close (tie.spec int-to-float-result returns)
+coverage-spec = tie.close (tie.spec (λ c. search needs) returns)

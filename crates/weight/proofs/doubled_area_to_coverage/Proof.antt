@@ -8,9 +8,6 @@ use Rattle.cover_statements.proofs.Weights.{weight-le}
 use Rattle.weight.proofs.doubled_area_to_coverage.Statement.{statement}
 use Rattle.weight.proofs.doubled_area_to_coverage.Tie as tie
 
-weight-requires : tie.Need-weight-requires
-weight-requires c κs = search needs
-
 weight-is : (c : tie.After-weight) → c .weight .result ≡ weightOf (c .before .args .rule) (c .before .args .d)
 weight-is c = rw (toZ-ofZ (c .before .fits .d)) at (c .weight .ensures)
 
@@ -21,4 +18,4 @@ returns : tie.Need-returns
 returns c = c .coverage .ensures ∙ ap coverageOf (weight-is (c .before))
 
 pub doubled-area-to-coverage-spec : {M : Type 1} → statement M
-doubled-area-to-coverage-spec = tie.close (tie.spec weight-requires coverage-requires returns)
+doubled-area-to-coverage-spec = tie.close (tie.spec (λ c κs. search needs) coverage-requires returns)

@@ -4,14 +4,8 @@ use mir.Facts.{toZ-ofZ}
 use Rattle.weight.proofs.even_odd.Statement.{statement}
 use Rattle.weight.proofs.even_odd.Tie as tie
 
-weights-requires : tie.Need-weights-requires
-weights-requires c κs = search needs
-
-even-odd-in-requires : tie.Need-even-odd-in-requires
-even-odd-in-requires c κs = search needs
-
 returns : tie.Need-returns
 returns c = rw (toZ-ofZ (c .before .before .before .fits .d)) at (c .even-odd-in .ensures)
 
 pub even-odd-spec : {M : Type 1} → statement M
-even-odd-spec = tie.close (tie.spec weights-requires even-odd-in-requires returns)
+even-odd-spec = tie.close (tie.spec (λ c κs. search needs) (λ c κs. search needs) returns)

@@ -14,9 +14,6 @@ use Rattle.weight_table.specs.Rest.{restWeight}
 use Rattle.weight.proofs.even_odd_in.Statement.{statement}
 use Rattle.weight.proofs.even_odd_in.Tie as tie
 
-rest-of-area-requires : tie.Need-rest-of-area-requires
-rest-of-area-requires c κs = search needs
-
 rest-is : (c : tie.After-rest-of-area) → c .rest-of-area .result ≡ modℤ 1024 (c .before .args .d)
 rest-is c = rw (toZ-ofZ (c .before .fits .d)) at (c .rest-of-area .ensures)
 
@@ -38,4 +35,4 @@ returns c =
 
 pub even-odd-in-spec : {M : Type 1} → statement M
 even-odd-in-spec =
-    tie.close (tie.spec rest-of-area-requires mul-result element-copy-out-result returns)
+    tie.close (tie.spec (λ c κs. search needs) mul-result element-copy-out-result returns)

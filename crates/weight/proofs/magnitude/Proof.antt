@@ -48,8 +48,5 @@ returns c =
     let x = s .args .x in
     rw (toZ-ofZ (s .fits .x), toZ-ofZ (wide s), toZ-ofZ (opposite s)) (omega (arith, taken (pos 0) x))
 
-returns-2 : tie.Need-returns-2
-returns-2 c = search needs
-
 pub magnitude-spec : {M : Type 1} → statement M
-magnitude-spec = tie.close (tie.spec cast-result sub-result cast-result-2 cast-result-3 returns returns-2)
+magnitude-spec = tie.close (tie.spec cast-result sub-result cast-result-2 cast-result-3 returns (λ c. search needs))

@@ -5,9 +5,6 @@ use mir.Facts.{toZ-ofZ}
 use Rattle.weight.proofs.non_zero.Statement.{statement}
 use Rattle.weight.proofs.non_zero.Tie as tie
 
-magnitude-requires : tie.Need-magnitude-requires
-magnitude-requires c κs = search needs
-
 returns : tie.Need-returns
 returns c =
     let s = c .before in
@@ -19,4 +16,4 @@ returns-2 c =
     omega (arith, rw (toZ-ofZ (s .before .fits .d)) at (s .magnitude .ensures))
 
 pub non-zero-spec : {M : Type 1} → statement M
-non-zero-spec = tie.close (tie.spec magnitude-requires returns returns-2)
+non-zero-spec = tie.close (tie.spec (λ c κs. search needs) returns returns-2)

@@ -41,9 +41,6 @@ add-result c = rw (toZ-ofZ (c .fits .d), toZ-ofZ (wide c)) (fits c _ (lit< tt))
 cast-result-2 : tie.Need-cast-result-2
 cast-result-2 c = rw (toZ-ofZ (add-result c), toZ-ofZ (c .fits .d), toZ-ofZ (wide c)) (lifts c _ (lit< tt) (lit≤ tt))
 
-cast-result-3 : tie.Need-cast-result-3
-cast-result-3 c = search needs
-
 returns : tie.Need-returns
 returns c =
     let d = c .args .d in
@@ -53,4 +50,4 @@ returns c =
     (ap (λ (n : ℕ). n % 1024) (omega (arith, sum, low)))
 
 pub rest-of-area-spec : {M : Type 1} → statement M
-rest-of-area-spec = tie.close (tie.spec cast-result add-result cast-result-2 cast-result-3 returns)
+rest-of-area-spec = tie.close (tie.spec cast-result add-result cast-result-2 (λ c. search needs) returns)

@@ -13,20 +13,8 @@ Inv-loop text at row₀ layers₀ colors₀ frames place₀ same₀ i₀ row lay
 abbrev μ-loop : tie.MeasureT-loop
 μ-loop text at row₀ layers₀ colors₀ frames place₀ same₀ i₀ row layers colors place same i = frames .value - i
 
-next-requires : tie.Need-next-requires Inv-loop μ-loop
-next-requires c κs = search needs
-
 loop-holds : tie.Need-loop-holds Inv-loop μ-loop
 loop-holds c = (refl, (refl, refl))
-
-frame-requires : tie.Need-frame-requires Inv-loop μ-loop
-frame-requires c κs = search needs
-
-add-i : tie.Need-add-i Inv-loop μ-loop
-add-i c = omega arith
-
-loop-less : tie.Need-loop-less Inv-loop μ-loop
-loop-less c = omega arith
 
 loop-again : tie.Need-loop-again Inv-loop μ-loop
 loop-again c =
@@ -42,22 +30,17 @@ same-length-2 c = c .before .before .loop .inv .1 .0
 same-length-3 : tie.Need-same-length-3 Inv-loop μ-loop
 same-length-3 c = c .before .before .loop .inv .1 .1
 
-returns : tie.Need-returns Inv-loop μ-loop
-returns c = tt
-
 pub history-spec : {M : Type 1} → statement M
 history-spec =
     tie.close
     (tie.spec
     Inv-loop
     μ-loop
-    next-requires
+    (λ c κs. search needs)
     loop-holds
-    frame-requires
-    add-i
-    loop-less
+    (λ c κs. search needs) (λ c. omega arith) (λ c. omega arith)
     loop-again
     same-length
     same-length-2
     same-length-3
-    returns)
+    (λ c. tt))

@@ -11,37 +11,11 @@ Inv-loop text tile row table colors count ids covers paintings at₀ same₀ wor
 abbrev μ-loop : tie.MeasureT-loop
 μ-loop text tile row table colors count ids covers paintings at₀ same₀ words₀ counts₀ i₀ at same words counts i = paintings .value - i
 
-next-requires : tie.Need-next-requires Inv-loop μ-loop
-next-requires c κs = search needs
-
-loop-holds : tie.Need-loop-holds Inv-loop μ-loop
-loop-holds c = tt
-
-layer-requires : tie.Need-layer-requires Inv-loop μ-loop
-layer-requires c κs = search needs
-
-add-i : tie.Need-add-i Inv-loop μ-loop
-add-i c = omega arith
-
-loop-less : tie.Need-loop-less Inv-loop μ-loop
-loop-less c = omega arith
-
-loop-again : tie.Need-loop-again Inv-loop μ-loop
-loop-again c = tt
-
-returns : tie.Need-returns Inv-loop μ-loop
-returns c = tt
-
 pub layers-spec : {M : Type 1} → statement M
 layers-spec =
     tie.close
     (tie.spec
     Inv-loop
     μ-loop
-    next-requires
-    loop-holds
-    layer-requires
-    add-i
-    loop-less
-    loop-again
-    returns)
+    (λ c κs. search needs) (λ c. tt) (λ c κs. search needs) (λ c. omega arith) (λ c. omega arith) (λ c. tt)
+    (λ c. tt))

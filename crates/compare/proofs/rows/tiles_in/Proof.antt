@@ -13,20 +13,8 @@ Inv-loop text row layers colors count ids₀ covers₀ tiles at₀ same₀ words
 abbrev μ-loop : tie.MeasureT-loop
 μ-loop text row layers colors count ids₀ covers₀ tiles at₀ same₀ words₀ counts₀ i₀ ids covers at same words counts i = tiles .value - i
 
-next-requires : tie.Need-next-requires Inv-loop μ-loop
-next-requires c κs = search needs
-
 loop-holds : tie.Need-loop-holds Inv-loop μ-loop
 loop-holds c = (refl, refl)
-
-tile-requires : tie.Need-tile-requires Inv-loop μ-loop
-tile-requires c κs = search needs
-
-add-i : tie.Need-add-i Inv-loop μ-loop
-add-i c = omega arith
-
-loop-less : tie.Need-loop-less Inv-loop μ-loop
-loop-less c = omega arith
 
 loop-again : tie.Need-loop-again Inv-loop μ-loop
 loop-again c = (c .before .before .before .before .ids .given ∙ c .before .before .before .before .before .before .before .before .before .before .loop .inv .0, c .before .before .covers .given ∙ c .before .before .before .before .before .before .before .before .before .before .loop .inv .1)
@@ -37,21 +25,16 @@ same-length c = c .before .before .loop .inv .0
 same-length-2 : tie.Need-same-length-2 Inv-loop μ-loop
 same-length-2 c = c .before .before .loop .inv .1
 
-returns : tie.Need-returns Inv-loop μ-loop
-returns c = tt
-
 pub tiles-in-spec : {M : Type 1} → statement M
 tiles-in-spec =
     tie.close
     (tie.spec
     Inv-loop
     μ-loop
-    next-requires
+    (λ c κs. search needs)
     loop-holds
-    tile-requires
-    add-i
-    loop-less
+    (λ c κs. search needs) (λ c. omega arith) (λ c. omega arith)
     loop-again
     same-length
     same-length-2
-    returns)
+    (λ c. tt))

@@ -19,18 +19,6 @@ abbrev μ-loop : tie.MeasureT-loop
 loop-holds : tie.Need-loop-holds Inv-loop μ-loop
 loop-holds c = test-start (search needs)
 
-array-copy-out-is-row-full : tie.Need-array-copy-out-is-row-full Inv-loop μ-loop
-array-copy-out-is-row-full c = omega arith
-
-is-row-full-requires : tie.Need-is-row-full-requires Inv-loop μ-loop
-is-row-full-requires c κs = tt
-
-add-y : tie.Need-add-y Inv-loop μ-loop
-add-y c = omega arith
-
-loop-less : tie.Need-loop-less Inv-loop μ-loop
-loop-less c = omega arith
-
 loop-again : tie.Need-loop-again Inv-loop μ-loop
 loop-again c =
     test-next (pos 0) (c .before .before .before .loop .inv) (omega arith)
@@ -47,9 +35,6 @@ is-full-spec =
     Inv-loop
     μ-loop
     loop-holds
-    array-copy-out-is-row-full
-    is-row-full-requires
-    add-y
-    loop-less
+    (λ c. omega arith) (λ c κs. tt) (λ c. omega arith) (λ c. omega arith)
     loop-again
     returns)

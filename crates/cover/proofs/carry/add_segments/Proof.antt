@@ -23,24 +23,6 @@ abbrev μ-loop : tie.MeasureT-loop
 loop-holds : tie.Need-loop-holds Inv-loop μ-loop
 loop-holds c = fill-start (search needs) (light (c .before .before .pre) .at)
 
-mul-t7 : tie.Need-mul-t7 Inv-loop μ-loop
-mul-t7 c = search needs
-
-shared-slice-read-t10 : tie.Need-shared-slice-read-t10 Inv-loop μ-loop
-shared-slice-read-t10 c = omega arith
-
-local-y-requires : tie.Need-local-y-requires Inv-loop μ-loop
-local-y-requires c κs = tt
-
-cast-y : tie.Need-cast-y Inv-loop μ-loop
-cast-y c = omega arith
-
-array-copy-out-covers : tie.Need-array-copy-out-covers Inv-loop μ-loop
-array-copy-out-covers c = omega arith
-
-cover-requires : tie.Need-cover-requires Inv-loop μ-loop
-cover-requires c κs = tt
-
 add-covers : tie.Need-add-covers Inv-loop μ-loop
 add-covers c =
     let s = c .before in
@@ -48,15 +30,6 @@ add-covers c =
     let l = y .before .before .before in
     rw (kept w8 (getD (l .loop .covers) (y .local-y .result) (pos 0)) (s .covers2 .given), kept w8 (c .cover .result) (c .cover .ok), c .cover .ensures)
     (small w8 _ (omega (arith, fill-fits (l .loop .inv) (omega arith) (omega arith) (y .local-y .ensures))))
-
-array-set-from-covers : tie.Need-array-set-from-covers Inv-loop μ-loop
-array-set-from-covers c = omega arith
-
-add-i : tie.Need-add-i Inv-loop μ-loop
-add-i c = omega arith
-
-loop-less : tie.Need-loop-less Inv-loop μ-loop
-loop-less c = omega arith
 
 loop-again : tie.Need-loop-again Inv-loop μ-loop
 loop-again c =
@@ -77,15 +50,8 @@ add-segments-spec =
     Inv-loop
     μ-loop
     loop-holds
-    mul-t7
-    shared-slice-read-t10
-    local-y-requires
-    cast-y
-    array-copy-out-covers
-    cover-requires
+    (λ c. search needs) (λ c. omega arith) (λ c κs. tt) (λ c. omega arith) (λ c. omega arith) (λ c κs. tt)
     add-covers
-    array-set-from-covers
-    add-i
-    loop-less
+    (λ c. omega arith) (λ c. omega arith) (λ c. omega arith)
     loop-again
     returns)

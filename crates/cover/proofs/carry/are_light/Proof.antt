@@ -4,7 +4,7 @@ use Prim.Native.Nat.{_-_}
 use native.Mathlib.Omega.{arith}
 use borrow.Author.Needs.{needs}
 use lib.Dec.{leb}
-use Rattle.cover_statements.specs.Load.{allLight}
+use Rattle.cover_statements.specs.InnerLoad.{allLight}
 use Rattle.cover_statements.proofs.Testing.{Testing, test-start, test-next, test-end}
 use Rattle.cover.proofs.carry.are_light.Statement.{statement}
 use Rattle.cover.proofs.carry.are_light.Tie as tie

@@ -4,9 +4,6 @@ use borrow.Author.Needs.{needs}
 use Rattle.cover.proofs.carry.carry.Statement.{statement}
 use Rattle.cover.proofs.carry.carry.Tie as tie
 
-is-light-requires : tie.Need-is-light-requires
-is-light-requires c κs = search needs
-
 add-segments-requires : tie.Need-add-segments-requires
 add-segments-requires c κs = sym (c .before .is-light .ensures) ∙ c .if1 .taken
 
@@ -21,4 +18,4 @@ returns-2 c =
     record { answer = rw e; covers-are = rw e }
 
 pub carry-spec : {M : Type 1} → statement M
-carry-spec = tie.close (tie.spec is-light-requires add-segments-requires returns returns-2)
+carry-spec = tie.close (tie.spec (λ c κs. search needs) add-segments-requires returns returns-2)

@@ -4,19 +4,10 @@ use mathlib.Core.List.{List}
 use Prim.Native.Nat.{ℕ}
 use borrow.Author.Needs.{needs}
 use Rattle.pixel_segment.specs.Field.{cpu}
-use Rattle.cover_statements.specs.Load.{loadsOf, allLight}
+use Rattle.cover_statements.specs.InnerLoad.{loadsOf, allLight}
 use Rattle.cover_statements.proofs.Loads.{loads-judge}
 use Rattle.cover.proofs.carry.is_light.Statement.{statement}
 use Rattle.cover.proofs.carry.is_light.Tie as tie
-
-magnitudes-requires : tie.Need-magnitudes-requires
-magnitudes-requires c κs = search needs
-
-add-loads-requires : tie.Need-add-loads-requires
-add-loads-requires c κs = search needs
-
-are-light-requires : tie.Need-are-light-requires
-are-light-requires c κs = search needs
 
 returns : tie.Need-returns
 returns c =
@@ -28,4 +19,4 @@ returns c =
 
 pub is-light-spec : {M : Type 1} → statement M
 is-light-spec =
-    tie.close (tie.spec magnitudes-requires add-loads-requires are-light-requires returns)
+    tie.close (tie.spec (λ c κs. search needs) (λ c κs. search needs) (λ c κs. search needs) returns)

@@ -7,14 +7,8 @@ use mir.Facts.{toZ-ofZ}
 use Rattle.cover.proofs.carry.raised.Statement.{statement}
 use Rattle.cover.proofs.carry.raised.Tie as tie
 
-cover-magnitude-requires : tie.Need-cover-magnitude-requires
-cover-magnitude-requires c κs = search needs
-
 more : (c : tie.After-cover-magnitude) → c .cover-magnitude .result ≡ natAbs (c .before .args .cover)
 more c = rw (toZ-ofZ (c .before .fits .cover)) at (c .cover-magnitude .ensures .0)
-
-add-sum : tie.Need-add-sum
-add-sum c = omega arith
 
 returns : tie.Need-returns
 returns c = omega (arith, more (c .before))
@@ -23,4 +17,4 @@ returns-2 : tie.Need-returns-2
 returns-2 c = omega (arith, more (c .before))
 
 pub raised-spec : {M : Type 1} → statement M
-raised-spec = tie.close (tie.spec cover-magnitude-requires add-sum returns returns-2)
+raised-spec = tie.close (tie.spec (λ c κs. search needs) (λ c. omega arith) returns returns-2)

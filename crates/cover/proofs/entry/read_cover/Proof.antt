@@ -16,26 +16,8 @@ Inv-loop covers place start entry₀ y₀ entry y = Reading covers 16 place star
 abbrev μ-loop : tie.MeasureT-loop
 μ-loop covers place start entry₀ y₀ entry y = 16 - y
 
-mul-start : tie.Need-mul-start Inv-loop μ-loop
-mul-start c = omega arith
-
 loop-holds : tie.Need-loop-holds Inv-loop μ-loop
 loop-holds c = read-start refl (c .pre)
-
-add-entry : tie.Need-add-entry Inv-loop μ-loop
-add-entry c = omega arith
-
-shared-slice-copy-out-entry : tie.Need-shared-slice-copy-out-entry Inv-loop μ-loop
-shared-slice-copy-out-entry c = omega arith
-
-array-set-from-entry : tie.Need-array-set-from-entry Inv-loop μ-loop
-array-set-from-entry c = omega arith
-
-add-y : tie.Need-add-y Inv-loop μ-loop
-add-y c = omega arith
-
-loop-less : tie.Need-loop-less Inv-loop μ-loop
-loop-less c = omega arith
 
 loop-again : tie.Need-loop-again Inv-loop μ-loop
 loop-again c =
@@ -51,12 +33,8 @@ read-cover-spec =
     (tie.spec
     Inv-loop
     μ-loop
-    mul-start
+    (λ c. omega arith)
     loop-holds
-    add-entry
-    shared-slice-copy-out-entry
-    array-set-from-entry
-    add-y
-    loop-less
+    (λ c. omega arith) (λ c. omega arith) (λ c. omega arith) (λ c. omega arith) (λ c. omega arith)
     loop-again
     returns)

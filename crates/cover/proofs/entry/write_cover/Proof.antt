@@ -17,26 +17,8 @@ Inv-loop covers₀ place entry start y₀ covers y = Writing covers₀ 16 place 
 abbrev μ-loop : tie.MeasureT-loop
 μ-loop covers₀ place entry start y₀ covers y = 16 - y
 
-mul-start : tie.Need-mul-start Inv-loop μ-loop
-mul-start c = omega arith
-
 loop-holds : tie.Need-loop-holds Inv-loop μ-loop
 loop-holds c = write-start refl (c .before .pre) (search needs)
-
-array-copy-out-covers : tie.Need-array-copy-out-covers Inv-loop μ-loop
-array-copy-out-covers c = omega arith
-
-add-t11 : tie.Need-add-t11 Inv-loop μ-loop
-add-t11 c = omega arith
-
-slice-set-from-covers : tie.Need-slice-set-from-covers Inv-loop μ-loop
-slice-set-from-covers c = omega arith
-
-add-y : tie.Need-add-y Inv-loop μ-loop
-add-y c = omega arith
-
-loop-less : tie.Need-loop-less Inv-loop μ-loop
-loop-less c = omega arith
 
 loop-again : tie.Need-loop-again Inv-loop μ-loop
 loop-again c =
@@ -55,13 +37,9 @@ write-cover-spec =
     (tie.spec
     Inv-loop
     μ-loop
-    mul-start
+    (λ c. omega arith)
     loop-holds
-    array-copy-out-covers
-    add-t11
-    slice-set-from-covers
-    add-y
-    loop-less
+    (λ c. omega arith) (λ c. omega arith) (λ c. omega arith) (λ c. omega arith) (λ c. omega arith)
     loop-again
     same-length
     returns)

@@ -9,7 +9,7 @@ use mir.Syntax.{w8, w16}
 use Rattle.laws.proofs.Machine.{small, kept}
 use Rattle.pixel_segment.specs.Field.{cpu, coverOf, doubleAreaOf}
 use Rattle.pixel_segment.proofs.Ranges.{cpu-layout}
-use Rattle.cover_statements.specs.Cell.{cellOf}
+use Rattle.cover_statements.specs.InnerCell.{cellOf}
 use Rattle.cover_bounds_statements.specs.Chosen.{chosen}
 use Rattle.cover_bounds_statements.specs.Within.{boundAt}
 use Rattle.cover_bounds_statements.proofs.Choosing.{chosen-length, chosen-cell, chosen-cover, chosen-double-area}

@@ -1,7 +1,7 @@
 -- `area::sum_bounds` meets its contract. Assumes nothing.
 use mathlib.Core.Path.{refl}
 use borrow.Author.Needs.{needs}
-use Rattle.cover_statements.specs.Cell.{noCells}
+use Rattle.cover_statements.specs.InnerCell.{noCells}
 use Rattle.cover_bounds.proofs.area.sum_bounds.Statement.{statement}
 use Rattle.cover_bounds.proofs.area.sum_bounds.Tie as tie
 

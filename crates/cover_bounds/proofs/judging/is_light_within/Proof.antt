@@ -7,7 +7,7 @@ use lib.IntN.{natAbs}
 use Rattle.laws.specs.Lists.{tabulate}
 use Rattle.pixel_segment.specs.Field.{cpu}
 use Rattle.cover_statements.specs.Cover.{coverAt}
-use Rattle.cover_statements.specs.Load.{loadsOf, allLight}
+use Rattle.cover_statements.specs.InnerLoad.{loadsOf, allLight}
 use Rattle.cover_statements.proofs.Loads.{loads-judge}
 use Rattle.cover_bounds_statements.specs.Chosen.{chosen, heavier, isLightWithin}
 use Rattle.cover_bounds_statements.specs.Within.{boundAt}

@@ -34,30 +34,6 @@ loop-holds c =
       sum-zeros (s .pre .2),
     )
 
-mul-t13 : tie.Need-mul-t13 Inv-loop μ-loop
-mul-t13 c = omega arith
-
-shared-slice-read-t16 : tie.Need-shared-slice-read-t16 Inv-loop μ-loop
-shared-slice-read-t16 c = omega arith
-
-cover-requires : tie.Need-cover-requires Inv-loop μ-loop
-cover-requires c κs = tt
-
-local-y-requires : tie.Need-local-y-requires Inv-loop μ-loop
-local-y-requires c κs = tt
-
-cast-y : tie.Need-cast-y Inv-loop μ-loop
-cast-y c = omega arith
-
-mul-before : tie.Need-mul-before Inv-loop μ-loop
-mul-before c = omega arith
-
-array-read-before : tie.Need-array-read-before Inv-loop μ-loop
-array-read-before c = omega arith
-
-cover-magnitude-requires : tie.Need-cover-magnitude-requires Inv-loop μ-loop
-cover-magnitude-requires c κs = tt
-
 -- the word, its load as the definition has it, and the cover's own weight
 abbrev word : (m : tie.After-cover-magnitude Inv-loop μ-loop) → ℕ
 word m = let l = m .before .before .before .before .before in getD (l .before .before .args .part .now) (l .loop .i) 0
@@ -85,24 +61,6 @@ returns c =
       sums = λ e. absurd (false≢true e);
     }
 
-mul-loads : tie.Need-mul-loads Inv-loop μ-loop
-mul-loads c = omega arith
-
-array-write-loads : tie.Need-array-write-loads Inv-loop μ-loop
-array-write-loads c = omega arith
-
-cell-requires : tie.Need-cell-requires Inv-loop μ-loop
-cell-requires c κs = tt
-
-mul-areas : tie.Need-mul-areas Inv-loop μ-loop
-mul-areas c = omega arith
-
-element-copy-out-areas : tie.Need-element-copy-out-areas Inv-loop μ-loop
-element-copy-out-areas c = omega arith
-
-double-area-requires : tie.Need-double-area-requires Inv-loop μ-loop
-double-area-requires c κs = tt
-
 add-areas : tie.Need-add-areas Inv-loop μ-loop
 add-areas c =
     let k = c .before .before in
@@ -115,15 +73,6 @@ add-areas c =
       c .double-area .ensures,
     )
     (small w16 _ (omega (arith, sum-fits (l .loop .inv .1) (t .loop-test .taken) (omega arith) (omega arith) (area-weight gpu refl) (k .cell .ensures) (m .before .local-y .ensures) (load m) (k .before .if1 .left))))
-
-mul-t28 : tie.Need-mul-t28 Inv-loop μ-loop
-mul-t28 c = omega arith
-
-element-set-from-areas : tie.Need-element-set-from-areas Inv-loop μ-loop
-element-set-from-areas c = omega arith
-
-element-copy-out-covers : tie.Need-element-copy-out-covers Inv-loop μ-loop
-element-copy-out-covers c = omega arith
 
 add-covers : tie.Need-add-covers Inv-loop μ-loop
 add-covers c =
@@ -138,15 +87,6 @@ add-covers c =
       o .cover .ensures,
     )
     (small w8 _ (omega (arith, sum-fits (l .loop .inv .2) (t .loop-test .taken) (omega arith) (omega arith) cover-weight (k .cell .ensures) (m .before .local-y .ensures) (load m) (k .before .if1 .left))))
-
-element-set-from-covers : tie.Need-element-set-from-covers Inv-loop μ-loop
-element-set-from-covers c = omega arith
-
-add-i : tie.Need-add-i Inv-loop μ-loop
-add-i c = omega arith
-
-loop-less : tie.Need-loop-less Inv-loop μ-loop
-loop-less c = omega arith
 
 loop-again : tie.Need-loop-again Inv-loop μ-loop
 loop-again c =
@@ -189,29 +129,14 @@ acc-segments-spec =
     Inv-loop
     μ-loop
     loop-holds
-    mul-t13
-    shared-slice-read-t16
-    cover-requires
-    local-y-requires
-    cast-y
-    mul-before
-    array-read-before
-    cover-magnitude-requires
+    (λ c. omega arith) (λ c. omega arith) (λ c κs. tt) (λ c κs. tt) (λ c. omega arith) (λ c. omega arith)
+    (λ c. omega arith) (λ c κs. tt)
     add-load
     returns
-    mul-loads
-    array-write-loads
-    cell-requires
-    mul-areas
-    element-copy-out-areas
-    double-area-requires
+    (λ c. omega arith) (λ c. omega arith) (λ c κs. tt) (λ c. omega arith) (λ c. omega arith) (λ c κs. tt)
     add-areas
-    mul-t28
-    element-set-from-areas
-    element-copy-out-covers
+    (λ c. omega arith) (λ c. omega arith) (λ c. omega arith)
     add-covers
-    element-set-from-covers
-    add-i
-    loop-less
+    (λ c. omega arith) (λ c. omega arith) (λ c. omega arith)
     loop-again
     returns-2)

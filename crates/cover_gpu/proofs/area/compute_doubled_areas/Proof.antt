@@ -10,7 +10,7 @@ use mir.Syntax.{w8, w16}
 use mir.Val.{SFits}
 use Rattle.laws.proofs.Machine.{sfits, within, small, kept}
 use Rattle.laws.proofs.Parts.{times}
-use Rattle.cover_statements.specs.Cell.{Shaded}
+use Rattle.cover_statements.specs.InnerCell.{Shaded}
 use Rattle.cover_statements.specs.Cover.{coverAt}
 use Rattle.cover_statements.proofs.Shades.{shade-start, shade-area, shade-next}
 use Rattle.cover_gpu.proofs.area.compute_doubled_areas.Statement.{statement}
@@ -31,9 +31,6 @@ mul-k c = omega (arith, c .before .before .pre .low)
 add-k : tie.Need-add-k Inv-loop μ-loop
 add-k c = omega (arith, c .before .before .pre .low)
 
-array-copy-out-next : tie.Need-array-copy-out-next Inv-loop μ-loop
-array-copy-out-next c = omega arith
-
 element-copy-out-next : tie.Need-element-copy-out-next Inv-loop μ-loop
 element-copy-out-next c = omega (arith, c .before .before .before .pre .low)
 
@@ -47,12 +44,6 @@ add-next c =
       kept w8 (coverAt (s .args .covers .now) (s .args .column * 4 + l .loop .y)) (c .next2 .given),
     )
     (small w8 _ (omega (arith, s .pre .sum-small (l .loop .y) (t .loop-test .taken))))
-
-array-set-from-next : tie.Need-array-set-from-next Inv-loop μ-loop
-array-set-from-next c = omega arith
-
-array-copy-out-areas : tie.Need-array-copy-out-areas Inv-loop μ-loop
-array-copy-out-areas c = omega arith
 
 -- a row's sum at 4 bits, and 32 times it
 wide : (z : ℤ) → mag z < 2 ^ 7 → SFits w16 z
@@ -101,12 +92,6 @@ mul-t29 c = omega (arith, c .before .before .before .before .before .before .pre
 element-set-from-areas : tie.Need-element-set-from-areas Inv-loop μ-loop
 element-set-from-areas c = omega (arith, c .before .before .before .before .before .before .pre .low)
 
-add-y : tie.Need-add-y Inv-loop μ-loop
-add-y c = omega arith
-
-loop-less : tie.Need-loop-less Inv-loop μ-loop
-loop-less c = omega arith
-
 loop-again : tie.Need-loop-again Inv-loop μ-loop
 loop-again c =
     let a = c .before in
@@ -146,11 +131,10 @@ compute-doubled-areas-spec =
     loop-holds
     mul-k
     add-k
-    array-copy-out-next
+    (λ c. omega arith)
     element-copy-out-next
     add-next
-    array-set-from-next
-    array-copy-out-areas
+    (λ c. omega arith) (λ c. omega arith)
     cast-areas
     mul-areas
     mul-areas-2
@@ -158,7 +142,6 @@ compute-doubled-areas-spec =
     add-areas
     mul-t29
     element-set-from-areas
-    add-y
-    loop-less
+    (λ c. omega arith) (λ c. omega arith)
     loop-again
     returns)

@@ -8,17 +8,11 @@ use borrow.Author.Tests.{not-true, not-false}
 use lib.ListN.{length}
 use Rattle.pixel_segment.specs.Field.{gpu}
 use Rattle.cover_statements.specs.Carry.{isLight}
-use Rattle.cover_statements.specs.Cell.{noCells}
-use Rattle.cover_statements.specs.Load.{loadsOf, allLight}
+use Rattle.cover_statements.specs.InnerCell.{noCells}
+use Rattle.cover_statements.specs.InnerLoad.{loadsOf, allLight}
 use Rattle.cover_statements.proofs.Loads.{loads-judge, incoming-heavy}
 use Rattle.cover_gpu.proofs.area.judged_areas.Statement.{statement}
 use Rattle.cover_gpu.proofs.area.judged_areas.Tie as tie
-
-magnitudes-requires : tie.Need-magnitudes-requires
-magnitudes-requires c κs = tt
-
-are-light-requires : tie.Need-are-light-requires
-are-light-requires c κs = tt
 
 returns : tie.Need-returns
 returns c =
@@ -67,4 +61,4 @@ returns-3 c =
 
 pub judged-areas-spec : {M : Type 1} → statement M
 judged-areas-spec =
-    tie.close (tie.spec magnitudes-requires are-light-requires returns acc-segments-requires returns-2 sum-columns-requires returns-3)
+    tie.close (tie.spec (λ c κs. tt) (λ c κs. tt) returns acc-segments-requires returns-2 sum-columns-requires returns-3)

@@ -4,7 +4,7 @@ use mathlib.Core.List.{List}
 use Prim.Native.Nat.{ℕ, _-_}
 use native.Mathlib.Omega.{arith}
 use Rattle.pixel_segment.specs.Field.{gpu}
-use Rattle.cover_statements.specs.Cell.{Accumulated}
+use Rattle.cover_statements.specs.InnerCell.{Accumulated}
 use Rattle.cover_statements.proofs.Carries.{light}
 use Rattle.cover_statements.proofs.Columns.{Columns, columns-start, columns-ready, columns-next, columns-end}
 use Rattle.cover_gpu.proofs.area.sum_columns.Statement.{statement}
@@ -26,12 +26,6 @@ compute-doubled-areas-requires c κs =
     let s = t .before .before .pre in
     columns-ready (λ w. omega arith) (t .before .loop .inv (s .part) (s .cells)) (t .loop-test .taken) refl (light (s .light))
 
-add-column : tie.Need-add-column Inv-loop μ-loop
-add-column c = omega arith
-
-loop-less : tie.Need-loop-less Inv-loop μ-loop
-loop-less c = omega arith
-
 loop-again : tie.Need-loop-again Inv-loop μ-loop
 loop-again c part a =
     let t = c .before .before in
@@ -48,7 +42,6 @@ sum-columns-spec =
     μ-loop
     loop-holds
     compute-doubled-areas-requires
-    add-column
-    loop-less
+    (λ c. omega arith) (λ c. omega arith)
     loop-again
     returns)

@@ -17,24 +17,6 @@ abbrev μ-loop : tie.MeasureT-loop
 loop-holds : tie.Need-loop-holds Inv-loop μ-loop
 loop-holds c = measure-start (search needs)
 
-array-copy-out-cover-magnitude : tie.Need-array-copy-out-cover-magnitude Inv-loop μ-loop
-array-copy-out-cover-magnitude c = omega arith
-
-cover-magnitude-requires : tie.Need-cover-magnitude-requires Inv-loop μ-loop
-cover-magnitude-requires c κs = tt
-
-mul-loads : tie.Need-mul-loads Inv-loop μ-loop
-mul-loads c = omega arith
-
-array-write-loads : tie.Need-array-write-loads Inv-loop μ-loop
-array-write-loads c = omega arith
-
-add-y : tie.Need-add-y Inv-loop μ-loop
-add-y c = omega arith
-
-loop-less : tie.Need-loop-less Inv-loop μ-loop
-loop-less c = omega arith
-
 loop-again : tie.Need-loop-again Inv-loop μ-loop
 loop-again c =
     measure-next (c .before .before .before .loop .inv) (omega arith)
@@ -51,11 +33,7 @@ magnitudes-spec =
     Inv-loop
     μ-loop
     loop-holds
-    array-copy-out-cover-magnitude
-    cover-magnitude-requires
-    mul-loads
-    array-write-loads
-    add-y
-    loop-less
+    (λ c. omega arith) (λ c κs. tt) (λ c. omega arith) (λ c. omega arith) (λ c. omega arith)
+    (λ c. omega arith)
     loop-again
     returns)

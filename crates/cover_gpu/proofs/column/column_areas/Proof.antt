@@ -27,9 +27,6 @@ loop-holds c =
     let e : length (c .before .args .cover .covers) ≡ 4 = search needs in
     (map-start (omega arith), e)
 
-array-copy-out-areas : tie.Need-array-copy-out-areas Inv-loop μ-loop
-array-copy-out-areas c = omega arith
-
 -- a row's cover at 16 bits, and 32 times it
 wide : (z : ℤ) → mag z < 2 ^ 7 → SFits w16 z
 wide z h = sfits-widen {w = w8} tt (sfits-of h)
@@ -48,18 +45,6 @@ mul-areas c =
     let l = c .before .before in
     let z = coverAt (l .before .before .args .cover .covers) (l .loop .y) in
     rw (kept w8 z (c .areas .given), toZ-ofZ (wide z (c .areas .given))) (scaled z (c .areas .given))
-
-mul-areas-2 : tie.Need-mul-areas-2 Inv-loop μ-loop
-mul-areas-2 c = omega arith
-
-array-set-from-areas : tie.Need-array-set-from-areas Inv-loop μ-loop
-array-set-from-areas c = omega arith
-
-add-y : tie.Need-add-y Inv-loop μ-loop
-add-y c = omega arith
-
-loop-less : tie.Need-loop-less Inv-loop μ-loop
-loop-less c = omega arith
 
 loop-again : tie.Need-loop-again Inv-loop μ-loop
 loop-again c =
@@ -80,12 +65,9 @@ column-areas-spec =
     Inv-loop
     μ-loop
     loop-holds
-    array-copy-out-areas
+    (λ c. omega arith)
     cast-areas
     mul-areas
-    mul-areas-2
-    array-set-from-areas
-    add-y
-    loop-less
+    (λ c. omega arith) (λ c. omega arith) (λ c. omega arith) (λ c. omega arith)
     loop-again
     returns)

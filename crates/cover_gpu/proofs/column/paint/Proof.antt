@@ -10,18 +10,12 @@ use Rattle.laws.specs.Lists.{over}
 use Rattle.pixel_segment.specs.Field.{gpu}
 use Rattle.cover_statements.specs.Cover.{coverAt}
 use Rattle.cover_statements.specs.Plane.{planeOf, coveragesOf}
-use Rattle.cover_statements.specs.Weighed.{weightIn, Weighed, coverageIn, coveragesIn, repeated}
+use Rattle.cover_statements.specs.InnerWeighed.{weightIn, Weighed, coverageIn, coveragesIn, repeated}
 use Rattle.cover_statements.proofs.Filled.{over-whole}
 use Rattle.cover_statements.proofs.Repeats.{plane-none, column-in-range}
 use Rattle.cover_statements.proofs.Weighings.{weights-are, coverages-are}
 use Rattle.cover_gpu.proofs.column.paint.Statement.{statement}
 use Rattle.cover_gpu.proofs.column.paint.Tie as tie
-
-column-areas-requires : tie.Need-column-areas-requires
-column-areas-requires c κs = search needs
-
-slice-aggregate-weigh : tie.Need-slice-aggregate-weigh
-slice-aggregate-weigh c = search needs
 
 long : (s : tie.Start) → length (s .args .cover .covers) ≡ 4
 long s = search needs
@@ -55,22 +49,10 @@ weigh-requires c κs =
     let s = c .before .before .before in
     column-in-range gpu 4 (s .args .cover .covers) (long s) (s .pre .0) (c .before .column-areas .ensures)
 
-slice-aggregate-write-coverages : tie.Need-slice-aggregate-write-coverages
-slice-aggregate-write-coverages c = search needs
-
-slice-aggregate-write-coverages-2 : tie.Need-slice-aggregate-write-coverages-2
-slice-aggregate-write-coverages-2 c = search needs
-
 write-coverages-requires : tie.Need-write-coverages-requires
 write-coverages-requires c κs =
     let w = c .before .before .before in
     (weighed w, omega (arith, weights-long w))
-
-repeat-column-requires : tie.Need-repeat-column-requires
-repeat-column-requires c κs = search needs
-
-same-length : tie.Need-same-length
-same-length c = search needs
 
 returns : tie.Need-returns
 returns c =
@@ -86,12 +68,9 @@ pub paint-spec : {M : Type 1} → statement M
 paint-spec =
     tie.close
     (tie.spec
-    column-areas-requires
-    slice-aggregate-weigh
+    (λ c κs. search needs) (λ c. search needs)
     weigh-requires
-    slice-aggregate-write-coverages
-    slice-aggregate-write-coverages-2
+    (λ c. search needs) (λ c. search needs)
     write-coverages-requires
-    repeat-column-requires
-    same-length
+    (λ c κs. search needs) (λ c. search needs)
     returns)

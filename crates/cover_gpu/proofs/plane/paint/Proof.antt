@@ -4,12 +4,6 @@ use Rattle.cover_gpu.proofs.Paintings.{gpu-plane}
 use Rattle.cover_gpu.proofs.plane.paint.Statement.{statement}
 use Rattle.cover_gpu.proofs.plane.paint.Tie as tie
 
-paint-judged-requires : tie.Need-paint-judged-requires
-paint-judged-requires c κs = search needs
-
-same-length : tie.Need-same-length
-same-length c = search needs
-
 returns : tie.Need-returns
 returns c =
     let p = c .before .before in
@@ -17,4 +11,4 @@ returns c =
     gpu-plane (p .paint-judged .ensures) (s .pre .1) (s .pre .0)
 
 pub paint-spec : {M : Type 1} → statement M
-paint-spec = tie.close (tie.spec paint-judged-requires same-length returns)
+paint-spec = tie.close (tie.spec (λ c κs. search needs) (λ c. search needs) returns)

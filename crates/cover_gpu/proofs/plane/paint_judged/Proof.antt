@@ -12,18 +12,15 @@ use Rattle.laws.specs.Lists.{over}
 use Rattle.pixel_segment.specs.Field.{gpu}
 use Rattle.cover_statements.specs.Area.{areasOf}
 use Rattle.cover_statements.specs.Carry.{isLight}
-use Rattle.cover_statements.specs.Cell.{noCells}
+use Rattle.cover_statements.specs.InnerCell.{noCells}
 use Rattle.cover_statements.specs.Cover.{coverAt}
 use Rattle.cover_statements.specs.Plane.{coveragesOf, exchange, planeOf}
-use Rattle.cover_statements.specs.Weighed.{weightIn, Weighed, coveragesIn, weightsPlane}
+use Rattle.cover_statements.specs.InnerWeighed.{weightIn, Weighed, coveragesIn, weightsPlane}
 use Rattle.cover_statements.proofs.Planes.{areas-length, areas-in-range, plane-of-areas}
 use Rattle.cover_statements.proofs.Weighings.{weights-are, coverages-are}
 use Rattle.cover_gpu.proofs.Paintings.{gpu-heavy, gpu-done}
 use Rattle.cover_gpu.proofs.plane.paint_judged.Statement.{statement}
 use Rattle.cover_gpu.proofs.plane.paint_judged.Tie as tie
-
-is-light-requires : tie.Need-is-light-requires
-is-light-requires c κs = search needs
 
 returns : tie.Need-returns
 returns c = gpu-heavy (c .before .before .before .before .before .pre) (sym (c .before .is-light .ensures) ∙ not-true _ (c .if2 .taken))
@@ -36,9 +33,6 @@ paint-requires : tie.Need-paint-requires
 paint-requires c κs =
     let s = c .before .before .before .before .before .before in
     (rw (none (s .args .part .now) (c .before .before .before .if1 .taken)) at (sym (c .before .before .is-light .ensures) ∙ not-false _ (c .before .if2 .left)), s .pre)
-
-same-length : tie.Need-same-length
-same-length c = search needs
 
 returns-2 : tie.Need-returns-2
 returns-2 c =
@@ -74,9 +68,6 @@ weigh-requires c κs =
     let s = c .before .before .before .before .before .before .before in
     areas-in-range gpu 4 (s .args .cover .covers) (s .args .part .now) refl (accepted (c .before)) (areas-are (c .before))
 
-slice-aggregate-write-plane : tie.Need-slice-aggregate-write-plane
-slice-aggregate-write-plane c = search needs
-
 weights-long : (w : tie.After-weigh) → length (w .weigh .last .0) ≡ 64
 weights-long w =
     let t = w .before .before in
@@ -101,9 +92,6 @@ write-plane-requires c κs =
     let w = c .before .before .before in
     (weighed w, omega (arith, weights-long w), w .before .before .before .before .before .before .before .before .pre)
 
-same-length-2 : tie.Need-same-length-2
-same-length-2 c = search needs
-
 returns-4 : tie.Need-returns-4
 returns-4 c =
     let p = c .before .before in
@@ -116,16 +104,16 @@ pub paint-judged-spec : {M : Type 1} → statement M
 paint-judged-spec =
     tie.close
     (tie.spec
-    is-light-requires
+    (λ c κs. search needs)
     returns
     paint-requires
-    same-length
+    (λ c. search needs)
     returns-2
     judged-areas-requires
     returns-3
     slice-aggregate-weigh
     weigh-requires
-    slice-aggregate-write-plane
+    (λ c. search needs)
     write-plane-requires
-    same-length-2
+    (λ c. search needs)
     returns-4)

@@ -3,7 +3,7 @@ use Prim.Native.Nat.{_+_, _*_, _-_}
 use native.Mathlib.Omega.{arith}
 use lib.Ieee.{nan}
 use lib.ListN.{getD}
-use Rattle.cover_statements.specs.Weighed.{coveragesIn}
+use Rattle.cover_statements.specs.InnerWeighed.{coveragesIn}
 use Rattle.cover_statements.proofs.PlaneRows.{PlaneRows, rows-start, rows-room, rows-next, rows-end}
 use Rattle.cover_gpu.proofs.plane.write_plane.Statement.{statement}
 use Rattle.cover_gpu.proofs.plane.write_plane.Tie as tie
@@ -22,12 +22,6 @@ write-row-requires c κs =
     let l = c .before .before in
     let s = l .before .before in
     (s .pre .0, s .pre .1, c .before .loop-test .taken, rows-room (l .loop .inv) (c .before .loop-test .taken))
-
-add-y : tie.Need-add-y Inv-loop μ-loop
-add-y c = omega arith
-
-loop-less : tie.Need-loop-less Inv-loop μ-loop
-loop-less c = omega arith
 
 loop-again : tie.Need-loop-again Inv-loop μ-loop
 loop-again c =
@@ -48,8 +42,7 @@ write-plane-spec =
     μ-loop
     loop-holds
     write-row-requires
-    add-y
-    loop-less
+    (λ c. omega arith) (λ c. omega arith)
     loop-again
     same-length
     returns)

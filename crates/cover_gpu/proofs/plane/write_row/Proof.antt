@@ -8,7 +8,7 @@ use lib.ListN.{getD}
 use mir.Syntax.{w16}
 use Rattle.laws.proofs.Machine.{kept, unsigned}
 use Rattle.laws.proofs.Parts.{whole}
-use Rattle.cover_statements.specs.Weighed.{coverageIn, coveragesIn}
+use Rattle.cover_statements.specs.InnerWeighed.{coverageIn, coveragesIn}
 use Rattle.cover_statements.proofs.PlaneRows.{Row, row-start, row-next, row-end}
 use Rattle.cover_statements.proofs.Weighings.{map-lt}
 use Rattle.cover_gpu.proofs.plane.write_row.Statement.{statement}
@@ -22,18 +22,6 @@ abbrev μ-loop : tie.MeasureT-loop
 
 loop-holds : tie.Need-loop-holds Inv-loop μ-loop
 loop-holds c = row-start (c .before .pre .3)
-
-mul-coverage : tie.Need-mul-coverage Inv-loop μ-loop
-mul-coverage c = omega arith
-
-add-coverage : tie.Need-add-coverage Inv-loop μ-loop
-add-coverage c = omega arith
-
-mul-coverage-2 : tie.Need-mul-coverage-2 Inv-loop μ-loop
-mul-coverage-2 c = omega arith
-
-shared-slice-copy-out-coverage : tie.Need-shared-slice-copy-out-coverage Inv-loop μ-loop
-shared-slice-copy-out-coverage c = omega arith
 
 cast-coverage : tie.Need-cast-coverage Inv-loop μ-loop
 cast-coverage c =
@@ -50,24 +38,6 @@ coverage-requires c κs =
     let s = l .before .before in
     let k = l .loop .x * 4 + s .args .y in
     rw (kept w16 (getD (s .args .weights .now) k (pos 0)) (c .coverage-arg .given)) (s .pre .0 .high k (omega arith))
-
-mul-plane : tie.Need-mul-plane Inv-loop μ-loop
-mul-plane c = omega arith
-
-add-plane : tie.Need-add-plane Inv-loop μ-loop
-add-plane c = omega arith
-
-mul-plane-2 : tie.Need-mul-plane-2 Inv-loop μ-loop
-mul-plane-2 c = omega arith
-
-slice-write-plane : tie.Need-slice-write-plane Inv-loop μ-loop
-slice-write-plane c = omega arith
-
-add-x : tie.Need-add-x Inv-loop μ-loop
-add-x c = omega arith
-
-loop-less : tie.Need-loop-less Inv-loop μ-loop
-loop-less c = omega arith
 
 loop-again : tie.Need-loop-again Inv-loop μ-loop
 loop-again c =
@@ -92,18 +62,11 @@ write-row-spec =
     Inv-loop
     μ-loop
     loop-holds
-    mul-coverage
-    add-coverage
-    mul-coverage-2
-    shared-slice-copy-out-coverage
+    (λ c. omega arith) (λ c. omega arith) (λ c. omega arith) (λ c. omega arith)
     cast-coverage
     coverage-requires
-    mul-plane
-    add-plane
-    mul-plane-2
-    slice-write-plane
-    add-x
-    loop-less
+    (λ c. omega arith) (λ c. omega arith) (λ c. omega arith) (λ c. omega arith) (λ c. omega arith)
+    (λ c. omega arith)
     loop-again
     same-length
     returns)

@@ -6,30 +6,6 @@ use Rattle.ffi.specs.Bounds.{boundsNumber}
 use Rattle.ffi.proofs.bounds.ffi_bound_part.Statement.{statement}
 use Rattle.ffi.proofs.bounds.ffi_bound_part.Tie as tie
 
-bound-part-requires : tie.Need-bound-part-requires
-bound-part-requires c κs = search needs
-
-tell-verdict-requires : tie.Need-tell-verdict-requires
-tell-verdict-requires c κs = search needs
-
-same-length : tie.Need-same-length
-same-length c = search needs
-
-same-length-2 : tie.Need-same-length-2
-same-length-2 c = search needs
-
-same-length-3 : tie.Need-same-length-3
-same-length-3 c = search needs
-
-same-length-4 : tie.Need-same-length-4
-same-length-4 c = search needs
-
-same-length-5 : tie.Need-same-length-5
-same-length-5 c = search needs
-
-same-length-6 : tie.Need-same-length-6
-same-length-6 c = search needs
-
 returns : tie.Need-returns
 returns c =
     let b = c .before .before .before .before .before .before .before .before .before .before .before in
@@ -41,12 +17,6 @@ pub ffi-bound-part-spec : {M : Type 1} → statement M
 ffi-bound-part-spec =
     tie.close
     (tie.spec
-    bound-part-requires
-    tell-verdict-requires
-    same-length
-    same-length-2
-    same-length-3
-    same-length-4
-    same-length-5
-    same-length-6
+    (λ c κs. search needs) (λ c κs. search needs) (λ c. search needs) (λ c. search needs) (λ c. search needs)
+    (λ c. search needs) (λ c. search needs) (λ c. search needs)
     returns)

@@ -6,8 +6,5 @@ use Rattle.ffi.proofs.cached.count_if.Tie as tie
 returns : tie.Need-returns
 returns c = rw (c .if1 .taken)
 
-returns-2 : tie.Need-returns-2
-returns-2 c = search needs
-
 pub count-if-spec : {M : Type 1} → statement M
-count-if-spec = tie.close (tie.spec returns returns-2)
+count-if-spec = tie.close (tie.spec returns (λ c. search needs))

@@ -6,15 +6,6 @@ use Rattle.ffi.proofs.Told.{optional}
 use Rattle.ffi.proofs.cached.ffi_layer_count.Statement.{statement}
 use Rattle.ffi.proofs.cached.ffi_layer_count.Tie as tie
 
-to-tile-requires : tie.Need-to-tile-requires
-to-tile-requires c κs = search needs
-
-layer-count-requires : tie.Need-layer-count-requires
-layer-count-requires c κs = search needs
-
-put-count-requires : tie.Need-put-count-requires
-put-count-requires c κs = search needs
-
 returns : tie.Need-returns
 returns c =
     optional
@@ -24,4 +15,4 @@ returns c =
 
 pub ffi-layer-count-spec : {M : Type 1} → statement M
 ffi-layer-count-spec =
-    tie.close (tie.spec to-tile-requires layer-count-requires put-count-requires returns)
+    tie.close (tie.spec (λ c κs. search needs) (λ c κs. search needs) (λ c κs. search needs) returns)

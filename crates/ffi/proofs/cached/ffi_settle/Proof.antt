@@ -4,15 +4,6 @@ use Rattle.ffi.proofs.Told.{settled}
 use Rattle.ffi.proofs.cached.ffi_settle.Statement.{statement}
 use Rattle.ffi.proofs.cached.ffi_settle.Tie as tie
 
-to-tile-requires : tie.Need-to-tile-requires
-to-tile-requires c κs = search needs
-
-settle-requires : tie.Need-settle-requires
-settle-requires c κs = search needs
-
-put-settlement-requires : tie.Need-put-settlement-requires
-put-settlement-requires c κs = search needs
-
 returns : tie.Need-returns
 returns c =
     let done = c .before .before .before .before .settle .ensures in
@@ -23,4 +14,4 @@ returns c =
 pub ffi-settle-spec : {M : Type 1} → statement M
 ffi-settle-spec =
     tie.close
-    (tie.spec to-tile-requires settle-requires put-settlement-requires returns)
+    (tie.spec (λ c κs. search needs) (λ c κs. search needs) (λ c κs. search needs) returns)

@@ -6,15 +6,6 @@ use Rattle.ffi.proofs.Told.{colored}
 use Rattle.ffi.proofs.cached.ffi_solid_color.Statement.{statement}
 use Rattle.ffi.proofs.cached.ffi_solid_color.Tie as tie
 
-to-tile-requires : tie.Need-to-tile-requires
-to-tile-requires c κs = search needs
-
-solid-color-requires : tie.Need-solid-color-requires
-solid-color-requires c κs = search needs
-
-put-color-requires : tie.Need-put-color-requires
-put-color-requires c κs = search needs
-
 returns : tie.Need-returns
 returns c =
     colored
@@ -24,4 +15,4 @@ returns c =
 
 pub ffi-solid-color-spec : {M : Type 1} → statement M
 ffi-solid-color-spec =
-    tie.close (tie.spec to-tile-requires solid-color-requires put-color-requires returns)
+    tie.close (tie.spec (λ c κs. search needs) (λ c κs. search needs) (λ c κs. search needs) returns)

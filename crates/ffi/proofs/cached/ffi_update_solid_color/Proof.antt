@@ -7,18 +7,6 @@ use Rattle.ffi.proofs.Told.{colored}
 use Rattle.ffi.proofs.cached.ffi_update_solid_color.Statement.{statement}
 use Rattle.ffi.proofs.cached.ffi_update_solid_color.Tie as tie
 
-to-tile-requires : tie.Need-to-tile-requires
-to-tile-requires c κs = search needs
-
-update-solid-color-requires : tie.Need-update-solid-color-requires
-update-solid-color-requires c κs = search needs
-
-to-bytes-requires : tie.Need-to-bytes-requires
-to-bytes-requires c κs = search needs
-
-put-color-requires : tie.Need-put-color-requires
-put-color-requires c κs = search needs
-
 returns : tie.Need-returns
 returns c =
     let updated = c .before .before .before .before .before .update-solid-color .ensures in
@@ -31,8 +19,5 @@ pub ffi-update-solid-color-spec : {M : Type 1} → statement M
 ffi-update-solid-color-spec =
     tie.close
     (tie.spec
-    to-tile-requires
-    update-solid-color-requires
-    to-bytes-requires
-    put-color-requires
+    (λ c κs. search needs) (λ c κs. search needs) (λ c κs. search needs) (λ c κs. search needs)
     returns)

@@ -4,12 +4,6 @@ use Rattle.ffi.proofs.Told.{answered}
 use Rattle.ffi.proofs.covers.ffi_carry.Statement.{statement}
 use Rattle.ffi.proofs.covers.ffi_carry.Tie as tie
 
-carry-requires : tie.Need-carry-requires
-carry-requires c κs = search needs
-
-put-carried-requires : tie.Need-put-carried-requires
-put-carried-requires c κs = search needs
-
 returns : tie.Need-returns
 returns c =
     answered
@@ -18,4 +12,4 @@ returns c =
     (c .put-carried .ensures)
 
 pub ffi-carry-spec : {M : Type 1} → statement M
-ffi-carry-spec = tie.close (tie.spec carry-requires put-carried-requires returns)
+ffi-carry-spec = tie.close (tie.spec (λ c κs. search needs) (λ c κs. search needs) returns)

@@ -4,14 +4,8 @@ use mir.Facts.{toZ-ofZ}
 use Rattle.ffi.proofs.covers.ffi_doubled_area_to_coverage.Statement.{statement}
 use Rattle.ffi.proofs.covers.ffi_doubled_area_to_coverage.Tie as tie
 
-fill-rule-requires : tie.Need-fill-rule-requires
-fill-rule-requires c κs = search needs
-
-doubled-area-to-coverage-requires : tie.Need-doubled-area-to-coverage-requires
-doubled-area-to-coverage-requires c κs = search needs
-
 returns : tie.Need-returns
 returns c = rw (c .doubled-area-to-coverage .ensures, c .before .fill-rule .ensures, toZ-ofZ (c .before .before .fits .d))
 
 pub ffi-doubled-area-to-coverage-spec : {M : Type 1} → statement M
-ffi-doubled-area-to-coverage-spec = tie.close (tie.spec fill-rule-requires doubled-area-to-coverage-requires returns)
+ffi-doubled-area-to-coverage-spec = tie.close (tie.spec (λ c κs. search needs) (λ c κs. search needs) returns)

@@ -4,14 +4,8 @@ use Rattle.ffi.proofs.Told.{answered}
 use Rattle.ffi.proofs.covers.ffi_mark_plane.Statement.{statement}
 use Rattle.ffi.proofs.covers.ffi_mark_plane.Tie as tie
 
-mark-plane-requires : tie.Need-mark-plane-requires
-mark-plane-requires c κs = search needs
-
-put-marked-requires : tie.Need-put-marked-requires
-put-marked-requires c κs = search needs
-
 returns : tie.Need-returns
 returns c = answered (c .before .before .before .before .args .mark .now) (c .before .before .mark-plane .ensures) (c .put-marked .ensures)
 
 pub ffi-mark-plane-spec : {M : Type 1} → statement M
-ffi-mark-plane-spec = tie.close (tie.spec mark-plane-requires put-marked-requires returns)
+ffi-mark-plane-spec = tie.close (tie.spec (λ c κs. search needs) (λ c κs. search needs) returns)

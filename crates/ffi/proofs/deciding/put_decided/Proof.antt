@@ -5,27 +5,6 @@ use borrow.Author.Needs.{needs}
 use Rattle.ffi.proofs.deciding.put_decided.Statement.{statement}
 use Rattle.ffi.proofs.deciding.put_decided.Tie as tie
 
-enum-known-answer : tie.Need-enum-known-answer
-enum-known-answer c = search needs
-
-number-of-requires : tie.Need-number-of-requires
-number-of-requires c κs = search needs
-
-enum-known-answer-2 : tie.Need-enum-known-answer-2
-enum-known-answer-2 c = search needs
-
-put-kept-requires : tie.Need-put-kept-requires
-put-kept-requires c κs = search needs
-
-code-of-requires : tie.Need-code-of-requires
-code-of-requires c κs = search needs
-
-before-of-requires : tie.Need-before-of-requires
-before-of-requires c κs = search needs
-
-put-bottom-requires : tie.Need-put-bottom-requires
-put-bottom-requires c κs = search needs
-
 returns : tie.Need-returns
 returns c = rw (c .before .before .answer .given .1) (c .number-of .ensures, refl)
 
@@ -39,12 +18,7 @@ pub put-decided-spec : {M : Type 1} → statement M
 put-decided-spec =
     tie.close
     (tie.spec
-    enum-known-answer
-    number-of-requires
-    enum-known-answer-2
-    put-kept-requires
-    code-of-requires
-    before-of-requires
-    put-bottom-requires
+    (λ c. search needs) (λ c κs. search needs) (λ c. search needs) (λ c κs. search needs)
+    (λ c κs. search needs) (λ c κs. search needs) (λ c κs. search needs)
     returns
     returns-2)

@@ -6,30 +6,6 @@ use Rattle.laws.proofs.Machine.{kept}
 use Rattle.ffi.proofs.four_high.ffi_gpu_fields.Statement.{statement}
 use Rattle.ffi.proofs.four_high.ffi_gpu_fields.Tie as tie
 
-layer-id-requires : tie.Need-layer-id-requires
-layer-id-requires c κs = search needs
-
-tile-x-requires : tie.Need-tile-x-requires
-tile-x-requires c κs = search needs
-
-tile-y-requires : tie.Need-tile-y-requires
-tile-y-requires c κs = search needs
-
-local-x-requires : tie.Need-local-x-requires
-local-x-requires c κs = search needs
-
-local-y-requires : tie.Need-local-y-requires
-local-y-requires c κs = search needs
-
-double-area-multiplier-requires : tie.Need-double-area-multiplier-requires
-double-area-multiplier-requires c κs = search needs
-
-double-area-requires : tie.Need-double-area-requires
-double-area-requires c κs = search needs
-
-cover-requires : tie.Need-cover-requires
-cover-requires c κs = search needs
-
 returns : tie.Need-returns
 returns c =
     let area = c .before in
@@ -65,12 +41,6 @@ pub ffi-gpu-fields-spec : {M : Type 1} → statement M
 ffi-gpu-fields-spec =
     tie.close
     (tie.spec
-    layer-id-requires
-    tile-x-requires
-    tile-y-requires
-    local-x-requires
-    local-y-requires
-    double-area-multiplier-requires
-    double-area-requires
-    cover-requires
+    (λ c κs. search needs) (λ c κs. search needs) (λ c κs. search needs) (λ c κs. search needs)
+    (λ c κs. search needs) (λ c κs. search needs) (λ c κs. search needs) (λ c κs. search needs)
     returns)

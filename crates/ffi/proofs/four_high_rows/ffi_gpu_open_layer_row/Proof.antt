@@ -5,15 +5,6 @@ use Rattle.ffi.proofs.FourHighTold.{layer-opened}
 use Rattle.ffi.proofs.four_high_rows.ffi_gpu_open_layer_row.Statement.{statement}
 use Rattle.ffi.proofs.four_high_rows.ffi_gpu_open_layer_row.Tie as tie
 
-fill-rule-requires : tie.Need-fill-rule-requires
-fill-rule-requires c κs = search needs
-
-open-layer-row-requires : tie.Need-open-layer-row-requires
-open-layer-row-requires c κs = search needs
-
-put-layer-row-requires : tie.Need-put-layer-row-requires
-put-layer-row-requires c κs = search needs
-
 returns : tie.Need-returns
 returns c =
     let o = c .before .before .before .before in
@@ -25,4 +16,4 @@ returns c =
 
 pub ffi-gpu-open-layer-row-spec : {M : Type 1} → statement M
 ffi-gpu-open-layer-row-spec =
-    tie.close (tie.spec fill-rule-requires open-layer-row-requires put-layer-row-requires returns)
+    tie.close (tie.spec (λ c κs. search needs) (λ c κs. search needs) (λ c κs. search needs) returns)

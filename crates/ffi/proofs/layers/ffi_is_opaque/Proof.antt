@@ -5,18 +5,6 @@ use Rattle.styling.specs.Codes.{fillOf}
 use Rattle.ffi.proofs.layers.ffi_is_opaque.Statement.{statement}
 use Rattle.ffi.proofs.layers.ffi_is_opaque.Tie as tie
 
-to-color-requires : tie.Need-to-color-requires
-to-color-requires c κs = search needs
-
-fill-requires : tie.Need-fill-requires
-fill-requires c κs = search needs
-
-blend-mode-requires : tie.Need-blend-mode-requires
-blend-mode-requires c κs = search needs
-
-is-opaque-requires : tie.Need-is-opaque-requires
-is-opaque-requires c κs = search needs
-
 returns : tie.Need-returns
 returns c =
     let fill =
@@ -26,4 +14,4 @@ returns c =
 pub ffi-is-opaque-spec : {M : Type 1} → statement M
 ffi-is-opaque-spec =
     tie.close
-    (tie.spec to-color-requires fill-requires blend-mode-requires is-opaque-requires returns)
+    (tie.spec (λ c κs. search needs) (λ c κs. search needs) (λ c κs. search needs) (λ c κs. search needs) returns)

@@ -5,14 +5,8 @@ use Rattle.layer_workbench.specs.declared.PreviousClear.the-variants.{Given}
 use Rattle.ffi.proofs.layers.to_previous.Statement.{statement}
 use Rattle.ffi.proofs.layers.to_previous.Tie as tie
 
-to-color-requires : tie.Need-to-color-requires
-to-color-requires c κs = search needs
-
 returns : tie.Need-returns
 returns c = rw (c .before .if1 .taken) (ap Given (c .to-color .ensures))
 
-returns-2 : tie.Need-returns-2
-returns-2 c = search needs
-
 pub to-previous-spec : {M : Type 1} → statement M
-to-previous-spec = tie.close (tie.spec to-color-requires returns returns-2)
+to-previous-spec = tie.close (tie.spec (λ c κs. search needs) returns (λ c. search needs))

@@ -8,30 +8,6 @@ use Rattle.ffi.proofs.Told.{listed}
 use Rattle.ffi.proofs.listing.ffi_list_tile.Statement.{statement}
 use Rattle.ffi.proofs.listing.ffi_list_tile.Tie as tie
 
-to-state-requires : tie.Need-to-state-requires
-to-state-requires c κs = search needs
-
-list-tile-requires : tie.Need-list-tile-requires
-list-tile-requires c κs = search needs
-
-put-listed-requires : tie.Need-put-listed-requires
-put-listed-requires c κs = search needs
-
-same-length : tie.Need-same-length
-same-length c = search needs
-
-same-length-2 : tie.Need-same-length-2
-same-length-2 c = search needs
-
-same-length-3 : tie.Need-same-length-3
-same-length-3 c = search needs
-
-same-length-4 : tie.Need-same-length-4
-same-length-4 c = search needs
-
-same-length-5 : tie.Need-same-length-5
-same-length-5 c = search needs
-
 returns : tie.Need-returns
 returns c =
     let s = c .before .before .before .before .before .before .before .before .before .before .before .before .before .before .before .before .before .before .before .before .before .before .before .before .before .before .before .before .before in
@@ -45,12 +21,6 @@ pub ffi-list-tile-spec : {M : Type 1} → statement M
 ffi-list-tile-spec =
     tie.close
     (tie.spec
-    to-state-requires
-    list-tile-requires
-    put-listed-requires
-    same-length
-    same-length-2
-    same-length-3
-    same-length-4
-    same-length-5
+    (λ c κs. search needs) (λ c κs. search needs) (λ c κs. search needs) (λ c. search needs)
+    (λ c. search needs) (λ c. search needs) (λ c. search needs) (λ c. search needs)
     returns)

@@ -8,18 +8,6 @@ use Rattle.ffi.proofs.Told.{painted}
 use Rattle.ffi.proofs.painting.ffi_paint_layer.Statement.{statement}
 use Rattle.ffi.proofs.painting.ffi_paint_layer.Tie as tie
 
-to-state-requires : tie.Need-to-state-requires
-to-state-requires c κs = search needs
-
-paint-layer-requires : tie.Need-paint-layer-requires
-paint-layer-requires c κs = search needs
-
-put-painted-requires : tie.Need-put-painted-requires
-put-painted-requires c κs = search needs
-
-same-length : tie.Need-same-length
-same-length c = search needs
-
 returns : tie.Need-returns
 returns c =
     let s = c .before .before .before .before .before .before .before .before .before .before .before .before .before .before .before .before .before in
@@ -34,4 +22,4 @@ returns c =
 pub ffi-paint-layer-spec : {M : Type 1} → statement M
 ffi-paint-layer-spec =
     tie.close
-    (tie.spec to-state-requires paint-layer-requires put-painted-requires same-length returns)
+    (tie.spec (λ c κs. search needs) (λ c κs. search needs) (λ c κs. search needs) (λ c. search needs) returns)

@@ -4,18 +4,6 @@ use borrow.Author.Needs.{needs}
 use Rattle.ffi.proofs.painting.put_painted.Statement.{statement}
 use Rattle.ffi.proofs.painting.put_painted.Tie as tie
 
-enum-known-answer : tie.Need-enum-known-answer
-enum-known-answer c = search needs
-
-number-of-requires : tie.Need-number-of-requires
-number-of-requires c κs = search needs
-
-enum-known-answer-2 : tie.Need-enum-known-answer-2
-enum-known-answer-2 c = search needs
-
-put-state-requires : tie.Need-put-state-requires
-put-state-requires c κs = search needs
-
 returns : tie.Need-returns
 returns c = rw (c .before .before .answer .given .1) (c .number-of .ensures, refl)
 
@@ -29,9 +17,6 @@ pub put-painted-spec : {M : Type 1} → statement M
 put-painted-spec =
     tie.close
     (tie.spec
-    enum-known-answer
-    number-of-requires
-    enum-known-answer-2
-    put-state-requires
+    (λ c. search needs) (λ c κs. search needs) (λ c. search needs) (λ c κs. search needs)
     returns
     returns-2)

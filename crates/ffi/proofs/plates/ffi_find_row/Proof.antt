@@ -5,12 +5,6 @@ use Rattle.plate.specs.declared.Part.{Part}
 use Rattle.ffi.proofs.plates.ffi_find_row.Statement.{statement}
 use Rattle.ffi.proofs.plates.ffi_find_row.Tie as tie
 
-find-row-requires : tie.Need-find-row-requires
-find-row-requires c κs = search needs
-
-put-part-requires : tie.Need-put-part-requires
-put-part-requires c κs = search needs
-
 returns : tie.Need-returns
 returns c =
     let found = c .before .before .find-row .ensures in
@@ -18,4 +12,4 @@ returns c =
     (put .0 ∙ ap (λ (p : Part). p .start) found, put .1 ∙ ap (λ (p : Part). p .end) found)
 
 pub ffi-find-row-spec : {M : Type 1} → statement M
-ffi-find-row-spec = tie.close (tie.spec find-row-requires put-part-requires returns)
+ffi-find-row-spec = tie.close (tie.spec (λ c κs. search needs) (λ c κs. search needs) returns)

@@ -5,18 +5,6 @@ use Rattle.ffi.proofs.Told.{opened}
 use Rattle.ffi.proofs.rows.ffi_open_tile_row.Statement.{statement}
 use Rattle.ffi.proofs.rows.ffi_open_tile_row.Tie as tie
 
-open-tile-row-requires : tie.Need-open-tile-row-requires
-open-tile-row-requires c κs = search needs
-
-put-opened-requires : tie.Need-put-opened-requires
-put-opened-requires c κs = search needs
-
-same-length : tie.Need-same-length
-same-length c = search needs
-
-same-length-2 : tie.Need-same-length-2
-same-length-2 c = search needs
-
 returns : tie.Need-returns
 returns c =
     let s = c .before .before .before .before .before .before .before .before .before .before .before .before .before in
@@ -26,4 +14,4 @@ returns c =
 pub ffi-open-tile-row-spec : {M : Type 1} → statement M
 ffi-open-tile-row-spec =
     tie.close
-    (tie.spec open-tile-row-requires put-opened-requires same-length same-length-2 returns)
+    (tie.spec (λ c κs. search needs) (λ c κs. search needs) (λ c. search needs) (λ c. search needs) returns)

@@ -5,21 +5,6 @@ use Rattle.ffi.proofs.Told.{edited}
 use Rattle.ffi.proofs.sets.ffi_let_out.Statement.{statement}
 use Rattle.ffi.proofs.sets.ffi_let_out.Tie as tie
 
-to-set-requires : tie.Need-to-set-requires
-to-set-requires c κs = search needs
-
-let-out-requires : tie.Need-let-out-requires
-let-out-requires c κs = search needs
-
-put-edited-requires : tie.Need-put-edited-requires
-put-edited-requires c κs = search needs
-
-same-length : tie.Need-same-length
-same-length c = search needs
-
-same-length-2 : tie.Need-same-length-2
-same-length-2 c = search needs
-
 returns : tie.Need-returns
 returns c =
     let e = c .before .before .before .before .before .before .before .before in
@@ -31,9 +16,6 @@ pub ffi-let-out-spec : {M : Type 1} → statement M
 ffi-let-out-spec =
     tie.close
     (tie.spec
-    to-set-requires
-    let-out-requires
-    put-edited-requires
-    same-length
-    same-length-2
+    (λ c κs. search needs) (λ c κs. search needs) (λ c κs. search needs) (λ c. search needs)
+    (λ c. search needs)
     returns)

@@ -4,15 +4,6 @@ use borrow.Author.Needs.{needs}
 use Rattle.ffi.proofs.sets.put_edited.Statement.{statement}
 use Rattle.ffi.proofs.sets.put_edited.Tie as tie
 
-enum-known-verdict : tie.Need-enum-known-verdict
-enum-known-verdict c = search needs
-
-number-of-requires : tie.Need-number-of-requires
-number-of-requires c κs = search needs
-
-enum-told : tie.Need-enum-told
-enum-told c = search needs
-
 returns : tie.Need-returns
 returns c = rw (c .before .before .verdict .given .1) (c .number-of .ensures, refl)
 
@@ -21,4 +12,4 @@ returns-2 c = rw (c .before .before .before .enum-told .given .1) (refl, refl)
 
 pub put-edited-spec : {M : Type 1} → statement M
 put-edited-spec =
-    tie.close (tie.spec enum-known-verdict number-of-requires enum-told returns returns-2)
+    tie.close (tie.spec (λ c. search needs) (λ c κs. search needs) (λ c. search needs) returns returns-2)

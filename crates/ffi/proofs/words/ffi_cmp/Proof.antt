@@ -4,14 +4,8 @@ use borrow.Author.Needs.{needs}
 use Rattle.ffi.proofs.words.ffi_cmp.Statement.{statement}
 use Rattle.ffi.proofs.words.ffi_cmp.Tie as tie
 
-cmp-requires : tie.Need-cmp-requires
-cmp-requires c κs = search needs
-
-rank-of-requires : tie.Need-rank-of-requires
-rank-of-requires c κs = search needs
-
 returns : tie.Need-returns
 returns c = c .rank-of .ensures ∙ c .before .cmp .ensures
 
 pub ffi-cmp-spec : {M : Type 1} → statement M
-ffi-cmp-spec = tie.close (tie.spec cmp-requires rank-of-requires returns)
+ffi-cmp-spec = tie.close (tie.spec (λ c κs. search needs) (λ c κs. search needs) returns)

@@ -5,15 +5,9 @@ use Rattle.ffi.proofs.Told.{searched}
 use Rattle.ffi.proofs.words.ffi_search_last_by_tile_y.Statement.{statement}
 use Rattle.ffi.proofs.words.ffi_search_last_by_tile_y.Tie as tie
 
-search-last-by-tile-y-requires : tie.Need-search-last-by-tile-y-requires
-search-last-by-tile-y-requires c κs = search needs
-
-put-found-requires : tie.Need-put-found-requires
-put-found-requires c κs = search needs
-
 returns : tie.Need-returns
 returns c = rw (toZ-ofZ (c .before .before .before .before .fits .tile-y)) at (searched (c .before .before .search-last-by-tile-y .ensures) (c .put-found .ensures))
 
 pub ffi-search-last-by-tile-y-spec : {M : Type 1} → statement M
 ffi-search-last-by-tile-y-spec =
-    tie.close (tie.spec search-last-by-tile-y-requires put-found-requires returns)
+    tie.close (tie.spec (λ c κs. search needs) (λ c κs. search needs) returns)

@@ -4,15 +4,9 @@ use Rattle.ffi.proofs.Told.{searched}
 use Rattle.ffi.proofs.words.ffi_search_last_by_tile_y_not_negative.Statement.{statement}
 use Rattle.ffi.proofs.words.ffi_search_last_by_tile_y_not_negative.Tie as tie
 
-search-last-by-tile-y-not-negative-requires : tie.Need-search-last-by-tile-y-not-negative-requires
-search-last-by-tile-y-not-negative-requires c κs = search needs
-
-put-found-requires : tie.Need-put-found-requires
-put-found-requires c κs = search needs
-
 returns : tie.Need-returns
 returns c = searched (c .before .before .search-last-by-tile-y-not-negative .ensures) (c .put-found .ensures)
 
 pub ffi-search-last-by-tile-y-not-negative-spec : {M : Type 1} → statement M
 ffi-search-last-by-tile-y-not-negative-spec =
-    tie.close (tie.spec search-last-by-tile-y-not-negative-requires put-found-requires returns)
+    tie.close (tie.spec (λ c κs. search needs) (λ c κs. search needs) returns)

@@ -10,42 +10,6 @@ use Rattle.ffi.proofs.Told.{worked}
 use Rattle.ffi.proofs.working.ffi_work_tile.Statement.{statement}
 use Rattle.ffi.proofs.working.ffi_work_tile.Tie as tie
 
-to-tile-requires : tie.Need-to-tile-requires
-to-tile-requires c κs = search needs
-
-to-color-requires : tie.Need-to-color-requires
-to-color-requires c κs = search needs
-
-to-state-requires : tie.Need-to-state-requires
-to-state-requires c κs = search needs
-
-to-previous-requires : tie.Need-to-previous-requires
-to-previous-requires c κs = search needs
-
-work-tile-requires : tie.Need-work-tile-requires
-work-tile-requires c κs = search needs
-
-put-worked-requires : tie.Need-put-worked-requires
-put-worked-requires c κs = search needs
-
-same-length : tie.Need-same-length
-same-length c = search needs
-
-same-length-2 : tie.Need-same-length-2
-same-length-2 c = search needs
-
-same-length-3 : tie.Need-same-length-3
-same-length-3 c = search needs
-
-same-length-4 : tie.Need-same-length-4
-same-length-4 c = search needs
-
-same-length-5 : tie.Need-same-length-5
-same-length-5 c = search needs
-
-same-length-6 : tie.Need-same-length-6
-same-length-6 c = search needs
-
 returns : tie.Need-returns
 returns c =
     let s = c .before .before .before .before .before .before .before .before .before .before .before .before .before .before .before .before .before .before .before .before .before .before .before .before .before .before .before .before .before .before .before .before .before .before .before .before .before .before .before .before .before .before in
@@ -61,16 +25,7 @@ pub ffi-work-tile-spec : {M : Type 1} → statement M
 ffi-work-tile-spec =
     tie.close
     (tie.spec
-    to-tile-requires
-    to-state-requires
-    to-color-requires
-    to-previous-requires
-    work-tile-requires
-    put-worked-requires
-    same-length
-    same-length-2
-    same-length-3
-    same-length-4
-    same-length-5
-    same-length-6
+    (λ c κs. search needs) (λ c κs. search needs) (λ c κs. search needs) (λ c κs. search needs)
+    (λ c κs. search needs) (λ c κs. search needs) (λ c. search needs) (λ c. search needs) (λ c. search needs)
+    (λ c. search needs) (λ c. search needs) (λ c. search needs)
     returns)

@@ -4,18 +4,6 @@ use borrow.Author.Needs.{needs}
 use Rattle.ffi_numbers.proofs.rows.put_opened.Statement.{statement}
 use Rattle.ffi_numbers.proofs.rows.put_opened.Tie as tie
 
-enum-known-opened : tie.Need-enum-known-opened
-enum-known-opened c = search needs
-
-put-state-requires : tie.Need-put-state-requires
-put-state-requires c κs = search needs
-
-enum-known-opened-2 : tie.Need-enum-known-opened-2
-enum-known-opened-2 c = search needs
-
-number-of-requires : tie.Need-number-of-requires
-number-of-requires c κs = search needs
-
 returns : tie.Need-returns
 returns c =
     let put = c .put-state .ensures in
@@ -28,9 +16,6 @@ pub put-opened-spec : {M : Type 1} → statement M
 put-opened-spec =
     tie.close
     (tie.spec
-    enum-known-opened
-    put-state-requires
-    enum-known-opened-2
-    number-of-requires
+    (λ c. search needs) (λ c κs. search needs) (λ c. search needs) (λ c κs. search needs)
     returns
     returns-2)

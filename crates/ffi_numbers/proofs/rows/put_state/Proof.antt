@@ -4,14 +4,8 @@ use borrow.Author.Needs.{needs}
 use Rattle.ffi_numbers.proofs.rows.put_state.Statement.{statement}
 use Rattle.ffi_numbers.proofs.rows.put_state.Tie as tie
 
-clip-flag-requires : tie.Need-clip-flag-requires
-clip-flag-requires c κs = search needs
-
-clip-last-requires : tie.Need-clip-last-requires
-clip-last-requires c κs = search needs
-
 returns : tie.Need-returns
 returns c = rw (c .before .before .before .clip-flag .ensures, c .before .before .clip-last .ensures) (refl, refl)
 
 pub put-state-spec : {M : Type 1} → statement M
-put-state-spec = tie.close (tie.spec clip-flag-requires clip-last-requires returns)
+put-state-spec = tie.close (tie.spec (λ c κs. search needs) (λ c κs. search needs) returns)

@@ -12,10 +12,6 @@ Inv-loop row word n₀ i₀ n i = Unit {0}
 abbrev μ-loop : tie.MeasureT-loop
 μ-loop row word n₀ i₀ n i = length row - i
 
-shared-slice-read-wrapping-add-usize :
-    tie.Need-shared-slice-read-wrapping-add-usize Inv-loop μ-loop
-shared-slice-read-wrapping-add-usize c = omega arith
-
 pub count-word-spec : {M : Type 1} → statement M
 count-word-spec =
     tie.close
@@ -23,6 +19,6 @@ count-word-spec =
     Inv-loop
     μ-loop
     (λ c. tt) (λ c. omega arith)
-    shared-slice-read-wrapping-add-usize
+    (λ c. omega arith)
     (λ c. search needs) (λ c κs. search needs) (λ c. omega arith) (λ c. omega arith) (λ c. tt)
     (λ c. search needs))

@@ -8,21 +8,9 @@ use Rattle.kept_count.proofs.Verdicts.{room}
 use Rattle.kept_count.proofs.judging.judge_keeping.Statement.{statement}
 use Rattle.kept_count.proofs.judging.judge_keeping.Tie as tie
 
-is-short-requires : tie.Need-is-short-requires
-is-short-requires c κs = search needs
-
-is-short-requires-2 : tie.Need-is-short-requires-2
-is-short-requires-2 c κs = search needs
-
 returns : tie.Need-returns
 unfolding keepVerdict
 returns c = rw (← c .before .before .is-short .ensures, ← c .before .is-short2 .ensures, c .if1 .taken)
-
-judged-count-requires : tie.Need-judged-count-requires
-judged-count-requires c κs = search needs
-
-judged-count-requires-2 : tie.Need-judged-count-requires-2
-judged-count-requires-2 c κs = search needs
 
 are-kinds-requires : tie.Need-are-kinds-requires
 are-kinds-requires c κs =
@@ -40,18 +28,9 @@ returns-2 : tie.Need-returns-2
 unfolding keepVerdict
 returns-2 c = rw (← c .before .before .before .before .before .before .before .is-short .ensures, ← c .before .before .before .before .before .before .is-short2 .ensures, c .before .before .before .before .before .if1 .left, ← c .before .before .before .before .judged-count .ensures, ← c .before .before .before .judged-count2 .ensures, ← c .before .before .are-kinds .ensures, ← c .before .are-kinds2 .ensures, c .if2 .taken)
 
-is-queue-requires : tie.Need-is-queue-requires
-is-queue-requires c κs = search needs
-
-is-queue-requires-2 : tie.Need-is-queue-requires-2
-is-queue-requires-2 c κs = search needs
-
 returns-3 : tie.Need-returns-3
 unfolding keepVerdict
 returns-3 c = rw (← c .before .before .before .before .before .before .before .before .before .before .is-short .ensures, ← c .before .before .before .before .before .before .before .before .before .is-short2 .ensures, c .before .before .before .before .before .before .before .before .if1 .left, ← c .before .before .before .before .before .before .before .judged-count .ensures, ← c .before .before .before .before .before .before .judged-count2 .ensures, ← c .before .before .before .before .before .are-kinds .ensures, ← c .before .before .before .before .are-kinds2 .ensures, c .before .before .before .if2 .left, ← c .before .before .is-queue .ensures, ← c .before .is-queue2 .ensures, c .if3 .taken)
-
-is-tag-out-of-range-requires : tie.Need-is-tag-out-of-range-requires
-is-tag-out-of-range-requires c κs = search needs
 
 returns-4 : tie.Need-returns-4
 unfolding keepVerdict
@@ -69,18 +48,15 @@ pub judge-keeping-spec : {M : Type 1} → statement M
 judge-keeping-spec =
     tie.close
     (tie.spec
-    is-short-requires
-    is-short-requires-2
+    (λ c κs. search needs) (λ c κs. search needs)
     returns
-    judged-count-requires
-    judged-count-requires-2
+    (λ c κs. search needs) (λ c κs. search needs)
     are-kinds-requires
     are-kinds-requires-2
     returns-2
-    is-queue-requires
-    is-queue-requires-2
+    (λ c κs. search needs) (λ c κs. search needs)
     returns-3
-    is-tag-out-of-range-requires
+    (λ c κs. search needs)
     returns-4
     returns-5
     returns-6)

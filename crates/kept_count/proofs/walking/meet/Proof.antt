@@ -5,18 +5,6 @@ use Rattle.kept_count.proofs.Members.{meets, meets-none}
 use Rattle.kept_count.proofs.walking.meet.Statement.{statement}
 use Rattle.kept_count.proofs.walking.meet.Tie as tie
 
-mul-if2 : tie.Need-mul-if2
-mul-if2 c = search needs
-
-shared-slice-read-if2 : tie.Need-shared-slice-read-if2
-shared-slice-read-if2 c = search needs
-
-shared-slice-read-if2-2 : tie.Need-shared-slice-read-if2-2
-shared-slice-read-if2-2 c = search needs
-
-add-result : tie.Need-add-result
-add-result c = search needs
-
 returns : tie.Need-returns
 returns c = meets _ _ _ _ _ (c .before .before .before .if1 .taken) true (c .if2 .taken)
 
@@ -30,10 +18,7 @@ pub meet-spec : {M : Type 1} → statement M
 meet-spec =
     tie.close
     (tie.spec
-    mul-if2
-    shared-slice-read-if2
-    shared-slice-read-if2-2
-    add-result
+    (λ c. search needs) (λ c. search needs) (λ c. search needs) (λ c. search needs)
     returns
     returns-2
     returns-3)

@@ -18,25 +18,10 @@ abbrev μ-loop : tie.MeasureT-loop
 loop-holds : tie.Need-loop-holds Inv-loop μ-loop
 loop-holds c = (omega arith, start _ _)
 
-mul-meet : tie.Need-mul-meet Inv-loop μ-loop
-mul-meet c = omega arith
-
-shared-slice-read-meet : tie.Need-shared-slice-read-meet Inv-loop μ-loop
-shared-slice-read-meet c = omega arith
-
-shared-slice-read-meet-2 : tie.Need-shared-slice-read-meet-2 Inv-loop μ-loop
-shared-slice-read-meet-2 c = omega arith
-
 meet-requires : tie.Need-meet-requires Inv-loop μ-loop
 meet-requires c κs =
     let p = c .before .before .before .before .before .before .before .before .pre .0 in
     (p .few, p .ids-long, p .kinds-long)
-
-add-i : tie.Need-add-i Inv-loop μ-loop
-add-i c = omega arith
-
-loop-less : tie.Need-loop-less Inv-loop μ-loop
-loop-less c = omega arith
 
 loop-again : tie.Need-loop-again Inv-loop μ-loop
 loop-again c =
@@ -61,11 +46,8 @@ stay-spec =
     Inv-loop
     μ-loop
     loop-holds
-    mul-meet
-    shared-slice-read-meet
-    shared-slice-read-meet-2
+    (λ c. omega arith) (λ c. omega arith) (λ c. omega arith)
     meet-requires
-    add-i
-    loop-less
+    (λ c. omega arith) (λ c. omega arith)
     loop-again
     returns)

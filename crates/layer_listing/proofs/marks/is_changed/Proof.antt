@@ -7,20 +7,11 @@ use Rattle.layer_listing.proofs.Marking.{changed-found, changed-missing
 use Rattle.layer_listing.proofs.marks.is_changed.Statement.{statement}
 use Rattle.layer_listing.proofs.marks.is_changed.Tie as tie
 
-find-from-requires : tie.Need-find-from-requires
-find-from-requires c κs = search needs
-
-enum-known-p : tie.Need-enum-known-p
-enum-known-p c = search needs
-
 layer-at-requires : tie.Need-layer-at-requires
 layer-at-requires c κs =
     let a = c .before .before .before .before .before .before in
     let found = at-place {floats = a .args .colors .now} (c .before .p .given .1) (c .before .before .before .find-from .ensures) (a .pre .ascending) in
     omega (arith, found .within, a .pre .words-long, a .pre .floats-long)
-
-enum-told : tie.Need-enum-told
-enum-told c = search needs
 
 returns : tie.Need-returns
 returns c =
@@ -36,4 +27,4 @@ returns-2 c =
 
 pub is-changed-spec : {M : Type 1} → statement M
 is-changed-spec =
-    tie.close (tie.spec find-from-requires enum-known-p layer-at-requires enum-told returns returns-2)
+    tie.close (tie.spec (λ c κs. search needs) (λ c. search needs) layer-at-requires (λ c. search needs) returns returns-2)

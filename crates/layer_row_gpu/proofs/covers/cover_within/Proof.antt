@@ -10,12 +10,6 @@ use Rattle.pixel_segment.specs.Field.{gpu, layerIdOf}
 use Rattle.layer_row_gpu.proofs.covers.cover_within.Statement.{statement}
 use Rattle.layer_row_gpu.proofs.covers.cover_within.Tie as tie
 
-layer-id-requires : tie.Need-layer-id-requires
-layer-id-requires c κs = search needs
-
-cover-requires : tie.Need-cover-requires
-cover-requires c κs = search needs
-
 returns : tie.Need-returns
 returns c =
     let l = c .before .before in
@@ -31,4 +25,4 @@ returns-2 c =
     rw other
 
 pub cover-within-spec : {M : Type 1} → statement M
-cover-within-spec = tie.close (tie.spec layer-id-requires cover-requires returns returns-2)
+cover-within-spec = tie.close (tie.spec (λ c κs. search needs) (λ c κs. search needs) returns returns-2)

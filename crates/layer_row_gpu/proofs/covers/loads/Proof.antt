@@ -24,41 +24,8 @@ abbrev μ-loop : tie.MeasureT-loop
 loop-holds : tie.Need-loop-holds Inv-loop μ-loop
 loop-holds c = load-start (length-replicate {A = ℕ} 4 0) (record { at = λ y. rw (getD-default {A = ℕ} {a = 0} 4 y) (omega arith) })
 
-mul-t8 : tie.Need-mul-t8 Inv-loop μ-loop
-mul-t8 c = search needs
-
-shared-slice-read-t11 : tie.Need-shared-slice-read-t11 Inv-loop μ-loop
-shared-slice-read-t11 c = omega arith
-
-local-y-requires : tie.Need-local-y-requires Inv-loop μ-loop
-local-y-requires c κs = tt
-
-cast-y : tie.Need-cast-y Inv-loop μ-loop
-cast-y c = omega arith
-
-mul-raised : tie.Need-mul-raised Inv-loop μ-loop
-mul-raised c = omega arith
-
-array-read-raised : tie.Need-array-read-raised Inv-loop μ-loop
-array-read-raised c = omega arith
-
-cover-within-requires : tie.Need-cover-within-requires Inv-loop μ-loop
-cover-within-requires c κs = tt
-
 raised-requires : tie.Need-raised-requires Inv-loop μ-loop
 raised-requires c κs = c .before .before .before .before .loop .inv .capped .at (c .before .local-y .result)
-
-mul-loads : tie.Need-mul-loads Inv-loop μ-loop
-mul-loads c = omega arith
-
-array-write-loads : tie.Need-array-write-loads Inv-loop μ-loop
-array-write-loads c = omega arith
-
-add-i : tie.Need-add-i Inv-loop μ-loop
-add-i c = omega arith
-
-loop-less : tie.Need-loop-less Inv-loop μ-loop
-loop-less c = omega arith
 
 loop-again : tie.Need-loop-again Inv-loop μ-loop
 loop-again c =
@@ -77,17 +44,9 @@ loads-spec =
     Inv-loop
     μ-loop
     loop-holds
-    mul-t8
-    shared-slice-read-t11
-    local-y-requires
-    cast-y
-    mul-raised
-    array-read-raised
-    cover-within-requires
+    (λ c. search needs) (λ c. omega arith) (λ c κs. tt) (λ c. omega arith) (λ c. omega arith)
+    (λ c. omega arith) (λ c κs. tt)
     raised-requires
-    mul-loads
-    array-write-loads
-    add-i
-    loop-less
+    (λ c. omega arith) (λ c. omega arith) (λ c. omega arith) (λ c. omega arith)
     loop-again
     returns)

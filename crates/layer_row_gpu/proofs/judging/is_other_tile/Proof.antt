@@ -4,11 +4,8 @@ use mir.Facts.{toZ-ofZ}
 use Rattle.layer_row_gpu.proofs.judging.is_other_tile.Statement.{statement}
 use Rattle.layer_row_gpu.proofs.judging.is_other_tile.Tie as tie
 
-natural-requires : tie.Need-natural-requires
-natural-requires c κs = search needs
-
 returns : tie.Need-returns
 returns c = rw (c .before .natural .ensures, toZ-ofZ (c .before .before .before .fits .tile))
 
 pub is-other-tile-spec : {M : Type 1} → statement M
-is-other-tile-spec = tie.close (tie.spec natural-requires returns)
+is-other-tile-spec = tie.close (tie.spec (λ c κs. search needs) returns)

@@ -58,24 +58,9 @@ light-told c =
     ∙ ap (λ (l : List ℕ). isLight gpu 4 (noCover 4) (layerWithin (s .args .layer-id) l)) (rw (toZ-ofZ (s .fits .from), toZ-ofZ (first-fits e)) at (c .before .left-of-tile .ensures))
     ∙ ap (isLight gpu 4 (noCover 4)) (left-from _ (record { small = λ i. k .shared-slice-known .given i .fits }) in-order (s .args .from) (span e .first .0) (s .args .layer-id))
 
-has-bad-span-requires : tie.Need-has-bad-span-requires
-has-bad-span-requires c κs = search needs
-
 returns : tie.Need-returns
 unfolding openLayerVerdict
 returns c = rw (← span-told (c .before), c .if1 .taken)
-
-natural-requires : tie.Need-natural-requires
-natural-requires c κs = search needs
-
-cast-is-row : tie.Need-cast-is-row
-cast-is-row c = search needs
-
-add-is-row : tie.Need-add-is-row
-add-is-row c = search needs
-
-is-row-requires : tie.Need-is-row-requires
-is-row-requires c κs = search needs
 
 returns-2 : tie.Need-returns-2
 unfolding openLayerVerdict
@@ -83,12 +68,6 @@ returns-2 c = rw (← span-told (c .before .before .before .before), c .before .
 
 cast-left-of-tile : tie.Need-cast-left-of-tile
 cast-left-of-tile c = rw (toZ-ofZ (c .before .before .before .before .before .before .fits .from)) (first-fits c)
-
-left-of-tile-requires : tie.Need-left-of-tile-requires
-left-of-tile-requires c κs = search needs
-
-is-light-requires : tie.Need-is-light-requires
-is-light-requires c κs = search needs
 
 returns-3 : tie.Need-returns-3
 unfolding openLayerVerdict
@@ -108,15 +87,11 @@ pub judge-opening-spec : {M : Type 1} → statement M
 judge-opening-spec =
     tie.close
     (tie.spec
-    has-bad-span-requires
+    (λ c κs. search needs)
     returns
-    natural-requires
-    cast-is-row
-    add-is-row
-    is-row-requires
+    (λ c κs. search needs) (λ c. search needs) (λ c. search needs) (λ c κs. search needs)
     returns-2
     cast-left-of-tile
-    left-of-tile-requires
-    is-light-requires
+    (λ c κs. search needs) (λ c κs. search needs)
     returns-3
     returns-4)

@@ -56,27 +56,12 @@ returns : tie.Need-returns
 unfolding workLayerVerdict
 returns c = rw (lt-ltb _ 64 (c .if1 .taken))
 
-is-astray-requires : tie.Need-is-astray-requires
-is-astray-requires c κs = search needs
-
-is-other-tile-requires : tie.Need-is-other-tile-requires
-is-other-tile-requires c κs = search needs
-
 returns-2 : tie.Need-returns-2
 unfolding workLayerVerdict
 returns-2 c =
     let o = c .before in
     let f = o .before .before in
     rw (le-ltb (length (f .before .before .before .args .plane .now)) 64 (f .if1 .left), ← o .before .is-astray .ensures, ← other-told o, c .if2 .taken)
-
-cast-is-row : tie.Need-cast-is-row
-cast-is-row c = search needs
-
-add-is-row : tie.Need-add-is-row
-add-is-row c = search needs
-
-is-row-requires : tie.Need-is-row-requires
-is-row-requires c κs = search needs
 
 returns-3 : tie.Need-returns-3
 unfolding workLayerVerdict
@@ -95,9 +80,6 @@ returns-3 c =
 
 layer-part-requires : tie.Need-layer-part-requires
 layer-part-requires c κs = omega (arith, due-told c .1, due-told c .2)
-
-is-light-requires : tie.Need-is-light-requires
-is-light-requires c κs = search needs
 
 returns-4 : tie.Need-returns-4
 unfolding workLayerVerdict
@@ -142,14 +124,11 @@ judge-work-spec =
     tie.close
     (tie.spec
     returns
-    is-astray-requires
-    is-other-tile-requires
+    (λ c κs. search needs) (λ c κs. search needs)
     returns-2
-    cast-is-row
-    add-is-row
-    is-row-requires
+    (λ c. search needs) (λ c. search needs) (λ c κs. search needs)
     returns-3
     layer-part-requires
-    is-light-requires
+    (λ c κs. search needs)
     returns-4
     returns-5)

@@ -26,12 +26,6 @@ abbrev μ-loop : tie.MeasureT-loop
 loop-holds : tie.Need-loop-holds Inv-loop μ-loop
 loop-holds c = (omega arith, search needs, refl)
 
-mul-next : tie.Need-mul-next Inv-loop μ-loop
-mul-next c = omega arith
-
-array-read-next : tie.Need-array-read-next Inv-loop μ-loop
-array-read-next c = omega arith
-
 mul-next-2 : tie.Need-mul-next-2 Inv-loop μ-loop
 mul-next-2 c = omega (arith, c .before .before .pre .2)
 
@@ -67,18 +61,6 @@ add-next-2 c =
     rw (kept w16 (coverAt (s .args .weights .now) k) (c .next .given))
     (omega (arith, s .pre .0 .high k (omega arith), s .pre .3 (l .loop .x) (t .loop-test .taken)))
 
-mul-next-4 : tie.Need-mul-next-4 Inv-loop μ-loop
-mul-next-4 c = omega arith
-
-array-write-next : tie.Need-array-write-next Inv-loop μ-loop
-array-write-next c = omega arith
-
-add-x : tie.Need-add-x Inv-loop μ-loop
-add-x c = omega arith
-
-loop-less : tie.Need-loop-less Inv-loop μ-loop
-loop-less c = omega arith
-
 loop-again : tie.Need-loop-again Inv-loop μ-loop
 loop-again c =
     let t = c .before in
@@ -109,17 +91,13 @@ add-row-spec =
     Inv-loop
     μ-loop
     loop-holds
-    mul-next
-    array-read-next
+    (λ c. omega arith) (λ c. omega arith)
     mul-next-2
     add-next
     mul-next-3
     shared-slice-copy-out-next
     cast-next
     add-next-2
-    mul-next-4
-    array-write-next
-    add-x
-    loop-less
+    (λ c. omega arith) (λ c. omega arith) (λ c. omega arith) (λ c. omega arith)
     loop-again
     returns)

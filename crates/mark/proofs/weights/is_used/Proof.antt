@@ -8,78 +8,6 @@ use Rattle.cover_statements.proofs.Weighings.{weights-above}
 use Rattle.mark.proofs.weights.is_used.Statement.{statement}
 use Rattle.mark.proofs.weights.is_used.Tie as tie
 
-mul-a : tie.Need-mul-a
-mul-a c = search needs
-
-mul-result : tie.Need-mul-result
-mul-result c = search needs
-
-shared-slice-copy-out-result : tie.Need-shared-slice-copy-out-result
-shared-slice-copy-out-result c = search needs
-
-add-result : tie.Need-add-result
-add-result c = search needs
-
-mul-result-2 : tie.Need-mul-result-2
-mul-result-2 c = search needs
-
-shared-slice-copy-out-result-2 : tie.Need-shared-slice-copy-out-result-2
-shared-slice-copy-out-result-2 c = search needs
-
-add-result-2 : tie.Need-add-result-2
-add-result-2 c = search needs
-
-mul-result-3 : tie.Need-mul-result-3
-mul-result-3 c = search needs
-
-shared-slice-copy-out-result-3 : tie.Need-shared-slice-copy-out-result-3
-shared-slice-copy-out-result-3 c = search needs
-
-add-result-3 : tie.Need-add-result-3
-add-result-3 c = search needs
-
-mul-result-4 : tie.Need-mul-result-4
-mul-result-4 c = search needs
-
-shared-slice-copy-out-result-4 : tie.Need-shared-slice-copy-out-result-4
-shared-slice-copy-out-result-4 c = search needs
-
-add-result-4 : tie.Need-add-result-4
-add-result-4 c = search needs
-
-mul-result-5 : tie.Need-mul-result-5
-mul-result-5 c = search needs
-
-shared-slice-copy-out-result-5 : tie.Need-shared-slice-copy-out-result-5
-shared-slice-copy-out-result-5 c = search needs
-
-add-result-5 : tie.Need-add-result-5
-add-result-5 c = search needs
-
-mul-result-6 : tie.Need-mul-result-6
-mul-result-6 c = search needs
-
-shared-slice-copy-out-result-6 : tie.Need-shared-slice-copy-out-result-6
-shared-slice-copy-out-result-6 c = search needs
-
-add-result-6 : tie.Need-add-result-6
-add-result-6 c = search needs
-
-mul-result-7 : tie.Need-mul-result-7
-mul-result-7 c = search needs
-
-shared-slice-copy-out-result-7 : tie.Need-shared-slice-copy-out-result-7
-shared-slice-copy-out-result-7 c = search needs
-
-add-result-7 : tie.Need-add-result-7
-add-result-7 c = search needs
-
-mul-result-8 : tie.Need-mul-result-8
-mul-result-8 c = search needs
-
-shared-slice-copy-out-result-8 : tie.Need-shared-slice-copy-out-result-8
-shared-slice-copy-out-result-8 c = search needs
-
 returns : tie.Need-returns
 returns c =
     let s = c .before .before .before .before .before .before .before .before in
@@ -101,28 +29,9 @@ pub is-used-spec : {M : Type 1} → statement M
 is-used-spec =
     tie.close
     (tie.spec
-    mul-a
-    mul-result
-    shared-slice-copy-out-result
-    add-result
-    mul-result-2
-    shared-slice-copy-out-result-2
-    add-result-2
-    mul-result-3
-    shared-slice-copy-out-result-3
-    add-result-3
-    mul-result-4
-    shared-slice-copy-out-result-4
-    add-result-4
-    mul-result-5
-    shared-slice-copy-out-result-5
-    add-result-5
-    mul-result-6
-    shared-slice-copy-out-result-6
-    add-result-6
-    mul-result-7
-    shared-slice-copy-out-result-7
-    add-result-7
-    mul-result-8
-    shared-slice-copy-out-result-8
+    (λ c. search needs) (λ c. search needs) (λ c. search needs) (λ c. search needs) (λ c. search needs)
+    (λ c. search needs) (λ c. search needs) (λ c. search needs) (λ c. search needs) (λ c. search needs)
+    (λ c. search needs) (λ c. search needs) (λ c. search needs) (λ c. search needs) (λ c. search needs)
+    (λ c. search needs) (λ c. search needs) (λ c. search needs) (λ c. search needs) (λ c. search needs)
+    (λ c. search needs) (λ c. search needs) (λ c. search needs) (λ c. search needs)
     returns)

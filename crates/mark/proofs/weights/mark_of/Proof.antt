@@ -3,7 +3,7 @@ use mathlib.Core.Path.{_∙_}
 use Prim.Native.Nat.{_-_}
 use native.Mathlib.Omega.{arith}
 use borrow.Author.Needs.{needs}
-use Rattle.cover_statements.specs.Weighed.{coveragesIn, weightsPlane}
+use Rattle.cover_statements.specs.InnerWeighed.{coveragesIn, weightsPlane}
 use Rattle.cover_statements.proofs.Marks.{Marking, mark-start, mark-small, mark-next, mark-end, bit-lt, octet-used}
 use Rattle.mark.proofs.weights.mark_of.Statement.{statement}
 use Rattle.mark.proofs.weights.mark_of.Tie as tie
@@ -17,25 +17,16 @@ abbrev μ-loop : tie.MeasureT-loop
 loop-holds : tie.Need-loop-holds Inv-loop μ-loop
 loop-holds c = mark-start
 
-sub-octet : tie.Need-sub-octet Inv-loop μ-loop
-sub-octet c = omega arith
-
 mul-mark : tie.Need-mul-mark Inv-loop μ-loop
 mul-mark c = omega (arith, mark-small (c .before .loop .inv) (c .loop-test .taken))
 
 is-used-requires : tie.Need-is-used-requires Inv-loop μ-loop
 is-used-requires c κs = (c .before .before .pre .0, omega (arith, c .before .loop .inv .reached))
 
-cast-mark : tie.Need-cast-mark Inv-loop μ-loop
-cast-mark c = search needs
-
 add-mark : tie.Need-add-mark Inv-loop μ-loop
 add-mark c =
     let t = c .before in
     omega (arith, mark-small (t .before .loop .inv) (t .loop-test .taken), bit-lt (c .is-used .result))
-
-loop-less : tie.Need-loop-less Inv-loop μ-loop
-loop-less c = omega arith
 
 loop-again : tie.Need-loop-again Inv-loop μ-loop
 loop-again c =
@@ -53,11 +44,11 @@ mark-of-spec =
     Inv-loop
     μ-loop
     loop-holds
-    sub-octet
+    (λ c. omega arith)
     mul-mark
     is-used-requires
-    cast-mark
+    (λ c. search needs)
     add-mark
-    loop-less
+    (λ c. omega arith)
     loop-again
     returns)

@@ -2,23 +2,11 @@
 use mathlib.Core.Path.{sym}
 use native.Mathlib.Omega.{arith}
 use borrow.Author.Needs.{needs}
-use Rattle.cover_statements.specs.Weighed.{coveragesIn}
+use Rattle.cover_statements.specs.InnerWeighed.{coveragesIn}
 use Rattle.cover_statements.proofs.Marks.{bit-lt}
 use Rattle.cover_statements.proofs.Repeats.{mark-repeated}
 use Rattle.mark.proofs.weights.mark_of_column.Statement.{statement}
 use Rattle.mark.proofs.weights.mark_of_column.Tie as tie
-
-is-used-requires : tie.Need-is-used-requires
-is-used-requires c κs = search needs
-
-is-used-requires-2 : tie.Need-is-used-requires-2
-is-used-requires-2 c κs = search needs
-
-cast-result : tie.Need-cast-result
-cast-result c = search needs
-
-cast-result-2 : tie.Need-cast-result-2
-cast-result-2 c = search needs
 
 mul-result : tie.Need-mul-result
 mul-result c = omega (arith, bit-lt (c .is-used2 .result))
@@ -36,10 +24,7 @@ pub mark-of-column-spec : {M : Type 1} → statement M
 mark-of-column-spec =
     tie.close
     (tie.spec
-    is-used-requires
-    is-used-requires-2
-    cast-result
-    cast-result-2
+    (λ c κs. search needs) (λ c κs. search needs) (λ c. search needs) (λ c. search needs)
     mul-result
     add-result
     mul-result-2

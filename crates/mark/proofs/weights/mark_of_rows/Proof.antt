@@ -6,7 +6,7 @@ use borrow.Author.Needs.{needs}
 use lib.Dec.{ltb}
 use lib.ListN.{getD}
 use Rattle.cover_statements.specs.Mark.{bit, isOctetUsed}
-use Rattle.cover_statements.specs.Weighed.{coveragesIn}
+use Rattle.cover_statements.specs.InnerWeighed.{coveragesIn}
 use Rattle.cover_statements.proofs.Marks.{Marking, mark-start, mark-small, mark-next, mark-end, bit-lt}
 use Rattle.mark.proofs.Totals.{octet-above}
 use Rattle.mark.proofs.weights.mark_of_rows.Statement.{statement}
@@ -26,9 +26,6 @@ octet-totals-requires-2 c κs = (c .before .pre .0, c .before .pre .1, omega ari
 
 loop-holds : tie.Need-loop-holds Inv-loop μ-loop
 loop-holds c = mark-start
-
-sub-column : tie.Need-sub-column Inv-loop μ-loop
-sub-column c = omega arith
 
 -- the mark with the lower octet of the column
 lower-next : (t : tie.In-loop Inv-loop μ-loop)
@@ -57,9 +54,6 @@ mul-mark-2 c = omega (arith, c .before .loop .inv .reached)
 array-read-mark : tie.Need-array-read-mark Inv-loop μ-loop
 array-read-mark c = omega (arith, c .before .loop .inv .reached)
 
-cast-mark : tie.Need-cast-mark Inv-loop μ-loop
-cast-mark c = search needs
-
 add-mark : tie.Need-add-mark Inv-loop μ-loop
 add-mark c =
     let k = c .loop-test .taken in
@@ -76,16 +70,10 @@ mul-mark-4 c = omega (arith, c .before .loop .inv .reached)
 array-read-mark-2 : tie.Need-array-read-mark-2 Inv-loop μ-loop
 array-read-mark-2 c = omega (arith, c .before .loop .inv .reached)
 
-cast-mark-2 : tie.Need-cast-mark-2 Inv-loop μ-loop
-cast-mark-2 c = search needs
-
 add-mark-2 : tie.Need-add-mark-2 Inv-loop μ-loop
 add-mark-2 c =
     let k = c .loop-test .taken in
     omega (arith, mark-small (lower-next c) (omega arith), bit-lt (ltb 0 (getD (c .before .before .before .octet-totals .result) (c .before .loop .column - 1) 0)))
-
-loop-less : tie.Need-loop-less Inv-loop μ-loop
-loop-less c = omega arith
 
 loop-again : tie.Need-loop-again Inv-loop μ-loop
 loop-again c =
@@ -117,17 +105,17 @@ mark-of-rows-spec =
     octet-totals-requires
     octet-totals-requires-2
     loop-holds
-    sub-column
+    (λ c. omega arith)
     mul-mark
     mul-mark-2
     array-read-mark
-    cast-mark
+    (λ c. search needs)
     add-mark
     mul-mark-3
     mul-mark-4
     array-read-mark-2
-    cast-mark-2
+    (λ c. search needs)
     add-mark-2
-    loop-less
+    (λ c. omega arith)
     loop-again
     returns)

@@ -30,12 +30,6 @@ add-row-requires c κs =
     let low = s .pre .2 in
     (s .pre .0, s .pre .1, omega arith, totals-le (s .pre .0) (s .pre .1) (s .pre .2) (l .loop .i) (l .loop .inv .0) (l .loop .inv .1))
 
-add-i : tie.Need-add-i Inv-loop μ-loop
-add-i c = omega arith
-
-loop-less : tie.Need-loop-less Inv-loop μ-loop
-loop-less c = omega arith
-
 loop-again : tie.Need-loop-again Inv-loop μ-loop
 loop-again c =
     let t = c .before in
@@ -59,7 +53,6 @@ octet-totals-spec =
     mul-add-row
     add-add-row
     add-row-requires
-    add-i
-    loop-less
+    (λ c. omega arith) (λ c. omega arith)
     loop-again
     returns)

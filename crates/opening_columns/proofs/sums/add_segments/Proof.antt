@@ -19,12 +19,6 @@ abbrev μ-loop : tie.MeasureT-loop
 loop-holds : tie.Need-loop-holds Inv-loop μ-loop
 loop-holds c = start (c .before .before .pre) refl (λ k. getD-default 4096 k)
 
-mul-word : tie.Need-mul-word Inv-loop μ-loop
-mul-word c = omega arith
-
-shared-slice-read-word : tie.Need-shared-slice-read-word Inv-loop μ-loop
-shared-slice-read-word c = omega arith
-
 place-of-requires : tie.Need-place-of-requires Inv-loop μ-loop
 place-of-requires c κs = (c .before .before .before .before .before .pre .few, c .before .before .before .before .before .pre .long, ascending (c .before .before .before .before .before .pre))
 
@@ -44,12 +38,6 @@ same-length c = c .before .before .before .add-segment .kept .1 .1 .0 ∙ c .bef
 returns : tie.Need-returns Inv-loop μ-loop
 returns c = refuse (c .before .before .before .before .before .before .before .before .before .before .before .before .pre) (c .before .before .before .before .before .before .before .before .before .loop .inv) (c .before .before .before .before .before .before .before .before .loop-test .taken) (at (c .before .before .before .before .before .before)) (c .before .before .before .add-segment .ensures) (not-true _ (c .if1 .taken))
 
-add-i : tie.Need-add-i Inv-loop μ-loop
-add-i c = omega arith
-
-loop-less : tie.Need-loop-less Inv-loop μ-loop
-loop-less c = omega arith
-
 loop-again : tie.Need-loop-again Inv-loop μ-loop
 loop-again c = tally-next (c .before .before .before .before .before .before .before .before .before .loop .inv) (c .before .before .before .before .before .before .before .before .loop-test .taken) (at (c .before .before .before .before .before .before)) (c .before .before .before .add-segment .ensures) (not-false _ (c .if1 .left))
 
@@ -66,15 +54,13 @@ add-segments-spec =
     Inv-loop
     μ-loop
     loop-holds
-    mul-word
-    shared-slice-read-word
+    (λ c. omega arith) (λ c. omega arith)
     place-of-requires
     slice-aggregate-add-segment
     add-segment-requires
     same-length
     returns
-    add-i
-    loop-less
+    (λ c. omega arith) (λ c. omega arith)
     loop-again
     same-length-2
     returns-2)

@@ -5,14 +5,8 @@ use mir.Facts.{toZ-ofZ}
 use Rattle.opening_columns.proofs.sums.load_with.Statement.{statement}
 use Rattle.opening_columns.proofs.sums.load_with.Tie as tie
 
-cover-magnitude-requires : tie.Need-cover-magnitude-requires
-cover-magnitude-requires c κs = search needs
-
-add-result : tie.Need-add-result
-add-result c = search needs
-
 returns : tie.Need-returns
 returns c = omega (arith, rw (toZ-ofZ (c .before .fits .cover)) at (c .cover-magnitude .ensures .0))
 
 pub load-with-spec : {M : Type 1} → statement M
-load-with-spec = tie.close (tie.spec cover-magnitude-requires add-result returns)
+load-with-spec = tie.close (tie.spec (λ c κs. search needs) (λ c. search needs) returns)

@@ -4,16 +4,10 @@ use native.Mathlib.Omega.{arith}
 use borrow.Author.Needs.{needs}
 use lib.ListN.{take}
 use lib.Seq.{length-take-le}
-use Rattle.queue_statements.specs.Sums.{keyIn}
+use Rattle.queue_statements.specs.InnerSums.{keyIn}
 use Rattle.queue_statements.proofs.Ranks.{ranked}
 use Rattle.opening_columns.proofs.sums.place_of.Statement.{statement}
 use Rattle.opening_columns.proofs.sums.place_of.Tie as tie
-
-layer-id-requires : tie.Need-layer-id-requires
-layer-id-requires c κs = search needs
-
-rank-requires : tie.Need-rank-requires
-rank-requires c κs = search needs
 
 -- a rank is within the ids
 low : (c : tie.After-rank) → c .rank .result ≤ 256
@@ -23,12 +17,6 @@ low c =
 
 mul-result : tie.Need-mul-result
 mul-result c = omega (arith, low c)
-
-local-y-requires : tie.Need-local-y-requires
-local-y-requires c κs = search needs
-
-cast-result : tie.Need-cast-result
-cast-result c = search needs
 
 add-result : tie.Need-add-result
 add-result c = omega (arith, low (c .before))
@@ -41,10 +29,8 @@ pub place-of-spec : {M : Type 1} → statement M
 place-of-spec =
     tie.close
     (tie.spec
-    layer-id-requires
-    rank-requires
+    (λ c κs. search needs) (λ c κs. search needs)
     mul-result
-    local-y-requires
-    cast-result
+    (λ c κs. search needs) (λ c. search needs)
     add-result
     returns)

@@ -4,15 +4,6 @@ use borrow.Author.Needs.{needs}
 use Rattle.painter.proofs.clips.alive_at.Statement.{statement}
 use Rattle.painter.proofs.clips.alive_at.Tie as tie
 
-enum-told : tie.Need-enum-told
-enum-told c = search needs
-
-enum-known-clip : tie.Need-enum-known-clip
-enum-known-clip c = search needs
-
-returns : tie.Need-returns
-returns c = search needs
-
 returns-2 : tie.Need-returns-2
 returns-2 c = rw (c .before .before .clip .given .1, lt-ltb _ _ (c .if1 .taken))
 
@@ -20,4 +11,4 @@ returns-3 : tie.Need-returns-3
 returns-3 c = rw (c .before .before .clip .given .1, le-ltb _ _ (c .if1 .left))
 
 pub alive-at-spec : {M : Type 1} → statement M
-alive-at-spec = tie.close (tie.spec enum-told enum-known-clip returns returns-2 returns-3)
+alive-at-spec = tie.close (tie.spec (λ c. search needs) (λ c. search needs) (λ c. search needs) returns-2 returns-3)

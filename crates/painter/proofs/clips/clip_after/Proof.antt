@@ -5,20 +5,8 @@ use Rattle.painter.proofs.Lasting.{last-sum}
 use Rattle.painter.proofs.clips.clip_after.Statement.{statement}
 use Rattle.painter.proofs.clips.clip_after.Tie as tie
 
-alive-at-requires : tie.Need-alive-at-requires
-alive-at-requires c κs = search needs
-
-enum-told : tie.Need-enum-told
-enum-told c = search needs
-
-enum-known-func : tie.Need-enum-known-func
-enum-known-func c = search needs
-
 add-kept-or : tie.Need-add-kept-or
 add-kept-or c = omega (arith, last-sum _ _ _ (c .before .func .given .1) (c .before .before .before .before .pre))
-
-kept-or-requires : tie.Need-kept-or-requires
-kept-or-requires c κs = search needs
 
 returns : tie.Need-returns
 returns c = rw (c .enum-told .given .1, c .before .before .alive-at .ensures)
@@ -30,10 +18,8 @@ pub clip-after-spec : {M : Type 1} → statement M
 clip-after-spec =
     tie.close
     (tie.spec
-    alive-at-requires
-    enum-told
-    enum-known-func
+    (λ c κs. search needs) (λ c. search needs) (λ c. search needs)
     add-kept-or
-    kept-or-requires
+    (λ c κs. search needs)
     returns
     returns-2)

@@ -3,12 +3,6 @@ use borrow.Author.Needs.{needs}
 use Rattle.painter.proofs.clips.kept_or.Statement.{statement}
 use Rattle.painter.proofs.clips.kept_or.Tie as tie
 
-enum-told : tie.Need-enum-told
-enum-told c = search needs
-
-enum-known-alive : tie.Need-enum-known-alive
-enum-known-alive c = search needs
-
 returns : tie.Need-returns
 returns c = rw (c .enum-told .given .1)
 
@@ -16,4 +10,4 @@ returns-2 : tie.Need-returns-2
 returns-2 c = rw (c .before .alive .given .1)
 
 pub kept-or-spec : {M : Type 1} → statement M
-kept-or-spec = tie.close (tie.spec enum-told enum-known-alive returns returns-2)
+kept-or-spec = tie.close (tie.spec (λ c. search needs) (λ c. search needs) returns returns-2)

@@ -5,23 +5,11 @@ use Rattle.layer_table.proofs.Looking.{at-place, at-none}
 use Rattle.painter.proofs.freed.freed_by.Statement.{statement}
 use Rattle.painter.proofs.freed.freed_by.Tie as tie
 
-find-requires : tie.Need-find-requires
-find-requires c κs = search needs
-
-enum-known-p : tie.Need-enum-known-p
-enum-known-p c = search needs
-
 layer-at-requires : tie.Need-layer-at-requires
 layer-at-requires c κs =
     let s = c .before .before .before .before .before .before in
     let found = at-place {floats = s .args .colors .now} (c .before .p .given .1) (c .before .before .before .find .ensures) (s .pre .ascending) in
     omega (arith, found .within, s .pre .words-long, s .pre .floats-long)
-
-freed-after-requires : tie.Need-freed-after-requires
-freed-after-requires c κs = search needs
-
-enum-told : tie.Need-enum-told
-enum-told c = search needs
 
 returns : tie.Need-returns
 returns c =
@@ -38,10 +26,8 @@ pub freed-by-spec : {M : Type 1} → statement M
 freed-by-spec =
     tie.close
     (tie.spec
-    find-requires
-    enum-known-p
+    (λ c κs. search needs) (λ c. search needs)
     layer-at-requires
-    freed-after-requires
-    enum-told
+    (λ c κs. search needs) (λ c. search needs)
     returns
     returns-2)

@@ -3,12 +3,6 @@ use borrow.Author.Needs.{needs}
 use Rattle.painter.proofs.freed.needs_clip.Statement.{statement}
 use Rattle.painter.proofs.freed.needs_clip.Tie as tie
 
-is-clipped-requires : tie.Need-is-clipped-requires
-is-clipped-requires c κs = search needs
-
-is-freed-requires : tie.Need-is-freed-requires
-is-freed-requires c κs = search needs
-
 returns : tie.Need-returns
 returns c = rw (← c .before .before .is-clipped .ensures, c .before .if1 .taken, c .is-freed .ensures)
 
@@ -16,4 +10,4 @@ returns-2 : tie.Need-returns-2
 returns-2 c = rw (← c .before .is-clipped .ensures, c .if1 .left)
 
 pub needs-clip-spec : {M : Type 1} → statement M
-needs-clip-spec = tie.close (tie.spec is-clipped-requires is-freed-requires returns returns-2)
+needs-clip-spec = tie.close (tie.spec (λ c κs. search needs) (λ c κs. search needs) returns returns-2)

@@ -3,15 +3,6 @@ use borrow.Author.Needs.{needs}
 use Rattle.painter.proofs.painting.mark_for.Statement.{statement}
 use Rattle.painter.proofs.painting.mark_for.Tie as tie
 
-enum-told : tie.Need-enum-told
-enum-told c = search needs
-
-enum-told-2 : tie.Need-enum-told-2
-enum-told-2 c = search needs
-
-lacks-clip-requires : tie.Need-lacks-clip-requires
-lacks-clip-requires c κs = search needs
-
 returns : tie.Need-returns
 returns c = record { same = λ plane e. rw (c .enum-told .given .1) }
 
@@ -22,4 +13,4 @@ returns-3 : tie.Need-returns-3
 returns-3 c = record { same = λ plane e. rw (c .before .before .enum-told2 .given .1, ← c .before .lacks-clip .ensures, c .if1 .left) e }
 
 pub mark-for-spec : {M : Type 1} → statement M
-mark-for-spec = tie.close (tie.spec enum-told enum-told-2 lacks-clip-requires returns returns-2 returns-3)
+mark-for-spec = tie.close (tie.spec (λ c. search needs) (λ c. search needs) (λ c κs. search needs) returns returns-2 returns-3)

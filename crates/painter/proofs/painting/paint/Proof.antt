@@ -9,12 +9,6 @@ use Rattle.painter.specs.Clip.{clipIn}
 use Rattle.painter.proofs.painting.paint.Statement.{statement}
 use Rattle.painter.proofs.painting.paint.Tie as tie
 
-of-layer-requires : tie.Need-of-layer-requires
-of-layer-requires c κs = search needs
-
-incoming-requires : tie.Need-incoming-requires
-incoming-requires c κs = search needs
-
 needs-clip-requires : tie.Need-needs-clip-requires
 needs-clip-requires c κs =
     let s = c .before .before .before .before .before .before .before .before in
@@ -24,9 +18,6 @@ paint-own-requires : tie.Need-paint-own-requires
 paint-own-requires c κs =
     let s = c .before .before .before .before .before .before .before .before .before .before in
     (rw (c .before .before .incoming .ensures, c .before .before .before .of-layer .ensures) (s .pre .2), s .pre .0 .room, last-small (s .pre .0 .table) (s .args .id) (s .args .layer) (s .pre .1))
-
-same-length : tie.Need-same-length
-same-length c = search needs
 
 returns : tie.Need-returns
 returns c =
@@ -38,9 +29,8 @@ pub paint-spec : {M : Type 1} → statement M
 paint-spec =
     tie.close
     (tie.spec
-    of-layer-requires
-    incoming-requires
+    (λ c κs. search needs) (λ c κs. search needs)
     needs-clip-requires
     paint-own-requires
-    same-length
+    (λ c. search needs)
     returns)

@@ -11,7 +11,7 @@ use mir.Facts.{toZ-ofZ}
 use mir.Syntax.{w8}
 use Rattle.laws.proofs.Machine.{small, kept}
 use Rattle.laws.proofs.Rows.{is-tabulate}
-use Rattle.cover_statements.specs.Cell.{Shaded}
+use Rattle.cover_statements.specs.InnerCell.{Shaded}
 use Rattle.cover_statements.specs.Cover.{coverAt}
 use Rattle.cover_statements.proofs.Shades.{shade-start, shade-next}
 use Rattle.plane.proofs.area.add_covers.Statement.{statement}
@@ -35,9 +35,6 @@ abbrev μ-loop : tie.MeasureT-loop
 loop-holds : tie.Need-loop-holds Inv-loop μ-loop
 loop-holds c = record { reached = omega arith; areas = none; shaded = shade-start (length-replicate 256 (pos 0)) (search needs) }
 
-array-copy-out-next : tie.Need-array-copy-out-next Inv-loop μ-loop
-array-copy-out-next c = omega arith
-
 mul-next : tie.Need-mul-next Inv-loop μ-loop
 mul-next c = omega (arith, c .before .before .before .pre .0)
 
@@ -58,15 +55,6 @@ add-next-2 c =
       kept w8 (coverAt (s .args .covers .now) (s .args .column * 16 + l .loop .y)) (c .next2 .given),
     )
     (small w8 _ (omega (arith, s .pre .1 (l .loop .y) (t .loop-test .taken))))
-
-array-set-from-next : tie.Need-array-set-from-next Inv-loop μ-loop
-array-set-from-next c = omega arith
-
-add-y : tie.Need-add-y Inv-loop μ-loop
-add-y c = omega arith
-
-loop-less : tie.Need-loop-less Inv-loop μ-loop
-loop-less c = omega arith
 
 loop-again : tie.Need-loop-again Inv-loop μ-loop
 loop-again c =
@@ -102,13 +90,11 @@ add-covers-spec =
     Inv-loop
     μ-loop
     loop-holds
-    array-copy-out-next
+    (λ c. omega arith)
     mul-next
     add-next
     element-copy-out-next
     add-next-2
-    array-set-from-next
-    add-y
-    loop-less
+    (λ c. omega arith) (λ c. omega arith) (λ c. omega arith)
     loop-again
     returns)

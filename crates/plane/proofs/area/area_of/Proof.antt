@@ -9,12 +9,6 @@ use Rattle.pixel_segment.proofs.Widths.{area-fits}
 use Rattle.plane.proofs.area.area_of.Statement.{statement}
 use Rattle.plane.proofs.area.area_of.Tie as tie
 
-double-area-multiplier-requires : tie.Need-double-area-multiplier-requires
-double-area-multiplier-requires c κs = search needs
-
-cast-result : tie.Need-cast-result
-cast-result c = search needs
-
 mul-result : tie.Need-mul-result
 unfolding doubleAreaOf
 mul-result c = let s = c .before in
@@ -32,4 +26,4 @@ returns c = let s = c .before in
     (c .double-area-multiplier .ensures, toZ-pos w16 {n = multiplierOf cpu w} (omega arith), toZ-ofZ (s .fits .cover), s .pre)
 
 pub area-of-spec : {M : Type 1} → statement M
-area-of-spec = tie.close (tie.spec double-area-multiplier-requires cast-result mul-result returns)
+area-of-spec = tie.close (tie.spec (λ c κs. search needs) (λ c. search needs) mul-result returns)

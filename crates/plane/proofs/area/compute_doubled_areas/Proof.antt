@@ -14,7 +14,7 @@ use mir.Val.{SFits}
 use Rattle.laws.proofs.Machine.{sfits, within, small, kept}
 use Rattle.laws.proofs.Parts.{times}
 use Rattle.laws.proofs.Rows.{length-tabulate, getD-tabulate}
-use Rattle.cover_statements.specs.Cell.{Shaded}
+use Rattle.cover_statements.specs.InnerCell.{Shaded}
 use Rattle.cover_statements.specs.Cover.{coverAt}
 use Rattle.cover_statements.proofs.Shades.{shade-start, shade-area, shade-next}
 use Rattle.plane.proofs.area.compute_doubled_areas.Statement.{statement}
@@ -40,9 +40,6 @@ mul-k c = omega (arith, c .before .before .pre .low)
 
 add-k : tie.Need-add-k Inv-loop μ-loop
 add-k c = omega (arith, c .before .before .pre .low)
-
-array-copy-out-areas : tie.Need-array-copy-out-areas Inv-loop μ-loop
-array-copy-out-areas c = omega arith
 
 -- a row's sum at 16 bits, and 32 times it
 wide : (z : ℤ) → mag z < 2 ^ 7 → SFits w16 z
@@ -90,12 +87,6 @@ mul-t19 c = omega (arith, c .before .before .before .before .pre .low)
 
 element-set-from-areas : tie.Need-element-set-from-areas Inv-loop μ-loop
 element-set-from-areas c = omega (arith, c .before .before .before .before .pre .low)
-
-add-y : tie.Need-add-y Inv-loop μ-loop
-add-y c = omega arith
-
-loop-less : tie.Need-loop-less Inv-loop μ-loop
-loop-less c = omega arith
 
 loop-again : tie.Need-loop-again Inv-loop μ-loop
 loop-again c =
@@ -145,7 +136,7 @@ compute-doubled-areas-spec =
     loop-holds
     mul-k
     add-k
-    array-copy-out-areas
+    (λ c. omega arith)
     cast-areas
     mul-areas
     mul-areas-2
@@ -153,8 +144,7 @@ compute-doubled-areas-spec =
     add-areas
     mul-t19
     element-set-from-areas
-    add-y
-    loop-less
+    (λ c. omega arith) (λ c. omega arith)
     loop-again
     add-covers-requires
     returns)

@@ -13,12 +13,6 @@ use Rattle.pixel_segment.specs.Field.{coverOf}
 use Rattle.plane.proofs.area.cover_of.Statement.{statement}
 use Rattle.plane.proofs.area.cover_of.Tie as tie
 
-add-result : tie.Need-add-result
-add-result c = search needs
-
-cast-result : tie.Need-cast-result
-cast-result c = search needs
-
 sub-result : tie.Need-sub-result
 sub-result c =
     let n = (c .before .args .segment .0 % 64 + 32) % 64 in
@@ -33,4 +27,4 @@ returns c = let w = c .before .args .segment .0 in
     ∙ rw (toZ-pos w16 {n = n} (omega arith)) (ap (λ (k : ℕ). subℕ ((k % 64 + 32) % 64) 32) (sym (div-one w)))
 
 pub cover-of-spec : {M : Type 1} → statement M
-cover-of-spec = tie.close (tie.spec add-result cast-result sub-result returns)
+cover-of-spec = tie.close (tie.spec (λ c. search needs) (λ c. search needs) sub-result returns)

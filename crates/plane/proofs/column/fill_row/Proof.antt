@@ -15,24 +15,6 @@ abbrev μ-loop : tie.MeasureT-loop
 loop-holds : tie.Need-loop-holds Inv-loop μ-loop
 loop-holds c = row-start (c .pre)
 
-mul-plane : tie.Need-mul-plane Inv-loop μ-loop
-mul-plane c = omega arith
-
-add-plane : tie.Need-add-plane Inv-loop μ-loop
-add-plane c = omega arith
-
-mul-plane-2 : tie.Need-mul-plane-2 Inv-loop μ-loop
-mul-plane-2 c = omega arith
-
-slice-write-plane : tie.Need-slice-write-plane Inv-loop μ-loop
-slice-write-plane c = omega arith
-
-add-x : tie.Need-add-x Inv-loop μ-loop
-add-x c = omega arith
-
-loop-less : tie.Need-loop-less Inv-loop μ-loop
-loop-less c = omega arith
-
 loop-again : tie.Need-loop-again Inv-loop μ-loop
 loop-again c = row-next (c .before .loop .inv) (omega arith) refl refl
 
@@ -49,12 +31,8 @@ fill-row-spec =
     Inv-loop
     μ-loop
     loop-holds
-    mul-plane
-    add-plane
-    mul-plane-2
-    slice-write-plane
-    add-x
-    loop-less
+    (λ c. omega arith) (λ c. omega arith) (λ c. omega arith) (λ c. omega arith) (λ c. omega arith)
+    (λ c. omega arith)
     loop-again
     same-length
     returns)

@@ -11,18 +11,12 @@ use Rattle.pixel_segment.specs.Field.{cpu}
 use Rattle.cover_statements.specs.Mark.{markOf}
 use Rattle.cover_statements.specs.Paint.{partPlane}
 use Rattle.cover_statements.specs.Plane.{coveragesOf}
-use Rattle.cover_statements.specs.Weighed.{weightIn, Weighed, coverageIn, coveragesIn, repeated}
+use Rattle.cover_statements.specs.InnerWeighed.{weightIn, Weighed, coverageIn, coveragesIn, repeated}
 use Rattle.cover_statements.proofs.Filled.{over-whole}
 use Rattle.cover_statements.proofs.Repeats.{plane-none, column-in-range}
 use Rattle.cover_statements.proofs.Weighings.{weights-are, coverages-are}
 use Rattle.plane.proofs.column.paint.Statement.{statement}
 use Rattle.plane.proofs.column.paint.Tie as tie
-
-column-areas-requires : tie.Need-column-areas-requires
-column-areas-requires c κs = search needs
-
-slice-aggregate-weigh : tie.Need-slice-aggregate-weigh
-slice-aggregate-weigh c = search needs
 
 long : (s : tie.Start) → length (s .args .cover .covers) ≡ 16
 long s = search needs
@@ -56,30 +50,15 @@ weigh-requires c κs =
     let s = c .before .before .before in
     column-in-range cpu 16 (s .args .cover .covers) (long s) (s .pre .0) (c .before .column-areas .ensures)
 
-slice-aggregate-write-coverages : tie.Need-slice-aggregate-write-coverages
-slice-aggregate-write-coverages c = search needs
-
-slice-aggregate-write-coverages-2 : tie.Need-slice-aggregate-write-coverages-2
-slice-aggregate-write-coverages-2 c = search needs
-
 write-coverages-requires : tie.Need-write-coverages-requires
 write-coverages-requires c κs =
     let w = c .before .before .before in
     (weighed w, omega (arith, weights-long w))
 
-repeat-column-requires : tie.Need-repeat-column-requires
-repeat-column-requires c κs = search needs
-
-slice-aggregate-mark-of-column : tie.Need-slice-aggregate-mark-of-column
-slice-aggregate-mark-of-column c = search needs
-
 mark-of-column-requires : tie.Need-mark-of-column-requires
 mark-of-column-requires c κs =
     let w = c .before .before .before .before .before .before .before .before .before .before .before in
     (weighed w, omega (arith, weights-long w))
-
-same-length : tie.Need-same-length
-same-length c = search needs
 
 returns : tie.Need-returns
 returns c =
@@ -96,14 +75,11 @@ pub paint-spec : {M : Type 1} → statement M
 paint-spec =
     tie.close
     (tie.spec
-    column-areas-requires
-    slice-aggregate-weigh
+    (λ c κs. search needs) (λ c. search needs)
     weigh-requires
-    slice-aggregate-write-coverages
-    slice-aggregate-write-coverages-2
+    (λ c. search needs) (λ c. search needs)
     write-coverages-requires
-    repeat-column-requires
-    slice-aggregate-mark-of-column
+    (λ c κs. search needs) (λ c. search needs)
     mark-of-column-requires
-    same-length
+    (λ c. search needs)
     returns)

@@ -16,20 +16,8 @@ abbrev μ-loop : tie.MeasureT-loop
 loop-holds : tie.Need-loop-holds Inv-loop μ-loop
 loop-holds c = rows-start (c .before .pre)
 
-mul-fill-row : tie.Need-mul-fill-row Inv-loop μ-loop
-mul-fill-row c = omega arith
-
-element-copy-out-fill-row : tie.Need-element-copy-out-fill-row Inv-loop μ-loop
-element-copy-out-fill-row c = omega arith
-
 fill-row-requires : tie.Need-fill-row-requires Inv-loop μ-loop
 fill-row-requires c κs = rows-room (c .before .before .before .loop .inv) (c .before .before .loop-test .taken)
-
-add-y : tie.Need-add-y Inv-loop μ-loop
-add-y c = omega arith
-
-loop-less : tie.Need-loop-less Inv-loop μ-loop
-loop-less c = omega arith
 
 loop-again : tie.Need-loop-again Inv-loop μ-loop
 loop-again c =
@@ -49,11 +37,9 @@ repeat-column-spec =
     Inv-loop
     μ-loop
     loop-holds
-    mul-fill-row
-    element-copy-out-fill-row
+    (λ c. omega arith) (λ c. omega arith)
     fill-row-requires
-    add-y
-    loop-less
+    (λ c. omega arith) (λ c. omega arith)
     loop-again
     same-length
     returns)

@@ -3,32 +3,14 @@ use borrow.Author.Needs.{needs}
 use Rattle.plane.proofs.shade.paint.Statement.{statement}
 use Rattle.plane.proofs.shade.paint.Tie as tie
 
-enum-told : tie.Need-enum-told
-enum-told c = search needs
-
 paint-non-zero-requires : tie.Need-paint-non-zero-requires
 paint-non-zero-requires c κs = let s = c .before .before .before .before .before in (s .pre .0, s .pre .1, s .pre .2)
-
-enum-told-2 : tie.Need-enum-told-2
-enum-told-2 c = search needs
 
 paint-even-odd-requires : tie.Need-paint-even-odd-requires
 paint-even-odd-requires c κs = let s = c .before .before .before .before .before in (s .pre .1, s .pre .2)
 
-same-length : tie.Need-same-length
-same-length c = search needs
-
-same-length-2 : tie.Need-same-length-2
-same-length-2 c = search needs
-
 returns : tie.Need-returns
 returns c = let p = c .before .before .before in rw (p .before .before .before .enum-told .given .1) (p .paint-non-zero .ensures)
-
-same-length-3 : tie.Need-same-length-3
-same-length-3 c = search needs
-
-same-length-4 : tie.Need-same-length-4
-same-length-4 c = search needs
 
 returns-2 : tie.Need-returns-2
 returns-2 c = let p = c .before .before in rw (p .before .before .before .enum-told2 .given .1) (p .paint-even-odd .ensures)
@@ -37,13 +19,11 @@ pub paint-spec : {M : Type 1} → statement M
 paint-spec =
     tie.close
     (tie.spec
-    enum-told
+    (λ c. search needs)
     paint-non-zero-requires
-    enum-told-2
+    (λ c. search needs)
     paint-even-odd-requires
-    same-length
-    same-length-2
+    (λ c. search needs) (λ c. search needs)
     returns
-    same-length-3
-    same-length-4
+    (λ c. search needs) (λ c. search needs)
     returns-2)

@@ -9,15 +9,12 @@ use Rattle.laws.specs.Lists.{over}
 use Rattle.styling.specs.declared.FillRule.the-variants.{EvenOdd}
 use Rattle.cover_statements.specs.Mark.{markOf}
 use Rattle.cover_statements.specs.Plane.{inPlaces}
-use Rattle.cover_statements.specs.Weighed.{Weighed, weightsOf, coveragesIn, weightsPlane}
+use Rattle.cover_statements.specs.InnerWeighed.{Weighed, weightsOf, coveragesIn, weightsPlane}
 use Rattle.cover_statements.proofs.Filled.{over-whole}
 use Rattle.cover_statements.proofs.Planes.{places-length}
 use Rattle.plane.proofs.ByRows.{pixelWeight, rows-weighed, rows-plane}
 use Rattle.plane.proofs.shade.paint_even_odd.Statement.{statement}
 use Rattle.plane.proofs.shade.paint_even_odd.Tie as tie
-
-slice-aggregate-weigh-rows : tie.Need-slice-aggregate-weigh-rows
-slice-aggregate-weigh-rows c = search needs
 
 weigh-rows-requires : tie.Need-weigh-rows-requires
 weigh-rows-requires c κs = (c .before .before .pre .0, omega arith)
@@ -38,25 +35,16 @@ rows-long w = ap length (rows-are w) ∙ places-length 16 (pixelWeight EvenOdd (
 plane-is : (w : tie.After-weigh-rows) → coveragesIn (w .weigh-rows .last .1 .0) ≡ weightsPlane 16 (weightsOf EvenOdd (w .before .before .before .args .areas .now))
 plane-is w = ap coveragesIn (rows-are w) ∙ rows-plane EvenOdd (w .before .before .before .args .areas .now) (w .before .before .before .pre .0)
 
-slice-aggregate-write-coverages : tie.Need-slice-aggregate-write-coverages
-slice-aggregate-write-coverages c = search needs
-
 write-coverages-requires : tie.Need-write-coverages-requires
 write-coverages-requires c κs =
     let w = c .before .before .before in
     let room = w .before .before .before .pre .1 in
     (weighed w, rw (rows-long w) room)
 
-slice-aggregate-mark-of-rows : tie.Need-slice-aggregate-mark-of-rows
-slice-aggregate-mark-of-rows c = search needs
-
 mark-of-rows-requires : tie.Need-mark-of-rows-requires
 mark-of-rows-requires c κs =
     let w = c .before .before .before .before .before .before .before in
     (weighed w, omega (arith, rows-long w))
-
-same-length : tie.Need-same-length
-same-length c = search needs
 
 returns : tie.Need-returns
 returns c =
@@ -69,11 +57,11 @@ pub paint-even-odd-spec : {M : Type 1} → statement M
 paint-even-odd-spec =
     tie.close
     (tie.spec
-    slice-aggregate-weigh-rows
+    (λ c. search needs)
     weigh-rows-requires
-    slice-aggregate-write-coverages
+    (λ c. search needs)
     write-coverages-requires
-    slice-aggregate-mark-of-rows
+    (λ c. search needs)
     mark-of-rows-requires
-    same-length
+    (λ c. search needs)
     returns)

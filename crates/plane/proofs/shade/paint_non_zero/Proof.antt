@@ -8,7 +8,7 @@ use lib.ListN.{length, length-map}
 use Rattle.laws.specs.Lists.{over}
 use Rattle.styling.specs.declared.FillRule.the-variants.{NonZero}
 use Rattle.cover_statements.specs.Mark.{markOf}
-use Rattle.cover_statements.specs.Weighed.{Weighed, weightIn, weightsPlane}
+use Rattle.cover_statements.specs.InnerWeighed.{Weighed, weightIn, weightsPlane}
 use Rattle.cover_statements.proofs.Weighings.{weights-are}
 use Rattle.plane.proofs.shade.paint_non_zero.Statement.{statement}
 use Rattle.plane.proofs.shade.paint_non_zero.Tie as tie
@@ -33,12 +33,6 @@ mark-of-requires c κs =
     let w = c .before .before .before .before .before .before .before in
     (weighed w, omega (arith, weights-long w, w .before .before .before .pre .1))
 
-same-length : tie.Need-same-length
-same-length c = search needs
-
-same-length-2 : tie.Need-same-length-2
-same-length-2 c = search needs
-
 returns : tie.Need-returns
 returns c =
     let p = c .before .before .before .before in
@@ -53,6 +47,5 @@ paint-non-zero-spec =
     weigh-requires
     write-plane-requires
     mark-of-requires
-    same-length
-    same-length-2
+    (λ c. search needs) (λ c. search needs)
     returns)

@@ -46,32 +46,11 @@ given-is : (c : tie.After-work-judged) → GivesWork (workedBy (called (c .befor
 unfolding called lentTo backOf
 given-is c = rw (toZ-ofZ (c .before .before .before .before .before .before .before .before .before .before .before .before .before .before .before .before .before .fits .tile), c .before .before .before .before .before .before .before .before .absent .ensures, c .before .before .before .before .before .before .before .clear-color .ensures) at (c .work-judged .ensures)
 
-absent-requires : tie.Need-absent-requires
-absent-requires c κs = search needs
-
-clear-color-requires : tie.Need-clear-color-requires
-clear-color-requires c κs = search needs
-
 work-judged-requires : tie.Need-work-judged-requires
 work-judged-requires c κs = rw (toZ-ofZ (c .before .before .before .before .before .before .before .before .before .before .before .before .before .before .before .before .fits .tile), c .before .before .before .before .before .before .before .absent .ensures, c .before .before .before .before .before .before .clear-color .ensures) (c .before .before .before .before .before .before .before .before .before .before .before .before .before .before .before .before .pre .judged)
 
-enum-told : tie.Need-enum-told
-enum-told c = search needs
-
-blank-requires : tie.Need-blank-requires
-blank-requires c κs = search needs
-
-enum-known-answer : tie.Need-enum-known-answer
-enum-known-answer c = search needs
-
 cast-in-tile : tie.Need-cast-in-tile
 cast-in-tile c = rw (toZ-ofZ (c .before .before .before .before .before .before .before .before .before .before .before .before .before .before .before .before .before .before .before .before .before .before .before .before .before .before .before .before .before .before .before .before .fits .tile)) (tile-fits (c .before .before .before .before .before .before .before .before .before .before .before .before .before .before .before .before .before .before .before .before .before .before .before .before .before .before .before .before .before .before .before .before))
-
-in-tile-requires : tie.Need-in-tile-requires
-in-tile-requires c κs = search needs
-
-is-paint-requires : tie.Need-is-paint-requires
-is-paint-requires c κs = search needs
 
 tally-shown-requires : tie.Need-tally-shown-requires
 unfolding called lentTo backOf
@@ -87,24 +66,6 @@ line-of-requires c κs =
     let s = c .before .before .before .before .before .before .before .before .before .before .before .before .before .before .before .before .before .before .before .before .before .before .before .before .before .before .before .before .before .before .before .before .before .before .before .before in
     let given = given-is (c .before .before .before .before .before .before .before .before .before .before .before .before .before .before .before .before .before .before .before) in
     few (called s) (lentTo s) (s .pre) (accepted (called s) (lentTo s) (s .pre) (c .before .before .before .before .before .before .before .answer .given .1) given)
-
-same-length : tie.Need-same-length
-same-length c = search needs
-
-same-length-2 : tie.Need-same-length-2
-same-length-2 c = search needs
-
-same-length-3 : tie.Need-same-length-3
-same-length-3 c = search needs
-
-same-length-4 : tie.Need-same-length-4
-same-length-4 c = search needs
-
-same-length-5 : tie.Need-same-length-5
-same-length-5 c = search needs
-
-same-length-6 : tie.Need-same-length-6
-same-length-6 c = search needs
 
 returns : tie.Need-returns
 unfolding called lentTo backOf
@@ -144,23 +105,15 @@ pub work-line-spec : {M : Type 1} → statement M
 work-line-spec =
     tie.close
     (tie.spec
-    absent-requires
-    clear-color-requires
+    (λ c κs. search needs) (λ c κs. search needs)
     work-judged-requires
-    enum-told
-    blank-requires
-    enum-known-answer
+    (λ c. search needs) (λ c κs. search needs) (λ c. search needs)
     cast-in-tile
-    in-tile-requires
-    is-paint-requires
+    (λ c κs. search needs) (λ c κs. search needs)
     tally-shown-requires
     line-of-requires
-    same-length
-    same-length-2
-    same-length-3
-    same-length-4
-    same-length-5
-    same-length-6
+    (λ c. search needs) (λ c. search needs) (λ c. search needs) (λ c. search needs) (λ c. search needs)
+    (λ c. search needs)
     returns
     same-length-7
     same-length-8

@@ -23,11 +23,8 @@ next c =
 add-stored : tie.Need-add-stored
 add-stored c = rw (toZ-ofZ (c .fits .tile), toZ-ofZ (wider _ (c .fits .tile))) (next c)
 
-stored-requires : tie.Need-stored-requires
-stored-requires c κs = search needs
-
 returns : tie.Need-returns
 returns c = rw (c .stored .ensures, toZ-ofZ (c .before .fits .tile), toZ-ofZ (wider _ (c .before .fits .tile)), toZ-ofZ (next (c .before)))
 
 pub above-tile-spec : {M : Type 1} → statement M
-above-tile-spec = tie.close (tie.spec cast-stored add-stored stored-requires returns)
+above-tile-spec = tie.close (tie.spec cast-stored add-stored (λ c κs. search needs) returns)

@@ -5,66 +5,6 @@ use Rattle.laws.proofs.Machine.{kept}
 use Rattle.segment_rows.proofs.search.compare_key.Statement.{statement}
 use Rattle.segment_rows.proofs.search.compare_key.Tie as tie
 
-enum-known-key : tie.Need-enum-known-key
-enum-known-key c = search needs
-
-tile-y-requires : tie.Need-tile-y-requires
-tile-y-requires c κs = search needs
-
-compare-i16-requires : tie.Need-compare-i16-requires
-compare-i16-requires c κs = search needs
-
-enum-known-key-2 : tie.Need-enum-known-key-2
-enum-known-key-2 c = search needs
-
-tile-x-requires : tie.Need-tile-x-requires
-tile-x-requires c κs = search needs
-
-compare-i16-requires-2 : tie.Need-compare-i16-requires-2
-compare-i16-requires-2 c κs = search needs
-
-enum-known-key-3 : tie.Need-enum-known-key-3
-enum-known-key-3 c = search needs
-
-layer-id-requires : tie.Need-layer-id-requires
-layer-id-requires c κs = search needs
-
-cast-compare : tie.Need-cast-compare
-cast-compare c = search needs
-
-cast-compare-2 : tie.Need-cast-compare-2
-cast-compare-2 c = search needs
-
-compare-requires : tie.Need-compare-requires
-compare-requires c κs = search needs
-
-enum-known-key-4 : tie.Need-enum-known-key-4
-enum-known-key-4 c = search needs
-
-tile-x-requires-2 : tie.Need-tile-x-requires-2
-tile-x-requires-2 c κs = search needs
-
-compare-bool-requires : tie.Need-compare-bool-requires
-compare-bool-requires c κs = search needs
-
-enum-known-key-5 : tie.Need-enum-known-key-5
-enum-known-key-5 c = search needs
-
-layer-id-requires-2 : tie.Need-layer-id-requires-2
-layer-id-requires-2 c κs = search needs
-
-compare-bool-requires-2 : tie.Need-compare-bool-requires-2
-compare-bool-requires-2 c κs = search needs
-
-enum-known-key-6 : tie.Need-enum-known-key-6
-enum-known-key-6 c = search needs
-
-tile-y-requires-2 : tie.Need-tile-y-requires-2
-tile-y-requires-2 c κs = search needs
-
-compare-bool-requires-3 : tie.Need-compare-bool-requires-3
-compare-bool-requires-3 c κs = search needs
-
 returns : tie.Need-returns
 returns c = rw (c .before .before .before .key .given .1, c .compare-i16 .ensures, kept w16 (c .before .before .before .key .given .0 .0) (c .before .before .known-told .given .0 .1), kept w16 (c .before .tile-y .result) (c .before .tile-y .ok), c .before .tile-y .ensures)
 
@@ -87,26 +27,11 @@ pub compare-key-spec : {M : Type 1} → statement M
 compare-key-spec =
     tie.close
     (tie.spec
-    enum-known-key
-    tile-y-requires
-    compare-i16-requires
-    enum-known-key-2
-    tile-x-requires
-    compare-i16-requires-2
-    enum-known-key-3
-    layer-id-requires
-    cast-compare
-    cast-compare-2
-    compare-requires
-    enum-known-key-4
-    tile-x-requires-2
-    compare-bool-requires
-    enum-known-key-5
-    layer-id-requires-2
-    compare-bool-requires-2
-    enum-known-key-6
-    tile-y-requires-2
-    compare-bool-requires-3
+    (λ c. search needs) (λ c κs. search needs) (λ c κs. search needs) (λ c. search needs)
+    (λ c κs. search needs) (λ c κs. search needs) (λ c. search needs) (λ c κs. search needs)
+    (λ c. search needs) (λ c. search needs) (λ c κs. search needs) (λ c. search needs) (λ c κs. search needs)
+    (λ c κs. search needs) (λ c. search needs) (λ c κs. search needs) (λ c κs. search needs)
+    (λ c. search needs) (λ c κs. search needs) (λ c κs. search needs)
     returns
     returns-2
     returns-3

@@ -34,32 +34,8 @@ is-above c =
 loop-holds : tie.Need-loop-holds Inv-loop μ-loop
 loop-holds c = begin _ _
 
-add-mid : tie.Need-add-mid Inv-loop μ-loop
-add-mid c = omega arith
-
-mul-is-above : tie.Need-mul-is-above Inv-loop μ-loop
-mul-is-above c = omega arith
-
-shared-slice-read-is-above : tie.Need-shared-slice-read-is-above Inv-loop μ-loop
-shared-slice-read-is-above c = omega arith
-
-shr-is-above : tie.Need-shr-is-above Inv-loop μ-loop
-shr-is-above c = omega arith
-
-rem-is-above : tie.Need-rem-is-above Inv-loop μ-loop
-rem-is-above c = omega arith
-
 cast-is-above : tie.Need-cast-is-above Inv-loop μ-loop
 cast-is-above c = omega (arith, mod-lt (middle c / 2 ^ c .before .before .before .before .args .offset) (c .before .before .before .before .pre .1))
-
-choose-requires : tie.Need-choose-requires Inv-loop μ-loop
-choose-requires c κs = search needs
-
-sub-choose : tie.Need-sub-choose Inv-loop μ-loop
-sub-choose c = omega arith
-
-choose-requires-2 : tie.Need-choose-requires-2 Inv-loop μ-loop
-choose-requires-2 c κs = search needs
 
 loop-less : tie.Need-loop-less Inv-loop μ-loop
 loop-less c = rw (c .choose2 .ensures) (fewer _ (omega arith) (is-above (c .before)))
@@ -79,15 +55,9 @@ halve-spec =
     Inv-loop
     μ-loop
     loop-holds
-    add-mid
-    mul-is-above
-    shared-slice-read-is-above
-    shr-is-above
-    rem-is-above
+    (λ c. omega arith) (λ c. omega arith) (λ c. omega arith) (λ c. omega arith) (λ c. omega arith)
     cast-is-above
-    choose-requires
-    sub-choose
-    choose-requires-2
+    (λ c κs. search needs) (λ c. omega arith) (λ c κs. search needs)
     loop-less
     loop-again
     returns)

@@ -5,42 +5,6 @@ use Rattle.laws.proofs.Machine.{kept}
 use Rattle.segment_rows.proofs.search.search_last_by_key.Statement.{statement}
 use Rattle.segment_rows.proofs.search.search_last_by_key.Tie as tie
 
-enum-known-key : tie.Need-enum-known-key
-enum-known-key c = search needs
-
-search-last-by-tile-y-requires : tie.Need-search-last-by-tile-y-requires
-search-last-by-tile-y-requires c κs = search needs
-
-enum-known-key-2 : tie.Need-enum-known-key-2
-enum-known-key-2 c = search needs
-
-search-last-by-tile-x-requires : tie.Need-search-last-by-tile-x-requires
-search-last-by-tile-x-requires c κs = search needs
-
-enum-known-key-3 : tie.Need-enum-known-key-3
-enum-known-key-3 c = search needs
-
-search-last-by-layer-id-requires : tie.Need-search-last-by-layer-id-requires
-search-last-by-layer-id-requires c κs = search needs
-
-enum-known-key-4 : tie.Need-enum-known-key-4
-enum-known-key-4 c = search needs
-
-search-last-by-tile-x-at-least-requires : tie.Need-search-last-by-tile-x-at-least-requires
-search-last-by-tile-x-at-least-requires c κs = search needs
-
-enum-known-key-5 : tie.Need-enum-known-key-5
-enum-known-key-5 c = search needs
-
-search-last-by-layer-id-at-least-requires : tie.Need-search-last-by-layer-id-at-least-requires
-search-last-by-layer-id-at-least-requires c κs = search needs
-
-enum-known-key-6 : tie.Need-enum-known-key-6
-enum-known-key-6 c = search needs
-
-search-last-by-tile-y-not-negative-requires : tie.Need-search-last-by-tile-y-not-negative-requires
-search-last-by-tile-y-not-negative-requires c κs = search needs
-
 returns : tie.Need-returns
 returns c = rw (c .before .before .key .given .1, c .search-last-by-tile-y .ensures, kept w16 (c .before .before .key .given .0 .0) (c .before .known-told .given .0 .1))
 
@@ -63,18 +27,9 @@ pub search-last-by-key-spec : {M : Type 1} → statement M
 search-last-by-key-spec =
     tie.close
     (tie.spec
-    enum-known-key
-    search-last-by-tile-y-requires
-    enum-known-key-2
-    search-last-by-tile-x-requires
-    enum-known-key-3
-    search-last-by-layer-id-requires
-    enum-known-key-4
-    search-last-by-tile-x-at-least-requires
-    enum-known-key-5
-    search-last-by-layer-id-at-least-requires
-    enum-known-key-6
-    search-last-by-tile-y-not-negative-requires
+    (λ c. search needs) (λ c κs. search needs) (λ c. search needs) (λ c κs. search needs) (λ c. search needs)
+    (λ c κs. search needs) (λ c. search needs) (λ c κs. search needs) (λ c. search needs)
+    (λ c κs. search needs) (λ c. search needs) (λ c κs. search needs)
     returns
     returns-2
     returns-3

@@ -7,21 +7,12 @@ use Rattle.segment_rows.proofs.Above.{above-number}
 use Rattle.segment_rows.proofs.search.search_last_by_layer_id.Statement.{statement}
 use Rattle.segment_rows.proofs.search.search_last_by_layer_id.Tie as tie
 
-above-layer-id-requires : tie.Need-above-layer-id-requires
-above-layer-id-requires c κs = search needs
-
-halve-by-layer-id-requires : tie.Need-halve-by-layer-id-requires
-halve-by-layer-id-requires c κs = search needs
-
 tell-requires : tie.Need-tell-requires
 tell-requires c κs =
     let s = c .before .before .before in
     same-end _ _ _ (c .halve-by-layer-id .ensures)
     (λ w. rw (c .before .above-layer-id .ensures) (above-number (layerIdOf cpu w) (s .args .layer-id) _ (omega arith)))
 
-returns : tie.Need-returns
-returns c = search needs
-
 pub search-last-by-layer-id-spec : {M : Type 1} → statement M
 search-last-by-layer-id-spec =
-    tie.close (tie.spec above-layer-id-requires halve-by-layer-id-requires tell-requires returns)
+    tie.close (tie.spec (λ c κs. search needs) (λ c κs. search needs) tell-requires (λ c. search needs))

@@ -10,21 +10,12 @@ use Rattle.segment_rows.proofs.search.search_last_by_layer_id_at_least.
 }
 use Rattle.segment_rows.proofs.search.search_last_by_layer_id_at_least.Tie as tie
 
-above-start-requires : tie.Need-above-start-requires
-above-start-requires c κs = search needs
-
-halve-by-layer-id-requires : tie.Need-halve-by-layer-id-requires
-halve-by-layer-id-requires c κs = search needs
-
 tell-requires : tie.Need-tell-requires
 tell-requires c κs =
     let s = c .before .before .before in
     same-end _ _ _ (c .halve-by-layer-id .ensures)
     (λ w. rw (c .before .above-start .ensures) (above-test (s .args .wanted) _ (s .args .start) (layerIdOf cpu w) _ (omega arith) refl))
 
-returns : tie.Need-returns
-returns c = search needs
-
 pub search-last-by-layer-id-at-least-spec : {M : Type 1} → statement M
 search-last-by-layer-id-at-least-spec =
-    tie.close (tie.spec above-start-requires halve-by-layer-id-requires tell-requires returns)
+    tie.close (tie.spec (λ c κs. search needs) (λ c κs. search needs) tell-requires (λ c. search needs))

@@ -11,15 +11,6 @@ use Rattle.segment_rows.proofs.search.search_last_by_tile_x_at_least.Ti
 cast-stored : tie.Need-cast-stored
 cast-stored c = rw (toZ-ofZ (c .before .fits .start)) (wider _ (c .before .fits .start))
 
-stored-requires : tie.Need-stored-requires
-stored-requires c κs = search needs
-
-above-start-requires : tie.Need-above-start-requires
-above-start-requires c κs = search needs
-
-halve-by-tile-x-requires : tie.Need-halve-by-tile-x-requires
-halve-by-tile-x-requires c κs = search needs
-
 tell-requires : tie.Need-tell-requires
 tell-requires c κs =
     let s = c .before .before .before .before in
@@ -34,4 +25,4 @@ returns c = rw (c .tell .ensures, toZ-ofZ (c .before .before .before .before .be
 pub search-last-by-tile-x-at-least-spec : {M : Type 1} → statement M
 search-last-by-tile-x-at-least-spec =
     tie.close
-    (tie.spec cast-stored stored-requires above-start-requires halve-by-tile-x-requires tell-requires returns)
+    (tie.spec cast-stored (λ c κs. search needs) (λ c κs. search needs) (λ c κs. search needs) tell-requires returns)

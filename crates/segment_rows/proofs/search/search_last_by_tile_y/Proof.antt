@@ -7,12 +7,6 @@ use Rattle.segment_rows.proofs.Above.{above-tile}
 use Rattle.segment_rows.proofs.search.search_last_by_tile_y.Statement.{statement}
 use Rattle.segment_rows.proofs.search.search_last_by_tile_y.Tie as tie
 
-above-tile-requires : tie.Need-above-tile-requires
-above-tile-requires c κs = search needs
-
-halve-by-tile-y-requires : tie.Need-halve-by-tile-y-requires
-halve-by-tile-y-requires c κs = search needs
-
 tell-requires : tie.Need-tell-requires
 tell-requires c κs =
     let s = c .before .before .before in
@@ -24,4 +18,4 @@ returns c = rw (c .tell .ensures, toZ-ofZ (c .before .before .before .before .fi
 
 pub search-last-by-tile-y-spec : {M : Type 1} → statement M
 search-last-by-tile-y-spec =
-    tie.close (tie.spec above-tile-requires halve-by-tile-y-requires tell-requires returns)
+    tie.close (tie.spec (λ c κs. search needs) (λ c κs. search needs) tell-requires returns)

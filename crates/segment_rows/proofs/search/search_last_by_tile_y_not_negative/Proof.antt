@@ -10,15 +10,6 @@ use Rattle.segment_rows.proofs.search.search_last_by_tile_y_not_negativ
 }
 use Rattle.segment_rows.proofs.search.search_last_by_tile_y_not_negative.Tie as tie
 
-stored-requires : tie.Need-stored-requires
-stored-requires c κs = search needs
-
-above-start-requires : tie.Need-above-start-requires
-above-start-requires c κs = search needs
-
-halve-by-tile-y-requires : tie.Need-halve-by-tile-y-requires
-halve-by-tile-y-requires c κs = search needs
-
 tell-requires : tie.Need-tell-requires
 tell-requires c κs =
     let s = c .before .before .before .before in
@@ -27,9 +18,6 @@ tell-requires c κs =
     rw (c .before .above-start .ensures, c .before .before .stored .ensures)
     (above-test (s .args .wanted) _ 1 (tileYOf cpu w) _ (omega arith) (at-least-tile (pos 0) (tileYOf cpu w))))
 
-returns : tie.Need-returns
-returns c = search needs
-
 pub search-last-by-tile-y-not-negative-spec : {M : Type 1} → statement M
 search-last-by-tile-y-not-negative-spec =
-    tie.close (tie.spec stored-requires above-start-requires halve-by-tile-y-requires tell-requires returns)
+    tie.close (tie.spec (λ c κs. search needs) (λ c κs. search needs) (λ c κs. search needs) tell-requires (λ c. search needs))

@@ -15,9 +15,6 @@ mul-compare-key c = omega (arith, end-lt _ _ (omega arith) (c .before .before .p
 shared-slice-read-compare-key : tie.Need-shared-slice-read-compare-key
 shared-slice-read-compare-key c = end-lt _ _ (omega arith) (c .before .before .before .pre)
 
-compare-key-requires : tie.Need-compare-key-requires
-compare-key-requires c κs = search needs
-
 answer-requires : tie.Need-answer-requires
 answer-requires c κs = omega (arith, end-lt _ _ (omega arith) (c .before .before .before .before .pre))
 
@@ -31,6 +28,6 @@ tell-spec =
     returns
     mul-compare-key
     shared-slice-read-compare-key
-    compare-key-requires
+    (λ c κs. search needs)
     answer-requires
     returns-2)

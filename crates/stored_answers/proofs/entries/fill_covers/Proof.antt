@@ -13,29 +13,8 @@ Inv-loop text at out₀ n place₀ i₀ out place i = length out ≡ length out�
 abbrev μ-loop : tie.MeasureT-loop
 μ-loop text at out₀ n place₀ i₀ out place i = length out₀ - i
 
-loop-holds : tie.Need-loop-holds Inv-loop μ-loop
-loop-holds c = refl
-
 same-length : tie.Need-same-length Inv-loop μ-loop
 same-length c = c .before .before .loop .inv
-
-returns : tie.Need-returns Inv-loop μ-loop
-returns c = tt
-
-next-requires : tie.Need-next-requires Inv-loop μ-loop
-next-requires c κs = search needs
-
-signed-8-requires : tie.Need-signed-8-requires Inv-loop μ-loop
-signed-8-requires c κs = search needs
-
-slice-set-from-out : tie.Need-slice-set-from-out Inv-loop μ-loop
-slice-set-from-out c = omega arith
-
-add-i : tie.Need-add-i Inv-loop μ-loop
-add-i c = omega arith
-
-loop-less : tie.Need-loop-less Inv-loop μ-loop
-loop-less c = omega arith
 
 loop-again : tie.Need-loop-again Inv-loop μ-loop
 loop-again c = length-set (c .before .before .before .before .loop .out) (c .before .before .before .before .loop .i) _ ∙ c .before .before .before .before .loop .inv
@@ -43,23 +22,16 @@ loop-again c = length-set (c .before .before .before .before .loop .out) (c .bef
 same-length-2 : tie.Need-same-length-2 Inv-loop μ-loop
 same-length-2 c = c .before .loop .inv
 
-returns-2 : tie.Need-returns-2 Inv-loop μ-loop
-returns-2 c = tt
-
 pub fill-covers-spec : {M : Type 1} → statement M
 fill-covers-spec =
     tie.close
     (tie.spec
     Inv-loop
     μ-loop
-    loop-holds
+    (λ c. refl)
     same-length
-    returns
-    next-requires
-    signed-8-requires
-    slice-set-from-out
-    add-i
-    loop-less
+    (λ c. tt) (λ c κs. search needs) (λ c κs. search needs) (λ c. omega arith) (λ c. omega arith)
+    (λ c. omega arith)
     loop-again
     same-length-2
-    returns-2)
+    (λ c. tt))

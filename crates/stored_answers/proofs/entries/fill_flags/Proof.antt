@@ -13,32 +13,11 @@ Inv-loop text at out₀ n place₀ i₀ out place i = length out ≡ length out�
 abbrev μ-loop : tie.MeasureT-loop
 μ-loop text at out₀ n place₀ i₀ out place i = length out₀ - i
 
-loop-holds : tie.Need-loop-holds Inv-loop μ-loop
-loop-holds c = refl
-
-next-if-requires : tie.Need-next-if-requires Inv-loop μ-loop
-next-if-requires c κs = search needs
-
-flag-requires : tie.Need-flag-requires Inv-loop μ-loop
-flag-requires c κs = search needs
-
-slice-write-out : tie.Need-slice-write-out Inv-loop μ-loop
-slice-write-out c = omega arith
-
-add-i : tie.Need-add-i Inv-loop μ-loop
-add-i c = omega arith
-
-loop-less : tie.Need-loop-less Inv-loop μ-loop
-loop-less c = omega arith
-
 loop-again : tie.Need-loop-again Inv-loop μ-loop
 loop-again c = length-set (c .before .before .before .loop .out) (c .before .before .before .loop .i) _ ∙ c .before .before .before .loop .inv
 
 same-length : tie.Need-same-length Inv-loop μ-loop
 same-length c = c .before .loop .inv
-
-returns : tie.Need-returns Inv-loop μ-loop
-returns c = tt
 
 pub fill-flags-spec : {M : Type 1} → statement M
 fill-flags-spec =
@@ -46,12 +25,8 @@ fill-flags-spec =
     (tie.spec
     Inv-loop
     μ-loop
-    loop-holds
-    next-if-requires
-    flag-requires
-    slice-write-out
-    add-i
-    loop-less
+    (λ c. refl) (λ c κs. search needs) (λ c κs. search needs) (λ c. omega arith) (λ c. omega arith)
+    (λ c. omega arith)
     loop-again
     same-length
-    returns)
+    (λ c. tt))

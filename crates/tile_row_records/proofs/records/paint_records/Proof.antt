@@ -4,15 +4,6 @@ use mir.Facts.{toZ-ofZ}
 use Rattle.tile_row_records.proofs.records.paint_records.Statement.{statement}
 use Rattle.tile_row_records.proofs.records.paint_records.Tie as tie
 
-records-of-requires : tie.Need-records-of-requires
-records-of-requires c κs = search needs
-
-paint-array-requires : tie.Need-paint-array-requires
-paint-array-requires c κs = search needs
-
-same-length : tie.Need-same-length
-same-length c = search needs
-
 returns : tie.Need-returns
 returns c =
     let made = c .before .before .before .before .records-of .ensures in
@@ -22,7 +13,5 @@ pub paint-records-spec : {M : Type 1} → statement M
 paint-records-spec =
     tie.close
     (tie.spec
-    records-of-requires
-    paint-array-requires
-    same-length
+    (λ c κs. search needs) (λ c κs. search needs) (λ c. search needs)
     returns)

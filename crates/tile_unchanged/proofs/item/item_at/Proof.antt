@@ -9,41 +9,11 @@ use Rattle.pass_statements.proofs.Listing.{cover-entry, item-found, item-missin
 use Rattle.tile_unchanged.proofs.item.item_at.Statement.{statement}
 use Rattle.tile_unchanged.proofs.item.item_at.Tie as tie
 
-mul-id : tie.Need-mul-id
-mul-id c = search needs
-
-shared-slice-read-id : tie.Need-shared-slice-read-id
-shared-slice-read-id c = search needs
-
-add-changed : tie.Need-add-changed
-add-changed c = search needs
-
-shared-slice-read-changed : tie.Need-shared-slice-read-changed
-shared-slice-read-changed c = search needs
-
-find-from-requires : tie.Need-find-from-requires
-find-from-requires c κs = search needs
-
-enum-known-p : tie.Need-enum-known-p
-enum-known-p c = search needs
-
 layer-at-requires : tie.Need-layer-at-requires
 layer-at-requires c κs =
     let a = c .before .before .before .before .before .before .before .before .before .before in
     let found = at-place {floats = a .args .colors .now} (c .before .p .given .1) (c .before .before .before .find-from .ensures) (a .pre .1 .ascending) in
     omega (arith, found .within, a .pre .1 .words-long, a .pre .1 .floats-long)
-
-read-cover-requires : tie.Need-read-cover-requires
-read-cover-requires c κs = search needs
-
-shared-slice-read-item-for : tie.Need-shared-slice-read-item-for
-shared-slice-read-item-for c = search needs
-
-item-for-requires : tie.Need-item-for-requires
-item-for-requires c κs = search needs
-
-enum-told : tie.Need-enum-told
-enum-told c = search needs
 
 returns : tie.Need-returns
 returns c =
@@ -68,16 +38,9 @@ pub item-at-spec : {M : Type 1} → statement M
 item-at-spec =
     tie.close
     (tie.spec
-    mul-id
-    shared-slice-read-id
-    add-changed
-    shared-slice-read-changed
-    find-from-requires
-    enum-known-p
+    (λ c. search needs) (λ c. search needs) (λ c. search needs) (λ c. search needs) (λ c κs. search needs)
+    (λ c. search needs)
     layer-at-requires
-    read-cover-requires
-    shared-slice-read-item-for
-    item-for-requires
-    enum-told
+    (λ c κs. search needs) (λ c. search needs) (λ c κs. search needs) (λ c. search needs)
     returns
     returns-2)

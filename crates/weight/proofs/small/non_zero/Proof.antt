@@ -11,9 +11,6 @@ use Rattle.laws.proofs.Machine.{kept}
 use Rattle.weight.proofs.small.non_zero.Statement.{statement}
 use Rattle.weight.proofs.small.non_zero.Tie as tie
 
-magnitude-requires : tie.Need-magnitude-requires
-magnitude-requires c κs = search needs
-
 is : (c : tie.After-magnitude) → c .magnitude .result ≡ pos (natAbs (c .before .args .d))
 is c = rw (toZ-ofZ (c .before .fits .d)) at (c .magnitude .ensures)
 
@@ -34,4 +31,4 @@ returns-2 c =
     ap pos q
 
 pub non-zero-spec : {M : Type 1} → statement M
-non-zero-spec = tie.close (tie.spec magnitude-requires returns returns-2)
+non-zero-spec = tie.close (tie.spec (λ c κs. search needs) returns returns-2)

@@ -9,7 +9,7 @@ use mir.Syntax.{w16}
 use Rattle.laws.proofs.Machine.{kept, small}
 use Rattle.styling.specs.declared.FillRule.the-variants.{EvenOdd}
 use Rattle.cover_statements.specs.Weight.{evenOddOf}
-use Rattle.cover_statements.specs.Weighed.{weightIn}
+use Rattle.cover_statements.specs.InnerWeighed.{weightIn}
 use Rattle.cover_statements.proofs.Mapped.{Mapping, map-start, map-rest, map-next, map-whole}
 use Rattle.cover_statements.proofs.Weights.{weight-le}
 use Rattle.weight.proofs.tile.weigh_even_odd.Statement.{statement}
@@ -23,12 +23,6 @@ abbrev μ-loop : tie.MeasureT-loop
 
 loop-holds : tie.Need-loop-holds Inv-loop μ-loop
 loop-holds c = map-start (omega arith)
-
-mul-even-odd-in : tie.Need-mul-even-odd-in Inv-loop μ-loop
-mul-even-odd-in c = omega arith
-
-slice-copy-out-even-odd-in : tie.Need-slice-copy-out-even-odd-in Inv-loop μ-loop
-slice-copy-out-even-odd-in c = omega arith
 
 even-odd-in-requires : tie.Need-even-odd-in-requires Inv-loop μ-loop
 even-odd-in-requires c κs = c .before .before .before .pre
@@ -45,18 +39,6 @@ is c =
 
 cast-areas : tie.Need-cast-areas Inv-loop μ-loop
 cast-areas c = small w16 (pos (c .even-odd-in .result)) (omega (arith, is c, weight-le EvenOdd (own c)))
-
-mul-t10 : tie.Need-mul-t10 Inv-loop μ-loop
-mul-t10 c = omega arith
-
-slice-set-from-areas : tie.Need-slice-set-from-areas Inv-loop μ-loop
-slice-set-from-areas c = omega arith
-
-add-k : tie.Need-add-k Inv-loop μ-loop
-add-k c = omega arith
-
-loop-less : tie.Need-loop-less Inv-loop μ-loop
-loop-less c = omega arith
 
 loop-again : tie.Need-loop-again Inv-loop μ-loop
 loop-again c =
@@ -77,14 +59,10 @@ weigh-even-odd-spec =
     Inv-loop
     μ-loop
     loop-holds
-    mul-even-odd-in
-    slice-copy-out-even-odd-in
+    (λ c. omega arith) (λ c. omega arith)
     even-odd-in-requires
     cast-areas
-    mul-t10
-    slice-set-from-areas
-    add-k
-    loop-less
+    (λ c. omega arith) (λ c. omega arith) (λ c. omega arith) (λ c. omega arith)
     loop-again
     same-length
     returns)

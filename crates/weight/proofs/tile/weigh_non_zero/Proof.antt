@@ -8,7 +8,7 @@ use mir.Syntax.{w16}
 use mir.Val.{toZ, ofZ}
 use Rattle.laws.proofs.Machine.{kept}
 use Rattle.styling.specs.declared.FillRule.the-variants.{NonZero}
-use Rattle.cover_statements.specs.Weighed.{weightIn}
+use Rattle.cover_statements.specs.InnerWeighed.{weightIn}
 use Rattle.cover_statements.proofs.Mapped.{Mapping, map-start, map-rest, map-next, map-whole}
 use Rattle.weight.proofs.tile.weigh_non_zero.Statement.{statement}
 use Rattle.weight.proofs.tile.weigh_non_zero.Tie as tie
@@ -22,12 +22,6 @@ abbrev μ-loop : tie.MeasureT-loop
 loop-holds : tie.Need-loop-holds Inv-loop μ-loop
 loop-holds c = map-start (omega arith)
 
-mul-non-zero : tie.Need-mul-non-zero Inv-loop μ-loop
-mul-non-zero c = omega arith
-
-slice-copy-out-non-zero : tie.Need-slice-copy-out-non-zero Inv-loop μ-loop
-slice-copy-out-non-zero c = omega arith
-
 -- the element is still as it was
 own : (c : tie.After-non-zero-arg Inv-loop μ-loop) → toZ w16 (ofZ w16 (getD (c .before .before .loop .areas) (c .before .before .loop .k) (pos 0))) ≡ getD (c .before .before .before .args .areas .now) (c .before .before .loop .k) (pos 0)
 own c =
@@ -39,18 +33,6 @@ non-zero-requires c κs =
     let l = c .before .before in
     rw (own c)
     (l .before .pre .small (l .loop .k) (omega (arith, l .loop .inv .long)))
-
-mul-t8 : tie.Need-mul-t8 Inv-loop μ-loop
-mul-t8 c = omega arith
-
-slice-set-from-areas : tie.Need-slice-set-from-areas Inv-loop μ-loop
-slice-set-from-areas c = omega arith
-
-add-k : tie.Need-add-k Inv-loop μ-loop
-add-k c = omega arith
-
-loop-less : tie.Need-loop-less Inv-loop μ-loop
-loop-less c = omega arith
 
 loop-again : tie.Need-loop-again Inv-loop μ-loop
 loop-again c =
@@ -72,13 +54,9 @@ weigh-non-zero-spec =
     Inv-loop
     μ-loop
     loop-holds
-    mul-non-zero
-    slice-copy-out-non-zero
+    (λ c. omega arith) (λ c. omega arith)
     non-zero-requires
-    mul-t8
-    slice-set-from-areas
-    add-k
-    loop-less
+    (λ c. omega arith) (λ c. omega arith) (λ c. omega arith) (λ c. omega arith)
     loop-again
     same-length
     returns)

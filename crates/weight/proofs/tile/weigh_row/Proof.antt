@@ -10,7 +10,7 @@ use Rattle.laws.proofs.Machine.{kept, small}
 use Rattle.styling.specs.declared.FillRule.the-variants.{EvenOdd}
 use Rattle.cover_statements.specs.Cover.{coverAt}
 use Rattle.cover_statements.specs.Weight.{evenOddOf}
-use Rattle.cover_statements.specs.Weighed.{weightIn}
+use Rattle.cover_statements.specs.InnerWeighed.{weightIn}
 use Rattle.cover_statements.proofs.PlaneRows.{Row, row-start, row-next, row-end}
 use Rattle.cover_statements.proofs.Weights.{weight-le}
 use Rattle.weight.proofs.tile.weigh_row.Statement.{statement}
@@ -24,18 +24,6 @@ abbrev μ-loop : tie.MeasureT-loop
 
 loop-holds : tie.Need-loop-holds Inv-loop μ-loop
 loop-holds c = row-start (c .pre .3)
-
-mul-even-odd-in : tie.Need-mul-even-odd-in Inv-loop μ-loop
-mul-even-odd-in c = omega arith
-
-add-even-odd-in : tie.Need-add-even-odd-in Inv-loop μ-loop
-add-even-odd-in c = omega arith
-
-mul-even-odd-in-2 : tie.Need-mul-even-odd-in-2 Inv-loop μ-loop
-mul-even-odd-in-2 c = omega arith
-
-shared-slice-copy-out-even-odd-in : tie.Need-shared-slice-copy-out-even-odd-in Inv-loop μ-loop
-shared-slice-copy-out-even-odd-in c = omega arith
 
 even-odd-in-requires : tie.Need-even-odd-in-requires Inv-loop μ-loop
 even-odd-in-requires c κs = c .before .before .before .pre .0
@@ -52,24 +40,6 @@ is c = rw (kept w16 (own c) (c .before .even-odd-in-arg .given)) at (c .even-odd
 
 cast-weights : tie.Need-cast-weights Inv-loop μ-loop
 cast-weights c = small w16 (pos (c .even-odd-in .result)) (omega (arith, is c, weight-le EvenOdd (own c)))
-
-mul-t14 : tie.Need-mul-t14 Inv-loop μ-loop
-mul-t14 c = omega arith
-
-add-t15 : tie.Need-add-t15 Inv-loop μ-loop
-add-t15 c = omega arith
-
-mul-t16 : tie.Need-mul-t16 Inv-loop μ-loop
-mul-t16 c = omega arith
-
-slice-set-from-weights : tie.Need-slice-set-from-weights Inv-loop μ-loop
-slice-set-from-weights c = omega arith
-
-add-x : tie.Need-add-x Inv-loop μ-loop
-add-x c = omega arith
-
-loop-less : tie.Need-loop-less Inv-loop μ-loop
-loop-less c = omega arith
 
 loop-again : tie.Need-loop-again Inv-loop μ-loop
 loop-again c =
@@ -90,18 +60,11 @@ weigh-row-spec =
     Inv-loop
     μ-loop
     loop-holds
-    mul-even-odd-in
-    add-even-odd-in
-    mul-even-odd-in-2
-    shared-slice-copy-out-even-odd-in
+    (λ c. omega arith) (λ c. omega arith) (λ c. omega arith) (λ c. omega arith)
     even-odd-in-requires
     cast-weights
-    mul-t14
-    add-t15
-    mul-t16
-    slice-set-from-weights
-    add-x
-    loop-less
+    (λ c. omega arith) (λ c. omega arith) (λ c. omega arith) (λ c. omega arith) (λ c. omega arith)
+    (λ c. omega arith)
     loop-again
     same-length
     returns)

@@ -3,7 +3,7 @@ use Prim.Native.Nat.{_+_, _*_, _-_}
 use native.Mathlib.Omega.{arith}
 use Rattle.styling.specs.declared.FillRule.the-variants.{EvenOdd}
 use Rattle.cover_statements.specs.Cover.{coverAt}
-use Rattle.cover_statements.specs.Weighed.{weightIn}
+use Rattle.cover_statements.specs.InnerWeighed.{weightIn}
 use Rattle.cover_statements.proofs.PlaneRows.{PlaneRows, rows-start, rows-room, rows-next, rows-end}
 use Rattle.weight.proofs.tile.weigh_rows.Statement.{statement}
 use Rattle.weight.proofs.tile.weigh_rows.Tie as tie
@@ -14,9 +14,6 @@ Inv-loop areas weights₀ table y₀ weights y = PlaneRows 16 (λ column row. we
 abbrev μ-loop : tie.MeasureT-loop
 μ-loop areas weights₀ table y₀ weights y = 16 - y
 
-weights-requires : tie.Need-weights-requires Inv-loop μ-loop
-weights-requires c κs = tt
-
 loop-holds : tie.Need-loop-holds Inv-loop μ-loop
 loop-holds c = rows-start (c .before .pre .1)
 
@@ -26,12 +23,6 @@ weigh-row-requires c κs =
     let l = t .before in
     let s = l .before .before in
     (l .before .weights .ensures, s .pre .0, t .loop-test .taken, rows-room (l .loop .inv) (t .loop-test .taken))
-
-add-y : tie.Need-add-y Inv-loop μ-loop
-add-y c = omega arith
-
-loop-less : tie.Need-loop-less Inv-loop μ-loop
-loop-less c = omega arith
 
 loop-again : tie.Need-loop-again Inv-loop μ-loop
 loop-again c =
@@ -50,11 +41,10 @@ weigh-rows-spec =
     (tie.spec
     Inv-loop
     μ-loop
-    weights-requires
+    (λ c κs. tt)
     loop-holds
     weigh-row-requires
-    add-y
-    loop-less
+    (λ c. omega arith) (λ c. omega arith)
     loop-again
     same-length
     returns)

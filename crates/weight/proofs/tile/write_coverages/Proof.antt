@@ -6,7 +6,7 @@ use lib.ListN.{length, getD}
 use mir.Syntax.{w16}
 use Rattle.laws.proofs.Machine.{kept, unsigned}
 use Rattle.laws.proofs.Parts.{whole}
-use Rattle.cover_statements.specs.Weighed.{coverageIn}
+use Rattle.cover_statements.specs.InnerWeighed.{coverageIn}
 use Rattle.cover_statements.proofs.Mapped.{Mapping, map-start, map-next, map-end}
 use Rattle.weight.proofs.tile.write_coverages.Statement.{statement}
 use Rattle.weight.proofs.tile.write_coverages.Tie as tie
@@ -19,12 +19,6 @@ abbrev μ-loop : tie.MeasureT-loop
 
 loop-holds : tie.Need-loop-holds Inv-loop μ-loop
 loop-holds c = map-start (c .before .pre .1)
-
-mul-coverage : tie.Need-mul-coverage Inv-loop μ-loop
-mul-coverage c = omega arith
-
-shared-slice-copy-out-coverage : tie.Need-shared-slice-copy-out-coverage Inv-loop μ-loop
-shared-slice-copy-out-coverage c = omega arith
 
 cast-coverage : tie.Need-cast-coverage Inv-loop μ-loop
 cast-coverage c =
@@ -39,18 +33,6 @@ coverage-requires c κs =
     let l = c .before .before in
     rw (kept w16 (getD (l .before .before .args .weights .now) (l .loop .k) (pos 0)) (c .coverage-arg .given))
     (l .before .before .pre .0 .high (l .loop .k) (omega arith))
-
-mul-plane : tie.Need-mul-plane Inv-loop μ-loop
-mul-plane c = omega arith
-
-slice-write-plane : tie.Need-slice-write-plane Inv-loop μ-loop
-slice-write-plane c = omega arith
-
-add-k : tie.Need-add-k Inv-loop μ-loop
-add-k c = omega arith
-
-loop-less : tie.Need-loop-less Inv-loop μ-loop
-loop-less c = omega arith
 
 loop-again : tie.Need-loop-again Inv-loop μ-loop
 loop-again c =
@@ -72,14 +54,10 @@ write-coverages-spec =
     Inv-loop
     μ-loop
     loop-holds
-    mul-coverage
-    shared-slice-copy-out-coverage
+    (λ c. omega arith) (λ c. omega arith)
     cast-coverage
     coverage-requires
-    mul-plane
-    slice-write-plane
-    add-k
-    loop-less
+    (λ c. omega arith) (λ c. omega arith) (λ c. omega arith) (λ c. omega arith)
     loop-again
     same-length
     returns)

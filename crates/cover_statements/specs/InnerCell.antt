@@ -12,7 +12,7 @@ use Rattle.pixel_segment.specs.Field.{localXOf, localYOf, coverOf, doubleAreaOf
 use Rattle.cover_statements.specs.Area.{areasOf}
 use Rattle.cover_statements.specs.Carry.{isLight}
 use Rattle.cover_statements.specs.Cover.{coverAt}
-use Rattle.cover_statements.specs.Load.{loadsOf, allLight}
+use Rattle.cover_statements.specs.InnerLoad.{loadsOf, allLight}
 
 -- the cell of a segment
 abbrev pub cellOf : List ℕ → ℕ → ℕ → ℕ

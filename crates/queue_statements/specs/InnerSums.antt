@@ -12,7 +12,7 @@ use Rattle.cover_statements.specs.Carry.{absCover}
 use Rattle.cover_statements.specs.Cover.{coverAt}
 use Rattle.queue_statements.specs.Queue.{idsIn, coversIn}
 use Rattle.queue_statements.specs.Opening.{openQueue, isLightOpening}
-use Rattle.queue_statements.specs.Gather.{Clear}
+use Rattle.queue_statements.specs.InnerGather.{Clear}
 use Rattle.queue_statements.specs.Rank.{rankOf}
 
 -- the place of a word's sum: its layer's entry, its pixel row
@@ -47,6 +47,6 @@ pub record Summing (left : List ℕ) (n : ℕ) (ids : List ℕ) (sums : List ℤ
   pub clear : Clear sums
 
 -- what it gives: whether number 9 does not apply, and then the covers
-pub record Summed (left : List ℕ) (n : ℕ) (r : Bool) (sums : List ℤ) : Type 0 where
+pub record OpeningSummed (left : List ℕ) (n : ℕ) (r : Bool) (sums : List ℤ) : Type 0 where
   pub light : r ≡ isLightOpening left
   pub listed : r ≡ true → take (n * 16) sums ≡ coversIn (openQueue left)
