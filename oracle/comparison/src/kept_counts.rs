@@ -195,6 +195,7 @@ pub fn damage(random: &mut Random, call: &mut CountCall) {
         0 => list.ids.truncate(random.pick(&[0, 3, 255])),
         1 => list.kinds.truncate(random.pick(&[0, 3, 255])),
         2 if at < list.kinds.len() => list.kinds[at] = random.pick(&[3, 4, 128, 255]),
+        3 if at > 0 && at < list.ids.len() && random.once_in(2) => list.ids[at] = list.ids[at - 1],
         3 if at < list.ids.len() => list.ids[at] = random.word() as u32,
         4 => call.kept.0[0] = random.word() as u8,
         5 => list.count = random.pick(&[257, 300, 4096, usize::MAX]),
