@@ -2,10 +2,10 @@
 ghost use mathlib.Core.Path.{_≡_};
 ghost use lib.ListN.{length};
 
-pub fn text() -> [u8; 655360]
-    ensures { λ r. ⌜ 655360 ≡ length r ⌝ }
+pub fn text() -> [u8; 540672]
+    ensures { λ r. ⌜ 540672 ≡ length r ⌝ }
 {
-    [0; 655360]
+    [0; 540672]
 }
 
 pub fn row() -> [u64; 512]
