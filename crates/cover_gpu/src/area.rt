@@ -6,7 +6,8 @@ use pixel_segment_gpu::GpuSegment;
 ghost use mathlib.Core.Path.{_≡_};
 ghost use mathlib.Core.Bool.{true};
 ghost use Rattle.pixel_segment.specs.Field.{gpu};
-ghost use Rattle.cover_statements.specs.InnerCell.{cellOf, noCells, Judged, JudgedAreas, Shadable, Shaded, Summable, Summed};
+ghost use Rattle.cover_statements.specs.InnerCell.{cellOf, noCells, Judged, JudgedAreas};
+ghost use Rattle.cover_statements.specs.InnerCell.{Shadable, Shaded, Summable, Summed};
 ghost use Rattle.cover_statements.specs.InnerLoad.{allLight};
 
 // The cell of a segment: its pixel, at column × 4 + row.
