@@ -176,7 +176,7 @@ fn planes(kind: &mut Kind) {
     kind.case(ours == expected, || format!("{call:?}: expected {expected:?}, the library {ours:?}"));
 }
 
-/// The weights of a part with other covers, by the Rust: its coverages times 512, at row × 16 + column as they are recorded.
+/// The weights of a part with other covers, by the Rust: its coverages times 512, in the order that they are recorded in.
 fn painted(part: &[u64], covers: &[i8], carry: [i8; 16], rule: usize) -> Option<Vec<u16>> {
     let chosen: Vec<u64> = part.iter().zip(covers).map(|(&word, &c)| word & !63 | u64::from(c as u8 & 63)).collect();
     let plane = caught(|| recorder::paint(&chosen, carry, RULES[rule]))?.plane;
