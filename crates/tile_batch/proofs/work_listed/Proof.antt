@@ -4,6 +4,18 @@ use borrow.Author.Needs.{needs}
 use Rattle.tile_batch.proofs.work_listed.Statement.{statement}
 use Rattle.tile_batch.proofs.work_listed.Tie as tie
 
+slice-aggregate-work-many : tie.Need-slice-aggregate-work-many
+slice-aggregate-work-many c = search needs
+
+slice-aggregate-work-many-2 : tie.Need-slice-aggregate-work-many-2
+slice-aggregate-work-many-2 c = search needs
+
+slice-aggregate-work-many-3 : tie.Need-slice-aggregate-work-many-3
+slice-aggregate-work-many-3 c = search needs
+
+slice-aggregate-work-many-4 : tie.Need-slice-aggregate-work-many-4
+slice-aggregate-work-many-4 c = search needs
+
 work-many-requires : tie.Need-work-many-requires
 work-many-requires c κs = (c .before .before .before .before .before .before .before .before .before .before .before .before .before .before .before .before .before .before .before .before .before .before .before .pre, refl)
 
@@ -41,7 +53,10 @@ pub work-listed-spec : {M : Type 1} → statement M
 work-listed-spec =
     tie.close
     (tie.spec
-    (λ c. search needs) (λ c. search needs) (λ c. search needs) (λ c. search needs)
+    slice-aggregate-work-many
+    slice-aggregate-work-many-2
+    slice-aggregate-work-many-3
+    slice-aggregate-work-many-4
     work-many-requires
     same-length
     same-length-2

@@ -28,11 +28,53 @@ told c =
 passes : (c : tie.After-enum-told) → let s = c .before .before .before .before .before .before .before .before .before .before .before .before .before .before .before .before .before .before .before .before .before .before .before .before in batchVerdict (batchCall (stateIn (s .args .state)) (s .args .tile) (s .args .tiles) (rowOf s)) (lentOf s) ≡ pass
 passes c = sym (told (c .before .before)) ∙ ap judgementIn (c .enum-told .given .1)
 
+is-short-requires : tie.Need-is-short-requires
+is-short-requires c κs = search needs
+
+judge-row-requires : tie.Need-judge-row-requires
+judge-row-requires c κs = search needs
+
+enum-known-refusal : tie.Need-enum-known-refusal
+enum-known-refusal c = search needs
+
+enum-told : tie.Need-enum-told
+enum-told c = search needs
+
+count-planes-requires : tie.Need-count-planes-requires
+count-planes-requires c κs = search needs
+
 sub-work-listed : tie.Need-sub-work-listed
 sub-work-listed c = rw (c .count-planes .ensures) (enough (c .before .before .before .before .before .before .before .before .before .before .before .before .before .before .before .before .before .before .before .before .before .before .before .before .before .before .before .args .state) (c .before .before .before .before .before .before .before .before .before .before .before .before .before .before .before .before .before .before .before .before .before .before .before .before .before .before .before .args .tile) (c .before .before .before .before .before .before .before .before .before .before .before .before .before .before .before .before .before .before .before .before .before .before .before .before .before .before .before .args .tiles) (rowOf (c .before .before .before .before .before .before .before .before .before .before .before .before .before .before .before .before .before .before .before .before .before .before .before .before .before .before .before)) (lentOf (c .before .before .before .before .before .before .before .before .before .before .before .before .before .before .before .before .before .before .before .before .before .before .before .before .before .before .before)) (passes (c .before .before .before)))
 
 work-listed-requires : tie.Need-work-listed-requires
 work-listed-requires c κs = let s = c .before .before .before .before .before .before .before .before .before .before .before .before .before .before .before .before .before .before .before .before .before .before .before .before .before .before .before .before .before .before .before .before .before .before .before .before in rw (c .before .before .before .before .before .before .before .before .before .count-planes .ensures) (startable (s .args .state) (s .args .tile) (s .args .tiles) (rowOf s) (lentOf s) (passes (c .before .before .before .before .before .before .before .before .before .before .before .before)) (record { small = λ i. c .before .before .before .before .before .before .before .before .before .before .before .before .before .before .before .before .before .before .before .before .before .before .before .before .before .before .before .before .before .before .before .before .before .before .before .shared-slice-known .given i .fits }))
+
+same-length : tie.Need-same-length
+same-length c = search needs
+
+same-length-2 : tie.Need-same-length-2
+same-length-2 c = search needs
+
+same-length-3 : tie.Need-same-length-3
+same-length-3 c = search needs
+
+same-length-4 : tie.Need-same-length-4
+same-length-4 c = search needs
+
+same-length-5 : tie.Need-same-length-5
+same-length-5 c = search needs
+
+same-length-6 : tie.Need-same-length-6
+same-length-6 c = search needs
+
+same-length-7 : tie.Need-same-length-7
+same-length-7 c = search needs
+
+same-length-8 : tie.Need-same-length-8
+same-length-8 c = search needs
+
+same-length-9 : tie.Need-same-length-9
+same-length-9 c = search needs
 
 returns : tie.Need-returns
 returns c = let s = c .before .before .before .before .before .before .before .before .before .before .before .before .before .before .before .before .before .before .before .before .before .before .before .before .before in batch-refused (s .args .state) (s .args .tile) (s .args .tiles) (rowOf s) (lentOf s) (sym (told (c .before .before .before)) ∙ ap judgementIn (c .before .refusal .given .1))
@@ -71,12 +113,22 @@ pub work-tiles-spec : {M : Type 1} → statement M
 work-tiles-spec =
     tie.close
     (tie.spec
-    (λ c κs. search needs) (λ c κs. search needs) (λ c. search needs) (λ c. search needs)
-    (λ c κs. search needs)
+    is-short-requires
+    judge-row-requires
+    enum-known-refusal
+    enum-told
+    count-planes-requires
     sub-work-listed
     work-listed-requires
-    (λ c. search needs) (λ c. search needs) (λ c. search needs) (λ c. search needs) (λ c. search needs)
-    (λ c. search needs) (λ c. search needs) (λ c. search needs) (λ c. search needs)
+    same-length
+    same-length-2
+    same-length-3
+    same-length-4
+    same-length-5
+    same-length-6
+    same-length-7
+    same-length-8
+    same-length-9
     returns
     same-length-10
     same-length-11

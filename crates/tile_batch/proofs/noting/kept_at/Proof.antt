@@ -15,8 +15,20 @@ mul-start c = let h = c .before .before .pre (c .if1 .taken) in omega (arith, h)
 add-end : tie.Need-add-end
 add-end c = let h = c .before .before .pre (c .if1 .taken) in omega (arith, h)
 
+sub-bytes : tie.Need-sub-bytes
+sub-bytes c = search needs
+
+part-bytes-start : tie.Need-part-bytes-start
+part-bytes-start c = search needs
+
 part-bytes-end : tie.Need-part-bytes-end
 part-bytes-end c = let h = c .before .before .pre (c .if1 .taken) in omega (arith, h)
+
+tile-from-requires : tie.Need-tile-from-requires
+tile-from-requires c κs = search needs
+
+absent-requires : tie.Need-absent-requires
+absent-requires c κs = search needs
 
 returns : tie.Need-returns
 returns c =
@@ -33,8 +45,10 @@ kept-at-spec =
     (tie.spec
     mul-start
     add-end
-    (λ c. search needs) (λ c. search needs)
+    sub-bytes
+    part-bytes-start
     part-bytes-end
-    (λ c κs. search needs) (λ c κs. search needs)
+    tile-from-requires
+    absent-requires
     returns
     returns-2)

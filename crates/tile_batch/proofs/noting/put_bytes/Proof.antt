@@ -8,12 +8,30 @@ use Rattle.tile_batch.proofs.Stores.{below}
 use Rattle.tile_batch.proofs.noting.put_bytes.Statement.{statement}
 use Rattle.tile_batch.proofs.noting.put_bytes.Tie as tie
 
+array-read-kept : tie.Need-array-read-kept
+array-read-kept c = search needs
+
+slice-write-kept : tie.Need-slice-write-kept
+slice-write-kept c = search needs
+
+array-read-kept-2 : tie.Need-array-read-kept-2
+array-read-kept-2 c = search needs
+
+add-kept : tie.Need-add-kept
+add-kept c = search needs
+
 slice-write-kept-2 : tie.Need-slice-write-kept-2
 slice-write-kept-2 c =
     let at = c .args .at in
     let l0 = c .args .kept .now in
     let h : at + 1 < length l0 = omega (arith, c .pre) in
     below l0 at (at + 1) (getD (c .args .t3) 0 0) h
+
+array-read-kept-3 : tie.Need-array-read-kept-3
+array-read-kept-3 c = search needs
+
+add-kept-2 : tie.Need-add-kept-2
+add-kept-2 c = search needs
 
 slice-write-kept-3 : tie.Need-slice-write-kept-3
 slice-write-kept-3 c =
@@ -22,6 +40,12 @@ slice-write-kept-3 c =
     let l1 = set l0 (at) (getD (c .args .t3) 0 0) in
     let h : at + 2 < length l0 = omega (arith, c .pre) in
     below l1 (at + 1) (at + 2) (getD (c .args .t3) 1 0) (below l0 at (at + 2) (getD (c .args .t3) 0 0) h)
+
+array-read-kept-4 : tie.Need-array-read-kept-4
+array-read-kept-4 c = search needs
+
+add-kept-3 : tie.Need-add-kept-3
+add-kept-3 c = search needs
 
 slice-write-kept-4 : tie.Need-slice-write-kept-4
 slice-write-kept-4 c =
@@ -32,6 +56,12 @@ slice-write-kept-4 c =
     let h : at + 3 < length l0 = omega (arith, c .pre) in
     below l2 (at + 2) (at + 3) (getD (c .args .t3) 2 0) (below l1 (at + 1) (at + 3) (getD (c .args .t3) 1 0) (below l0 at (at + 3) (getD (c .args .t3) 0 0) h))
 
+array-read-kept-5 : tie.Need-array-read-kept-5
+array-read-kept-5 c = search needs
+
+add-kept-4 : tie.Need-add-kept-4
+add-kept-4 c = search needs
+
 slice-write-kept-5 : tie.Need-slice-write-kept-5
 slice-write-kept-5 c =
     let at = c .args .at in
@@ -41,6 +71,12 @@ slice-write-kept-5 c =
     let l3 = set l2 (at + 2) (getD (c .args .t3) 2 0) in
     let h : at + 4 < length l0 = omega (arith, c .pre) in
     below l3 (at + 3) (at + 4) (getD (c .args .t3) 3 0) (below l2 (at + 2) (at + 4) (getD (c .args .t3) 2 0) (below l1 (at + 1) (at + 4) (getD (c .args .t3) 1 0) (below l0 at (at + 4) (getD (c .args .t3) 0 0) h)))
+
+array-read-kept-6 : tie.Need-array-read-kept-6
+array-read-kept-6 c = search needs
+
+add-kept-5 : tie.Need-add-kept-5
+add-kept-5 c = search needs
 
 slice-write-kept-6 : tie.Need-slice-write-kept-6
 slice-write-kept-6 c =
@@ -53,6 +89,12 @@ slice-write-kept-6 c =
     let h : at + 5 < length l0 = omega (arith, c .pre) in
     below l4 (at + 4) (at + 5) (getD (c .args .t3) 4 0) (below l3 (at + 3) (at + 5) (getD (c .args .t3) 3 0) (below l2 (at + 2) (at + 5) (getD (c .args .t3) 2 0) (below l1 (at + 1) (at + 5) (getD (c .args .t3) 1 0) (below l0 at (at + 5) (getD (c .args .t3) 0 0) h))))
 
+array-read-kept-7 : tie.Need-array-read-kept-7
+array-read-kept-7 c = search needs
+
+add-kept-6 : tie.Need-add-kept-6
+add-kept-6 c = search needs
+
 slice-write-kept-7 : tie.Need-slice-write-kept-7
 slice-write-kept-7 c =
     let at = c .args .at in
@@ -64,6 +106,12 @@ slice-write-kept-7 c =
     let l5 = set l4 (at + 4) (getD (c .args .t3) 4 0) in
     let h : at + 6 < length l0 = omega (arith, c .pre) in
     below l5 (at + 5) (at + 6) (getD (c .args .t3) 5 0) (below l4 (at + 4) (at + 6) (getD (c .args .t3) 4 0) (below l3 (at + 3) (at + 6) (getD (c .args .t3) 3 0) (below l2 (at + 2) (at + 6) (getD (c .args .t3) 2 0) (below l1 (at + 1) (at + 6) (getD (c .args .t3) 1 0) (below l0 at (at + 6) (getD (c .args .t3) 0 0) h)))))
+
+array-read-kept-8 : tie.Need-array-read-kept-8
+array-read-kept-8 c = search needs
+
+add-kept-7 : tie.Need-add-kept-7
+add-kept-7 c = search needs
 
 slice-write-kept-8 : tie.Need-slice-write-kept-8
 slice-write-kept-8 c =
@@ -108,19 +156,28 @@ pub put-bytes-spec : {M : Type 1} → statement M
 put-bytes-spec =
     tie.close
     (tie.spec
-    (λ c. search needs) (λ c. search needs) (λ c. search needs) (λ c. search needs)
+    array-read-kept
+    slice-write-kept
+    array-read-kept-2
+    add-kept
     slice-write-kept-2
-    (λ c. search needs) (λ c. search needs)
+    array-read-kept-3
+    add-kept-2
     slice-write-kept-3
-    (λ c. search needs) (λ c. search needs)
+    array-read-kept-4
+    add-kept-3
     slice-write-kept-4
-    (λ c. search needs) (λ c. search needs)
+    array-read-kept-5
+    add-kept-4
     slice-write-kept-5
-    (λ c. search needs) (λ c. search needs)
+    array-read-kept-6
+    add-kept-5
     slice-write-kept-6
-    (λ c. search needs) (λ c. search needs)
+    array-read-kept-7
+    add-kept-6
     slice-write-kept-7
-    (λ c. search needs) (λ c. search needs)
+    array-read-kept-8
+    add-kept-7
     slice-write-kept-8
     same-length
     returns)

@@ -8,12 +8,30 @@ use Rattle.tile_batch.proofs.Stores.{below}
 use Rattle.tile_batch.proofs.noting.put_five.Statement.{statement}
 use Rattle.tile_batch.proofs.noting.put_five.Tie as tie
 
+mul-told : tie.Need-mul-told
+mul-told c = search needs
+
+slice-write-told : tie.Need-slice-write-told
+slice-write-told c = search needs
+
+add-told : tie.Need-add-told
+add-told c = search needs
+
+mul-told-2 : tie.Need-mul-told-2
+mul-told-2 c = search needs
+
 slice-write-told-2 : tie.Need-slice-write-told-2
 slice-write-told-2 c =
     let at = c .args .at in
     let l0 = c .args .told .now in
     let h : at + 1 < length l0 = omega (arith, c .pre) in
     below l0 at (at + 1) (c .args .a) h
+
+add-told-2 : tie.Need-add-told-2
+add-told-2 c = search needs
+
+mul-told-3 : tie.Need-mul-told-3
+mul-told-3 c = search needs
 
 slice-write-told-3 : tie.Need-slice-write-told-3
 slice-write-told-3 c =
@@ -23,6 +41,12 @@ slice-write-told-3 c =
     let h : at + 2 < length l0 = omega (arith, c .pre) in
     below l1 (at + 1) (at + 2) (c .args .b) (below l0 at (at + 2) (c .args .a) h)
 
+add-told-3 : tie.Need-add-told-3
+add-told-3 c = search needs
+
+mul-told-4 : tie.Need-mul-told-4
+mul-told-4 c = search needs
+
 slice-write-told-4 : tie.Need-slice-write-told-4
 slice-write-told-4 c =
     let at = c .args .at in
@@ -31,6 +55,12 @@ slice-write-told-4 c =
     let l2 = set l1 (at + 1) (c .args .b) in
     let h : at + 3 < length l0 = omega (arith, c .pre) in
     below l2 (at + 2) (at + 3) (c .args .c) (below l1 (at + 1) (at + 3) (c .args .b) (below l0 at (at + 3) (c .args .a) h))
+
+add-told-4 : tie.Need-add-told-4
+add-told-4 c = search needs
+
+mul-told-5 : tie.Need-mul-told-5
+mul-told-5 c = search needs
 
 slice-write-told-5 : tie.Need-slice-write-told-5
 slice-write-told-5 c =
@@ -66,13 +96,19 @@ pub put-five-spec : {M : Type 1} → statement M
 put-five-spec =
     tie.close
     (tie.spec
-    (λ c. search needs) (λ c. search needs) (λ c. search needs) (λ c. search needs)
+    mul-told
+    slice-write-told
+    add-told
+    mul-told-2
     slice-write-told-2
-    (λ c. search needs) (λ c. search needs)
+    add-told-2
+    mul-told-3
     slice-write-told-3
-    (λ c. search needs) (λ c. search needs)
+    add-told-3
+    mul-told-4
     slice-write-told-4
-    (λ c. search needs) (λ c. search needs)
+    add-told-4
+    mul-told-5
     slice-write-told-5
     same-length
     returns)

@@ -8,12 +8,30 @@ use Rattle.tile_batch.proofs.Stores.{below}
 use Rattle.tile_batch.proofs.noting.put_four.Statement.{statement}
 use Rattle.tile_batch.proofs.noting.put_four.Tie as tie
 
+mul-bottoms : tie.Need-mul-bottoms
+mul-bottoms c = search needs
+
+slice-write-bottoms : tie.Need-slice-write-bottoms
+slice-write-bottoms c = search needs
+
+add-bottoms : tie.Need-add-bottoms
+add-bottoms c = search needs
+
+mul-bottoms-2 : tie.Need-mul-bottoms-2
+mul-bottoms-2 c = search needs
+
 slice-write-bottoms-2 : tie.Need-slice-write-bottoms-2
 slice-write-bottoms-2 c =
     let at = c .args .at in
     let l0 = c .args .bottoms .now in
     let h : at + 1 < length l0 = omega (arith, c .pre) in
     below l0 at (at + 1) (c .args .r) h
+
+add-bottoms-2 : tie.Need-add-bottoms-2
+add-bottoms-2 c = search needs
+
+mul-bottoms-3 : tie.Need-mul-bottoms-3
+mul-bottoms-3 c = search needs
 
 slice-write-bottoms-3 : tie.Need-slice-write-bottoms-3
 slice-write-bottoms-3 c =
@@ -22,6 +40,12 @@ slice-write-bottoms-3 c =
     let l1 = set l0 (at) (c .args .r) in
     let h : at + 2 < length l0 = omega (arith, c .pre) in
     below l1 (at + 1) (at + 2) (c .args .g) (below l0 at (at + 2) (c .args .r) h)
+
+add-bottoms-3 : tie.Need-add-bottoms-3
+add-bottoms-3 c = search needs
+
+mul-bottoms-4 : tie.Need-mul-bottoms-4
+mul-bottoms-4 c = search needs
 
 slice-write-bottoms-4 : tie.Need-slice-write-bottoms-4
 slice-write-bottoms-4 c =
@@ -54,11 +78,16 @@ pub put-four-spec : {M : Type 1} → statement M
 put-four-spec =
     tie.close
     (tie.spec
-    (λ c. search needs) (λ c. search needs) (λ c. search needs) (λ c. search needs)
+    mul-bottoms
+    slice-write-bottoms
+    add-bottoms
+    mul-bottoms-2
     slice-write-bottoms-2
-    (λ c. search needs) (λ c. search needs)
+    add-bottoms-2
+    mul-bottoms-3
     slice-write-bottoms-3
-    (λ c. search needs) (λ c. search needs)
+    add-bottoms-3
+    mul-bottoms-4
     slice-write-bottoms-4
     same-length
     returns)

@@ -7,8 +7,14 @@ use Rattle.tile_batch.proofs.noting.put_kept.Tie as tie
 mul-put-bytes : tie.Need-mul-put-bytes
 mul-put-bytes c = let h = c .before .before .before .before .pre (c .before .before .if1 .taken) in omega (arith, h)
 
+to-bytes-requires : tie.Need-to-bytes-requires
+to-bytes-requires c κs = search needs
+
 put-bytes-requires : tie.Need-put-bytes-requires
 put-bytes-requires c κs = let h = c .before .before .before .before .before .pre (c .before .before .before .if1 .taken) in omega (arith, h)
+
+same-length : tie.Need-same-length
+same-length c = search needs
 
 returns : tie.Need-returns
 returns c = rw (c .before .before .before .before .before .before .if1 .taken) (rw (c .before .before .before .to-bytes .ensures) at (c .before .before .put-bytes .ensures))
@@ -21,8 +27,8 @@ put-kept-spec =
     tie.close
     (tie.spec
     mul-put-bytes
-    (λ c κs. search needs)
+    to-bytes-requires
     put-bytes-requires
-    (λ c. search needs)
+    same-length
     returns
     returns-2)

@@ -5,6 +5,15 @@ use borrow.Author.Needs.{needs}
 use Rattle.tile_batch.proofs.shown.paint_entry.Statement.{statement}
 use Rattle.tile_batch.proofs.shown.paint_entry.Tie as tie
 
+paint-layer-requires : tie.Need-paint-layer-requires
+paint-layer-requires c κs = search needs
+
+same-length : tie.Need-same-length
+same-length c = search needs
+
+same-length-2 : tie.Need-same-length-2
+same-length-2 c = search needs
+
 returns : tie.Need-returns
 returns c = rw (c .before .before .before .before .before .before .before .if1 .taken) (c .before .before .before .before .paint-layer .ensures)
 
@@ -15,6 +24,8 @@ pub paint-entry-spec : {M : Type 1} → statement M
 paint-entry-spec =
     tie.close
     (tie.spec
-    (λ c κs. search needs) (λ c. search needs) (λ c. search needs)
+    paint-layer-requires
+    same-length
+    same-length-2
     returns
     returns-2)

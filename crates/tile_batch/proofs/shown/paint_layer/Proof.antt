@@ -8,10 +8,40 @@ use Rattle.tile_batch.proofs.Paintings.{unpainted, painted}
 use Rattle.tile_batch.proofs.shown.paint_layer.Statement.{statement}
 use Rattle.tile_batch.proofs.shown.paint_layer.Tie as tie
 
+add-t24 : tie.Need-add-t24
+add-t24 c = search needs
+
 returns : tie.Need-returns
 returns c =
     let a = c .before .before .before .before .before .before .before .before .before .args in
     (unpainted _ _ _ (walkAt (a .at) (a .planes .now) (a .painted .now)) _ (not-true _ (c .before .if1 .taken)), omega arith, omega arith)
+
+mul-start : tie.Need-mul-start
+mul-start c = search needs
+
+add-end : tie.Need-add-end
+add-end c = search needs
+
+mul-words : tie.Need-mul-words
+mul-words c = search needs
+
+add-next : tie.Need-add-next
+add-next c = search needs
+
+record-of-requires : tie.Need-record-of-requires
+record-of-requires c κs = search needs
+
+mul-paint : tie.Need-mul-paint
+mul-paint c = search needs
+
+sub-paint : tie.Need-sub-paint
+sub-paint c = search needs
+
+part-paint-start : tie.Need-part-paint-start
+part-paint-start c = search needs
+
+part-paint-end : tie.Need-part-paint-end
+part-paint-end c = search needs
 
 paint-requires : tie.Need-paint-requires
 paint-requires c κs =
@@ -23,8 +53,17 @@ paint-requires c κs =
 put-words-requires : tie.Need-put-words-requires
 put-words-requires c κs = omega (arith, c .before .before .before .before .before .before .before .before .before .before .before .before .before .before .pre .2 .painted-long)
 
+with-clip-requires : tie.Need-with-clip-requires
+with-clip-requires c κs = search needs
+
 add-t25 : tie.Need-add-t25
 add-t25 c = omega (arith, c .before .before .before .before .before .before .before .before .before .before .before .before .before .before .before .before .before .before .before .pre .3)
+
+same-length : tie.Need-same-length
+same-length c = search needs
+
+same-length-2 : tie.Need-same-length-2
+same-length-2 c = search needs
 
 returns-2 : tie.Need-returns-2
 returns-2 c =
@@ -43,13 +82,21 @@ pub paint-layer-spec : {M : Type 1} → statement M
 paint-layer-spec =
     tie.close
     (tie.spec
-    (λ c. search needs)
+    add-t24
     returns
-    (λ c. search needs) (λ c. search needs) (λ c. search needs) (λ c. search needs) (λ c κs. search needs)
-    (λ c. search needs) (λ c. search needs) (λ c. search needs) (λ c. search needs)
+    mul-start
+    add-end
+    mul-words
+    add-next
+    record-of-requires
+    mul-paint
+    sub-paint
+    part-paint-start
+    part-paint-end
     paint-requires
     put-words-requires
-    (λ c κs. search needs)
+    with-clip-requires
     add-t25
-    (λ c. search needs) (λ c. search needs)
+    same-length
+    same-length-2
     returns-2)

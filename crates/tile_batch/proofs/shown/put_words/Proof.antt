@@ -8,6 +8,18 @@ use Rattle.tile_batch.proofs.Stores.{below}
 use Rattle.tile_batch.proofs.shown.put_words.Statement.{statement}
 use Rattle.tile_batch.proofs.shown.put_words.Tie as tie
 
+mul-painted : tie.Need-mul-painted
+mul-painted c = search needs
+
+slice-write-painted : tie.Need-slice-write-painted
+slice-write-painted c = search needs
+
+add-painted : tie.Need-add-painted
+add-painted c = search needs
+
+mul-painted-2 : tie.Need-mul-painted-2
+mul-painted-2 c = search needs
+
 slice-write-painted-2 : tie.Need-slice-write-painted-2
 slice-write-painted-2 c =
     let at = c .args .at in
@@ -33,7 +45,10 @@ pub put-words-spec : {M : Type 1} → statement M
 put-words-spec =
     tie.close
     (tie.spec
-    (λ c. search needs) (λ c. search needs) (λ c. search needs) (λ c. search needs)
+    mul-painted
+    slice-write-painted
+    add-painted
+    mul-painted-2
     slice-write-painted-2
     same-length
     returns)

@@ -7,6 +7,9 @@ use Rattle.tile_batch.proofs.tile.judge_next.Tie as tie
 returns : tie.Need-returns
 returns c = rw (le-leb _ _ (c .if1 .taken))
 
+is-tag-out-of-range-requires : tie.Need-is-tag-out-of-range-requires
+is-tag-out-of-range-requires c κs = search needs
+
 returns-2 : tie.Need-returns-2
 returns-2 c = rw (lt-leb _ _ (c .before .before .if1 .left), ← c .before .is-tag-out-of-range .ensures, c .if2 .taken)
 
@@ -18,6 +21,6 @@ judge-next-spec =
     tie.close
     (tie.spec
     returns
-    (λ c κs. search needs)
+    is-tag-out-of-range-requires
     returns-2
     returns-3)

@@ -13,6 +13,12 @@ use Rattle.tile_batch.proofs.tile.note_tile.Tie as tie
 add-next : tie.Need-add-next
 add-next c = omega (arith, c .before .before .before .before .before .before .before .before .before .before .before .before .before .before .pre .2 .told, c .before .before .before .before .before .before .before .before .before .before .before .before .before .before .good .1 .1 .1 .1 .1 .1 .1 .1 .1 .1 .1 .1 .1 .1 .0 .0)
 
+is-paint-requires : tie.Need-is-paint-requires
+is-paint-requires c κs = search needs
+
+paint-shown-requires : tie.Need-paint-shown-requires
+paint-shown-requires c κs = search needs
+
 put-kept-requires : tie.Need-put-kept-requires
 put-kept-requires c κs = c .before .before .before .before .before .before .before .before .before .before .before .before .before .before .before .before .before .before .before .before .before .before .before .pre .2 .kept
 
@@ -21,6 +27,21 @@ put-told-requires c κs = c .before .before .before .before .before .before .bef
 
 put-bottom-requires : tie.Need-put-bottom-requires
 put-bottom-requires c κs = c .before .before .before .before .before .before .before .before .before .before .before .before .before .before .before .before .before .before .before .before .before .before .before .before .before .before .before .before .before .before .before .pre .2 .bottoms
+
+same-length : tie.Need-same-length
+same-length c = search needs
+
+same-length-2 : tie.Need-same-length-2
+same-length-2 c = search needs
+
+same-length-3 : tie.Need-same-length-3
+same-length-3 c = search needs
+
+same-length-4 : tie.Need-same-length-4
+same-length-4 c = search needs
+
+same-length-5 : tie.Need-same-length-5
+same-length-5 c = search needs
 
 returns : tie.Need-returns
 returns c =
@@ -44,9 +65,14 @@ note-tile-spec =
     tie.close
     (tie.spec
     add-next
-    (λ c κs. search needs) (λ c κs. search needs)
+    is-paint-requires
+    paint-shown-requires
     put-kept-requires
     put-told-requires
     put-bottom-requires
-    (λ c. search needs) (λ c. search needs) (λ c. search needs) (λ c. search needs) (λ c. search needs)
+    same-length
+    same-length-2
+    same-length-3
+    same-length-4
+    same-length-5
     returns)

@@ -65,8 +65,20 @@ part-is c = let s = c .before .before .before .before .before .before .before .b
 work-judged-requires : tie.Need-work-judged-requires
 work-judged-requires c κs = let s = c .before .before .before .before .before .before .before .before .before .before .before .before .before .before .before .before .before .before .before .before in rw (toZ-ofZ (s .fits .tile), s .pre .tile-is, s .pre .held-is) (ready s .judged)
 
+enum-known-answer : tie.Need-enum-known-answer
+enum-known-answer c = search needs
+
+refused-requires : tie.Need-refused-requires
+refused-requires c κs = search needs
+
+enum-known-answer-2 : tie.Need-enum-known-answer-2
+enum-known-answer-2 c = search needs
+
 cast-in-tile : tie.Need-cast-in-tile
 cast-in-tile c = let s = c .before .before .before .before .before .before .before .before .before .before .before .before .before .before .before .before .before .before .before .before .before .before .before .before .before .before .before .before .before .before .before .before .before .before in rw (toZ-ofZ (s .fits .tile)) (tile-fits s)
+
+in-tile-requires : tie.Need-in-tile-requires
+in-tile-requires c κs = search needs
 
 note-tile-requires : tie.Need-note-tile-requires
 note-tile-requires c κs =
@@ -75,6 +87,24 @@ note-tile-requires c κs =
     let n = s .pre .turns .notes in
     rw (part-is (c .before .before .before .before .before .before .before))
     (painter (callAt (rowOf s) (standOf s)) (workLent (standOf s .lent .other) (listOf s)) (ready s), walkable (callAt (rowOf s) (standOf s)) (workLent (standOf s .lent .other) (listOf s)) (ready s) t, record { kept = n .kept; told = n .told; bottoms = n .bottoms }, s .pre .turns .planes)
+
+same-length : tie.Need-same-length
+same-length c = search needs
+
+same-length-2 : tie.Need-same-length-2
+same-length-2 c = search needs
+
+same-length-3 : tie.Need-same-length-3
+same-length-3 c = search needs
+
+same-length-4 : tie.Need-same-length-4
+same-length-4 c = search needs
+
+same-length-5 : tie.Need-same-length-5
+same-length-5 c = search needs
+
+same-length-6 : tie.Need-same-length-6
+same-length-6 c = search needs
 
 returns : tie.Need-returns
 returns c =
@@ -99,6 +129,21 @@ same-length-11 c = c .before .before .before .before .before .before .before .be
 same-length-12 : tie.Need-same-length-12
 same-length-12 c = c .before .before .before .before .before .before .before .before .before .before .before .before .before .before .before .before .before .before .before .before .before .before .before .before .before .before .before .before .before .before .before .before .work-judged .kept .1 .1 .1 .1 .1 .1 .1 .1 .1 .1 .1 .1 .1 .1 .1 .1 .0
 
+same-length-13 : tie.Need-same-length-13
+same-length-13 c = search needs
+
+same-length-14 : tie.Need-same-length-14
+same-length-14 c = search needs
+
+same-length-15 : tie.Need-same-length-15
+same-length-15 c = search needs
+
+same-length-16 : tie.Need-same-length-16
+same-length-16 c = search needs
+
+same-length-17 : tie.Need-same-length-17
+same-length-17 c = search needs
+
 returns-2 : tie.Need-returns-2
 returns-2 c =
     let s = c .before .before .before .before .before .before .before .before .before .before .before .before .before .before .before .before .before .before .before .before .before .before .before .before .before .before .before .before .before .before .before .before .before .before .before .before .before .before .before .before .before .before .before .before .before .before .before .before .before .before .before .before .before in
@@ -112,12 +157,18 @@ work-here-spec =
     tie.close
     (tie.spec
     work-judged-requires
-    (λ c. search needs) (λ c κs. search needs) (λ c. search needs)
+    enum-known-answer
+    refused-requires
+    enum-known-answer-2
     cast-in-tile
-    (λ c κs. search needs)
+    in-tile-requires
     note-tile-requires
-    (λ c. search needs) (λ c. search needs) (λ c. search needs) (λ c. search needs) (λ c. search needs)
-    (λ c. search needs)
+    same-length
+    same-length-2
+    same-length-3
+    same-length-4
+    same-length-5
+    same-length-6
     returns
     same-length-7
     same-length-8
@@ -125,5 +176,9 @@ work-here-spec =
     same-length-10
     same-length-11
     same-length-12
-    (λ c. search needs) (λ c. search needs) (λ c. search needs) (λ c. search needs) (λ c. search needs)
+    same-length-13
+    same-length-14
+    same-length-15
+    same-length-16
+    same-length-17
     returns-2)

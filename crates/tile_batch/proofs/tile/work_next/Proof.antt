@@ -34,6 +34,18 @@ low s = let r = in-row (stateIn (s .args .at .state)) (s .pre .stands .in-state)
 kept-at-requires : tie.Need-kept-at-requires
 kept-at-requires c κs = c .before .before .before .before .before .before .before .before .before .before .before .before .before .before .before .pre .notes .kept
 
+judge-next-requires : tie.Need-judge-next-requires
+judge-next-requires c κs = search needs
+
+enum-known-refusal : tie.Need-enum-known-refusal
+enum-known-refusal c = search needs
+
+refused-requires : tie.Need-refused-requires
+refused-requires c κs = search needs
+
+enum-told : tie.Need-enum-told
+enum-told c = search needs
+
 cast-work-here : tie.Need-cast-work-here
 cast-work-here c = small w32 (pos (c .before .before .before .before .before .before .before .before .before .before .before .before .before .before .before .before .before .before .before .before .args .at .state .next)) (low (c .before .before .before .before .before .before .before .before .before .before .before .before .before .before .before .before .before .before .before .before))
 
@@ -47,11 +59,47 @@ work-here-requires c κs =
       passes = sym (c .before .before .before .before .before .before .before .before .before .before .before .before .before .before .judge-next .ensures) ∙ ap judgementIn (c .before .before .before .before .before .before .before .before .before .before .before .before .enum-told .given .1);
     }
 
+same-length : tie.Need-same-length
+same-length c = search needs
+
 returns : tie.Need-returns
 returns c =
     let s = c .before .before .before .before .before .before .before .before .before .before .before .before .before .before .before .before .before .before .before .before .before in
     let told = sym (rw (c .before .before .before .before .before .kept-at .ensures) at (c .before .before .before .before .judge-next .ensures)) ∙ ap judgementIn (c .before .before .refusal .given .1) in
     turn-left (rowOf s) (standOf s) (s .args .at) _ (standOf s .lent) _ refl (turn-refused (rowOf s) (standOf s) (s .pre .stands) (ap (λ (j : Judgement). andThen j (layersVerdict (callAt (rowOf s) (standOf s)))) told)) (c .refused .ensures)
+
+same-length-2 : tie.Need-same-length-2
+same-length-2 c = search needs
+
+same-length-3 : tie.Need-same-length-3
+same-length-3 c = search needs
+
+same-length-4 : tie.Need-same-length-4
+same-length-4 c = search needs
+
+same-length-5 : tie.Need-same-length-5
+same-length-5 c = search needs
+
+same-length-6 : tie.Need-same-length-6
+same-length-6 c = search needs
+
+same-length-7 : tie.Need-same-length-7
+same-length-7 c = search needs
+
+same-length-8 : tie.Need-same-length-8
+same-length-8 c = search needs
+
+same-length-9 : tie.Need-same-length-9
+same-length-9 c = search needs
+
+same-length-10 : tie.Need-same-length-10
+same-length-10 c = search needs
+
+same-length-11 : tie.Need-same-length-11
+same-length-11 c = search needs
+
+same-length-12 : tie.Need-same-length-12
+same-length-12 c = search needs
 
 returns-2 : tie.Need-returns-2
 returns-2 c = c .before .before .before .before .before .before .before .before .before .before .before .before .before .before .before .before .before .before .before .before .work-here .ensures
@@ -61,12 +109,23 @@ work-next-spec =
     tie.close
     (tie.spec
     kept-at-requires
-    (λ c κs. search needs) (λ c. search needs) (λ c κs. search needs) (λ c. search needs)
+    judge-next-requires
+    enum-known-refusal
+    refused-requires
+    enum-told
     cast-work-here
     work-here-requires
-    (λ c. search needs)
+    same-length
     returns
-    (λ c. search needs) (λ c. search needs) (λ c. search needs) (λ c. search needs) (λ c. search needs)
-    (λ c. search needs) (λ c. search needs) (λ c. search needs) (λ c. search needs) (λ c. search needs)
-    (λ c. search needs)
+    same-length-2
+    same-length-3
+    same-length-4
+    same-length-5
+    same-length-6
+    same-length-7
+    same-length-8
+    same-length-9
+    same-length-10
+    same-length-11
+    same-length-12
     returns-2)
