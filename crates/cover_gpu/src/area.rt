@@ -6,8 +6,9 @@ use pixel_segment_gpu::GpuSegment;
 ghost use mathlib.Core.Path.{_≡_};
 ghost use mathlib.Core.Bool.{true};
 ghost use Rattle.pixel_segment.specs.Field.{gpu};
-ghost use Rattle.cover_statements.specs.InnerCell.{cellOf, noCells, Judged, JudgedAreas, Shadable, Shaded, Summable, Summed};
+ghost use Rattle.cover_statements.specs.InnerCell.{cellOf, noCells, Judged, JudgedAreas, Summable, Summed};
 ghost use Rattle.cover_statements.specs.InnerLoad.{allLight};
+ghost use Rattle.cover_gpu.specs.InnerRows.{RowReady, RowShaded};
 
 // The cell of a segment: its pixel, at column × 4 + row.
 fn cell(segment: GpuSegment) -> usize
@@ -47,38 +48,32 @@ fn acc_segments(
     true
 }
 
-// A column's own double areas become its doubled areas; the sums of the rows come back with the column's covers added.
-fn compute_doubled_areas(
-    areas: &mut [i16; 64],
-    covers: &[i8; 64],
-    column: usize,
-    sums: [i8; 4],
-) -> [i8; 4]
-    requires { ⌜ Shadable 4 column (now areas) (now covers) sums ⌝ }
-    ensures { λ r. ⌜ Shaded 4 column 4 (now (areas .entry)) (now (covers .entry)) sums (now (areas .exit)) r ⌝ }
+// A pixel row's own double areas become its doubled areas, a column after the other. `cover` comes in. One number is
+// carried along: four side by side would be put together and taken apart in each column.
+fn shade_row(areas: &mut [i16; 64], covers: &[i8; 64], y: usize, cover: i8)
+    requires { ⌜ RowReady y cover (now areas) (now covers) ⌝ }
+    ensures { λ _. ⌜ RowShaded y cover (now (areas .entry)) (now (covers .entry)) (now (areas .exit)) ⌝ }
 {
-    let mut next = sums;
-    let mut y = 0;
-    while y < 4 {
-        let k = column * 4 + y;
-        next[y] = sums[y] + covers[k];
-        areas[k] = 32 * (sums[y] as i16) + areas[k];
-        y += 1;
+    let mut sum = cover;
+    let mut x = 0;
+    while x < 16 {
+        let k = x * 4 + y;
+        let next = sum + covers[k];
+        areas[k] = 32 * (sum as i16) + areas[k];
+        sum = next;
+        x += 1;
     }
-    next
 }
 
-// The cells of a part become its doubled areas, a column after the other, from an incoming cover.
-pub fn sum_columns(areas: &mut [i16; 64], covers: &[i8; 64], incoming: [i8; 4])
+// The cells of a part become its doubled areas, a pixel row after the other, from an incoming cover.
+fn sum_rows(areas: &mut [i16; 64], covers: &[i8; 64], incoming: [i8; 4])
     requires { ⌜ Summable gpu 4 incoming (now areas) (now covers) ⌝ }
     ensures { λ _. ⌜ Summed gpu 4 incoming (now (areas .entry)) (now (covers .entry)) (now (areas .exit)) ⌝ }
 {
-    let mut sums = incoming;
-    let mut column = 0;
-    while column < 16 {
-        let next = compute_doubled_areas(areas, covers, column, sums);
-        sums = next;
-        column += 1;
+    let mut y = 0;
+    while y < 4 {
+        shade_row(areas, covers, y, incoming[y]);
+        y += 1;
     }
 }
 
@@ -96,6 +91,6 @@ pub fn judged_areas(part: &[u64], cover: GpuCover, areas: &mut [i16; 64]) -> boo
     if !acc_segments(part, loads, areas, &mut covers) {
         return false;
     }
-    sum_columns(areas, &covers, incoming);
+    sum_rows(areas, &covers, incoming);
     true
 }
