@@ -5,7 +5,7 @@ use crate::carry;
 use pixel_segment_gpu::GpuSegment;
 ghost use mathlib.Core.Path.{_≡_};
 ghost use mathlib.Core.Bool.{true};
-ghost use Rattle.pixel_segment.specs.Field.{gpu};
+ghost use Rattle.pixel_segment.specs.Field.{gpu, coverOf, doubleAreaOf};
 ghost use Rattle.cover_statements.specs.InnerCell.{cellOf, noCells, Judged, JudgedAreas, Summable, Summed};
 ghost use Rattle.cover_statements.specs.InnerLoad.{allLight};
 ghost use Rattle.cover_gpu.specs.InnerRows.{RowReady, RowShaded};
@@ -15,6 +15,21 @@ fn cell(segment: GpuSegment) -> usize
     ensures { λ r. ⌜ r ≡ cellOf gpu 4 (segment .0) ⌝ }
 {
     segment.local_x() as usize * 4 + segment.local_y() as usize
+}
+
+// The cover of a segment, at 16 bits, with its field's size as a constant: what is worked out of it stays in registers.
+fn cover_of(segment: GpuSegment) -> i16
+    ensures { λ r. ⌜ r ≡ coverOf gpu (segment .0) ⌝ }
+{
+    ((segment.0 % 64 + 32) % 64) as i16 - 32
+}
+
+// The double area of a segment with this cover.
+fn area_of(segment: GpuSegment, cover: i16) -> i16
+    requires { ⌜ cover ≡ coverOf gpu (segment .0) ⌝ }
+    ensures { λ r. ⌜ r ≡ doubleAreaOf gpu (segment .0) ⌝ }
+{
+    segment.double_area_multiplier() as i16 * cover
 }
 
 // The double areas and the covers of each cell, summed, as long as the absolute covers of each pixel row stay within
@@ -32,17 +47,17 @@ fn acc_segments(
     let mut i = 0;
     while i < part.len() {
         let segment = GpuSegment(part[i]);
-        let cover = segment.cover();
+        let cover = cover_of(segment);
         let y = segment.local_y() as usize;
         let before = loads[y];
-        let load = before + weight::cover_magnitude(cover);
+        let load = before + weight::magnitude(cover);
         if 127 < load {
             return false;
         }
         loads[y] = load;
         let k = cell(segment);
-        areas[k] = areas[k] + segment.double_area();
-        covers[k] = covers[k] + cover;
+        areas[k] = areas[k] + area_of(segment, cover);
+        covers[k] = covers[k] + cover as i8;
         i += 1;
     }
     true
