@@ -1,5 +1,5 @@
 //! Tiles four pixels high: the layout that the Rust names for the GPU. Packed segments, their order and searches, covers
-//! and coverages; octets, clips and decisions are not part of it.
+//! and coverages, and one layer's row of tiles; octets, clips and decisions are not part of it.
 //!
 //! ```
 //! use tile_rows::{four_high::{self, PixelSegment}, Fields, FillRule};
@@ -17,8 +17,28 @@
 //! # Ok(())
 //! # }
 //! ```
+//!
+//! A layer's row, tile after tile:
+//!
+//! ```
+//! use tile_rows::{four_high::{LayerRow, PixelSegment, Plane}, FillRule};
+//!
+//! # fn main() -> Result<(), tile_rows::Refusal> {
+//! // Layer 1 of row 0: covers of 16, -5 and -16, in tiles -1, 0 and 2 and pixel rows 0, 2 and 0.
+//! let segments = [0x0008000000040810, 0x000800800005223B, 0x0008018000044830].map(PixelSegment::from_word);
+//! let mut row = LayerRow::open(&segments, 0, 0..4, 1, FillRule::NonZero)?;
+//! let mut plane = Plane::new();
+//! let mut carries = vec![row.cover().0];
+//! while let Some(tile) = row.work_next(&mut plane)? {
+//!     assert_eq!(plane.at(15, 0), if tile < 2 { 1.0 } else { 0.0 });
+//!     carries.push(row.cover().0);
+//! }
+//! assert_eq!(carries, [[16, 0, 0, 0], [16, 0, -5, 0], [16, 0, -5, 0], [0, 0, -5, 0], [0, 0, -5, 0]]);
+//! # Ok(())
+//! # }
+//! ```
 
-use std::{array, cmp::Ordering, slice};
+use std::{array, cmp::Ordering, ops::Range, slice};
 
 use crate::{exports, Fields, FillRule, Refusal};
 
@@ -52,22 +72,62 @@ impl PixelSegment {
         self.0
     }
 
-    /// Every field that it was packed from.
-    pub fn fields(self) -> Fields {
-        Fields {
-            layer_id: exports::gpu_layer_id(self.0),
-            tile_x: exports::gpu_tile_x(self.0),
-            tile_y: exports::gpu_tile_y(self.0),
-            local_x: exports::gpu_local_x(self.0),
-            local_y: exports::gpu_local_y(self.0),
-            double_area_multiplier: exports::gpu_double_area_multiplier(self.0),
-            cover: exports::gpu_cover(self.0),
-        }
+    /// The layer that the segment belongs to.
+    pub fn layer_id(self) -> u32 {
+        exports::gpu_layer_id(self.0)
+    }
+
+    /// The tile's column, -1 to 4,094.
+    pub fn tile_x(self) -> i16 {
+        exports::gpu_tile_x(self.0)
+    }
+
+    /// The tile's row, -1 to 8,190.
+    pub fn tile_y(self) -> i16 {
+        exports::gpu_tile_y(self.0)
+    }
+
+    /// The pixel's column in its tile, 0 to 15.
+    pub fn local_x(self) -> u8 {
+        exports::gpu_local_x(self.0)
+    }
+
+    /// The pixel's row in its tile, 0 to 3.
+    pub fn local_y(self) -> u8 {
+        exports::gpu_local_y(self.0)
+    }
+
+    /// The double area's multiplier, 0 to 63.
+    pub fn double_area_multiplier(self) -> u8 {
+        exports::gpu_double_area_multiplier(self.0)
     }
 
     /// Multiplier times cover.
     pub fn double_area(self) -> i16 {
         exports::gpu_double_area(self.0)
+    }
+
+    /// The cover, -32 to 31.
+    pub fn cover(self) -> i8 {
+        exports::gpu_cover(self.0)
+    }
+
+    /// Every field that it was packed from, read in one call.
+    pub fn fields(self) -> Fields {
+        let (mut layer_id, mut tile_x, mut tile_y, mut local_x, mut local_y) = (0, 0, 0, 0, 0);
+        let (mut double_area_multiplier, mut double_area, mut cover) = (0, 0, 0);
+        exports::gpu_fields(
+            self.0,
+            &mut layer_id,
+            &mut tile_x,
+            &mut tile_y,
+            &mut local_x,
+            &mut local_y,
+            &mut double_area_multiplier,
+            &mut double_area,
+            &mut cover,
+        );
+        Fields { layer_id, tile_x, tile_y, local_x, local_y, double_area_multiplier, cover }
     }
 
     /// The order: by tile y, then tile x, then layer.
@@ -89,6 +149,12 @@ pub enum Key {
     TileX(i16),
     /// A layer id.
     LayerId(u32),
+    /// Whether tile x is at least this one, and which answer is wanted.
+    TileXAtLeast(i16, bool),
+    /// Whether the layer id is at least this one, and which answer is wanted.
+    LayerIdAtLeast(u32, bool),
+    /// Whether tile y is 0 or more, and which answer is wanted.
+    TileYNotNegative(bool),
 }
 
 /// The last place whose key is the wanted one, or where it would stand. On segments that the key does not sort, the
@@ -100,6 +166,13 @@ pub fn search_last(segments: &[PixelSegment], key: Key) -> Result<usize, usize> 
         Key::TileY(tile_y) => exports::gpu_search_last_by_tile_y(words, tile_y, &mut place),
         Key::TileX(tile_x) => exports::gpu_search_last_by_tile_x(words, tile_x, &mut place),
         Key::LayerId(layer_id) => exports::gpu_search_last_by_layer_id(words, layer_id, &mut place),
+        Key::TileXAtLeast(start, wanted) => {
+            exports::gpu_search_last_by_tile_x_at_least(words, start, wanted, &mut place)
+        }
+        Key::LayerIdAtLeast(start, wanted) => {
+            exports::gpu_search_last_by_layer_id_at_least(words, start, wanted, &mut place)
+        }
+        Key::TileYNotNegative(wanted) => exports::gpu_search_last_by_tile_y_not_negative(words, wanted, &mut place),
     };
     if found {
         Ok(place)
@@ -156,6 +229,101 @@ impl Plane {
 impl Default for Plane {
     fn default() -> Plane {
         Plane::new()
+    }
+}
+
+/// One layer's open row: it borrows the row's segments for its life, those of other layers too, and owns the layer's
+/// cover, so nothing that it was opened with can change between two calls.
+///
+/// Tile after tile, [`work_next`](LayerRow::work_next), or [`work`](LayerRow::work) with the tile's number. A call that
+/// is turned down leaves the row and the plane as they were.
+///
+/// A layer that the row lacks is worked as zeros.
+#[derive(Clone, Debug, PartialEq, Eq)]
+pub struct LayerRow<'a> {
+    segments: &'a [PixelSegment],
+    /// As the library keeps it: tile y, from, to, the next tile, the layer and its fill rule.
+    words: [u32; 6],
+    cover: Cover,
+}
+
+impl<'a> LayerRow<'a> {
+    /// Opens row `tile_y` for a layer and the tiles of a range, with the sum of the layer's covers left of the first.
+    ///
+    /// Refused by 2 (a row number that is not 0 to 8,190, or a range that is not within 0 to 4,095), 3 (the segments
+    /// are no row) and 9 (the layer's covers left of the first tile).
+    pub fn open(
+        segments: &'a [PixelSegment],
+        tile_y: i32,
+        tiles: Range<i32>,
+        layer_id: u32,
+        rule: FillRule,
+    ) -> Result<LayerRow<'a>, Refusal> {
+        let mut row = LayerRow { segments, words: [0; 6], cover: Cover::default() };
+        Refusal::judge(exports::gpu_open_layer_row(
+            tile_y,
+            tiles.start,
+            tiles.end,
+            layer_id,
+            rule.code(),
+            words_of(segments),
+            &mut row.words,
+            &mut row.cover.0,
+        ))?;
+        Ok(row)
+    }
+
+    /// The row's segments.
+    pub fn segments(&self) -> &'a [PixelSegment] {
+        self.segments
+    }
+
+    /// The layer.
+    pub fn layer_id(&self) -> u32 {
+        self.words[4]
+    }
+
+    /// The tiles that the row was opened for.
+    pub fn tiles(&self) -> Range<i32> {
+        // An opened range is within 0 to 4,095.
+        self.words[1] as i32..self.words[2] as i32
+    }
+
+    /// The tile that is worked next; the end of [`tiles`](LayerRow::tiles) after the last.
+    pub fn next_tile(&self) -> i32 {
+        self.words[3] as i32
+    }
+
+    /// The layer's cover that the next tile takes in: before the first tile the sum of its covers to the left, then
+    /// what the tile just worked handed on, as zeros where that is empty by the fill rule.
+    pub fn cover(&self) -> Cover {
+        self.cover
+    }
+
+    /// Works a tile: the layer's coverages into the plane, and its cover handed on to the next.
+    ///
+    /// Refused by 2 (not the next tile, or past the last) and 9 (the covers of a pixel row).
+    pub fn work(&mut self, tile: i32, plane: &mut Plane) -> Result<(), Refusal> {
+        // The operation judges the row again. That it passes is known here: the borrow keeps it as it was opened.
+        Refusal::judge(exports::gpu_work_tile(
+            &mut self.words,
+            &mut self.cover.0,
+            tile,
+            words_of(self.segments),
+            &mut plane.0,
+        ))
+    }
+
+    /// Works the next tile and gives its number; after the last it gives none and leaves the plane.
+    ///
+    /// Refused by 9 (the covers of a pixel row).
+    pub fn work_next(&mut self, plane: &mut Plane) -> Result<Option<i32>, Refusal> {
+        let tile = self.next_tile();
+        if self.tiles().contains(&tile) {
+            self.work(tile, plane).map(|()| Some(tile))
+        } else {
+            Ok(None)
+        }
     }
 }
 

@@ -103,7 +103,8 @@
 //!
 //! # Tiles four pixels high
 //!
-//! [`four_high`] has packed segments, covers and coverages of tiles 16 wide and 4 high.
+//! [`four_high`] has packed segments, covers and coverages of tiles 16 wide and 4 high; a
+//! [`LayerRow`](four_high::LayerRow) gives the coverages of one layer, tile after tile.
 //!
 //! # Threads
 //!
@@ -117,15 +118,16 @@
 //!
 //! # What is judged when
 //!
-//! The library's operations that judge row and table once for a whole row are not exported yet. [`Row`] therefore calls
-//! the public operations, which judge everything that they are lent in every call: the time of a tile grows with the
-//! row's segments. Nothing of the crate's interface rests on that; `Row` borrows what it was opened with, which is the
-//! premise of the faster operations.
+//! The library's operations that judge row and table once for a whole row are not exported yet; nor is the one that
+//! works and paints several tiles in one call, judged once (`tile_batch::work_tiles`). [`Row`] and
+//! [`LayerRow`](four_high::LayerRow) therefore call the public operations, which judge everything that they are lent in
+//! every call: the time of a tile grows with the row's segments. Nothing of the crate's interface rests on that; they
+//! borrow what they were opened with, which is the premise of the faster operations.
 //!
 //! # Memory of your own
 //!
-//! [`exports`] has every operation of the library as a safe function over lent slices and numbers. It is made from the
-//! library's sources by `cargo run --example declare`, and a test holds it to them.
+//! [`exports`] has every exported operation of the library as a safe function over lent slices and numbers. It is made
+//! from the library's sources by `cargo run --example declare`, and a test holds it to them.
 
 #![deny(missing_docs, unsafe_code)]
 

@@ -88,12 +88,13 @@ impl Refusal {
     pub const fn meaning(self) -> &'static str {
         match self {
             Refusal::Room => {
-                "lent memory is too short: a queue or list below 256 entries, a plane below 256 numbers, or a layer \
-                 table shorter than its count"
+                "lent memory is too short: a queue or list below 256 entries, a plane below 256 numbers (64 where tiles \
+                 are four pixels high), or a layer table shorter than its count"
             }
             Refusal::Tile => {
                 "the tile is not the next (in painting: not the one just worked) or outside the row's tiles, the row \
-                 number is not 0 to 2046, the range of tiles is not within 0 to 4095, or a tile of 32767 was to be packed"
+                 number is not 0 to 2046 (8190 where tiles are four pixels high), the range of tiles is not within 0 to \
+                 4095, or a tile of 32767 was to be packed"
             }
             Refusal::Row => "the row's segments descend, or one has another tile y",
             Refusal::Table => {

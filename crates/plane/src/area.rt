@@ -9,7 +9,8 @@ ghost use lib.IntN.{natAbs, _+ℤ_};
 ghost use Rattle.laws.specs.Lists.{tabulate};
 ghost use Rattle.pixel_segment.specs.Field.{cpu, coverOf, doubleAreaOf};
 ghost use Rattle.cover_statements.specs.Cover.{coverAt};
-ghost use Rattle.cover_statements.specs.InnerCell.{cellOf, noCells, Judged, JudgedAreas, Shadable, Shaded, Summable, Summed};
+ghost use Rattle.cover_statements.specs.InnerCell.{cellOf, noCells, Judged, JudgedAreas};
+ghost use Rattle.cover_statements.specs.InnerCell.{Shadable, Shaded, Summable, Summed};
 ghost use Rattle.cover_statements.specs.InnerLoad.{allLight};
 
 // The cell of a segment: its pixel, at column × 16 + row.
