@@ -1,2 +1,3 @@
 -- Laws of painting in tiles four pixels high.
 pub mod Paintings
+pub mod Rows

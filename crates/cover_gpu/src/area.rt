@@ -5,16 +5,31 @@ use crate::carry;
 use pixel_segment_gpu::GpuSegment;
 ghost use mathlib.Core.Path.{_≡_};
 ghost use mathlib.Core.Bool.{true};
-ghost use Rattle.pixel_segment.specs.Field.{gpu};
-ghost use Rattle.cover_statements.specs.InnerCell.{cellOf, noCells, Judged, JudgedAreas};
-ghost use Rattle.cover_statements.specs.InnerCell.{Shadable, Shaded, Summable, Summed};
+ghost use Rattle.pixel_segment.specs.Field.{gpu, coverOf, doubleAreaOf};
+ghost use Rattle.cover_statements.specs.InnerCell.{cellOf, noCells, Judged, JudgedAreas, Summable, Summed};
 ghost use Rattle.cover_statements.specs.InnerLoad.{allLight};
+ghost use Rattle.cover_gpu.specs.InnerRows.{RowReady, RowShaded};
 
 // The cell of a segment: its pixel, at column × 4 + row.
 fn cell(segment: GpuSegment) -> usize
     ensures { λ r. ⌜ r ≡ cellOf gpu 4 (segment .0) ⌝ }
 {
     segment.local_x() as usize * 4 + segment.local_y() as usize
+}
+
+// The cover of a segment, at 16 bits, with its field's size as a constant: what is worked out of it stays in registers.
+fn cover_of(segment: GpuSegment) -> i16
+    ensures { λ r. ⌜ r ≡ coverOf gpu (segment .0) ⌝ }
+{
+    ((segment.0 % 64 + 32) % 64) as i16 - 32
+}
+
+// The double area of a segment with this cover.
+fn area_of(segment: GpuSegment, cover: i16) -> i16
+    requires { ⌜ cover ≡ coverOf gpu (segment .0) ⌝ }
+    ensures { λ r. ⌜ r ≡ doubleAreaOf gpu (segment .0) ⌝ }
+{
+    segment.double_area_multiplier() as i16 * cover
 }
 
 // The double areas and the covers of each cell, summed, as long as the absolute covers of each pixel row stay within
@@ -32,54 +47,48 @@ fn acc_segments(
     let mut i = 0;
     while i < part.len() {
         let segment = GpuSegment(part[i]);
-        let cover = segment.cover();
+        let cover = cover_of(segment);
         let y = segment.local_y() as usize;
         let before = loads[y];
-        let load = before + weight::cover_magnitude(cover);
+        let load = before + weight::magnitude(cover);
         if 127 < load {
             return false;
         }
         loads[y] = load;
         let k = cell(segment);
-        areas[k] = areas[k] + segment.double_area();
-        covers[k] = covers[k] + cover;
+        areas[k] = areas[k] + area_of(segment, cover);
+        covers[k] = covers[k] + cover as i8;
         i += 1;
     }
     true
 }
 
-// A column's own double areas become its doubled areas; the sums of the rows come back with the column's covers added.
-fn compute_doubled_areas(
-    areas: &mut [i16; 64],
-    covers: &[i8; 64],
-    column: usize,
-    sums: [i8; 4],
-) -> [i8; 4]
-    requires { ⌜ Shadable 4 column (now areas) (now covers) sums ⌝ }
-    ensures { λ r. ⌜ Shaded 4 column 4 (now (areas .entry)) (now (covers .entry)) sums (now (areas .exit)) r ⌝ }
+// A pixel row's own double areas become its doubled areas, a column after the other. `cover` comes in. One number is
+// carried along: four side by side would be put together and taken apart in each column.
+fn shade_row(areas: &mut [i16; 64], covers: &[i8; 64], y: usize, cover: i8)
+    requires { ⌜ RowReady y cover (now areas) (now covers) ⌝ }
+    ensures { λ _. ⌜ RowShaded y cover (now (areas .entry)) (now (covers .entry)) (now (areas .exit)) ⌝ }
 {
-    let mut next = sums;
-    let mut y = 0;
-    while y < 4 {
-        let k = column * 4 + y;
-        next[y] = sums[y] + covers[k];
-        areas[k] = 32 * (sums[y] as i16) + areas[k];
-        y += 1;
+    let mut sum = cover;
+    let mut x = 0;
+    while x < 16 {
+        let k = x * 4 + y;
+        let next = sum + covers[k];
+        areas[k] = 32 * (sum as i16) + areas[k];
+        sum = next;
+        x += 1;
     }
-    next
 }
 
-// The cells of a part become its doubled areas, a column after the other, from an incoming cover.
-pub fn sum_columns(areas: &mut [i16; 64], covers: &[i8; 64], incoming: [i8; 4])
+// The cells of a part become its doubled areas, a pixel row after the other, from an incoming cover.
+fn sum_rows(areas: &mut [i16; 64], covers: &[i8; 64], incoming: [i8; 4])
     requires { ⌜ Summable gpu 4 incoming (now areas) (now covers) ⌝ }
     ensures { λ _. ⌜ Summed gpu 4 incoming (now (areas .entry)) (now (covers .entry)) (now (areas .exit)) ⌝ }
 {
-    let mut sums = incoming;
-    let mut column = 0;
-    while column < 16 {
-        let next = compute_doubled_areas(areas, covers, column, sums);
-        sums = next;
-        column += 1;
+    let mut y = 0;
+    while y < 4 {
+        shade_row(areas, covers, y, incoming[y]);
+        y += 1;
     }
 }
 
@@ -97,6 +106,6 @@ pub fn judged_areas(part: &[u64], cover: GpuCover, areas: &mut [i16; 64]) -> boo
     if !acc_segments(part, loads, areas, &mut covers) {
         return false;
     }
-    sum_columns(areas, &covers, incoming);
+    sum_rows(areas, &covers, incoming);
     true
 }

@@ -8,8 +8,10 @@ use lib.IntN.{pos, natAbs}
 use lib.ListN.{length, getD}
 use mir.Facts.{toZ-ofZ}
 use mir.Syntax.{w8, w16}
+use mir.Val.{SFits, toZ, ofZ}
 use Rattle.laws.proofs.Machine.{small, kept}
 use Rattle.pixel_segment.specs.Field.{gpu, coverOf, doubleAreaOf}
+use Rattle.pixel_segment.proofs.Widths.{cover-fits-at, in-cover-at}
 use Rattle.cover_statements.specs.Carry.{absCover}
 use Rattle.cover_statements.proofs.Areas.{area-weight}
 use Rattle.cover_statements.proofs.Judging.{Loaded, Summed, load-start, load-next, load-refused, load-accepted, sum-zeros, sum-fits, sum-next, sum-whole}
@@ -35,14 +37,20 @@ loop-holds c =
     )
 
 -- the word, its load as the definition has it, and the cover's own weight
-abbrev word : (m : tie.After-cover-magnitude Inv-loop μ-loop) → ℕ
+abbrev word : (m : tie.After-magnitude Inv-loop μ-loop) → ℕ
 word m = let l = m .before .before .before .before .before in getD (l .before .before .args .part .now) (l .loop .i) 0
 
-load : (m : tie.After-cover-magnitude Inv-loop μ-loop) → getD (m .before .before .before .before .before .loop .loads) (m .before .local-y .result) 0 + m .cover-magnitude .result ≡ getD (m .before .before .before .before .before .loop .loads) (m .before .local-y .result) 0 + absCover gpu (word m)
+load : (m : tie.After-magnitude Inv-loop μ-loop) → getD (m .before .before .before .before .before .loop .loads) (m .before .local-y .result) 0 + m .magnitude .result ≡ getD (m .before .before .before .before .before .loop .loads) (m .before .local-y .result) 0 + absCover gpu (word m)
 load m =
     let o = m .before .before in
     ap (λ (a : ℕ). getD (o .before .before .before .loop .loads) (m .before .local-y .result) 0 + a)
-    (rw (kept w8 (o .cover .result) (o .cover .ok), o .cover .ensures) at (m .cover-magnitude .ensures .0))
+    (rw (kept w16 (o .cover-of .result) (o .cover-of .ok), o .cover-of .ensures) at (m .magnitude .ensures))
+
+-- it fits eight bits
+narrow : (m : tie.After-magnitude Inv-loop μ-loop) → SFits w8 (toZ w16 (ofZ w16 (m .before .before .cover-of .result)))
+narrow m =
+    let o = m .before .before in
+    rw (kept w16 (o .cover-of .result) (o .cover-of .ok), o .cover-of .ensures) (cover-fits-at 2 (word m))
 
 cover-weight : (w : ℕ) → natAbs (coverOf gpu w) ≤ 1 * absCover gpu w
 cover-weight w = omega arith
@@ -50,7 +58,7 @@ cover-weight w = omega arith
 add-load : tie.Need-add-load Inv-loop μ-loop
 add-load c =
     let l = c .before .before .before .before .before in
-    omega (arith, l .loop .inv .0 .light (c .before .local-y .result) (omega arith), c .cover-magnitude .ensures .1)
+    omega (arith, l .loop .inv .0 .light (c .before .local-y .result) (omega arith), load c, in-cover-at 2 (word c) .above, in-cover-at 2 (word c) .below, in-cover-at 2 (word c) .whole)
 
 returns : tie.Need-returns Inv-loop μ-loop
 returns c =
@@ -61,6 +69,11 @@ returns c =
       sums = λ e. absurd (false≢true e);
     }
 
+area-of-requires : tie.Need-area-of-requires Inv-loop μ-loop
+area-of-requires c κs =
+    let o = c .before .before .before .before .before in
+    rw (kept w16 (o .cover-of .result) (o .cover-of .ok)) (o .cover-of .ensures)
+
 add-areas : tie.Need-add-areas Inv-loop μ-loop
 add-areas c =
     let k = c .before .before in
@@ -69,10 +82,13 @@ add-areas c =
     let l = t .before in
     rw (
       kept w16 (getD (l .loop .areas) (k .cell .result) (pos 0)) (c .before .areas .given),
-      kept w16 (c .double-area .result) (c .double-area .ok),
-      c .double-area .ensures,
+      kept w16 (c .area-of .result) (c .area-of .ok),
+      c .area-of .ensures,
     )
     (small w16 _ (omega (arith, sum-fits (l .loop .inv .1) (t .loop-test .taken) (omega arith) (omega arith) (area-weight gpu refl) (k .cell .ensures) (m .before .local-y .ensures) (load m) (k .before .if1 .left))))
+
+cast-covers : tie.Need-cast-covers Inv-loop μ-loop
+cast-covers c = narrow (c .before .before .before .before .before)
 
 add-covers : tie.Need-add-covers Inv-loop μ-loop
 add-covers c =
@@ -83,8 +99,9 @@ add-covers c =
     let l = t .before in
     rw (
       kept w8 (getD (l .loop .covers) (k .cell .result) (pos 0)) (c .covers .given),
-      kept w8 (o .cover .result) (o .cover .ok),
-      o .cover .ensures,
+      toZ-ofZ (narrow m),
+      kept w16 (o .cover-of .result) (o .cover-of .ok),
+      o .cover-of .ensures,
     )
     (small w8 _ (omega (arith, sum-fits (l .loop .inv .2) (t .loop-test .taken) (omega arith) (omega arith) cover-weight (k .cell .ensures) (m .before .local-y .ensures) (load m) (k .before .if1 .left))))
 
@@ -102,15 +119,16 @@ loop-again c =
           (rw (
             toZ-ofZ (add-areas d),
             kept w16 (getD (l .loop .areas) (k .cell .result) (pos 0)) (d .before .areas .given),
-            kept w16 (d .double-area .result) (d .double-area .ok),
-            d .double-area .ensures,
+            kept w16 (d .area-of .result) (d .area-of .ok),
+            d .area-of .ensures,
           )),
       sum-next (l .loop .inv .2) (t .loop-test .taken) (omega arith) (omega arith) cover-weight long (k .cell .ensures) (m .before .local-y .ensures) (load m)
           (rw (
             toZ-ofZ (add-covers c),
             kept w8 (getD (l .loop .covers) (k .cell .result) (pos 0)) (c .covers .given),
-            kept w8 (o .cover .result) (o .cover .ok),
-            o .cover .ensures,
+            toZ-ofZ (narrow m),
+            kept w16 (o .cover-of .result) (o .cover-of .ok),
+            o .cover-of .ensures,
           )),
     )
 
@@ -133,9 +151,11 @@ acc-segments-spec =
     (λ c. omega arith) (λ c κs. tt)
     add-load
     returns
-    (λ c. omega arith) (λ c. omega arith) (λ c κs. tt) (λ c. omega arith) (λ c. omega arith) (λ c κs. tt)
+    (λ c. omega arith) (λ c. omega arith) (λ c κs. tt) (λ c. omega arith) (λ c. omega arith)
+    area-of-requires
     add-areas
     (λ c. omega arith) (λ c. omega arith) (λ c. omega arith)
+    cast-covers
     add-covers
     (λ c. omega arith) (λ c. omega arith) (λ c. omega arith)
     loop-again

@@ -46,8 +46,8 @@ acc-segments-requires c κs =
 returns-2 : tie.Need-returns-2
 returns-2 c = record { light = sym (not-true _ (c .if2 .taken)) ∙ judged (c .before); areas-are = λ e. absurd (false≢true e) }
 
-sum-columns-requires : tie.Need-sum-columns-requires
-sum-columns-requires c κs =
+sum-rows-requires : tie.Need-sum-rows-requires
+sum-rows-requires c κs =
     let e = c .before .before in
     record { part = _; cells = e .before .acc-segments .ensures .sums (not-false _ (e .if2 .left)); light = accepted e }
 
@@ -56,9 +56,9 @@ returns-3 c =
     let e = c .before .before .before in
     record {
       light = sym (accepted e);
-      areas-are = λ t. c .sum-columns .ensures .areas-are _ (e .before .acc-segments .ensures .sums (not-false _ (e .if2 .left)));
+      areas-are = λ t. c .sum-rows .ensures .areas-are _ (e .before .acc-segments .ensures .sums (not-false _ (e .if2 .left)));
     }
 
 pub judged-areas-spec : {M : Type 1} → statement M
 judged-areas-spec =
-    tie.close (tie.spec (λ c κs. tt) (λ c κs. tt) returns acc-segments-requires returns-2 sum-columns-requires returns-3)
+    tie.close (tie.spec (λ c κs. tt) (λ c κs. tt) returns acc-segments-requires returns-2 sum-rows-requires returns-3)
