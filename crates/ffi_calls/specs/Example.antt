@@ -9,7 +9,7 @@ use Rattle.row_statements.specs.Opening.{OpenCall, openOf}
 use Rattle.row_statements.specs.Due.{OpenRow, Past, atFirst, workDueVerdict, paintDueVerdict}
 use Rattle.row_statements.specs.Run.{openRow}
 use Rattle.listing_runs.specs.Due.{listDueVerdict, decideDueVerdict}
-use Rattle.listing_runs.specs.Example.{Choice, choicesDue}
+use Rattle.listing_runs.specs.Example.{CallChoice, callChoicesDue}
 use Rattle.ffi_numbers.specs.Rows.{StateNumbers, OpenTold}
 use Rattle.ffi_calls.specs.Calls.{heldOpened, NumbersTold}
 use Rattle.ffi_calls.specs.ListingCalls.{HeldByNumbers, heldBoth, ListingTold, ListingCalls, pastListingTold}
@@ -27,15 +27,15 @@ duesTold o p (ListingTold.otherList a lent old r new back ∷ ts) = duesTold o p
 duesTold o p (ListingTold.otherDecide a unmasked old r new back ∷ ts) = duesTold o p ts
 
 -- calls that these choices make
-pub record CalledSo (o : OpenRow) (p : Past) (k : HeldByNumbers) (cs : List Choice) : Type 0 where
+pub record CalledSo (o : OpenRow) (p : Past) (k : HeldByNumbers) (cs : List CallChoice) : Type 0 where
   pub told : List ListingTold
   pub after : HeldByNumbers
   pub calls : ListingCalls o k told after
-  pub dues : duesTold o p told ≡ choicesDue o p cs
+  pub dues : duesTold o p told ≡ callChoicesDue o p cs
 
 abbrev pub CallsExist : Type 0
 CallsExist =
-    (c : OpenCall) (lent back : Columns) (old new : StateNumbers) (cs : List Choice) →
+    (c : OpenCall) (lent back : Columns) (old new : StateNumbers) (cs : List CallChoice) →
     Words (c .row) →
     OpenTold (openOf c lent) old 0 new back →
     CalledSo (openRow c) atFirst (heldBoth (heldOpened new back) []) cs
