@@ -221,7 +221,7 @@ fn turned_down(kind: &mut Kind, state: &LayerState, next: i32, row: &[u64]) {
     let (tile, len, descends) =
         (next + random.pick(&[0, 0, 1, -1, 4096]), random.pick(&[63, 64, 64, 0]), random.once_in(2));
     // A word of another tile y stands behind the row.
-    let other: Vec<u64> = row.iter().copied().chain([(u64::from(tile_y) + 1 ^ 1) << 51]).collect();
+    let other: Vec<u64> = row.iter().copied().chain([((u64::from(tile_y) + 1) ^ 1) << 51]).collect();
     let lent = if descends { &other[..] } else { row };
     let expected = if len < 64 {
         1
