@@ -9,13 +9,13 @@ ghost use lib.ListN.{length, take};
 ghost use Rattle.styling.specs.Ascending.{strictlyAscends};
 ghost use Rattle.queue_statements.specs.InnerSums.{keyIn, Placing, Placed, Summing, OpeningSummed};
 
-// The place of a segment's sum: its layer's entry, its pixel row.
-fn place_of(word: u64, ids: &[u32], n: usize) -> usize
+// The place of a segment's sum: its layer's entry, looked for at a hint, and its pixel row.
+fn place_of(word: u64, ids: &[u32], n: usize, hint: usize) -> usize
     requires { ⌜ (n ≤ 256) × (n ≤ length (now ids)) × (strictlyAscends (take n (now ids)) ≡ true) ⌝ }
     ensures { λ r. ⌜ r ≡ keyIn (take n (now (ids .entry))) word ⌝ }
 {
     let segment = PixelSegment(word);
-    search::rank(ids, n, segment.layer_id()) * 16 + segment.local_y() as usize
+    search::rank_from(ids, n, hint, segment.layer_id()) * 16 + segment.local_y() as usize
 }
 
 // A load with one cover more.
@@ -47,13 +47,15 @@ pub fn add_segments(left: &[u64], ids: &[u32], n: usize, sums: &mut [i8]) -> boo
     ensures { λ r. ⌜ OpeningSummed (now (left .entry)) n r (now (sums .exit)) ⌝ }
 {
     let mut loads = [0u8; 4096];
+    let mut hint = 0;
     let mut i = 0;
     while i < left.len() {
         let word = left[i];
-        let place = place_of(word, ids, n);
+        let place = place_of(word, ids, n, hint);
         if !add_segment(word, place, sums, &mut loads) {
             return false;
         }
+        hint = place / 16;
         i += 1;
     }
     true

@@ -24,6 +24,30 @@ pub fn rank(ids: &[u32], n: usize, id: u32) -> usize
     low
 }
 
+// The same place as by `rank`, with any hint where it may be: that place and the next are looked at first, since ids
+// mostly come in their order.
+pub fn rank_from(ids: &[u32], n: usize, hint: usize, id: u32) -> usize
+    requires { ⌜ (n ≤ length (now ids)) × (strictlyAscends (take n (now ids)) ≡ true) ⌝ }
+    ensures { λ r. ⌜ r ≡ rankOf id (take n (now (ids .entry))) ⌝ }
+{
+    if hint < n {
+        let there = ids[hint];
+        if there == id {
+            return hint;
+        }
+        if there < id {
+            let next = hint + 1;
+            if next == n {
+                return next;
+            }
+            if id <= ids[next] {
+                return next;
+            }
+        }
+    }
+    rank(ids, n, id)
+}
+
 // Whether `id` stands at a place.
 pub fn is_at(ids: &[u32], n: usize, place: usize, id: u32) -> bool
     requires { ⌜ n ≤ length (now ids) ⌝ }

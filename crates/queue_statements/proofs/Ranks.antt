@@ -122,6 +122,16 @@ module _ {ids : List ℕ} {n x low high : ℕ} (left : Halving ids n x low high)
         reached = λ p. let q : low < n = omega (arith, length-take-le n ids (left .long)) in rw (getD-take n ids low 0 q) (left .above low h q);
       })
 
+  -- a place that holds x is its rank
+  pub hit : {place : ℕ} → place < n → getD ids place 0 ≡ x → place ≡ rankOf x (take n ids)
+  hit {place} p e =
+      rank-is x (take n ids) place
+      (record {
+        within = omega (arith, length-take-le n ids (left .long));
+        below = λ i q. rw (getD-take n ids i 0 (omega arith)) (omega (arith, later i place q p, e));
+        reached = λ q. rw (getD-take n ids place 0 p) (omega (arith, e));
+      })
+
 -- ---- the id at a place
 
 module _ (x place n : ℕ) (ids : List ℕ) (long : n ≤ length ids) where

@@ -11,10 +11,10 @@ use Rattle.opening_columns.proofs.sums.add_segments.Statement.{statemen
 use Rattle.opening_columns.proofs.sums.add_segments.Tie as tie
 
 abbrev Inv-loop : tie.InvT-loop
-Inv-loop left ids n sums₀ loads₀ i₀ sums loads i = Tallying (keyOf left) left i sums loads
+Inv-loop left ids n sums₀ loads₀ hint₀ i₀ sums loads hint i = Tallying (keyOf left) left i sums loads
 
 abbrev μ-loop : tie.MeasureT-loop
-μ-loop left ids n sums₀ loads₀ i₀ sums loads i = length left - i
+μ-loop left ids n sums₀ loads₀ hint₀ i₀ sums loads hint i = length left - i
 
 loop-holds : tie.Need-loop-holds Inv-loop μ-loop
 loop-holds c = start (c .before .before .pre) refl (λ k. getD-default 4096 k)

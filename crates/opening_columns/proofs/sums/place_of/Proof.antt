@@ -10,10 +10,10 @@ use Rattle.opening_columns.proofs.sums.place_of.Statement.{statement}
 use Rattle.opening_columns.proofs.sums.place_of.Tie as tie
 
 -- a rank is within the ids
-low : (c : tie.After-rank) → c .rank .result ≤ 256
+low : (c : tie.After-rank-from) → c .rank-from .result ≤ 256
 low c =
     let s = c .before .before .before in
-    omega (arith, c .rank .ensures, ranked (c .before .layer-id .result) (take (s .args .n) (s .args .ids .now)) .within, length-take-le (s .args .n) (s .args .ids .now) (s .pre .1))
+    omega (arith, c .rank-from .ensures, ranked (c .before .layer-id .result) (take (s .args .n) (s .args .ids .now)) .within, length-take-le (s .args .n) (s .args .ids .now) (s .pre .1))
 
 mul-result : tie.Need-mul-result
 mul-result c = omega (arith, low c)
@@ -23,7 +23,7 @@ add-result c = omega (arith, low (c .before))
 
 returns : tie.Need-returns
 unfolding keyIn
-returns c = rw (c .before .rank .ensures, c .local-y .ensures, c .before .before .layer-id .ensures)
+returns c = rw (c .before .rank-from .ensures, c .local-y .ensures, c .before .before .layer-id .ensures)
 
 pub place-of-spec : {M : Type 1} → statement M
 place-of-spec =
