@@ -4,6 +4,8 @@ pub mod entry;
 
 use styling::FillRule;
 ghost use mathlib.Core.Path.{_≡_};
+ghost use mathlib.Core.Bool.{cond};
+ghost use Prim.Native.Nat.{_≤_};
 ghost use Rattle.cover_statements.specs.Cover.{noCover, emptyAt, fullAt, isEmpty, isFull};
 
 // One signed byte for each pixel row of a tile: 16 is a whole pixel, once around.
@@ -19,6 +21,13 @@ pub fn is_row_empty(cover: i8, rule: FillRule) -> bool
         FillRule::NonZero => weight::cover_magnitude(cover) == 0,
         FillRule::EvenOdd => weight::rest_of_cover(cover) == 0,
     }
+}
+
+// 1 where a row's cover is not empty, to be counted.
+fn filled_at(cover: i8, rule: FillRule) -> u16
+    ensures { λ r. ⌜ (r ≡ cond (emptyAt rule cover) 0 1) × (r ≤ 1) ⌝ }
+{
+    if is_row_empty(cover, rule) { 0 } else { 1 }
 }
 
 // Whether it is full by the rule: 16 or more either way for NonZero, an odd multiple of 16 for EvenOdd.
@@ -40,17 +49,18 @@ impl Cover {
         Cover { covers }
     }
 
+    // Rows that are not empty are counted: a conjunction would be worked out row by row.
     pub fn is_empty(self, rule: FillRule) -> bool
         ensures { λ r. ⌜ r ≡ isEmpty rule (self .covers) ⌝ }
     {
         let covers = self.covers;
-        let mut ok = true;
+        let mut filled: u16 = 0;
         let mut y = 0;
         while y < 16 {
-            ok = ok & is_row_empty(covers[y], rule);
+            filled += filled_at(covers[y], rule);
             y += 1;
         }
-        ok
+        filled == 0
     }
 
     pub fn is_full(self, rule: FillRule) -> bool

@@ -198,12 +198,29 @@ fn is_at(layers: &[u32], count: usize, at: usize, id: u32) -> bool
     }
 }
 
-// The same place as by `find`, with any hint where it may be: the next records from there on are tried first, since
-// layers are mostly looked up in their order.
+// Where a layer's record stands if no id between it and that of the record at a place is left out.
+fn guess_from(layers: &[u32], count: usize, at: usize, id: u32) -> usize
+    requires { ⌜ 8 * count ≤ length (now layers) ⌝ }
+{
+    if at < count {
+        let there = id_at(layers, at);
+        if there <= id {
+            return at + (id - there) as usize;
+        }
+    }
+    at
+}
+
+// The same place as by `find`, with any hint where it may be: layers are mostly looked up in their order, and ids often
+// follow each other, so the record as many places on as the id is greater is tried first, then the next ones.
 pub fn find_from(layers: &[u32], count: usize, hint: usize, id: u32) -> Found
     requires { ⌜ (8 * count ≤ length (now layers)) × (strictlyAscends (tableIds (now layers) count) ≡ true) ⌝ }
     ensures { λ r. ⌜ foundOf r ≡ recordPlace (tableIds (now (layers .entry)) count) id ⌝ }
 {
+    let guess = guess_from(layers, count, hint, id);
+    if is_at(layers, count, guess, id) {
+        return Found::At(guess);
+    }
     if hint < count {
         let mut k: usize = 0;
         while k < TRIES {
