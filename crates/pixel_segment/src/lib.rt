@@ -167,13 +167,14 @@ impl PixelSegment {
         (self.double_area_multiplier() as i16) * (self.cover() as i16)
     }
 
-    // The lowest field is signed, -32 to 31.
+    // The lowest field is signed, -32 to 31. Nothing lies below it, and what lies above it goes with the remainder, so
+    // half the field's size is added to the whole word: one step less than adding it to the field.
     pub fn cover(self) -> i8
         ensures { λ r. ⌜ r ≡ coverOf cpu (self .0) ⌝ }
     {
         let n = consts::size(BitField::Cover);
         let half = n / 2;
-        ((consts::extract(self.0, BitField::Cover) + half) % n) as i8 - half as i8
+        (std::num::wrapping_add_u64(self.0, half) % n) as i8 - half as i8
     }
 
     // Order compares only tile y, tile x and layer id: the upper 44 bits.
