@@ -1,2 +1,3 @@
--- The law that the proofs of the functions cite. Others are of cover_statements.
+-- The laws that the proofs of the functions cite. Others are of cover_statements.
 pub mod ByRows
+pub mod LightCells

@@ -21,14 +21,14 @@ pub fn cell(segment: PixelSegment) -> usize
 }
 
 // The cover of a segment, at 16 bits, with its field's size as a constant: what is worked out of it stays in registers.
-fn cover_of(segment: PixelSegment) -> i16
+pub fn cover_of(segment: PixelSegment) -> i16
     ensures { λ r. ⌜ r ≡ coverOf cpu (segment .0) ⌝ }
 {
     ((segment.0 % 64 + 32) % 64) as i16 - 32
 }
 
 // The double area of a segment with this cover.
-fn area_of(segment: PixelSegment, cover: i16) -> i16
+pub fn area_of(segment: PixelSegment, cover: i16) -> i16
     requires { ⌜ cover ≡ coverOf cpu (segment .0) ⌝ }
     ensures { λ r. ⌜ r ≡ doubleAreaOf cpu (segment .0) ⌝ }
 {
