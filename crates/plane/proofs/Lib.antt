@@ -1,3 +1,2 @@
 -- The laws that the proofs of the functions cite. Others are of cover_statements.
-pub mod ByRows
 pub mod LightCells

@@ -51,14 +51,14 @@ fn acc_segments(
     while i < part.len() {
         let segment = PixelSegment(part[i]);
         let cover = cover_of(segment);
-        let y = segment.local_y() as usize;
+        let k = cell(segment);
+        let y = k % 16;
         let before = loads[y];
         let load = before + weight::magnitude(cover);
         if 127 < load {
             return false;
         }
         loads[y] = load;
-        let k = cell(segment);
         areas[k] = areas[k] + area_of(segment, cover);
         covers[k] = covers[k] + cover as i8;
         i += 1;

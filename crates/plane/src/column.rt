@@ -1,6 +1,7 @@
 // A part without segments: all columns of its plane are the same, so one is worked out, and each of its numbers fills a
 // row.
 use cover::Cover;
+use cover::carry;
 use mark::weights;
 use styling::FillRule;
 use weight::tile;
@@ -14,7 +15,16 @@ ghost use Rattle.pixel_segment.specs.Field.{cpu};
 ghost use Rattle.cover_statements.specs.Carry.{isLight};
 ghost use Rattle.cover_statements.specs.Mark.{markOf};
 ghost use Rattle.cover_statements.specs.Paint.{partPlane};
-ghost use Rattle.cover_statements.specs.InnerWeighed.{columnAreas, repeated, putRow};
+ghost use Rattle.cover_statements.specs.InnerWeighed.{InRange, weightsOf, columnAreas, repeated, putRow};
+
+// Whether number 9 leaves a part without segments: what comes in is all that counts.
+pub fn is_light(cover: Cover) -> bool
+    ensures { λ r. ⌜ r ≡ isLight cpu 16 (cover .covers) [] ⌝ }
+{
+    let incoming = cover.covers;
+    let loads = carry::magnitudes(incoming);
+    carry::are_light(loads)
+}
 
 // What the pixels of a column see: 32 times the cover that comes in.
 fn column_areas(cover: Cover) -> [i16; 16]
@@ -54,6 +64,17 @@ fn repeat_column(column: &[f32; 16], plane: &mut [f32])
     }
 }
 
+// The weights of a column. `tile::weigh` would be a call, and its loops of any length.
+fn weigh(areas: &mut [i16], rule: FillRule)
+    requires { ⌜ InRange (now areas) ⌝ }
+    ensures { λ _. ⌜ now (areas .exit) ≡ weightsOf rule (now (areas .entry)) ⌝ }
+{
+    match rule {
+        FillRule::NonZero => tile::weigh_non_zero(areas),
+        FillRule::EvenOdd => tile::weigh_even_odd(areas),
+    }
+}
+
 // The coverages of a part without segments that nothing refuses, and their mark.
 pub fn paint(cover: Cover, rule: FillRule, plane: &mut [f32]) -> u32
     requires { ⌜ (isLight cpu 16 (cover .covers) [] ≡ true) × (256 ≤ length (now plane)) ⌝ }
@@ -61,7 +82,7 @@ pub fn paint(cover: Cover, rule: FillRule, plane: &mut [f32]) -> u32
         × (r ≡ markOf (partPlane cpu rule (cover .covers) [])) ⌝ }
 {
     let mut weights = column_areas(cover);
-    tile::weigh(&mut weights, rule);
+    weigh(&mut weights, rule);
     let mut column = [0.0f32; 16];
     tile::write_coverages(&weights, &mut column);
     repeat_column(&column, plane);

@@ -5,7 +5,6 @@ pub mod light;
 pub mod shade;
 
 use cover::Cover;
-use cover::carry;
 use cover_statements::plane::Painted;
 use styling::FillRule;
 ghost use mathlib.Core.Path.{_≡_};
@@ -44,7 +43,7 @@ fn paint_judged(part: &[u64], cover: Cover, rule: FillRule, plane: &mut [f32]) -
         (now (plane .exit)) ⌝ }
 {
     if part.len() == 0 {
-        if !carry::is_light(part, cover) {
+        if !column::is_light(cover) {
             return Painted::CoverTooLarge;
         }
         return Painted::Mark(column::paint(cover, rule, plane));

@@ -18,22 +18,20 @@ fn paint_non_zero(areas: &mut [i16], plane: &mut [f32]) -> u32
         ≡ over (weightsPlane 16 (weightsOf NonZero (now (areas .entry)))) (now (plane .entry)))
         × (r ≡ markOf (weightsPlane 16 (weightsOf NonZero (now (areas .entry))))) ⌝ }
 {
-    tile::weigh(areas, FillRule::NonZero);
+    tile::weigh_non_zero(areas);
     tile::write_plane(areas, plane);
     weights::mark_of(areas)
 }
 
-// Weights are looked up one by one, so in the order of the plane; coverages and mark then go by rows.
+// Weights are looked up one by one, so in the order of the plane; the mark is read from the areas themselves.
 fn paint_even_odd(areas: &[i16], plane: &mut [f32]) -> u32
     requires { ⌜ (256 ≤ length (now areas)) × (256 ≤ length (now plane)) ⌝ }
     ensures { λ r. ⌜ (now (plane .exit)
         ≡ over (weightsPlane 16 (weightsOf EvenOdd (now (areas .entry)))) (now (plane .entry)))
         × (r ≡ markOf (weightsPlane 16 (weightsOf EvenOdd (now (areas .entry))))) ⌝ }
 {
-    let mut rows = [0i16; 256];
-    tile::weigh_rows(areas, &mut rows);
-    tile::write_coverages(&rows, plane);
-    weights::mark_of_rows(&rows)
+    tile::write_even_odd(areas, plane);
+    weights::mark_of(areas)
 }
 
 // The areas are left as what weighing makes of them.

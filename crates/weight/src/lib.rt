@@ -44,7 +44,7 @@ pub fn non_zero(d: i16) -> u16
 }
 
 // The remainder of d by 1,024. 32,768 is a multiple of it, and with it no d is negative.
-fn rest_of_area(d: i16) -> usize
+pub fn rest_of_area(d: i16) -> usize
     ensures { λ r. ⌜ r ≡ modℤ 1024 d ⌝ }
 {
     ((d as i32 + 32768) as u32 % 1024) as usize

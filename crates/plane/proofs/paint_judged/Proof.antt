@@ -26,21 +26,20 @@ use Rattle.plane.proofs.paint_judged.Statement.{statement}
 use Rattle.plane.proofs.paint_judged.Tie as tie
 
 returns : tie.Need-returns
-returns c = paint-heavy (c .before .before .before .before .before .pre) (sym (c .before .is-light .ensures) ∙ not-true _ (c .if2 .taken))
+returns c =
+    let s = c .before .before .before .before .before in
+    rw (no-segment (s .args .part .now) (c .before .before .if1 .taken)) (paint-heavy (s .pre) (sym (c .before .is-light .ensures) ∙ not-true _ (c .if2 .taken)))
 
 paint-requires : tie.Need-paint-requires
-paint-requires c κs =
-    let s = c .before .before .before .before .before .before in
-    (rw (no-segment (s .args .part .now) (c .before .before .before .if1 .taken)) at (sym (c .before .before .is-light .ensures) ∙ not-false _ (c .before .if2 .left)), s .pre)
+paint-requires c κs = (sym (c .before .before .is-light .ensures) ∙ not-false _ (c .before .if2 .left), c .before .before .before .before .before .before .pre)
 
 returns-2 : tie.Need-returns-2
 returns-2 c =
     let p = c .before .before in
     let t = p .before .before in
     let s = t .before .before .before .before .before in
-    let e = sym (t .before .is-light .ensures) ∙ not-false _ (t .if2 .left) in
-    let n = no-segment (s .args .part .now) (t .before .before .if1 .taken) in
-    rw n (paint-done (s .pre) (rw n at e) (p .paint .ensures .0) (p .paint .ensures .1))
+    rw (no-segment (s .args .part .now) (t .before .before .if1 .taken))
+    (paint-done (s .pre) (sym (t .before .is-light .ensures) ∙ not-false _ (t .if2 .left)) (p .paint .ensures .0) (p .paint .ensures .1))
 
 judged-areas-requires : tie.Need-judged-areas-requires
 unfolding noCells

@@ -1,10 +1,15 @@
 -- `mark::weights::mark_of_column` meets its contract. Assumes nothing.
-use mathlib.Core.Path.{sym}
+use mathlib.Core.Path.{sym, ap, _∙_}
+use mathlib.Core.List.{List}
 use native.Mathlib.Omega.{arith}
 use borrow.Author.Needs.{needs}
-use Rattle.cover_statements.specs.InnerWeighed.{coveragesIn}
+use lib.IntN.{ℤ}
+use Rattle.styling.specs.declared.FillRule.the-variants.{EvenOdd}
+use Rattle.cover_statements.specs.Mark.{markOf}
+use Rattle.cover_statements.specs.InnerWeighed.{weightsOf, coveragesIn, repeated}
 use Rattle.cover_statements.proofs.Marks.{bit-lt}
 use Rattle.cover_statements.proofs.Repeats.{mark-repeated}
+use Rattle.mark.proofs.Rests.{own-weights}
 use Rattle.mark.proofs.weights.mark_of_column.Statement.{statement}
 use Rattle.mark.proofs.weights.mark_of_column.Tie as tie
 
@@ -18,7 +23,11 @@ mul-result-2 : tie.Need-mul-result-2
 mul-result-2 c = omega (arith, bit-lt (c .is-used2 .result), bit-lt (c .before .is-used .result))
 
 returns : tie.Need-returns
-returns c = rw (c .before .is-used .ensures, c .is-used2 .ensures) (sym (mark-repeated (coveragesIn (c .before .before .args .weights .now))))
+returns c =
+    let s = c .before .before in
+    rw (c .before .is-used .ensures, c .is-used2 .ensures)
+    (sym (mark-repeated (coveragesIn (weightsOf EvenOdd (s .args .weights .now))))
+    ∙ ap (λ (l : List ℤ). markOf (repeated 16 (coveragesIn l))) (own-weights (s .pre .0)))
 
 pub mark-of-column-spec : {M : Type 1} → statement M
 mark-of-column-spec =

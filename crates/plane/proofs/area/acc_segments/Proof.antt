@@ -1,7 +1,7 @@
 -- `plane::area::acc_segments` meets its contract: two tables are filled, of double areas and of covers, while loads are judged. Assumes nothing.
 use mathlib.Core.Path.{_≡_, refl, sym, ap}
 use mathlib.Core.Bool.{false≢true}
-use Prim.Native.Nat.{ℕ, _+_, _-_, _*_, _≤_}
+use Prim.Native.Nat.{ℕ, _+_, _-_, _*_, _%_, _≤_}
 use native.Mathlib.Omega.{arith}
 use borrow.Author.Needs.{needs}
 use lib.IntN.{pos, natAbs}
@@ -10,7 +10,7 @@ use mir.Facts.{toZ-ofZ}
 use mir.Syntax.{w8, w16}
 use mir.Val.{SFits, toZ, ofZ}
 use Rattle.laws.proofs.Machine.{small, kept}
-use Rattle.pixel_segment.specs.Field.{cpu, coverOf, doubleAreaOf}
+use Rattle.pixel_segment.specs.Field.{cpu, localYOf, coverOf, doubleAreaOf}
 use Rattle.pixel_segment.proofs.Widths.{cover-fits, in-cover}
 use Rattle.cover_statements.specs.Carry.{absCover}
 use Rattle.cover_statements.proofs.Areas.{area-weight}
@@ -40,10 +40,14 @@ loop-holds c =
 abbrev word : (m : tie.After-magnitude Inv-loop μ-loop) → ℕ
 word m = let l = m .before .before .before .before .before in getD (l .before .before .args .part .now) (l .loop .i) 0
 
-load : (m : tie.After-magnitude Inv-loop μ-loop) → getD (m .before .before .before .before .before .loop .loads) (m .before .local-y .result) 0 + m .magnitude .result ≡ getD (m .before .before .before .before .before .loop .loads) (m .before .local-y .result) 0 + absCover cpu (word m)
+-- its pixel row
+row : (m : tie.After-magnitude Inv-loop μ-loop) → m .before .cell .result % 16 ≡ localYOf cpu (word m)
+row m = omega (arith, m .before .cell .ensures)
+
+load : (m : tie.After-magnitude Inv-loop μ-loop) → getD (m .before .before .before .before .before .loop .loads) (m .before .cell .result % 16) 0 + m .magnitude .result ≡ getD (m .before .before .before .before .before .loop .loads) (m .before .cell .result % 16) 0 + absCover cpu (word m)
 load m =
     let o = m .before .before in
-    ap (λ (a : ℕ). getD (o .before .before .before .loop .loads) (m .before .local-y .result) 0 + a)
+    ap (λ (a : ℕ). getD (o .before .before .before .loop .loads) (m .before .cell .result % 16) 0 + a)
     (rw (kept w16 (o .cover-of .result) (o .cover-of .ok), o .cover-of .ensures) at (m .magnitude .ensures))
 
 -- it fits eight bits
@@ -58,74 +62,74 @@ cover-weight w = omega arith
 add-load : tie.Need-add-load Inv-loop μ-loop
 add-load c =
     let l = c .before .before .before .before .before in
-    omega (arith, l .loop .inv .0 .light (c .before .local-y .result) (omega arith), load c, in-cover (word c) .above, in-cover (word c) .below, in-cover (word c) .whole)
+    omega (arith, l .loop .inv .0 .light (c .before .cell .result % 16) (omega arith), load c, in-cover (word c) .above, in-cover (word c) .below, in-cover (word c) .whole)
 
 returns : tie.Need-returns Inv-loop μ-loop
 returns c =
     let m = c .before in
     let t = m .before .before .before .before in
     record {
-      light = sym (load-refused (t .before .loop .inv .0) (t .loop-test .taken) (omega arith) (m .before .local-y .ensures) (load m) (c .if1 .taken));
+      light = sym (load-refused (t .before .loop .inv .0) (t .loop-test .taken) (omega arith) (row m) (load m) (c .if1 .taken));
       sums = λ e. absurd (false≢true e);
     }
 
 area-of-requires : tie.Need-area-of-requires Inv-loop μ-loop
 area-of-requires c κs =
-    let o = c .before .before .before .before .before in
+    let o = c .before .before .before .before in
     rw (kept w16 (o .cover-of .result) (o .cover-of .ok)) (o .cover-of .ensures)
 
 add-areas : tie.Need-add-areas Inv-loop μ-loop
 add-areas c =
-    let k = c .before .before in
-    let m = k .before .before in
+    let e = c .before .before in
+    let m = e .before in
     let t = m .before .before .before .before in
     let l = t .before in
     rw (
-      kept w16 (getD (l .loop .areas) (k .cell .result) (pos 0)) (c .before .areas .given),
+      kept w16 (getD (l .loop .areas) (m .before .cell .result) (pos 0)) (c .before .areas .given),
       kept w16 (c .area-of .result) (c .area-of .ok),
       c .area-of .ensures,
     )
-    (small w16 _ (omega (arith, sum-fits (l .loop .inv .1) (t .loop-test .taken) (omega arith) (omega arith) (area-weight cpu refl) (k .cell .ensures) (m .before .local-y .ensures) (load m) (k .before .if1 .left))))
+    (small w16 _ (omega (arith, sum-fits (l .loop .inv .1) (t .loop-test .taken) (omega arith) (omega arith) (area-weight cpu refl) (m .before .cell .ensures) (row m) (load m) (e .if1 .left))))
 
 cast-covers : tie.Need-cast-covers Inv-loop μ-loop
-cast-covers c = narrow (c .before .before .before .before .before)
+cast-covers c = narrow (c .before .before .before .before)
 
 add-covers : tie.Need-add-covers Inv-loop μ-loop
 add-covers c =
-    let k = c .before .before .before in
-    let m = k .before .before in
+    let e = c .before .before .before in
+    let m = e .before in
     let o = m .before .before in
     let t = o .before .before in
     let l = t .before in
     rw (
-      kept w8 (getD (l .loop .covers) (k .cell .result) (pos 0)) (c .covers .given),
+      kept w8 (getD (l .loop .covers) (m .before .cell .result) (pos 0)) (c .covers .given),
       toZ-ofZ (narrow m),
       kept w16 (o .cover-of .result) (o .cover-of .ok),
       o .cover-of .ensures,
     )
-    (small w8 _ (omega (arith, sum-fits (l .loop .inv .2) (t .loop-test .taken) (omega arith) (omega arith) cover-weight (k .cell .ensures) (m .before .local-y .ensures) (load m) (k .before .if1 .left))))
+    (small w8 _ (omega (arith, sum-fits (l .loop .inv .2) (t .loop-test .taken) (omega arith) (omega arith) cover-weight (m .before .cell .ensures) (row m) (load m) (e .if1 .left))))
 
 loop-again : tie.Need-loop-again Inv-loop μ-loop
 loop-again c =
     let d = c .before in
-    let k = d .before .before in
-    let m = k .before .before in
+    let e = d .before .before in
+    let m = e .before in
     let o = m .before .before in
     let t = o .before .before in
     let l = t .before in
     let long = l .loop .inv .0 .long in (
-      load-next (l .loop .inv .0) (t .loop-test .taken) (omega arith) (m .before .local-y .ensures) (load m) (k .before .if1 .left),
-      sum-next (l .loop .inv .1) (t .loop-test .taken) (omega arith) (omega arith) (area-weight cpu refl) long (k .cell .ensures) (m .before .local-y .ensures) (load m)
+      load-next (l .loop .inv .0) (t .loop-test .taken) (omega arith) (row m) (load m) (e .if1 .left),
+      sum-next (l .loop .inv .1) (t .loop-test .taken) (omega arith) (omega arith) (area-weight cpu refl) long (m .before .cell .ensures) (row m) (load m)
           (rw (
             toZ-ofZ (add-areas d),
-            kept w16 (getD (l .loop .areas) (k .cell .result) (pos 0)) (d .before .areas .given),
+            kept w16 (getD (l .loop .areas) (m .before .cell .result) (pos 0)) (d .before .areas .given),
             kept w16 (d .area-of .result) (d .area-of .ok),
             d .area-of .ensures,
           )),
-      sum-next (l .loop .inv .2) (t .loop-test .taken) (omega arith) (omega arith) cover-weight long (k .cell .ensures) (m .before .local-y .ensures) (load m)
+      sum-next (l .loop .inv .2) (t .loop-test .taken) (omega arith) (omega arith) cover-weight long (m .before .cell .ensures) (row m) (load m)
           (rw (
             toZ-ofZ (add-covers c),
-            kept w8 (getD (l .loop .covers) (k .cell .result) (pos 0)) (c .covers .given),
+            kept w8 (getD (l .loop .covers) (m .before .cell .result) (pos 0)) (c .covers .given),
             toZ-ofZ (narrow m),
             kept w16 (o .cover-of .result) (o .cover-of .ok),
             o .cover-of .ensures,
@@ -147,11 +151,10 @@ acc-segments-spec =
     Inv-loop
     μ-loop
     loop-holds
-    (λ c. omega arith) (λ c. omega arith) (λ c κs. tt) (λ c κs. tt) (λ c. omega arith) (λ c. omega arith)
-    (λ c. omega arith) (λ c κs. tt)
+    (λ c. omega arith) (λ c. omega arith) (λ c κs. tt) (λ c κs. tt) (λ c. omega arith) (λ c. omega arith) (λ c κs. tt)
     add-load
     returns
-    (λ c. omega arith) (λ c. omega arith) (λ c κs. tt) (λ c. omega arith) (λ c. omega arith)
+    (λ c. omega arith) (λ c. omega arith) (λ c. omega arith) (λ c. omega arith)
     area-of-requires
     add-areas
     (λ c. omega arith) (λ c. omega arith) (λ c. omega arith)

@@ -1,12 +1,42 @@
 -- `weight::tile::write_plane` meets its contract. Assumes nothing.
-use Prim.Native.Nat.{_+_, _*_, _-_}
+use mathlib.Core.Path.{_≡_, sym, ap, _∙_}
+use mathlib.Core.List.{List}
+use Prim.Native.Nat.{ℕ, _+_, _*_, _-_, _≤_, _<_}
 use native.Mathlib.Omega.{arith}
-use lib.Ieee.{nan}
-use lib.ListN.{getD}
-use Rattle.cover_statements.specs.InnerWeighed.{coveragesIn}
+use lib.Ieee.{Float, nan}
+use lib.IntN.{ℤ, pos}
+use lib.ListN.{length, getD, length-map}
+use Rattle.laws.proofs.Rows.{length-tabulate, getD-tabulate, is-tabulate}
+use Rattle.laws.specs.Lists.{tabulate}
+use Rattle.cover_statements.specs.Cover.{coverAt}
+use Rattle.cover_statements.specs.InnerWeighed.{Weighed, coverageIn, coveragesIn, weightsRow, putRow}
 use Rattle.cover_statements.proofs.PlaneRows.{PlaneRows, rows-start, rows-room, rows-next, rows-end}
+use Rattle.cover_statements.proofs.Weighings.{map-lt}
 use Rattle.weight.proofs.tile.write_plane.Statement.{statement}
 use Rattle.weight.proofs.tile.write_plane.Tie as tie
+
+-- a row of weights that stand by columns: its numbers, that they are weights, and its coverages
+module _ {weights row : List ℤ} {y : ℕ} (c : Weighed weights) (room : 256 ≤ length weights) (low : y < 16) (e : row ≡ tabulate 16 (λ x. coverAt weights (x * 16 + y))) where
+  long : length row ≡ 16
+  long = ap length e ∙ length-tabulate 16 (λ x. coverAt weights (x * 16 + y))
+
+  at : (x : ℕ) → x < 16 → coverAt row x ≡ coverAt weights (x * 16 + y)
+  at x p = ap (λ (l : List ℤ). coverAt l x) e ∙ getD-tabulate 16 (λ i. coverAt weights (i * 16 + y)) (pos 0) x p
+
+  row-weighed : Weighed row
+  row-weighed =
+      record {
+        low = λ x h. let p : x < 16 = omega (arith, long) in rw (at x p) (c .low (x * 16 + y) (omega arith));
+        high = λ x h. let p : x < 16 = omega (arith, long) in rw (at x p) (c .high (x * 16 + y) (omega arith));
+      }
+
+  row-coverages : coveragesIn row ≡ weightsRow 16 weights y
+  row-coverages =
+      is-tabulate 16 (λ x. getD (coveragesIn weights) (x * 16 + y) nan) nan (coveragesIn row) (length-map row coverageIn ∙ long)
+      (λ x p.
+      map-lt coverageIn row x nan (pos 0) (omega (arith, long))
+      ∙ ap coverageIn (at x p)
+      ∙ sym (map-lt coverageIn weights (x * 16 + y) nan (pos 0) (omega arith)))
 
 abbrev Inv-loop : tie.InvT-loop
 Inv-loop weights plane₀ y₀ plane y = PlaneRows 16 (λ column row. getD (coveragesIn weights) (column * 16 + row) nan) plane₀ y plane
@@ -17,16 +47,26 @@ abbrev μ-loop : tie.MeasureT-loop
 loop-holds : tie.Need-loop-holds Inv-loop μ-loop
 loop-holds c = rows-start (c .before .pre .2)
 
+row-of-requires : tie.Need-row-of-requires Inv-loop μ-loop
+row-of-requires c κs = (c .before .before .before .pre .1, c .loop-test .taken)
+
 write-row-requires : tie.Need-write-row-requires Inv-loop μ-loop
 write-row-requires c κs =
-    let l = c .before .before in
-    let s = l .before .before in
-    (s .pre .0, s .pre .1, c .before .loop-test .taken, rows-room (l .loop .inv) (c .before .loop-test .taken))
+    let r = c .before .before in
+    let t = r .before in
+    let s = t .before .before .before in
+    (row-weighed (s .pre .0) (s .pre .1) (t .loop-test .taken) (r .row-of .ensures), long (s .pre .0) (s .pre .1) (t .loop-test .taken) (r .row-of .ensures), rows-room (t .before .loop .inv) (t .loop-test .taken))
 
 loop-again : tie.Need-loop-again Inv-loop μ-loop
 loop-again c =
-    let t = c .before .before .before .before in
-    rows-next (t .before .loop .inv) (t .loop-test .taken) (c .before .before .write-row .ensures)
+    let w = c .before .before in
+    let r = w .before .before .before in
+    let t = r .before in
+    let l = t .before in
+    let s = l .before .before in
+    rows-next (l .loop .inv) (t .loop-test .taken)
+    (w .write-row .ensures
+    ∙ ap (λ (row : List Float). putRow (l .loop .y) row (l .loop .plane)) (row-coverages (s .pre .0) (s .pre .1) (t .loop-test .taken) (r .row-of .ensures)))
 
 same-length : tie.Need-same-length Inv-loop μ-loop
 same-length c = c .before .loop .inv .long
@@ -41,6 +81,7 @@ write-plane-spec =
     Inv-loop
     μ-loop
     loop-holds
+    row-of-requires
     write-row-requires
     (λ c. omega arith) (λ c. omega arith)
     loop-again

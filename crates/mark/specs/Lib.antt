@@ -1,2 +1,0 @@
--- What the contracts say is of cover_statements, but for inner steps.
-pub mod InnerTotal
