@@ -8,12 +8,8 @@ use Rattle.refusals.specs.Refusal.{Judgement, pass, refuse}
 use Rattle.row_statements.specs.State.{State}
 use Rattle.batch_statements.specs.BatchLent.{BatchLent, sided}
 use Rattle.batch_statements.specs.Batch.{BatchGiven}
+use Rattle.ffi_numbers.specs.Numbers.{judgedNumber}
 use Rattle.ffi_numbers.specs.Rows.{stateWords, countsOf}
-
--- the number of a refusal in the table of refusals ('Turned down'), 0 where it is none
-abbrev pub judgementNumber : Judgement → ℕ
-judgementNumber pass = 0
-judgementNumber (refuse number) = number
 
 -- 0 where the first queue holds the carries, 1 where the second does
 abbrev pub queueNumber : Bool → ℕ
@@ -32,14 +28,18 @@ pub record BatchNumbers : Type 0 where
 abbrev pub batchNumbers : List ℕ → List ℕ → List ℕ → BatchNumbers
 batchNumbers words counts done = record { words = words; counts = counts; done = done }
 
--- what they are after a batch; a refusal of its first tile leaves every one as it was
+-- whether they are written: not where the first tile is refused
+abbrev pub isTold : Judgement → ℕ → Bool
+isTold pass worked = true
+isTold (refuse number) worked = ltb 0 worked
+
+-- what they are after a batch
 abbrev pub numbersBy : Judgement → State → ℕ → ℕ → Bool → BatchNumbers → BatchNumbers
-numbersBy pass s worked used first old = record { words = stateWords s; counts = countsOf s; done = doneOf worked used first }
-numbersBy (refuse number) s worked used first old =
-    cond (ltb 0 worked) (record { words = stateWords s; counts = countsOf s; done = doneOf worked used first }) old
+numbersBy v s worked used first old =
+    cond (isTold v worked) (record { words = stateWords s; counts = countsOf s; done = doneOf worked used first }) old
 
 -- all that a batch gives and leaves; the lent memory is as it lies
 pub record BatchTold (g : BatchGiven) (old : BatchNumbers) (r : ℕ) (new : BatchNumbers) (back : BatchLent) : Type 0 where
-  pub number : r ≡ judgementNumber (g .end)
+  pub number : r ≡ judgedNumber (g .end)
   pub numbers : new ≡ numbersBy (g .end) (g .at .state) (g .at .worked) (g .at .used) (g .at .first) old
   pub lent-is : back ≡ sided (g .at .first) (g .at .lent)

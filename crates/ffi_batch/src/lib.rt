@@ -5,8 +5,9 @@ use refusals::Verdict;
 ghost use mathlib.Core.Path.{_≡_};
 ghost use Rattle.refusals.specs.Refusal.{judgementIn};
 ghost use Rattle.row_statements.specs.State.{stateIn};
+ghost use Rattle.ffi_numbers.specs.Numbers.{judgedNumber};
 ghost use Rattle.ffi_numbers.specs.Rows.{stateWords, countsOf};
-ghost use Rattle.ffi_batch.specs.Batches.{judgementNumber, queueNumber, doneOf, batchNumbers, numbersBy};
+ghost use Rattle.ffi_batch.specs.Batches.{queueNumber, doneOf, isTold, batchNumbers, numbersBy};
 
 fn queue_number(first: bool) -> usize
     ensures { λ r. ⌜ r ≡ queueNumber first ⌝ }
@@ -24,29 +25,42 @@ fn put_done(at: Batch, words: &mut [u32; 6], counts: &mut [usize; 2], done: &mut
     *done = [at.worked, at.used, queue_number(at.first)];
 }
 
-// Where the first tile is refused, every number is left as it was.
+// A refusal of the first tile tells nothing but its number.
+fn is_told(verdict: Verdict, worked: usize) -> bool
+    ensures { λ r. ⌜ r ≡ isTold (judgementIn verdict) worked ⌝ }
+{
+    match verdict {
+        Verdict::Pass => true,
+        Verdict::Refuse(_) => 0 < worked,
+    }
+}
+
+fn judged_number(verdict: Verdict) -> u32
+    ensures { λ r. ⌜ r ≡ judgedNumber (judgementIn verdict) ⌝ }
+{
+    match verdict {
+        Verdict::Pass => 0,
+        Verdict::Refuse(refusal) => refusals::number_of(refusal),
+    }
+}
+
+// 0 or the number of the refusal; where the first tile is refused, every lent number is left as it was.
 pub fn put_batch(
     at: Batch,
     words: &mut [u32; 6],
     counts: &mut [usize; 2],
     done: &mut [usize; 3],
 ) -> u32
-    ensures { λ r. ⌜ r ≡ judgementNumber (judgementIn (at .verdict)) ⌝ }
+    ensures { λ r. ⌜ r ≡ judgedNumber (judgementIn (at .verdict)) ⌝ }
     ensures { λ _. ⌜ batchNumbers (now (words .exit)) (now (counts .exit)) (now (done .exit))
         ≡ numbersBy (judgementIn (at .verdict)) (stateIn (at .state)) (at .worked) (at .used) (at .first)
         (batchNumbers (now (words .entry)) (now (counts .entry)) (now (done .entry))) ⌝ }
 {
     let verdict = at.verdict;
-    match verdict {
-        Verdict::Pass => {
-            put_done(at, words, counts, done);
-            0
-        },
-        Verdict::Refuse(refusal) => {
-            if 0 < at.worked {
-                put_done(at, words, counts, done);
-            }
-            refusals::number_of(refusal)
-        },
+    if is_told(verdict, at.worked) {
+        put_done(at, words, counts, done);
+        judged_number(verdict)
+    } else {
+        judged_number(verdict)
     }
 }
