@@ -20,6 +20,35 @@ pub struct Batch {
     pub done: [usize; 3],
 }
 
+impl Batch {
+    /// How many planes there is room for.
+    pub fn planes(&self) -> usize {
+        (self.planes.len() / 256).min(self.painted.len() / 2)
+    }
+
+    /// Which parts are other than in another one.
+    pub fn unlike(&self, other: &Self) -> String {
+        let bits = |numbers: &[f32]| numbers.iter().map(|number| number.to_bits()).collect::<Vec<_>>();
+        let parts = [
+            ("state", self.state == other.state),
+            ("queues", self.queues == other.queues),
+            ("kept", self.kept == other.kept),
+            ("told", self.told == other.told),
+            ("bottoms", bits(&self.bottoms) == bits(&other.bottoms)),
+            ("planes", bits(&self.planes) == bits(&other.planes)),
+            ("painted", self.painted == other.painted),
+            ("done", self.done == other.done),
+        ];
+        parts.iter().filter(|(_, same)| !same).map(|(name, _)| format!("another {name} ")).collect()
+    }
+}
+
+impl PartialEq for Batch {
+    fn eq(&self, other: &Self) -> bool {
+        self.unlike(other).is_empty()
+    }
+}
+
 /// The number of the refusal; the batch holds what the call left. Of the work only the queue is not read.
 pub fn work_tiles(work: &Work, tiles: usize, batch: &mut Batch) -> u32 {
     let Work { tile, row, table, is_kept, clear, previous, .. } = work;

@@ -3,6 +3,8 @@
 pub mod arrangements;
 pub mod backwards;
 pub mod batch_calls;
+pub mod batch_damages;
+pub mod batches;
 pub mod bench;
 pub mod bounds;
 pub mod cached;
