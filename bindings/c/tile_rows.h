@@ -17,6 +17,36 @@
 extern "C" {
 #endif
 
+/* 0 or the number of the refusal. A refusal of the first tile leaves all lent memory as it was. After any other answer
+   `words` and `counts` are the state after the tiles worked, and `done` tells how many these are, how many planes they
+   used, and which queue holds the carries, 0 the first or 1 the second. Each tile has five numbers in `told` (the
+   decision, of a solid tile how many shown layers lie before those to mix, how many layers are listed, skipped, shown),
+   where it is solid its bottom colour in `bottoms`, and where `keeps` is set its cached tile in eight bytes of `kept`.
+   Each painted layer has a plane, and its id and its mark in `painted`. */
+uint32_t ffi_work_tiles(
+    uint32_t words[6],
+    size_t counts[2],
+    int32_t tile,
+    size_t tiles,
+    const uint64_t *row, size_t row_len,
+    const uint32_t *layers, size_t layers_len,
+    const float *colors, size_t colors_len,
+    size_t count,
+    bool keeps,
+    uint8_t *kept, size_t kept_len,
+    const float clear[4],
+    bool is_previous,
+    const float previous[4],
+    uint32_t *a_ids, size_t a_ids_len,
+    int8_t *a_covers, size_t a_covers_len,
+    uint32_t *b_ids, size_t b_ids_len,
+    int8_t *b_covers, size_t b_covers_len,
+    size_t *told, size_t told_len,
+    float *bottoms, size_t bottoms_len,
+    float *planes, size_t planes_len,
+    uint32_t *painted, size_t painted_len,
+    size_t done[3]);
+
 /* 0 and the six planes, or the number of the refusal. `bounds` has two bytes a segment, its lowest and its highest
    cover. */
 uint32_t ffi_bound_part(

@@ -8,6 +8,42 @@
 
 mod raw {
     extern "C" {
+        pub fn ffi_work_tiles(
+            words: *mut [u32; 6],
+            counts: *mut [usize; 2],
+            tile: i32,
+            tiles: usize,
+            row: *const u64,
+            row_len: usize,
+            layers: *const u32,
+            layers_len: usize,
+            colors: *const f32,
+            colors_len: usize,
+            count: usize,
+            keeps: bool,
+            kept: *mut u8,
+            kept_len: usize,
+            clear: *const [f32; 4],
+            is_previous: bool,
+            previous: *const [f32; 4],
+            a_ids: *mut u32,
+            a_ids_len: usize,
+            a_covers: *mut i8,
+            a_covers_len: usize,
+            b_ids: *mut u32,
+            b_ids_len: usize,
+            b_covers: *mut i8,
+            b_covers_len: usize,
+            told: *mut usize,
+            told_len: usize,
+            bottoms: *mut f32,
+            bottoms_len: usize,
+            planes: *mut f32,
+            planes_len: usize,
+            painted: *mut u32,
+            painted_len: usize,
+            done: *mut [usize; 3],
+        ) -> u32;
         pub fn ffi_bound_part(
             layer_id: u32,
             tile_x: i16,
@@ -416,6 +452,80 @@ mod raw {
             told: *mut [usize; 4],
             bottom: *mut [f32; 4],
         ) -> u32;
+    }
+}
+
+/// 0 or the number of the refusal. A refusal of the first tile leaves all lent memory as it was. After any other answer
+/// `words` and `counts` are the state after the tiles worked, and `done` tells how many these are, how many planes they
+/// used, and which queue holds the carries, 0 the first or 1 the second. Each tile has five numbers in `told` (the
+/// decision, of a solid tile how many shown layers lie before those to mix, how many layers are listed, skipped, shown),
+/// where it is solid its bottom colour in `bottoms`, and where `keeps` is set its cached tile in eight bytes of `kept`.
+/// Each painted layer has a plane, and its id and its mark in `painted`.
+#[allow(clippy::too_many_arguments)]
+#[inline]
+pub fn work_tiles(
+    words: &mut [u32; 6],
+    counts: &mut [usize; 2],
+    tile: i32,
+    tiles: usize,
+    row: &[u64],
+    layers: &[u32],
+    colors: &[f32],
+    count: usize,
+    keeps: bool,
+    kept: &mut [u8],
+    clear: &[f32; 4],
+    is_previous: bool,
+    previous: &[f32; 4],
+    a_ids: &mut [u32],
+    a_covers: &mut [i8],
+    b_ids: &mut [u32],
+    b_covers: &mut [i8],
+    told: &mut [usize],
+    bottoms: &mut [f32],
+    planes: &mut [f32],
+    painted: &mut [u32],
+    done: &mut [usize; 3],
+) -> u32 {
+    // SAFETY: the references are those that the export takes, a slice with its own length; it is proved to keep
+    // to them for every value, and nothing of them is held after the call.
+    unsafe {
+        raw::ffi_work_tiles(
+            words,
+            counts,
+            tile,
+            tiles,
+            row.as_ptr(),
+            row.len(),
+            layers.as_ptr(),
+            layers.len(),
+            colors.as_ptr(),
+            colors.len(),
+            count,
+            keeps,
+            kept.as_mut_ptr(),
+            kept.len(),
+            clear,
+            is_previous,
+            previous,
+            a_ids.as_mut_ptr(),
+            a_ids.len(),
+            a_covers.as_mut_ptr(),
+            a_covers.len(),
+            b_ids.as_mut_ptr(),
+            b_ids.len(),
+            b_covers.as_mut_ptr(),
+            b_covers.len(),
+            told.as_mut_ptr(),
+            told.len(),
+            bottoms.as_mut_ptr(),
+            bottoms.len(),
+            planes.as_mut_ptr(),
+            planes.len(),
+            painted.as_mut_ptr(),
+            painted.len(),
+            done,
+        )
     }
 }
 

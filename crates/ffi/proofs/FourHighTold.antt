@@ -10,7 +10,7 @@ use Rattle.layer_row_gpu.specs.OpenLayer.{LayerCall, OpensLayer}
 use Rattle.layer_row_gpu.specs.WorkLayer.{WorksLayer}
 use Rattle.layer_row_gpu.specs.declared.OpenedLayer.{OpenedLayer}
 use Rattle.layer_row_gpu.specs.declared.WorkedLayer.{WorkedLayer}
-use Rattle.ffi.specs.Sets.{judgedNumber}
+use Rattle.ffi_numbers.specs.Numbers.{judgedNumber}
 use Rattle.ffi.specs.FourHighRows.{LayerNumbers, layerNumbersBy, OpenLayerTold, WorkLayerTold}
 
 pub layer-opened : {c : LayerCall} {o : OpenedLayer} {old new : LayerNumbers} {r : ℕ} → OpensLayer c o → (r ≡ judgedNumber (judgementIn (o .answer))) × (new ≡ layerNumbersBy (judgementIn (o .answer)) (layerStateIn (o .state)) old) → OpenLayerTold c old r new

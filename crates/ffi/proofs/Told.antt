@@ -27,11 +27,15 @@ use Rattle.listing_statements.specs.declared.TileListed.{TileListed}
 use Rattle.listing_statements.specs.declared.TileDecided.{TileDecided}
 use Rattle.kept_count.specs.Keeping.{CountGiven, countAnswer, KeepsCount}
 use Rattle.kept_count.specs.declared.CountKept.{CountKept}
-use Rattle.ffi_numbers.specs.Numbers.{refusalNumber, valueOr, isFound, placeNumber}
+use Rattle.batch_statements.specs.BatchLent.{BatchLent}
+use Rattle.batch_statements.specs.Batch.{BatchCall, batchOf, GivesBatch}
+use Rattle.batch_statements.specs.declared.Batch.{Batch}
+use Rattle.ffi_numbers.specs.Numbers.{refusalNumber, judgedNumber, valueOr, isFound, placeNumber}
 use Rattle.ffi_numbers.specs.Cached.{isSome, givenOr, colorOr, writtenOr, settledBytes}
 use Rattle.ffi_numbers.specs.Rows.{StateNumbers, openNumbers, OpenTold}
 use Rattle.ffi_numbers.specs.Counts.{CountNumbers, countedNumbers, CountTold}
-use Rattle.ffi.specs.Sets.{SetNumbers, judgedNumber, editedNumbers, EditTold}
+use Rattle.ffi_batch.specs.Batches.{BatchNumbers, numbersBy, BatchTold}
+use Rattle.ffi.specs.Sets.{SetNumbers, editedNumbers, EditTold}
 use Rattle.ffi.specs.Work.{WorkNumbers, workedNumbers, WorkTold}
 use Rattle.ffi.specs.Listing.{ListNumbers, listedNumbers, ListTold}
 use Rattle.ffi.specs.Deciding.{DecideNumbers, decidedNumbers, DecideTold}
@@ -99,6 +103,16 @@ decided {old = old} decides told =
       number = told .0 ∙ ap refusalNumber (decides .answer);
       numbers = told .1 ∙ λ i. decidedNumbers (decides .answer i) (decides .kept i) old;
       unmasked-is = decides .unmasked-is;
+    }
+
+-- a batch of tiles, the same
+pub batched : (call : State → BatchCall) (lent : BatchLent) {s t : State} {b : Batch} {old new : BatchNumbers} {r : ℕ} {back : BatchLent} → s ≡ t → GivesBatch (batchOf (call s) lent) b back → (r ≡ judgedNumber (judgementIn (b .verdict))) × (new ≡ numbersBy (judgementIn (b .verdict)) (stateIn (b .state)) (b .worked) (b .used) (b .first) old) → BatchTold (batchOf (call t) lent) old r new back
+batched call lent {b = b} {old = old} {back = back} e given told =
+    let gives = subst (λ (x : State). GivesBatch (batchOf (call x) lent) b back) e given in
+    record {
+      number = told .0 ∙ ap judgedNumber (gives .end);
+      numbers = told .1 ∙ λ i. numbersBy (gives .end i) (gives .state i) (gives .worked i) (gives .used i) (gives .first i) old;
+      lent-is = gives .lent-is;
     }
 
 -- an edit of a kept set

@@ -12,7 +12,8 @@ use Rattle.listing_statements.specs.Deciding as deciding
 use Rattle.listing_statements.specs.Deciding.{DecideGiven}
 use Rattle.ffi_numbers.specs.Numbers.{refusalNumber}
 use Rattle.ffi_numbers.specs.Cached.{bytesBy}
-use Rattle.ffi.specs.Work.{beforeOf, bottomBy}
+use Rattle.batch_statements.specs.BatchLent.{beforeOf}
+use Rattle.ffi.specs.Work.{bottomBy}
 
 -- the numbers that are lent
 pub record DecideNumbers : Type 0 where

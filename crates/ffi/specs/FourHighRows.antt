@@ -11,7 +11,7 @@ use Rattle.styling.specs.Codes.{ruleCode, ruleOf}
 use Rattle.layer_row_gpu.specs.LayerState.{LayerState}
 use Rattle.layer_row_gpu.specs.OpenLayer.{LayerCall, callVerdictOf, openedState}
 use Rattle.layer_row_gpu.specs.WorkLayer.{workLayerVerdict, workedState, workedPlane}
-use Rattle.ffi.specs.Sets.{judgedNumber}
+use Rattle.ffi_numbers.specs.Numbers.{judgedNumber}
 
 -- ---- a state
 

@@ -7,6 +7,7 @@ use lib.IntN.{ℤ}
 use Rattle.refusals.specs.Refusal.{Judgement, pass, refuse}
 use Rattle.segment_set_statements.specs.Set.{SetState}
 use Rattle.segment_set_statements.specs.declared.SegmentSet.{SegmentSet}
+use Rattle.ffi_numbers.specs.Numbers.{judgedNumber}
 
 pub record SetNumbers : Type 0 where
   pub carry : List ℤ
@@ -27,11 +28,6 @@ setFrom layer tileX tileY n =
       loads = n .loads;
       count = n .count;
     }
-
--- the number of a judgement, 0 where it passes
-abbrev pub judgedNumber : Judgement → ℕ
-judgedNumber pass = 0
-judgedNumber (refuse number) = number
 
 -- what the numbers are after an edit: those of the set; a refusal leaves every one as it was
 abbrev pub editedNumbers : Judgement → SegmentSet → SetNumbers → SetNumbers

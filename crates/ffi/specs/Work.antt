@@ -9,14 +9,10 @@ use Rattle.cached_tile.specs.declared.kept.Kept.{Kept}
 use Rattle.pass_statements.specs.Decision.{TileDecision, none, solid, paint, codeOf}
 use Rattle.row_statements.specs.State.{State}
 use Rattle.row_statements.specs.TileWork.{TileAnswer, WorkLent, WorkGiven}
+use Rattle.batch_statements.specs.BatchLent.{beforeOf}
 use Rattle.ffi_numbers.specs.Numbers.{refusalNumber}
 use Rattle.ffi_numbers.specs.Cached.{bytesBy}
 use Rattle.ffi_numbers.specs.Rows.{stateWords, countsOf}
-
-abbrev pub beforeOf : TileDecision → ℕ
-beforeOf none = 0
-beforeOf (solid bottom before) = before
-beforeOf paint = 0
 
 -- the lent colour, which a tile that is not solid leaves as it was
 abbrev pub bottomBy : TileDecision → List Float → List Float

@@ -3,7 +3,7 @@ use crate::words::rank_of;
 use cover_gpu::GpuCover;
 use cover_gpu::carry;
 use cover_gpu::carry::GpuCarried;
-use cover_gpu::plane::GpuPainted;
+use ffi_numbers::four_high;
 use ffi_numbers::words;
 use pixel_segment_gpu::GpuPacked;
 use pixel_segment_gpu::GpuSegment;
@@ -22,7 +22,7 @@ ghost use Rattle.cover_statements.specs.Carry.{addOf};
 ghost use Rattle.cover_statements.specs.Paint.{paintedPlane};
 ghost use Rattle.cover.specs.Adding.{answerOf};
 ghost use Rattle.pixel_segment_gpu.specs.GpuPack.{gpuPackedAnswer};
-ghost use Rattle.cover_gpu.specs.GpuPaint.{gpuPaintedAnswer, gpuPartAnswer};
+ghost use Rattle.cover_gpu.specs.GpuPaint.{gpuPartAnswer};
 ghost use Rattle.ffi_numbers.specs.Numbers.{refusalNumber, valueOr, isFound, placeNumber};
 
 fn put_packed(packed: GpuPacked, word: &mut u64) -> u32
@@ -282,16 +282,6 @@ fn put_carried(carried: GpuCarried, covers: &mut [i8; 4]) -> u32
     }
 }
 
-fn painted_number(painted: GpuPainted) -> u32
-    ensures { λ r. ⌜ r ≡ refusalNumber (gpuPaintedAnswer painted) ⌝ }
-{
-    match painted {
-        GpuPainted::Done => 0,
-        GpuPainted::PlaneTooShort => 1,
-        GpuPainted::CoverTooLarge => 9,
-    }
-}
-
 // 0 and the coverages in `plane`, or the number of the refusal.
 #[no_mangle]
 pub extern "C" fn ffi_gpu_paint_part(
@@ -312,5 +302,5 @@ pub extern "C" fn ffi_gpu_paint_part(
         codes::fill_rule(rule),
         plane,
     );
-    painted_number(painted)
+    four_high::painted_number(painted)
 }

@@ -1,27 +1,18 @@
 // One layer's row of tiles four pixels high. A state is lent as its numbers: tile y, from, to, the next tile, the layer
 // and its fill rule (0 NonZero, 1 EvenOdd); and beside them the four bytes of its cover.
 use cover_gpu::GpuCover;
+use ffi_numbers::four_high;
 use layer_row_gpu::LayerRow;
 use refusals::Verdict;
-use styling::FillRule;
 use styling::codes;
 ghost use mathlib.Core.Path.{_≡_};
 ghost use Rattle.refusals.specs.Refusal.{judgementIn};
-ghost use Rattle.styling.specs.Codes.{ruleCode, ruleOf};
+ghost use Rattle.styling.specs.Codes.{ruleOf};
 ghost use Rattle.layer_row_gpu.specs.LayerState.{layerStateIn};
 ghost use Rattle.layer_row_gpu.specs.OpenLayer.{layerCall};
-ghost use Rattle.ffi.specs.Sets.{judgedNumber};
+ghost use Rattle.ffi_numbers.specs.Numbers.{judgedNumber};
 ghost use Rattle.ffi.specs.FourHighRows.{layerNumbers, layerStateFrom, layerNumbersBy};
 ghost use Rattle.ffi.specs.FourHighRows.{OpenLayerTold, WorkLayerTold};
-
-fn rule_code(rule: FillRule) -> u32
-    ensures { λ r. ⌜ r ≡ ruleCode rule ⌝ }
-{
-    match rule {
-        FillRule::NonZero => 0,
-        FillRule::EvenOdd => 1,
-    }
-}
 
 fn to_layer_row(words: [u32; 6], covers: [i8; 4]) -> LayerRow
     ensures { λ r. ⌜ layerStateIn r ≡ layerStateFrom words covers ⌝ }
@@ -61,7 +52,7 @@ fn put_layer_row(
                 state.to,
                 state.next,
                 state.layer_id,
-                rule_code(rule),
+                four_high::rule_code(rule),
             ];
             *covers = bytes;
             0

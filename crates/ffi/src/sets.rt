@@ -7,7 +7,8 @@ ghost use mathlib.Core.Path.{_≡_};
 ghost use Rattle.refusals.specs.Refusal.{judgementIn};
 ghost use Rattle.segment_set_statements.specs.Set.{state, beginning, beginVerdict, beginOf};
 ghost use Rattle.segment_set_statements.specs.Set.{takeVerdict, takeOf, letVerdict, letOf};
-ghost use Rattle.ffi.specs.Sets.{setNumbers, setFrom, judgedNumber, editedNumbers, EditTold};
+ghost use Rattle.ffi_numbers.specs.Numbers.{judgedNumber};
+ghost use Rattle.ffi.specs.Sets.{setNumbers, setFrom, editedNumbers, EditTold};
 
 fn to_set(
     layer_id: u32,

@@ -19,7 +19,8 @@ ghost use Rattle.ffi_numbers.specs.Numbers.{refusalNumber};
 ghost use Rattle.ffi_numbers.specs.Cached.{keptOf};
 ghost use Rattle.ffi.specs.Layers.{colorFrom, previousOf};
 ghost use Rattle.ffi_numbers.specs.Rows.{stateFrom};
-ghost use Rattle.ffi.specs.Work.{beforeOf, bottomBy, toldOf, workNumbers, workedNumbers, WorkTold};
+ghost use Rattle.batch_statements.specs.BatchLent.{beforeOf};
+ghost use Rattle.ffi.specs.Work.{bottomBy, toldOf, workNumbers, workedNumbers, WorkTold};
 
 pub fn code_of(decision: Decision) -> usize
     ensures { λ r. ⌜ r ≡ codeOf (decisionIn decision) ⌝ }

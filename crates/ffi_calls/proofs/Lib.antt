@@ -4,3 +4,4 @@ pub mod Steps
 pub mod ListingCalls
 pub mod Calls
 pub mod Existing
+pub mod Batches

@@ -4,7 +4,8 @@ use std::hint::black_box;
 
 use crate::{
     tally::caught,
-    timed_bounds, timed_crate, timed_four_high, timed_parts, timed_rows, timed_sets, timed_tiles, timed_words,
+    timed_batches, timed_bounds, timed_crate, timed_four_high, timed_parts, timed_rows, timed_sets, timed_tiles,
+    timed_words,
     timing::{Bench, ROUNDS},
 };
 
@@ -33,6 +34,10 @@ pub fn print(only: String) {
     timed_rows::print_openings(bench);
     bench.title("Whole rows");
     timed_rows::print(bench);
+    bench.title("Whole rows in batches");
+    timed_batches::print(bench);
+    bench.title("One batch: ns a segment, a tile, a painted layer");
+    timed_batches::print_doubling(bench);
     bench.titled("A tile's work as one call and as two", ["one call", "list, decide"]);
     timed_tiles::print(bench);
     bench.titled("Whole rows by the crate of bindings/rust", ["exports", "the crate"]);

@@ -5,7 +5,11 @@ use std::collections::BTreeMap;
 
 use reference::plain::Carry;
 
-use crate::given::{LentTable, State, LAYER_LIMIT};
+use crate::{
+    batch_calls::Batch,
+    given::{LentTable, State, Work, LAYER_LIMIT},
+    memory::carries,
+};
 
 impl LentTable {
     pub fn is_short(&self) -> bool {
@@ -146,6 +150,21 @@ pub fn work(tile: &Tile<'_>, row: &[u64], table: &LentTable) -> u32 {
         9
     } else {
         0
+    }
+}
+
+/// A batch, judged once by 1 to 5, also where no tile is asked for.
+pub fn batch(work: &Work, tiles: usize, batch: &Batch) -> u32 {
+    let lent_short = batch.queues.iter().any(|queue| is_short(queue.ids.len(), queue.covers.len()))
+        || batch.planes() < 256
+        || work.is_kept && batch.kept.len() / 8 < tiles
+        || batch.told.len() / 5 < tiles
+        || batch.bottoms.len() / 4 < tiles;
+    let queue = if lent_short { Vec::new() } else { carries(&batch.queues[0], batch.state.counts[0].min(256)) };
+    let tile = Tile { state: batch.state, tile: work.tile, lent_short, queue: &queue, tag: None };
+    match self::work(&tile, &work.row, &work.table) {
+        number @ 1..=5 => number,
+        _ => 0,
     }
 }
 

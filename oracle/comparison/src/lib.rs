@@ -2,6 +2,9 @@
 
 pub mod arrangements;
 pub mod backwards;
+pub mod batch_calls;
+pub mod batch_damages;
+pub mod batches;
 pub mod bench;
 pub mod bounds;
 pub mod cached;
@@ -46,6 +49,7 @@ pub mod stored_rows;
 pub mod succession;
 pub mod tally;
 pub mod tiles;
+pub mod timed_batches;
 pub mod timed_bounds;
 pub mod timed_crate;
 pub mod timed_four_high;

@@ -7,7 +7,7 @@
 use std::{env, process::ExitCode};
 
 use comparison::{
-    backwards, bench, bounds, cached, covers, curve, deciding, edited_sets, four_high, four_high_rows, jobs,
+    backwards, batches, bench, bounds, cached, covers, curve, deciding, edited_sets, four_high, four_high_rows, jobs,
     kept_counts, kept_frames, layers, listing, loads, openings, paintings, plates, rows, standing, stored, stored_jobs,
     succession, tally::Tally, tiles, two_rows, words,
 };
@@ -45,6 +45,7 @@ fn main() -> ExitCode {
     deciding::compare(&mut tally);
     succession::compare(&mut tally);
     backwards::compare(&mut tally);
+    batches::compare(&mut tally);
     standing::compare(&mut tally);
     edited_sets::compare(&mut tally);
     two_rows::compare(&mut tally);

@@ -21,7 +21,7 @@ use crate::{
 };
 
 pub const CLEAR: [f32; 4] = [1.0; 4];
-const FRAME: Frame = Frame { clear: CLEAR, previous_clear: None, channels: RGBA };
+pub const FRAME: Frame = Frame { clear: CLEAR, previous_clear: None, channels: RGBA };
 
 /// The library's side of a row, with all that its calls are lent.
 pub struct Ours {
@@ -31,7 +31,7 @@ pub struct Ours {
     canvas: Canvas,
 }
 
-fn accepted(number: u32) -> Result<(), u32> {
+pub fn accepted(number: u32) -> Result<(), u32> {
     if number == 0 {
         Ok(())
     } else {
@@ -89,20 +89,28 @@ impl Ours {
     }
 }
 
-fn segments(row: &Row) -> Vec<Segment> {
+pub fn segments(row: &Row) -> Vec<Segment> {
     row.words.iter().map(|&word| segment(word)).collect()
 }
 
-/// Both sides paint the same coverages in the same order; how many layers that is.
-fn check(row: &Row) -> usize {
-    let bits = |plane: &[f32]| plane.iter().map(|number| number.to_bits()).collect::<Vec<_>>();
+pub fn bits(plane: &[f32]) -> Vec<u32> {
+    plane.iter().map(|number| number.to_bits()).collect()
+}
+
+/// The bits of every plane that the Rust paints.
+pub fn rust_planes(row: &Row) -> Vec<Vec<u32>> {
     let table = Table::new(&row.records);
     let mut rust = TimedRow::new(segments(row), &table, FRAME);
     rust.painter.planes = Some(Vec::new());
     rust.run(0, row.tiles);
+    rust.painter.planes.unwrap().iter().map(|plane| bits(plane)).collect()
+}
+
+/// Both sides paint the same coverages in the same order; how many layers that is.
+fn check(row: &Row) -> usize {
     let mut ours = Vec::new();
     assert_eq!(Ours::new(row).run(|canvas| ours.push(bits(&canvas.plane))), Ok(()));
-    assert!(rust.painter.planes.unwrap().iter().map(|plane| bits(plane)).eq(ours.iter().cloned()));
+    assert!(rust_planes(row) == ours);
     ours.len()
 }
 

@@ -42,6 +42,28 @@ pub fn load(asked: Asked, rule: u32) -> Row {
     Row { tiles: asked.tiles as usize, words, records: (0..8).map(|id| draw(id, rule, 1.0)).collect() }
 }
 
+/// Layers that are carried through every tile and painted there, with so many pairs of segments in each tile that take
+/// nothing to the next.
+pub fn level(tiles: usize, layers: u32, pairs: usize) -> Row {
+    let mut random = Random::new(6);
+    let mut words = Vec::new();
+    for (tile_x, layer_id) in (-1..tiles as i16).flat_map(|tile| (0..layers).map(move |layer| (tile, layer))) {
+        let mut add = |local_x, local_y, double_area_multiplier, cover| {
+            words.push(word(Fields { layer_id, tile_x, tile_y: 0, local_x, local_y, double_area_multiplier, cover }));
+        };
+        if tile_x < 0 {
+            (0..16).for_each(|y| add(0, y, 0, 16));
+            continue;
+        }
+        for i in 0..pairs {
+            let (x, y, multiplier) = (random.below(16) as u8, i as u8 % 16, random.below(33) as u8);
+            add(x, y, multiplier, -2);
+            add(15 - x, y, multiplier, 2);
+        }
+    }
+    Row { tiles, words, records: draws(layers, 0.5) }
+}
+
 /// Eight tiles and eight opaque layers, each with so many segments in each tile. What one tile adds, the next takes off.
 pub fn dense(each: usize) -> Row {
     let mut random = Random::new(5);

@@ -1,0 +1,108 @@
+-- Demand 3 for callers of the batch export: an accepted opening and any list of batches after it, told by numbers and lent slices alone. The premise of
+-- each batch is the export's own contract, at the numbers that the one before it left. A batch that 1 to 5 do not refuse stands for works and paintings,
+-- each of which gives what is due of it (batch_runs/specs/BatchCalls, row_statements/specs/Claim); one that they refuse tells its number, and all is as
+-- it was. A caller that sets the three numbers to 0 before a batch finds by the third which queue holds the carries, however the batch ended.
+-- proofs/Batches proves it.
+use mathlib.Core.Path.{_≡_}
+use mathlib.Core.List.{List, [], _∷_}
+use Prim.Native.Nat.{ℕ, zero, suc, _<_}
+use lib.ListN.{getD}
+use Rattle.refusals.specs.Refusal.{Judgement, pass, refuse}
+use Rattle.segment_rows.specs.Rows.{Words}
+use Rattle.styling.specs.declared.Color.{Color}
+use Rattle.layer_workbench.specs.declared.PreviousClear.{PreviousClear}
+use Rattle.row_statements.specs.Lent.{Columns}
+use Rattle.row_statements.specs.Opening.{OpenCall, openOf}
+use Rattle.row_statements.specs.Due.{OpenRow, Past, atFirst}
+use Rattle.row_statements.specs.Run.{openRow, Event}
+use Rattle.row_statements.specs.Claim.{TileFacts, pastAfter, AllRight}
+use Rattle.batch_statements.specs.BatchLent.{BatchLent, planesIn}
+use Rattle.batch_statements.specs.Batch.{BatchCall, batchStart, batchVerdict, batchOf}
+use Rattle.batch_runs.specs.BatchCalls.{TileCalls}
+use Rattle.ffi_numbers.specs.Rows.{StateNumbers, stateFrom, OpenTold}
+use Rattle.ffi_batch.specs.Batches.{BatchNumbers, batchNumbers, BatchTold}
+
+-- ---- what the caller holds between batches: the state's numbers, and the queue that holds the carries
+
+pub record HeldQueue : Type 0 where
+  pub words : List ℕ
+  pub counts : List ℕ
+  pub queue : Columns
+
+-- the queue that the third number names
+abbrev pub queueNamed : ℕ → BatchLent → Columns
+queueNamed zero back = back .queue
+queueNamed (suc n) back = back .other
+
+abbrev pub heldBatch : BatchNumbers → BatchLent → HeldQueue
+heldBatch new back = record { words = new .words; counts = new .counts; queue = queueNamed (getD (new .done) 2 0) back }
+
+-- ---- batches as they went: what was asked for and lent, the number, and what the lent numbers and the lent memory are then
+
+pub record BatchMade : Type 0 where
+  pub call : BatchCall
+  pub lent : BatchLent
+  pub old : BatchNumbers
+  pub number : ℕ
+  pub new : BatchNumbers
+  pub back : BatchLent
+
+-- made with the row, the table, the numbers and the queue that the caller holds
+pub record MadeWith (o : OpenRow) (k : HeldQueue) (b : BatchMade) : Type 0 where
+  pub state : b .call .state ≡ stateFrom (k .words) (k .counts)
+  pub row : b .call .over .row ≡ o .row
+  pub table : b .call .over .table ≡ o .table
+  pub queue : b .lent .queue ≡ k .queue
+  pub numbers : b .old ≡ batchNumbers (k .words) (k .counts) (0 ∷ 0 ∷ 0 ∷ [])
+  pub told : BatchTold (batchOf (b .call) (b .lent)) (b .old) (b .number) (b .new) (b .back)
+
+pub data Batches (o : OpenRow) : HeldQueue → List BatchMade → HeldQueue → Type 0 where
+  none : {k : HeldQueue} → Batches o k [] k
+  next : {k k′ : HeldQueue} {b : BatchMade} {bs : List BatchMade} → MadeWith o k b → Batches o (heldBatch (b .new) (b .back)) bs k′ → Batches o k (b ∷ bs) k′
+
+-- ---- what is right of them
+
+-- what calls tell of the past, one after the other
+abbrev pub pastEvents : OpenRow → List Event → Past → Past
+pastEvents o [] p = p
+pastEvents o (e ∷ es) p = pastEvents o es (pastAfter o e p)
+
+-- the calls that a batch stands for, by its verdict of 1 to 5
+abbrev pub StandsFor : Judgement → BatchMade → List Event → Type 0
+StandsFor pass b es = TileCalls (b .call .over) (planesIn (b .lent)) (b .call .tiles) (batchStart (b .call) (b .lent)) es (batchOf (b .call) (b .lent))
+StandsFor (refuse n) b es = (es ≡ []) × ((b .number ≡ n) × ((b .new ≡ b .old) × (b .back ≡ b .lent)))
+
+pub record RightBatch (o : OpenRow) (p : Past) (b : BatchMade) : Type 0 where
+  pub events : List Event
+  pub calls : StandsFor (batchVerdict (b .call) (b .lent)) b events
+  pub right : AllRight o p events
+
+pub data AllBatches (o : OpenRow) : Past → List BatchMade → Type 0 where
+  none : {p : Past} → AllBatches o p []
+  next : {p : Past} {b : BatchMade} {bs : List BatchMade} (u : RightBatch o p b) → AllBatches o (pastEvents o (u .events) p) bs → AllBatches o p (b ∷ bs)
+
+-- ---- the claim; what the row alone says of every tile stands beside it
+
+abbrev pub BatchesClaim : Type 0
+BatchesClaim =
+    (c : OpenCall) (lent back : Columns) (old new : StateNumbers) (bs : List BatchMade) (k : HeldQueue) →
+    Words (c .row) →
+    OpenTold (openOf c lent) old 0 new back →
+    Batches (openRow c) (record { words = new .words; counts = new .counts; queue = back }) bs k →
+    ((n : ℕ) → TileFacts (openRow c) n) × AllBatches (openRow c) atFirst bs
+
+-- ---- it is not empty: after an opening that left a tile, any number of tiles can be asked for, and 1 to 5 pass
+
+pub record PassingBatch (o : OpenRow) (k : HeldQueue) (tiles : ℕ) : Type 0 where
+  pub made : BatchMade
+  pub with-held : MadeWith o k made
+  pub asks : made .call .tiles ≡ tiles
+  pub passes : batchVerdict (made .call) (made .lent) ≡ pass
+
+abbrev pub BatchesExist : Type 0
+BatchesExist =
+    (c : OpenCall) (lent back : Columns) (old new : StateNumbers) (tiles : ℕ) (clear : Color) (previous : PreviousClear) →
+    Words (c .row) →
+    OpenTold (openOf c lent) old 0 new back →
+    openRow c .from < openRow c .to →
+    PassingBatch (openRow c) (record { words = new .words; counts = new .counts; queue = back }) tiles
