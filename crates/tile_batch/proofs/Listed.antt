@@ -37,7 +37,7 @@ use Rattle.row_statements.specs.declared.WorkAnswer.the-variants as worked
 use Rattle.row_statements.proofs.Works.{Listable, list-passed}
 use Rattle.row_statements.proofs.Paintings.{layer-passed}
 use Rattle.row_lines.proofs.Accepted.{listed-pass}
-use Rattle.tile_batch.specs.InnerShown.{TilePainter, LayerPaintable, ListWalk}
+use Rattle.batch_painting.specs.InnerShown.{TilePainter, LayerPaintable, ListWalk}
 use Rattle.row_driver.specs.InnerSteps.{Workable}
 
 -- ---- the layers of a list

@@ -53,8 +53,9 @@ use Rattle.tile_batch.proofs.Listed.{front, flags-long, ids-long, Accep
 use Rattle.batch_statements.specs.BatchLent.{BatchLent, batchLent, sided, keptAt, keptOver, tileNumbers, bottomsOver}
 use Rattle.batch_statements.specs.Batch.{BatchRow, BatchAt, BatchGiven, PlanesAt, ownList, callAt, planesPast, lentPast, tilePast, turnBy, turnOf, paintsFrom, GivesBatch}
 use Rattle.tile_batch.specs.InnerTurns.{batchIn, BatchStands, NotesTile, sameFlag, GivesTurn}
-use Rattle.tile_batch.specs.InnerShown.{WalkAt, walkFrom, PlaneRoom}
-use Rattle.tile_batch.proofs.Paintings.{planesOn, PaintsAre, paints-are, worked-right, walk-paints, walk-shown}
+use Rattle.batch_painting.specs.InnerShown.{WalkAt, walkFrom, PlaneRoom}
+use Rattle.tile_batch.proofs.Paintings.{planesOn, PaintsAre, paints-are, worked-right, walk-paints}
+use Rattle.batch_painting.proofs.Steps.{walk-shown}
 use Rattle.batch_statements.specs.declared.Batch.{Batch}
 use Rattle.batch_statements.proofs.ShownFew.{shown-few}
 

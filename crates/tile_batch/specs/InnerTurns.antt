@@ -28,7 +28,7 @@ use Rattle.row_lines.specs.Shown.{shownIn}
 use Rattle.batch_statements.specs.BatchLent.{BatchLent, sided, keptAt, keptOver, tileNumbers, bottomsOver}
 use Rattle.batch_statements.specs.Batch.{BatchRow, BatchAt, BatchGiven}
 use Rattle.batch_statements.specs.declared.Batch.{Batch}
-use Rattle.tile_batch.specs.InnerShown.{WalkAt, walkAt, walkFrom, PlaneRoom}
+use Rattle.batch_painting.specs.InnerShown.{WalkAt, walkAt, walkFrom, PlaneRoom}
 
 -- where a batch stands, by the code's value: the tile is the state's next
 abbrev pub batchIn : Batch → BatchLent → BatchAt

@@ -1,6 +1,4 @@
 // One tile of a batch: judged by what the tile itself can be refused for, worked, noted, and its shown layers painted.
-use crate::noting;
-use crate::shown;
 use batch_statements::Batch;
 use cached_tile::kept::Kept;
 use layer_workbench::PreviousClear;
@@ -26,7 +24,7 @@ ghost use Rattle.row_statements.specs.Lent.{columns, listColumns, lentTable};
 ghost use Rattle.row_statements.specs.State.{stateIn};
 ghost use Rattle.batch_statements.specs.BatchLent.{batchLent, sided};
 ghost use Rattle.batch_statements.specs.Batch.{batchRow, turnOf, GivesBatch};
-ghost use Rattle.tile_batch.specs.InnerShown.{PlaneRoom, TilePainter, ListWalk};
+ghost use Rattle.batch_painting.specs.InnerShown.{PlaneRoom, TilePainter, ListWalk};
 ghost use Rattle.tile_batch.specs.InnerTurns.{batchIn, walkPast, NotesTile, NoteRoom};
 ghost use Rattle.tile_batch.specs.InnerTurns.{Turnable, HereWorkable, GivesTurn};
 
@@ -102,7 +100,7 @@ fn note_tile(
     let skipped = done.skipped;
     let i = at.worked;
     let next = i + 1;
-    let made = shown::paint_shown(
+    let made = batch_painting::paint_shown(
         is_paint(decision),
         ids,
         covers,
@@ -120,9 +118,9 @@ fn note_tile(
         planes,
         painted,
     );
-    noting::put_kept(keeps, kept, i, tile);
-    noting::put_told(told, i, done, made.shown);
-    noting::put_bottom(bottoms, i, decision);
+    batch_noting::put_kept(keeps, kept, i, tile);
+    batch_noting::put_told(told, i, done, made.shown);
+    batch_noting::put_bottom(bottoms, i, decision);
     let state = made.state;
     Batch {
         state: state,
@@ -265,7 +263,7 @@ fn work_next(
         (now (kept .exit)) (now (told .exit)) (now (bottoms .exit)) (now (planes .exit)) (now (painted .exit))) ⌝ }
 {
     let state = at.state;
-    let held = noting::kept_at(keeps, kept, at.worked);
+    let held = batch_noting::kept_at(keeps, kept, at.worked);
     match judge_next(state, held) {
         Verdict::Refuse(refusal) => refused(at, refusal),
         Verdict::Pass => work_here(

@@ -6,7 +6,7 @@ use borrow.Author.Needs.{needs}
 use lib.Seq.{sets}
 use Rattle.row_statements.specs.TileWork.{tileAnswerIn}
 use Rattle.batch_statements.specs.BatchLent.{tileNumbers}
-use Rattle.tile_batch.specs.InnerShown.{WalkAt}
+use Rattle.batch_painting.specs.InnerShown.{WalkAt}
 use Rattle.tile_batch.proofs.tile.note_tile.Statement.{statement}
 use Rattle.tile_batch.proofs.tile.note_tile.Tie as tie
 
