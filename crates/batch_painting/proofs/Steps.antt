@@ -1,4 +1,4 @@
--- One shown layer, counted or painted, and how many are shown. Assumes nothing.
+-- The shown layers of a tile, one after the other: how many are shown, and that nothing else moves where the tile is not painted. Assumes nothing.
 use mathlib.Core.Path.{_≡_, refl}
 use mathlib.Core.Bool.{Bool, true, false}
 use mathlib.Core.List.{List, [], _∷_}
@@ -16,28 +16,28 @@ use Rattle.row_statements.specs.Painting.{paintSays}
 use Rattle.batch_statements.specs.BatchLent.{planeAt}
 use Rattle.batch_painting.specs.InnerShown.{WalkAt, walkNext, walkFrom}
 
--- ---- a layer that is counted, and one that is painted
+-- a layer that is painted
+pub painted : (table : List Layer) (queue : List Carry) (part : List ℕ) (x : WalkAt) (id : ℕ) {clip : Option ℕ} {mark : ℕ} {planes : List Float} {words : List ℕ}
+    → clip ≡ paintSays table queue part id (x .at .state .clip) .clip
+    → mark ≡ paintSays table queue part id (x .at .state .clip) .mark
+    → planes ≡ sets (x .at .planes) (x .at .used * 256) (over (paintSays table queue part id (x .at .state .clip) .plane) (planeAt (x .at .used) (x .at .planes)))
+    → words ≡ sets (x .at .painted) (x .at .used * 2) (id ∷ mark ∷ [])
+    → record { at = record { state = withClip (x .at .state) clip; used = x .at .used + 1; planes = planes; painted = words }; shown = x .shown + 1 } ≡ walkNext true table queue part x id
+unfolding walkNext
+painted table queue part x id ec em ep ew = rw (ew, em, ec, ep)
 
-module _ {paints : Bool} (table : List Layer) (queue : List Carry) (part : List ℕ) (x : WalkAt) (id : ℕ) where
-  pub unpainted : paints ≡ false → record { at = x .at; shown = x .shown + 1 } ≡ walkNext paints table queue part x id
-  unfolding walkNext
-  unpainted e = rw e
-
-  pub painted : {clip : Option ℕ} {mark : ℕ} {planes : List Float} {words : List ℕ} → paints ≡ true
-      → clip ≡ paintSays table queue part id (x .at .state .clip) .clip
-      → mark ≡ paintSays table queue part id (x .at .state .clip) .mark
-      → planes ≡ sets (x .at .planes) (x .at .used * 256) (over (paintSays table queue part id (x .at .state .clip) .plane) (planeAt (x .at .used) (x .at .planes)))
-      → words ≡ sets (x .at .painted) (x .at .used * 2) (id ∷ mark ∷ [])
-      → record { at = record { state = withClip (x .at .state) clip; used = x .at .used + 1; planes = planes; painted = words }; shown = x .shown + 1 } ≡ walkNext paints table queue part x id
-  unfolding walkNext
-  painted e ec em ep ew = rw (e, ew, em, ec, ep)
-
--- ---- how many layers are shown
-
-shown-more : (paints : Bool) (table : List Layer) (queue : List Carry) (part : List ℕ) (x : WalkAt) (id : ℕ) → walkNext paints table queue part x id .shown ≡ x .shown + 1
+pub shown-more : (paints : Bool) (table : List Layer) (queue : List Carry) (part : List ℕ) (x : WalkAt) (id : ℕ) → walkNext paints table queue part x id .shown ≡ x .shown + 1
 unfolding walkNext
 shown-more true table queue part x id = refl
 shown-more false table queue part x id = refl
+
+pub walk-one : (paints : Bool) (table : List Layer) (queue : List Carry) (part : List ℕ) (x : WalkAt) (id : ℕ) (ids : List ℕ) → walkFrom paints table queue part x (id ∷ ids) ≡ walkFrom paints table queue part (walkNext paints table queue part x id) ids
+unfolding walkFrom
+walk-one paints table queue part x id ids = refl
+
+pub walk-none : (paints : Bool) (table : List Layer) (queue : List Carry) (part : List ℕ) (x : WalkAt) → walkFrom paints table queue part x [] ≡ x
+unfolding walkFrom
+walk-none paints table queue part x = refl
 
 pub walk-shown : (paints : Bool) (table : List Layer) (queue : List Carry) (part ids : List ℕ) (x : WalkAt) → walkFrom paints table queue part x ids .shown ≡ x .shown + length ids
 unfolding walkFrom

@@ -1,26 +1,25 @@
--- What the walk over a tile's shown layers asks and gives: each is counted and, where the tile is painted, painted into the next plane. proofs/ has
--- that these are the paintings of batch_statements/specs/Batch.
+-- What the walk over a tile's shown layers asks and gives: each is counted and, where the tile is painted, painted into the next plane.
+-- tile_batch/proofs has that these are the paintings of batch_statements/specs/Batch.
 use mathlib.Core.Path.{_≡_}
-use mathlib.Core.Bool.{Bool, true, false}
+use mathlib.Core.Bool.{Bool, true, false, cond}
 use mathlib.Core.List.{List, [], _∷_}
-use Prim.Native.Nat.{ℕ, _+_, _*_, _≤_, _<_}
+use mathlib.Core.Option.{none}
+use Prim.Native.Nat.{ℕ, _+_, _*_, _≤_}
 use lib.Ieee.{Float}
 use lib.IntN.{ℤ}
-use lib.ListN.{length, getD}
+use lib.ListN.{length}
 use lib.Seq.{sets}
-use Rattle.laws.specs.Answer.{given}
 use Rattle.laws.specs.Lists.{over}
-use Rattle.layer_table.specs.Lookup.{lookup}
-use Rattle.layer_table.specs.Table.{Table}
 use Rattle.styling.specs.declared.Layer.{Layer}
-use Rattle.queue_statements.specs.Queue.{Carry, Queued}
-use Rattle.tile_layers.specs.InnerWalk.{Walks}
-use Rattle.painter.specs.Painting.{isLightIn}
-use Rattle.row_statements.specs.State.{stateIn, withClip}
-use Rattle.row_statements.specs.Painting.{PaintSays, paintSays, layerIn}
+use Rattle.queue_statements.specs.Queue.{Carry, queueOf}
+use Rattle.painter.specs.Clip.{clipIn}
+use Rattle.row_statements.specs.State.{State, stateIn, withClip}
+use Rattle.row_statements.specs.Painting.{PaintSays, paintSays}
+use Rattle.listed_painting.specs.InnerWalk.{WalkHolds, idIn}
 use Rattle.batch_statements.specs.BatchLent.{planeAt}
 use Rattle.batch_statements.specs.Batch.{PlanesAt}
 use Rattle.batch_painting.specs.declared.Planes.{Planes}
+use Rattle.batch_painting.specs.declared.PlaneWalk.{PlaneWalk}
 
 -- the planes so far, and how many layers were shown
 pub record WalkAt : Type 0 where
@@ -57,20 +56,20 @@ pub record PlaneRoom (used n : ℕ) (planes : List Float) (painted : List ℕ) :
   pub planes-long : (used + n) * 256 ≤ length planes
   pub painted-long : (used + n) * 2 ≤ length painted
 
--- what painting a layer of the tile asks: a judged queue of n carries, a part that ascends by layer, and a judged table
-pub record TilePainter (n : ℕ) (ids : List ℕ) (covers : List ℤ) (part : List ℕ) (words : List ℕ) (floats : List Float) (count : ℕ) : Type 0 where
-  pub queued : Queued n ids covers
-  pub walks : Walks n ids part
-  pub in-table : Table words floats count
+-- ---- the walk of the code, which holds the clip alone of a state
 
--- 8 and 9 don't apply to the layer
-pub record LayerPaintable (table : List Layer) (queue : List Carry) (part : List ℕ) (id : ℕ) : Type 0 where
-  pub found : lookup table id ≡ given (layerIn table id)
-  pub light : isLightIn queue part id ≡ true
+abbrev pub walkOn : State → PlaneWalk → List Float → List ℕ → WalkAt
+walkOn base t planes painted =
+    record { at = record { state = withClip base (clipIn (t .walk .clip)); used = t .used; planes = planes; painted = painted }; shown = t .shown }
 
--- what the walk asks of the lent list of n layers
-pub record ListWalk (table : List Layer) (queue : List Carry) (part ids : List ℕ) (unmasked : List Bool) (n : ℕ) : Type 0 where
-  pub few : n ≤ 256
-  pub ids-long : n ≤ length ids
-  pub unmasked-long : n ≤ length unmasked
-  pub each : (i : ℕ) → i < n → LayerPaintable table queue part (getD ids i 0)
+-- the next layer of a painted tile: the walk is past it, and it is painted into the next plane where it is not masked off
+pub record EntryPainted (unmasked : Bool) (table : List Layer) (n : ℕ) (ids : List ℕ) (covers : List ℤ) (part : List ℕ) (t : PlaneWalk) (planes : List Float) (painted : List ℕ) (r : PlaneWalk) (planes′ : List Float) (painted′ : List ℕ) : Type 0 where
+  pub holds : WalkHolds table n ids covers part (r .walk)
+  pub one-more : r .walk .passed ≡ t .walk .passed + 1
+  pub walk-is : (base : State) → walkOn base r planes′ painted′ ≡ cond unmasked (walkNext true table (queueOf n ids covers) part (walkOn base t planes painted) (idIn (queueOf n ids covers) part (t .walk .passed))) (walkOn base t planes painted)
+  pub used-few : r .used ≤ t .used + 1
+  pub shown-few : r .shown ≤ t .shown + 1
+
+-- the layers `ids` of a painted tile, in whatever state the painter has no clip
+pub record AllPainted (table : List Layer) (queue : List Carry) (part ids : List ℕ) (used : ℕ) (planes : List Float) (painted : List ℕ) (r : PlaneWalk) (planes′ : List Float) (painted′ : List ℕ) : Type 0 where
+  pub walk-is : (base : State) → walkOn base r planes′ painted′ ≡ walkFrom true table queue part (record { at = record { state = withClip base none; used = used; planes = planes; painted = painted }; shown = 0 }) ids

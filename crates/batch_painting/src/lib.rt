@@ -1,21 +1,32 @@
-// The shown layers of a tile, counted and, where the tile is painted, painted one after the other, each into the next
-// of the lent planes.
+// The shown layers of a tile, counted and, where the tile is painted, painted in one walk, each into the next of the
+// lent planes.
+use listed_painting::PaintWalk;
 use painter::Clip;
-use painter::painting;
 use row_statements::RowState;
 ghost use mathlib.Core.Path.{_≡_};
-ghost use mathlib.Core.Bool.{cond};
-ghost use Prim.Native.Nat.{_+_, _≤_};
-ghost use lib.ListN.{length, take};
+ghost use mathlib.Core.Bool.{true};
+ghost use mathlib.Core.Option.{none};
+ghost use Prim.Native.Nat.{_≤_};
+ghost use lib.ListN.{take};
 ghost use Rattle.layer_table.specs.Table.{tableOf};
 ghost use Rattle.queue_statements.specs.Queue.{queueOf};
+ghost use Rattle.painter.specs.Clip.{clipIn};
+ghost use Rattle.listed_painting.specs.InnerWalk.{Painter, WalkHolds, CanPaint};
 ghost use Rattle.row_lines.specs.Shown.{shownIn};
-ghost use Rattle.batch_painting.specs.InnerShown.{walkAt, walkNext, walkFrom, PlaneRoom};
-ghost use Rattle.batch_painting.specs.InnerShown.{TilePainter, LayerPaintable, ListWalk};
+ghost use Rattle.shown_layers.specs.Counting.{idsOf};
+ghost use Rattle.shown_layers.specs.InnerTally.{Walkable};
+ghost use Rattle.batch_painting.specs.InnerShown.{walkAt, walkFrom, PlaneRoom, EntryPainted, AllPainted};
 
-// The state with the painter's clip, how many planes are used, and how many layers were shown so far.
+// The state with the painter's clip, how many planes are used, and how many layers were shown.
 pub struct Planes {
     pub state: RowState,
+    pub used: usize,
+    pub shown: usize,
+}
+
+// Where the walk over the tile's layers stands, how many planes are used, and how many layers were shown so far.
+pub struct PlaneWalk {
+    pub walk: PaintWalk,
     pub used: usize,
     pub shown: usize,
 }
@@ -42,9 +53,8 @@ fn with_clip(state: RowState, clip: Clip) -> RowState
     }
 }
 
-// Counts a shown layer, and paints it into the next plane where the tile is painted.
+// Paints the next layer into the next plane.
 fn paint_layer(
-    paints: bool,
     ids: &[u32],
     covers: &[i8],
     n: usize,
@@ -52,36 +62,26 @@ fn paint_layer(
     layers: &[u32],
     colors: &[f32],
     count: usize,
-    id: u32,
-    at: Planes,
+    at: PlaneWalk,
     planes: &mut [f32],
     painted: &mut [u32],
-) -> Planes
-    requires { ⌜ TilePainter n (now ids) (now covers) (now part) (now layers) (now colors) count
-        × LayerPaintable (tableOf (now layers) (now colors) count) (queueOf n (now ids) (now covers)) (now part) id
+) -> PlaneWalk
+    requires { ⌜ Painter n (now ids) (now covers) (now part) (now layers) (now colors) count
+        × WalkHolds (tableOf (now layers) (now colors) count) n (now ids) (now covers) (now part) (at .walk)
+        × CanPaint (tableOf (now layers) (now colors) count) (queueOf n (now ids) (now covers)) (now part)
+        (at .walk .passed)
         × PlaneRoom (at .used) 1 (now planes) (now painted) × (at .shown ≤ 256) ⌝ }
-    ensures { λ r. ⌜ (walkAt r (now (planes .exit)) (now (painted .exit)) ≡ walkNext paints
-        (tableOf (now (layers .entry)) (now (colors .entry)) count)
-        (queueOf n (now (ids .entry)) (now (covers .entry))) (now (part .entry))
-        (walkAt at (now (planes .entry)) (now (painted .entry))) id)
-        × (r .used ≤ at .used + 1) × (r .shown ≤ at .shown + 1) ⌝ }
+    ensures { λ r. ⌜ EntryPainted true (tableOf (now (layers .entry)) (now (colors .entry)) count)
+        n (now (ids .entry)) (now (covers .entry)) (now (part .entry))
+        at (now (planes .entry)) (now (painted .entry)) r (now (planes .exit)) (now (painted .exit)) ⌝ }
 {
-    let state = at.state;
+    let walk = at.walk;
     let used = at.used;
-    if !paints {
-        return Planes {
-            state: state,
-            used: used,
-            shown: at.shown + 1,
-        };
-    }
     let start = used * 256;
     let end = start + 256;
     let words = used * 2;
     let next = used + 1;
-    let clip = state.clip;
-    let found = row_painting::record_of(layers, colors, count, id);
-    let made = painting::paint(
+    let made = listed_painting::paint_next(
         ids,
         covers,
         n,
@@ -89,24 +89,21 @@ fn paint_layer(
         layers,
         colors,
         count,
-        id,
-        found,
-        clip,
+        walk,
         &mut planes[start..end],
     );
-    batch_noting::put_words(painted, words, id, made.mark);
-    let after = made.clip;
-    Planes {
-        state: with_clip(state, after),
+    batch_noting::put_words(painted, words, made.id, made.mark);
+    let after = made.walk;
+    PlaneWalk {
+        walk: after,
         used: next,
         shown: at.shown + 1,
     }
 }
 
-// A listed layer: one that is masked off leaves all as it was.
+// The next layer: one that is masked off is passed over, another is painted.
 fn paint_entry(
     unmasked: bool,
-    paints: bool,
     ids: &[u32],
     covers: &[i8],
     n: usize,
@@ -114,24 +111,21 @@ fn paint_entry(
     layers: &[u32],
     colors: &[f32],
     count: usize,
-    id: u32,
-    at: Planes,
+    at: PlaneWalk,
     planes: &mut [f32],
     painted: &mut [u32],
-) -> Planes
-    requires { ⌜ TilePainter n (now ids) (now covers) (now part) (now layers) (now colors) count
-        × LayerPaintable (tableOf (now layers) (now colors) count) (queueOf n (now ids) (now covers)) (now part) id
+) -> PlaneWalk
+    requires { ⌜ Painter n (now ids) (now covers) (now part) (now layers) (now colors) count
+        × WalkHolds (tableOf (now layers) (now colors) count) n (now ids) (now covers) (now part) (at .walk)
+        × CanPaint (tableOf (now layers) (now colors) count) (queueOf n (now ids) (now covers)) (now part)
+        (at .walk .passed)
         × PlaneRoom (at .used) 1 (now planes) (now painted) × (at .shown ≤ 256) ⌝ }
-    ensures { λ r. ⌜ (walkAt r (now (planes .exit)) (now (painted .exit)) ≡ cond unmasked (walkNext paints
-        (tableOf (now (layers .entry)) (now (colors .entry)) count)
-        (queueOf n (now (ids .entry)) (now (covers .entry))) (now (part .entry))
-        (walkAt at (now (planes .entry)) (now (painted .entry))) id)
-        (walkAt at (now (planes .entry)) (now (painted .entry))))
-        × (r .used ≤ at .used + 1) × (r .shown ≤ at .shown + 1) ⌝ }
+    ensures { λ r. ⌜ EntryPainted unmasked (tableOf (now (layers .entry)) (now (colors .entry)) count)
+        n (now (ids .entry)) (now (covers .entry)) (now (part .entry))
+        at (now (planes .entry)) (now (painted .entry)) r (now (planes .exit)) (now (painted .exit)) ⌝ }
 {
     if unmasked {
         paint_layer(
-            paints,
             ids,
             covers,
             n,
@@ -139,17 +133,74 @@ fn paint_entry(
             layers,
             colors,
             count,
-            id,
             at,
             planes,
             painted,
         )
     } else {
-        at
+        let walk = at.walk;
+        let passed = listed_painting::pass_over(ids, covers, n, part, layers, colors, count, walk);
+        PlaneWalk {
+            walk: passed,
+            used: at.used,
+            shown: at.shown,
+        }
     }
 }
 
-// The shown layers of a list of `listed` layers, of which the first `skipped` are covered.
+// The shown layers of a painted tile with `listed` layers, of which the first `skipped` are covered: each is painted.
+fn paint_listed(
+    ids: &[u32],
+    covers: &[i8],
+    n: usize,
+    part: &[u64],
+    layers: &[u32],
+    colors: &[f32],
+    count: usize,
+    list_unmasked: &[bool],
+    skipped: usize,
+    listed: usize,
+    used: usize,
+    planes: &mut [f32],
+    painted: &mut [u32],
+) -> PlaneWalk
+    requires { ⌜ Painter n (now ids) (now covers) (now part) (now layers) (now colors) count
+        × Walkable (tableOf (now layers) (now colors) count) (queueOf n (now ids) (now covers)) (now part)
+        (now «list_unmasked») skipped listed
+        × PlaneRoom used 256 (now planes) (now painted) ⌝ }
+    ensures { λ r. ⌜ AllPainted (tableOf (now (layers .entry)) (now (colors .entry)) count)
+        (queueOf n (now (ids .entry)) (now (covers .entry))) (now (part .entry))
+        (shownIn skipped (take listed (now («list_unmasked» .entry)))
+        (idsOf (queueOf n (now (ids .entry)) (now (covers .entry))) (now (part .entry))))
+        used (now (planes .entry)) (now (painted .entry)) r (now (planes .exit)) (now (painted .exit)) ⌝ }
+{
+    let walk = listed_painting::start_past(ids, covers, n, part, layers, colors, count, skipped);
+    let mut at = PlaneWalk {
+        walk: walk,
+        used: used,
+        shown: 0,
+    };
+    let mut i = skipped;
+    while i < listed {
+        at = paint_entry(
+            list_unmasked[i],
+            ids,
+            covers,
+            n,
+            part,
+            layers,
+            colors,
+            count,
+            at,
+            planes,
+            painted,
+        );
+        i += 1;
+    }
+    at
+}
+
+// The shown layers of a tile: where it is painted they are painted, and else counted.
 pub fn paint_shown(
     paints: bool,
     ids: &[u32],
@@ -159,7 +210,6 @@ pub fn paint_shown(
     layers: &[u32],
     colors: &[f32],
     count: usize,
-    list_ids: &[u32],
     list_unmasked: &[bool],
     skipped: usize,
     listed: usize,
@@ -168,26 +218,19 @@ pub fn paint_shown(
     planes: &mut [f32],
     painted: &mut [u32],
 ) -> Planes
-    requires { ⌜ TilePainter n (now ids) (now covers) (now part) (now layers) (now colors) count
-        × ListWalk (tableOf (now layers) (now colors) count) (queueOf n (now ids) (now covers)) (now part)
-        (now «list_ids») (now «list_unmasked») listed
-        × PlaneRoom used 256 (now planes) (now painted) ⌝ }
+    requires { ⌜ Painter n (now ids) (now covers) (now part) (now layers) (now colors) count
+        × Walkable (tableOf (now layers) (now colors) count) (queueOf n (now ids) (now covers)) (now part)
+        (now «list_unmasked») skipped listed
+        × PlaneRoom used 256 (now planes) (now painted) × (clipIn (state .clip) ≡ none) ⌝ }
     ensures { λ r. ⌜ walkAt r (now (planes .exit)) (now (painted .exit))
         ≡ walkFrom paints (tableOf (now (layers .entry)) (now (colors .entry)) count)
         (queueOf n (now (ids .entry)) (now (covers .entry))) (now (part .entry))
         (walkAt (record { state = state; used = used; shown = 0 }) (now (planes .entry)) (now (painted .entry)))
-        (shownIn skipped (take listed (now («list_unmasked» .entry))) (take listed (now («list_ids» .entry)))) ⌝ }
+        (shownIn skipped (take listed (now («list_unmasked» .entry)))
+        (idsOf (queueOf n (now (ids .entry)) (now (covers .entry))) (now (part .entry)))) ⌝ }
 {
-    let mut at = Planes {
-        state: state,
-        used: used,
-        shown: 0,
-    };
-    let mut i = skipped;
-    while i < listed {
-        at = paint_entry(
-            list_unmasked[i],
-            paints,
+    if paints {
+        let made = paint_listed(
             ids,
             covers,
             n,
@@ -195,12 +238,26 @@ pub fn paint_shown(
             layers,
             colors,
             count,
-            list_ids[i],
-            at,
+            list_unmasked,
+            skipped,
+            listed,
+            used,
             planes,
             painted,
         );
-        i += 1;
+        let walk = made.walk;
+        let clip = walk.clip;
+        Planes {
+            state: with_clip(state, clip),
+            used: made.used,
+            shown: made.shown,
+        }
+    } else {
+        let shown = shown_layers::count_shown(list_unmasked, skipped, listed);
+        Planes {
+            state: state,
+            used: used,
+            shown: shown as usize,
+        }
     }
-    at
 }

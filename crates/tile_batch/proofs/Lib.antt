@@ -1,5 +1,4 @@
 -- Laws of a batch of tiles.
-pub mod Listed
 pub mod Paintings
 pub mod Turning
 pub mod Going

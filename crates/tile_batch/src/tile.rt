@@ -13,6 +13,7 @@ use segment_rows::parts;
 use styling::Color;
 ghost use mathlib.Core.Path.{_≡_};
 ghost use mathlib.Core.Bool.{not};
+ghost use mathlib.Core.Option.{none};
 ghost use Prim.Native.Nat.{_≤_};
 ghost use lib.Dec.{leb};
 ghost use Rattle.refusals.specs.Refusal.{judgementIn, pass, unless};
@@ -20,11 +21,14 @@ ghost use Rattle.refusals.specs.declared.Verdict.the-variants as verdict;
 ghost use Rattle.layer_table.specs.Table.{tableOf};
 ghost use Rattle.cached_tile.specs.Kept.{tagOutOfRange};
 ghost use Rattle.queue_statements.specs.Queue.{queueOf};
+ghost use Rattle.painter.specs.Clip.{clipIn};
+ghost use Rattle.listed_painting.specs.InnerWalk.{Painter};
+ghost use Rattle.shown_layers.specs.InnerTally.{Walkable};
 ghost use Rattle.row_statements.specs.Lent.{columns, listColumns, lentTable};
 ghost use Rattle.row_statements.specs.State.{stateIn};
 ghost use Rattle.batch_statements.specs.BatchLent.{batchLent, sided};
 ghost use Rattle.batch_statements.specs.Batch.{batchRow, turnOf, GivesBatch};
-ghost use Rattle.batch_painting.specs.InnerShown.{PlaneRoom, TilePainter, ListWalk};
+ghost use Rattle.batch_painting.specs.InnerShown.{PlaneRoom};
 ghost use Rattle.tile_batch.specs.InnerTurns.{batchIn, walkPast, NotesTile, NoteRoom};
 ghost use Rattle.tile_batch.specs.InnerTurns.{Turnable, HereWorkable, GivesTurn};
 
@@ -73,7 +77,6 @@ fn note_tile(
     keeps: bool,
     ids: &[u32],
     covers: &[i8],
-    list_ids: &[u32],
     list_unmasked: &[bool],
     kept: &mut [u8],
     told: &mut [usize],
@@ -81,16 +84,16 @@ fn note_tile(
     planes: &mut [f32],
     painted: &mut [u32],
 ) -> Batch
-    requires { ⌜ TilePainter n (now ids) (now covers) (now part) (now layers) (now colors) count
-        × ListWalk (tableOf (now layers) (now colors) count) (queueOf n (now ids) (now covers)) (now part)
-        (now «list_ids») (now «list_unmasked») (done .listed)
+    requires { ⌜ Painter n (now ids) (now covers) (now part) (now layers) (now colors) count
+        × Walkable (tableOf (now layers) (now colors) count) (queueOf n (now ids) (now covers)) (now part)
+        (now «list_unmasked») (done .skipped .0) (done .listed)
         × NoteRoom keeps (at .worked) (batchLent (columns (now ids) (now covers)) (columns (now ids) (now covers))
         (now kept) (now told) (now bottoms) (now planes) (now painted))
-        × PlaneRoom (at .used) 256 (now planes) (now painted) ⌝ }
+        × PlaneRoom (at .used) 256 (now planes) (now painted) × (clipIn (worked .state .clip) ≡ none) ⌝ }
     ensures { λ r. ⌜ NotesTile keeps at worked done
         (walkPast at worked done (tableOf (now (layers .entry)) (now (colors .entry)) count)
         (queueOf n (now (ids .entry)) (now (covers .entry))) (now (part .entry))
-        (now («list_ids» .entry)) (now («list_unmasked» .entry)) (now (planes .entry)) (now (painted .entry)))
+        (now («list_unmasked» .entry)) (now (planes .entry)) (now (painted .entry)))
         (now (kept .entry)) (now (told .entry)) (now (bottoms .entry))
         r (now (kept .exit)) (now (told .exit)) (now (bottoms .exit)) (now (planes .exit)) (now (painted .exit)) ⌝ }
 {
@@ -109,7 +112,6 @@ fn note_tile(
         layers,
         colors,
         count,
-        list_ids,
         list_unmasked,
         skipped.0,
         done.listed,
@@ -210,7 +212,6 @@ fn work_here(
                 keeps,
                 ids,
                 covers,
-                list_ids,
                 list_unmasked,
                 kept,
                 told,
