@@ -131,6 +131,7 @@
 
 #![deny(missing_docs, unsafe_code)]
 
+mod batch;
 mod bounds;
 pub mod cached_tile;
 mod color;
@@ -140,6 +141,7 @@ mod decision;
 pub mod exports;
 pub mod four_high;
 mod history;
+mod list;
 mod mark;
 pub mod plane;
 pub mod plate;
@@ -151,17 +153,19 @@ mod style;
 mod table;
 
 pub use crate::{
+    batch::{Batch, BatchTile, PaintedLayer},
     bounds::Bounded,
     cached_tile::{settle, CachedTile, Settled},
     color::Color,
     cover::Cover,
     decision::Decision,
     history::TileHistory,
+    list::{Carry, Listed, TileList},
     mark::Mark,
     plane::Plane,
     plate::Plate,
     refusal::Refusal,
-    row::{Carry, Frame, Listed, Row, TileList, Worked},
+    row::{Frame, Row, Worked},
     segment::{Fields, PixelSegment},
     segment_set::SegmentSet,
     style::{BlendMode, Fill, FillRule, Style},
