@@ -33,9 +33,11 @@ fn the_page_has_the_numbers_of_the_row_program() {
         let page = page::page(&name, &text, Some(0..4095));
         let lines: Vec<&str> = printed.lines().filter(|&line| line != support::driven::NAMES).collect();
         assert_eq!(texts(&page, "<code class=\"line\">"), lines, "{name}");
-        let refused_open = !page.contains("class=\"strip\"");
+        let refused_open = !page.contains("class=\"strip");
         let tiles = texts(&page, "href=\"#tile-").len();
         assert_eq!(tiles, if refused_open { 0 } else { lines.len() }, "{name}: the strip has each tile");
+        let printed = page.matches("<span class=\"choose ").count();
+        assert!(printed == 0 && tiles <= 8 || printed == tiles, "{name}: on paper the strip has each tile");
         for line in lines.iter().filter(|line| !line.starts_with("refused")) {
             let fields: Vec<&str> = line.split(' ').collect();
             let [tile, op, listed, shown, octets, carried] = fields[..] else { panic!("{line}") };
