@@ -39,7 +39,6 @@ pub struct Batch {
 
 /// A tile of a batch.
 #[derive(Clone, Copy, Debug)]
-#[non_exhaustive]
 pub struct BatchTile<'a> {
     /// The tile.
     pub tile: i32,

@@ -66,7 +66,8 @@ impl Queue {
     }
 }
 
-/// A tile's list, by columns. It is lent to [`Row::list`] and [`Row::decide`], and may be kept and decided later.
+/// A tile's list, by columns. It is lent to [`Row::list`](crate::Row::list) and [`Row::decide`](crate::Row::decide), and
+/// may be kept and decided later.
 #[derive(Clone, Debug)]
 pub struct TileList {
     pub(crate) tile: i32,

@@ -107,9 +107,9 @@ pub(crate) fn decision_of(code: usize, before: usize, bottom: [f32; 4]) -> Decis
 /// An open row: it borrows the row's segments and the layer table for its life, and owns the queues of carries and the
 /// list, so nothing that it was opened with can change between two calls.
 ///
-/// Tile after tile: [`work`](Row::work), then, by its decision, [`paint`](Row::paint) the shown layers, or mix their
-/// colours and [`settle`](Row::settle) the bytes. A call that is turned down leaves the row as it was, and it can be
-/// used on.
+/// Many tiles in a call: [`work_tiles`](Row::work_tiles). Tile by tile: [`work`](Row::work), then, by its decision,
+/// [`paint`](Row::paint) the shown layers, or mix their colours and [`settle`](Row::settle) the bytes. A call that is
+/// turned down leaves the row as it was, and it can be used on.
 ///
 /// A row is `Send`: rows of a plate may be worked on several threads.
 #[derive(Clone, Debug)]
@@ -182,9 +182,7 @@ impl<'a> Row<'a> {
         let (layers, colors, count) = self.table.lent();
         let mut told = [0; 4];
         let mut bottom = [0.0; 4];
-        // The public operation, which judges row, table and queue again. That they pass is known here: the borrow keeps
-        // row and table as they were opened, and nobody else can write the queue. When the library exports the inner
-        // operation, whose premise that is, this call and the one in `paint` are all that changes.
+        // This judges row, table and queue again; `work_tiles` does so once for many tiles.
         Refusal::judge(exports::work_tile(
             &mut self.at.state.words,
             &mut self.at.state.counts,
@@ -270,8 +268,8 @@ impl<'a> Row<'a> {
         Ok(Worked { tile: list.tile, decision, listed: list.count, passed_over })
     }
 
-    /// The list of the tile just worked, ascending: the bottom layer first. Empty before the first tile, and after a
-    /// tile that was only listed.
+    /// The list of the tile just worked, ascending: the bottom layer first. Empty before the first tile, after a tile
+    /// that was only listed, and after a batch.
     pub fn listed(&self) -> impl DoubleEndedIterator<Item = Listed> + ExactSizeIterator + '_ {
         self.list.listed()
     }
@@ -298,7 +296,6 @@ impl<'a> Row<'a> {
         let (layers, colors, count) = self.table.lent();
         let tile = self.next_tile() - 1;
         let mut mark = 0;
-        // The public operation, as in `work`.
         Refusal::judge(exports::paint_layer(
             &mut self.at.state.words,
             &mut self.at.state.counts,

@@ -8,7 +8,9 @@ use reference::{
     painter::{row::Frame as RustFrame, timed::TimedRow},
     Table,
 };
-use tile_rows::{exports, four_high, segment, Batch, Color, FillRule, Frame, LayerTable, Plane, Row as OpenRow};
+use tile_rows::{
+    exports, four_high, segment, Batch, BatchTile, Color, FillRule, Frame, LayerTable, Plane, Row as OpenRow,
+};
 
 use crate::{
     given::Fields,
@@ -55,21 +57,41 @@ fn through(row: &Row, table: &LayerTable, plane: &mut Plane) -> usize {
     painted
 }
 
-/// The same in batches.
+/// The same in batches, with a look at each tile.
 #[inline(never)]
-fn in_batches(row: &Row, table: &LayerTable, batch: &mut Batch) -> usize {
-    let mut painted = 0;
+fn in_batches(row: &Row, table: &LayerTable, batch: &mut Batch, mut seen: impl FnMut(&BatchTile<'_>)) {
     let mut open = open(row, table);
     while open.work_tiles(usize::MAX, &frame(), None, batch).unwrap() > 0 {
-        for tile in batch.tiles() {
-            black_box(tile.mixed());
-            for layer in black_box(&tile).painted() {
-                black_box((layer.id, layer.mark, layer.plane));
-                painted += 1;
-            }
-        }
+        batch.tiles().for_each(|tile| seen(&tile));
     }
-    painted
+}
+
+/// Each tile and each painted layer is looked at.
+fn look_at(tile: &BatchTile<'_>) {
+    for layer in black_box(tile).painted() {
+        black_box((layer.id, layer.mark, layer.plane));
+    }
+}
+
+/// The batches paint the Rust's coverages in the same order. How many layers that is, and whether a tile mixes colours.
+fn check(row: &Row) -> (usize, bool) {
+    let bits = |plane: &[f32; 256]| plane.map(f32::to_bits);
+    let records = Table::new(&row.records);
+    let mut rust = rust_side(row, &records);
+    rust.painter.planes = Some(Vec::new());
+    rust.run(0, row.tiles);
+    let (mut ours, mut mixes) = (Vec::new(), false);
+    in_batches(row, &table(row), &mut Batch::new(), |tile| {
+        ours.extend(tile.painted().map(|layer| bits(layer.plane.as_numbers())));
+        mixes |= !tile.mixed().is_empty();
+    });
+    assert!(rust.painter.planes.unwrap().iter().map(bits).eq(ours.iter().copied()));
+    (ours.len(), mixes)
+}
+
+fn rust_side<'t>(row: &Row, records: &'t Table) -> TimedRow<'t> {
+    let segments = row.words.iter().map(|&word| words::segment(word)).collect();
+    TimedRow::new(segments, records, RustFrame { clear: CLEAR, previous_clear: None, channels: RGBA })
 }
 
 /// The exports that `in_batches` comes to, with memory that is made before.
@@ -187,26 +209,22 @@ fn line(bench: &mut Bench, name: &str, row: &Row) {
 
 fn line_in_batches(bench: &mut Bench, name: &str, row: &Row) {
     let (table, mut batch, mut direct) = (table(row), Batch::new(), Direct::new(row));
-    let painted = direct.run(row);
-    assert_eq!(in_batches(row, &table, &mut batch), painted);
+    let (painted, mixes) = check(row);
+    assert_eq!(direct.run(row), painted);
     let exports = || {
         black_box(direct.run(black_box(row)));
     };
-    let through = || {
-        black_box(in_batches(black_box(row), &table, &mut batch));
-    };
-    bench.line(&format!("crate in batches: {name}, {painted} painted"), 1, Some(AIM), exports, through);
+    let through = || in_batches(black_box(row), &table, &mut batch, look_at);
+    let (told, aim) = if mixes { (", mixing", None) } else { ("", Some(AIM)) };
+    bench.line(&format!("crate in batches: {name}{told}, {painted} painted"), 1, aim, exports, through);
 }
 
 fn line_beside_rust(bench: &mut Bench, name: &str, row: &Row) {
     let (records, table, mut batch) = (Table::new(&row.records), table(row), Batch::new());
-    let segments = row.words.iter().map(|&word| words::segment(word)).collect();
-    let mut rust = TimedRow::new(segments, &records, RustFrame { clear: CLEAR, previous_clear: None, channels: RGBA });
-    let painted = in_batches(row, &table, &mut batch);
+    let mut rust = rust_side(row, &records);
+    let (painted, _) = check(row);
     let rust = || black_box(&mut rust).run(black_box(0), black_box(row.tiles));
-    let through = || {
-        black_box(in_batches(black_box(row), &table, &mut batch));
-    };
+    let through = || in_batches(black_box(row), &table, &mut batch, look_at);
     bench.line(&format!("crate by batches: {name}, {painted} painted"), 1, None, rust, through);
 }
 
