@@ -71,27 +71,31 @@ impl Queue {
 #[derive(Clone, Debug)]
 pub struct TileList {
     pub(crate) tile: i32,
-    pub(crate) ids: Box<[u32; ENTRIES]>,
-    pub(crate) covers: Box<[i8; 16 * ENTRIES]>,
+    pub(crate) ids: Vec<u32>,
+    pub(crate) covers: Vec<i8>,
     /// Whether each has segments, and from `ENTRIES` on whether each is changed.
-    pub(crate) flags: Box<[bool; FLAGS]>,
-    pub(crate) unmasked: Box<[bool; ENTRIES]>,
+    pub(crate) flags: Vec<bool>,
+    pub(crate) unmasked: Vec<bool>,
     pub(crate) count: usize,
     pub(crate) passed_over: usize,
 }
 
 impl TileList {
-    /// An empty list.
+    /// An empty list. Its columns are made when it is first lent: a row that is worked in batches needs none.
     pub fn new() -> TileList {
-        TileList {
-            tile: -1,
-            ids: Box::new([0; ENTRIES]),
-            covers: Box::new([0; 16 * ENTRIES]),
-            flags: Box::new([false; FLAGS]),
-            unmasked: Box::new([false; ENTRIES]),
-            count: 0,
-            passed_over: 0,
+        let (ids, covers, flags, unmasked) = (Vec::new(), Vec::new(), Vec::new(), Vec::new());
+        TileList { tile: -1, ids, covers, flags, unmasked, count: 0, passed_over: 0 }
+    }
+
+    /// Its columns as long as the library asks for.
+    pub(crate) fn lent(&mut self) -> &mut TileList {
+        if self.ids.is_empty() {
+            self.ids = vec![0; ENTRIES];
+            self.covers = vec![0; 16 * ENTRIES];
+            self.flags = vec![false; FLAGS];
+            self.unmasked = vec![false; ENTRIES];
         }
+        self
     }
 
     /// The tile that was listed; -1 before any was.
@@ -127,6 +131,6 @@ impl Default for TileList {
     }
 }
 
-fn cover_at(covers: &[i8; 16 * ENTRIES], place: usize) -> Cover {
+fn cover_at(covers: &[i8], place: usize) -> Cover {
     Cover(covers[16 * place..16 * place + 16].try_into().expect("16 covers an entry"))
 }

@@ -70,6 +70,7 @@ impl Standing {
         list: &mut TileList,
     ) -> Result<(), Refusal> {
         let (layers, colors, count) = table.lent();
+        let list = list.lent();
         let mut listed = 0;
         Refusal::judge(exports::list_tile(
             &mut self.state.words,
@@ -83,9 +84,9 @@ impl Standing {
             &self.handed.covers,
             &mut self.taken.ids,
             &mut self.taken.covers,
-            list.ids.as_mut_slice(),
-            list.covers.as_mut_slice(),
-            list.flags.as_mut_slice(),
+            &mut list.ids,
+            &mut list.covers,
+            &mut list.flags,
             &mut listed,
         ))?;
         mem::swap(&mut self.taken, &mut self.handed);
@@ -180,6 +181,7 @@ impl<'a> Row<'a> {
         let cached = cached.unwrap_or(&mut none);
         let previous = frame.previous_clear.unwrap_or_default();
         let (layers, colors, count) = self.table.lent();
+        let list = self.list.lent();
         let mut told = [0; 4];
         let mut bottom = [0.0; 4];
         // This judges row, table and queue again; `work_tiles` does so once for many tiles.
@@ -200,17 +202,17 @@ impl<'a> Row<'a> {
             &self.at.handed.covers,
             &mut self.at.taken.ids,
             &mut self.at.taken.covers,
-            self.list.ids.as_mut_slice(),
-            self.list.covers.as_mut_slice(),
-            self.list.flags.as_mut_slice(),
-            self.list.unmasked.as_mut_slice(),
+            &mut list.ids,
+            &mut list.covers,
+            &mut list.flags,
+            &mut list.unmasked,
             &mut told,
             &mut bottom,
         ))?;
         // What was handed on is now taken in, and what was written is handed on.
         mem::swap(&mut self.at.taken, &mut self.at.handed);
         let [decision, before, listed, passed_over] = told;
-        (self.list.tile, self.list.count, self.list.passed_over) = (tile, listed, passed_over);
+        (list.tile, list.count, list.passed_over) = (tile, listed, passed_over);
         Ok(Worked { tile, decision: decision_of(decision, before, bottom), listed, passed_over })
     }
 
@@ -243,12 +245,13 @@ impl<'a> Row<'a> {
         let cached = cached.unwrap_or(&mut none);
         let previous = frame.previous_clear.unwrap_or_default();
         let (layers, colors, count) = self.table.lent();
+        let list = list.lent();
         let mut told = [0; 3];
         let mut bottom = [0.0; 4];
         Refusal::judge(exports::decide_tile(
-            list.ids.as_slice(),
-            list.covers.as_slice(),
-            list.flags.as_slice(),
+            &list.ids,
+            &list.covers,
+            &list.flags,
             list.count,
             layers,
             colors,
@@ -258,7 +261,7 @@ impl<'a> Row<'a> {
             &frame.clear.numbers(),
             frame.previous_clear.is_some(),
             &previous.numbers(),
-            list.unmasked.as_mut_slice(),
+            &mut list.unmasked,
             &mut told,
             &mut bottom,
         ))?;
