@@ -113,6 +113,7 @@ impl TileList {
         (self.count, self.passed_over) = (0, 0);
     }
 
+    #[inline]
     pub(crate) fn at(&self, place: usize) -> Listed {
         Listed {
             id: self.ids[place],
@@ -131,6 +132,7 @@ impl Default for TileList {
     }
 }
 
+#[inline]
 fn cover_at(covers: &[i8], place: usize) -> Cover {
     Cover(covers[16 * place..16 * place + 16].try_into().expect("16 covers an entry"))
 }

@@ -43,10 +43,10 @@ fn open<'a>(row: &'a Row, table: &'a LayerTable) -> OpenRow<'a> {
 /// The row opened, each tile worked and its shown layers painted; how many were.
 #[inline(never)]
 fn through(row: &Row, table: &LayerTable, plane: &mut Plane) -> usize {
-    let mut painted = 0;
+    let (mut painted, frame) = (0, frame());
     let mut open = open(row, table);
     for tile in open.tiles() {
-        if open.work(tile, &frame(), None).unwrap().decision.word() == "paint" {
+        if open.work(tile, &frame, None).unwrap().decision.word() == "paint" {
             open.paint_shown(plane, |_, plane, _| {
                 black_box(plane);
                 painted += 1;
@@ -60,8 +60,8 @@ fn through(row: &Row, table: &LayerTable, plane: &mut Plane) -> usize {
 /// The same in batches, with a look at each tile.
 #[inline(never)]
 fn in_batches(row: &Row, table: &LayerTable, batch: &mut Batch, mut seen: impl FnMut(&BatchTile<'_>)) {
-    let mut open = open(row, table);
-    while open.work_tiles(usize::MAX, &frame(), None, batch).unwrap() > 0 {
+    let (mut open, frame) = (open(row, table), frame());
+    while open.work_tiles(usize::MAX, &frame, None, batch).unwrap() > 0 {
         batch.tiles().for_each(|tile| seen(&tile));
     }
 }
