@@ -1,5 +1,7 @@
 //! Cached tiles: what the last frame left of a tile.
 
+use std::slice;
+
 use crate::{exports, Refusal};
 
 /// What the last frame left of a tile: how many layers it listed, and the colour that it was filled with.
@@ -7,6 +9,7 @@ use crate::{exports, Refusal};
 /// Eight bytes: a tag (1 the colour is kept, 2 the count is kept), the count's three, lowest first, and the colour's
 /// four.
 #[derive(Clone, Copy, Debug, Default, PartialEq, Eq, Hash)]
+#[repr(transparent)]
 pub struct CachedTile(pub [u8; 8]);
 
 /// What is to be done with the display bytes of a solid tile.
@@ -44,6 +47,15 @@ impl CachedTile {
         let color = color.unwrap_or([0; 4]);
         exports::update_solid_color(&mut self.0, given, &color, &mut previous).then_some(previous)
     }
+}
+
+/// The bytes of cached tiles, in place, to be lent.
+#[allow(unsafe_code)]
+pub(crate) fn bytes_of(tiles: &mut [CachedTile]) -> &mut [u8] {
+    // SAFETY: a CachedTile is an array of eight bytes (`repr(transparent)`) of which each value is one, so the same
+    // memory is as many arrays for the same borrow.
+    let arrays: &mut [[u8; 8]] = unsafe { slice::from_raw_parts_mut(tiles.as_mut_ptr().cast(), tiles.len()) };
+    arrays.as_flattened_mut()
 }
 
 /// Settles a solid tile with its four display bytes. A cached tile keeps them; without one they are always to be

@@ -7,7 +7,8 @@ use crate::Color;
 pub enum Decision {
     /// Nothing: it shows what the last frame left there.
     None,
-    /// It is filled with one colour: `bottom`, with the shown layers mixed above it but the first `before` of them.
+    /// It is filled with one colour: `bottom`, with the shown layers mixed above it but the first `before` of them. Of a
+    /// batch [`BatchTile::mixed`](crate::BatchTile::mixed) has these layers.
     Solid {
         /// The colour at the bottom.
         bottom: Color,

@@ -2,7 +2,7 @@
 
 use std::mem;
 
-use crate::{cached_tile, exports, row::ENTRIES, CachedTile, Color, Frame, Refusal, Row, Settled, TileList, Worked};
+use crate::{cached_tile, exports, list::ENTRIES, CachedTile, Color, Frame, Refusal, Row, Settled, TileList, Worked};
 
 /// A tile from frame to frame. It owns the [`CachedTile`] and keeps what the protocol asks for: who was listed at the
 /// tile's last accepted work and as what kind of layer, the clear colour then, where the row began, and in which frame

@@ -8,10 +8,11 @@
 //! # A row
 //!
 //! A [`Plate`] has ordered [`PixelSegment`]s; [`Plate::row`] gives those of a row. A [`LayerTable`] says what each
-//! layer is. [`Row::open`] borrows both and gives tile after tile:
+//! layer is. [`Row::open`] borrows both, and [`Row::work_tiles`] works and paints tiles, many in one call, into a
+//! [`Batch`]. This loop is what stands in the place of the painter's coverage stage:
 //!
 //! ```
-//! use tile_rows::{Color, Decision, Fields, Frame, Layer, LayerTable, PixelSegment, Plane, Refusal, Row, Style};
+//! use tile_rows::{Batch, Color, Decision, Fields, Frame, Layer, LayerTable, PixelSegment, Refusal, Row, Style};
 //!
 //! # fn main() -> Result<(), Refusal> {
 //! // One opaque layer: an edge goes up at the left of tile 0, and down in the middle of tile 2.
@@ -28,25 +29,26 @@
 //! let segments = edge(0, 0, 16).chain(edge(2, 8, -16)).collect::<Result<Vec<_>, _>>()?;
 //!
 //! let frame = Frame { clear: Color { r: 1.0, g: 1.0, b: 1.0, a: 1.0 }, previous_clear: None };
-//! let mut plane = Plane::new();
 //! let mut words = Vec::new();
+//! let mut batch = Batch::new(); // one for each thread, used again for row after row
 //! let mut row = Row::open(&segments, &table, 0, 0..4)?;
-//! for tile in row.tiles() {
-//!     let worked = row.work(tile, &frame, None)?;
-//!     words.push(worked.decision.word());
-//!     match worked.decision {
-//!         Decision::None => {} // the tile stays as the last frame left it
-//!         Decision::Solid { bottom, before } => {
-//!             // Mix the colours of `row.listed()`'s shown layers above `bottom`, but the first `before` of them; make
-//!             // the display bytes, and ask `row.settle` whether they are to be written.
-//!             let _to_mix = row.listed().filter(|listed| listed.is_shown()).skip(before);
-//!             assert!(tile != 1 || bottom == black);
+//! while row.work_tiles(64, &frame, None, &mut batch)? > 0 {
+//!     for tile in batch.tiles() {
+//!         words.push(tile.decision.word());
+//!         match tile.decision {
+//!             Decision::None => {} // the tile stays as the last frame left it
+//!             Decision::Solid { bottom, .. } => {
+//!                 // Mix the colours of the layers of `tile.mixed()`, in their order, above `bottom`; make the display
+//!                 // bytes, and ask `settle` whether they are to be written.
+//!                 assert!(tile.mixed().is_empty() && (tile.tile != 1 || bottom == black));
+//!             }
+//!             Decision::Paint => for layer in tile.painted() {
+//!                 // Blend the layer by its coverages, in the octets that the mark names. A clip has mark 0: its
+//!                 // coverages are the mask of the clipped draws that it reaches.
+//!                 assert_eq!((layer.id, layer.plane.at(0, 0)), (1, 1.0));
+//!                 assert_eq!(layer.mark.octets(), if tile.tile == 0 { 32 } else { 16 });
+//!             }
 //!         }
-//!         Decision::Paint => row.paint_shown(&mut plane, |listed, plane, mark| {
-//!             // Blend the layer by its coverages, in the octets that the mark names.
-//!             assert_eq!((listed.id, plane.at(0, 0)), (1, 1.0));
-//!             assert_eq!(mark.octets(), if tile == 0 { 32 } else { 16 });
-//!         })?,
 //!     }
 //! }
 //! assert_eq!(words, ["paint", "solid", "paint", "solid"]);
@@ -54,17 +56,25 @@
 //! # }
 //! ```
 //!
-//! A tile can be listed without a decision, as an inspector wants it: [`Row::list`] fills a [`TileList`], and
-//! [`Row::decide`] decides from it, now or later. [`Row::work`] is both.
+//! The planes stay in the batch and are not copied. A tile that is turned down ends the batch before it, so that the
+//! loop sees every tile that was worked before `work_tiles` gives the refusal.
+//!
+//! # Tile by tile
+//!
+//! To look at a row closely, an inspector works one tile in a call: [`Row::work`], then [`Row::listed`] has each layer
+//! of the tile's list, with its cover and whether it is shown, [`Row::carries`] what is handed on, and
+//! [`Row::paint_shown`] or [`Row::paint`] paint. A tile can also be listed without a decision: [`Row::list`] fills a
+//! [`TileList`], and [`Row::decide`] decides from it, now or later. Batches and single calls may take turns in a row.
 //!
 //! # From frame to frame
 //!
-//! Keep a [`CachedTile`] for each tile, lend it to [`Row::work`] and [`Row::settle`], and say in the table which layers
-//! are unchanged and in [`Frame`] what the last clear colour was. A tile of which nothing changed is then decided as
-//! [`Decision::None`], and a solid one whose bytes are there already is [`Settled::Keep`].
+//! Keep a [`CachedTile`] for each tile, lend them to [`Row::work_tiles`] and each solid one to [`settle`], and say in the
+//! table which layers are unchanged and in [`Frame`] what the last clear colour was. A tile of which nothing changed is
+//! then decided as [`Decision::None`], and a solid one whose bytes are there already is [`Settled::Keep`].
 //!
 //! That decides as the Rust does, which at times keeps a tile with a wrong picture. A [`TileHistory`] for each tile, in
-//! place of the cached tile, keeps what it takes to keep only what is right:
+//! place of the cached tile, keeps what it takes to keep only what is right. It looks at each tile's list, and so works
+//! tile by tile:
 //!
 //! ```
 //! use tile_rows::{Color, Decision, Layer, LayerTable, Refusal, Row, Style, TileHistory};
@@ -109,7 +119,7 @@
 //! # Threads
 //!
 //! Rows don't depend on each other. A [`Row`] is `Send` and borrows its table, so that `std::thread::scope` can work
-//! the rows of a plate side by side; the example `plate` does.
+//! the rows of a plate side by side, each thread with a [`Batch`] of its own; the example `plate` does.
 //!
 //! # Refusals
 //!
@@ -118,11 +128,11 @@
 //!
 //! # What is judged when
 //!
-//! The library's operations that judge row and table once for a whole row are not exported yet; nor is the one that
-//! works and paints several tiles in one call, judged once (`tile_batch::work_tiles`). [`Row`] and
-//! [`LayerRow`](four_high::LayerRow) therefore call the public operations, which judge everything that they are lent in
-//! every call: the time of a tile grows with the row's segments. Nothing of the crate's interface rests on that; they
-//! borrow what they were opened with, which is the premise of the faster operations.
+//! Every operation of the library judges all that it is lent, so nothing that a caller does makes a call unsound.
+//! [`Row::work_tiles`] judges row and table once for a batch: that this suffices, and gives what single calls give, is
+//! proved in the library and does not rest on the crate's borrows. The single calls of [`Row`], and
+//! [`LayerRow`](four_high::LayerRow), judge the whole row again for each tile and each painted layer, so that the time
+//! of a tile grows with the row's segments.
 //!
 //! # Memory of your own
 //!
@@ -131,6 +141,7 @@
 
 #![deny(missing_docs, unsafe_code)]
 
+mod batch;
 mod bounds;
 pub mod cached_tile;
 mod color;
@@ -140,6 +151,7 @@ mod decision;
 pub mod exports;
 pub mod four_high;
 mod history;
+mod list;
 mod mark;
 pub mod plane;
 pub mod plate;
@@ -151,17 +163,19 @@ mod style;
 mod table;
 
 pub use crate::{
+    batch::{Batch, BatchTile, PaintedLayer},
     bounds::Bounded,
     cached_tile::{settle, CachedTile, Settled},
     color::Color,
     cover::Cover,
     decision::Decision,
     history::TileHistory,
+    list::{Carry, Listed, TileList},
     mark::Mark,
     plane::Plane,
     plate::Plate,
     refusal::Refusal,
-    row::{Carry, Frame, Listed, Row, TileList, Worked},
+    row::{Frame, Row, Worked},
     segment::{Fields, PixelSegment},
     segment_set::SegmentSet,
     style::{BlendMode, Fill, FillRule, Style},

@@ -1,6 +1,6 @@
 //! Planes: the coverages of a tile's 256 pixels.
 
-use std::array;
+use std::{array, slice};
 
 use crate::{exports, segment, Cover, FillRule, Mark, PixelSegment, Refusal};
 
@@ -8,6 +8,7 @@ use crate::{exports, segment, Cover, FillRule, Mark, PixelSegment, Refusal};
 ///
 /// A pixel is named by its column and row; in which order the 256 numbers lie is the library's affair.
 #[derive(Clone, Debug, PartialEq)]
+#[repr(transparent)]
 pub struct Plane([f32; 256]);
 
 /// Where a pixel lies in the numbers of a plane. Nothing else in this crate knows the order.
@@ -71,6 +72,15 @@ impl Default for Plane {
     fn default() -> Plane {
         Plane::new()
     }
+}
+
+/// The numbers of planes, in place, to be lent.
+#[allow(unsafe_code)]
+pub(crate) fn numbers_of(planes: &mut [Plane]) -> &mut [f32] {
+    // SAFETY: a Plane is an array of 256 numbers (`repr(transparent)`) of which each value is one, so the same memory
+    // is as many arrays for the same borrow.
+    let arrays: &mut [[f32; 256]] = unsafe { slice::from_raw_parts_mut(planes.as_mut_ptr().cast(), planes.len()) };
+    arrays.as_flattened_mut()
 }
 
 /// The coverage of a pixel that sees the doubled area `d`: its weight divided by 512.

@@ -3,15 +3,10 @@
 use std::{mem, ops::Range};
 
 use crate::{
-    cached_tile, exports, segment, CachedTile, Color, Cover, Decision, LayerTable, Mark, PixelSegment, Plane, Refusal,
-    Settled,
+    cached_tile, exports,
+    list::{Carry, Listed, Queue, TileList},
+    segment, CachedTile, Color, Decision, LayerTable, Mark, PixelSegment, Plane, Refusal, Settled,
 };
-
-/// How many entries the library asks of every queue and list.
-pub(crate) const ENTRIES: usize = 256;
-
-/// How many flags a list has: for each entry whether its layer has segments in the tile, and behind these whether it is changed.
-const FLAGS: usize = 2 * ENTRIES;
 
 /// The colours behind all layers, in this frame and, where there was one, in the last.
 #[derive(Clone, Copy, Debug, PartialEq)]
@@ -36,129 +31,73 @@ pub struct Worked {
     pub passed_over: usize,
 }
 
-/// A layer in a tile's list.
-#[derive(Clone, Copy, Debug, PartialEq, Eq, Hash)]
-#[non_exhaustive]
-pub struct Listed {
-    /// The layer's id.
-    pub id: u32,
-    /// Its cover from the left.
-    pub cover: Cover,
-    /// Whether it has segments in the tile.
-    pub has_segments: bool,
-    /// Whether it is changed, as the table says.
-    pub is_changed: bool,
-    /// Whether a pass over clips masked it off.
-    pub is_masked_off: bool,
-    /// Whether a layer above hides it.
-    pub is_passed_over: bool,
-}
-
-impl Listed {
-    /// Whether it is neither masked off nor passed over.
-    pub fn is_shown(&self) -> bool {
-        !self.is_masked_off && !self.is_passed_over
-    }
-}
-
-/// What a tile hands on to the next of a layer.
-#[derive(Clone, Copy, Debug, PartialEq, Eq, Hash)]
-pub struct Carry {
-    /// The layer's id.
-    pub id: u32,
-    /// Its cover.
-    pub cover: Cover,
-}
-
-/// Where a caller stands in a row, as the library keeps it: tile y, from, to, the next tile, whether the painter has a
-/// clip, the clip's last layer; and how many carries are handed on and were taken in.
+/// A row's state, as the library keeps it: tile y, from, to, the next tile, whether the painter has a clip, the clip's
+/// last layer; and how many carries are handed on and were taken in.
 #[derive(Clone, Copy, Debug, Default, PartialEq, Eq)]
-struct State {
-    words: [u32; 6],
-    counts: [usize; 2],
+pub(crate) struct State {
+    pub(crate) words: [u32; 6],
+    pub(crate) counts: [usize; 2],
 }
 
-/// A queue of carries, by columns.
+/// Where a caller stands in a row: the state, and two queues of carries that take turns.
 #[derive(Clone, Debug)]
-struct Queue {
-    ids: [u32; ENTRIES],
-    covers: [i8; 16 * ENTRIES],
+pub(crate) struct Standing {
+    pub(crate) state: State,
+    /// The queue that the tile just worked took in: painting reads it.
+    pub(crate) taken: Box<Queue>,
+    /// The queue that it handed on: the next tile takes it in.
+    pub(crate) handed: Box<Queue>,
 }
 
-impl Queue {
-    const fn new() -> Queue {
-        Queue { ids: [0; ENTRIES], covers: [0; 16 * ENTRIES] }
+impl Standing {
+    pub(crate) fn new() -> Standing {
+        let queue = || Box::new(Queue::new());
+        Standing { state: State::default(), taken: queue(), handed: queue() }
     }
 
-    fn cover(&self, place: usize) -> Cover {
-        cover_at(&self.covers, place)
+    /// Goes to where another stands. What its last tile took in is left behind: only the next tile may be asked for.
+    pub(crate) fn go_to(&mut self, other: &Standing) {
+        self.state = other.state;
+        self.handed.copy_from(&other.handed, other.state.counts[0]);
     }
 
-    fn carries(&self, count: usize) -> impl ExactSizeIterator<Item = Carry> + '_ {
-        (0..count).map(|place| Carry { id: self.ids[place], cover: self.cover(place) })
-    }
-}
-
-/// A tile's list, by columns. It is lent to [`Row::list`] and [`Row::decide`], and may be kept and decided later.
-#[derive(Clone, Debug)]
-pub struct TileList {
-    tile: i32,
-    pub(crate) ids: Box<[u32; ENTRIES]>,
-    covers: Box<[i8; 16 * ENTRIES]>,
-    /// Whether each has segments, and from `ENTRIES` on whether each is changed.
-    flags: Box<[bool; FLAGS]>,
-    unmasked: Box<[bool; ENTRIES]>,
-    pub(crate) count: usize,
-    passed_over: usize,
-}
-
-impl TileList {
-    /// An empty list.
-    pub fn new() -> TileList {
-        TileList {
-            tile: -1,
-            ids: Box::new([0; ENTRIES]),
-            covers: Box::new([0; 16 * ENTRIES]),
-            flags: Box::new([false; FLAGS]),
-            unmasked: Box::new([false; ENTRIES]),
-            count: 0,
-            passed_over: 0,
-        }
-    }
-
-    /// The tile that was listed; -1 before any was.
-    pub fn tile(&self) -> i32 {
-        self.tile
-    }
-
-    /// Its layers, ascending: the bottom layer first. Until the list is decided, none is masked off or passed over.
-    pub fn listed(&self) -> impl DoubleEndedIterator<Item = Listed> + ExactSizeIterator + '_ {
-        (0..self.count).map(|place| self.at(place))
-    }
-
-    fn at(&self, place: usize) -> Listed {
-        Listed {
-            id: self.ids[place],
-            cover: cover_at(&self.covers, place),
-            has_segments: self.flags[place],
-            is_changed: self.flags[ENTRIES + place],
-            is_masked_off: !self.unmasked[place],
-            is_passed_over: place < self.passed_over,
-        }
+    /// Lists the next tile and hands the carries on.
+    pub(crate) fn list(
+        &mut self,
+        segments: &[PixelSegment],
+        table: &LayerTable,
+        tile: i32,
+        list: &mut TileList,
+    ) -> Result<(), Refusal> {
+        let (layers, colors, count) = table.lent();
+        let list = list.lent();
+        let mut listed = 0;
+        Refusal::judge(exports::list_tile(
+            &mut self.state.words,
+            &mut self.state.counts,
+            tile,
+            segment::words_of(segments),
+            layers,
+            colors,
+            count,
+            &self.handed.ids,
+            &self.handed.covers,
+            &mut self.taken.ids,
+            &mut self.taken.covers,
+            &mut list.ids,
+            &mut list.covers,
+            &mut list.flags,
+            &mut listed,
+        ))?;
+        mem::swap(&mut self.taken, &mut self.handed);
+        list.unmasked.fill(true);
+        (list.tile, list.count, list.passed_over) = (tile, listed, 0);
+        Ok(())
     }
 }
 
-impl Default for TileList {
-    fn default() -> TileList {
-        TileList::new()
-    }
-}
-
-fn cover_at(covers: &[i8; 16 * ENTRIES], place: usize) -> Cover {
-    Cover(covers[16 * place..16 * place + 16].try_into().expect("16 covers an entry"))
-}
-
-fn decision_of(code: usize, before: usize, bottom: [f32; 4]) -> Decision {
+/// The decision of a number that the library gives.
+pub(crate) fn decision_of(code: usize, before: usize, bottom: [f32; 4]) -> Decision {
     match code {
         0 => Decision::None,
         1 => Decision::Solid { bottom: Color::from(bottom), before },
@@ -169,20 +108,16 @@ fn decision_of(code: usize, before: usize, bottom: [f32; 4]) -> Decision {
 /// An open row: it borrows the row's segments and the layer table for its life, and owns the queues of carries and the
 /// list, so nothing that it was opened with can change between two calls.
 ///
-/// Tile after tile: [`work`](Row::work), then, by its decision, [`paint`](Row::paint) the shown layers, or mix their
-/// colours and [`settle`](Row::settle) the bytes. A call that is turned down leaves the row as it was, and it can be
-/// used on.
+/// Many tiles in a call: [`work_tiles`](Row::work_tiles). Tile by tile: [`work`](Row::work), then, by its decision,
+/// [`paint`](Row::paint) the shown layers, or mix their colours and [`settle`](Row::settle) the bytes. A call that is
+/// turned down leaves the row as it was, and it can be used on.
 ///
 /// A row is `Send`: rows of a plate may be worked on several threads.
 #[derive(Clone, Debug)]
 pub struct Row<'a> {
     segments: &'a [PixelSegment],
     table: &'a LayerTable,
-    state: State,
-    /// The queue that the tile just worked took in: painting reads it.
-    taken: Box<Queue>,
-    /// The queue that it handed on: the next tile takes it in.
-    handed: Box<Queue>,
+    pub(crate) at: Standing,
     pub(crate) list: TileList,
 }
 
@@ -197,14 +132,7 @@ impl<'a> Row<'a> {
         tile_y: i32,
         tiles: Range<i32>,
     ) -> Result<Row<'a>, Refusal> {
-        let mut row = Row {
-            segments,
-            table,
-            state: State::default(),
-            taken: Box::new(Queue::new()),
-            handed: Box::new(Queue::new()),
-            list: TileList::new(),
-        };
+        let mut row = Row { segments, table, at: Standing::new(), list: TileList::new() };
         let (layers, colors, count) = table.lent();
         Refusal::judge(exports::open_tile_row(
             tile_y,
@@ -214,10 +142,10 @@ impl<'a> Row<'a> {
             layers,
             colors,
             count,
-            &mut row.handed.ids,
-            &mut row.handed.covers,
-            &mut row.state.words,
-            &mut row.state.counts,
+            &mut row.at.handed.ids,
+            &mut row.at.handed.covers,
+            &mut row.at.state.words,
+            &mut row.at.state.counts,
         ))?;
         Ok(row)
     }
@@ -235,12 +163,12 @@ impl<'a> Row<'a> {
     /// The tiles that the row was opened for.
     pub fn tiles(&self) -> Range<i32> {
         // An opened range is within 0 to 4,095.
-        self.state.words[1] as i32..self.state.words[2] as i32
+        self.at.state.words[1] as i32..self.at.state.words[2] as i32
     }
 
     /// The tile that is worked next; the end of [`tiles`](Row::tiles) after the last.
     pub fn next_tile(&self) -> i32 {
-        self.state.words[3] as i32
+        self.at.state.words[3] as i32
     }
 
     /// Works a tile: lists its layers, decides, and hands the carries on. Where a cached tile is given, its count is
@@ -253,14 +181,13 @@ impl<'a> Row<'a> {
         let cached = cached.unwrap_or(&mut none);
         let previous = frame.previous_clear.unwrap_or_default();
         let (layers, colors, count) = self.table.lent();
+        let list = self.list.lent();
         let mut told = [0; 4];
         let mut bottom = [0.0; 4];
-        // The public operation, which judges row, table and queue again. That they pass is known here: the borrow keeps
-        // row and table as they were opened, and nobody else can write the queue. When the library exports the inner
-        // operation, whose premise that is, this call and the one in `paint` are all that changes.
+        // This judges row, table and queue again; `work_tiles` does so once for many tiles.
         Refusal::judge(exports::work_tile(
-            &mut self.state.words,
-            &mut self.state.counts,
+            &mut self.at.state.words,
+            &mut self.at.state.counts,
             tile,
             segment::words_of(self.segments),
             layers,
@@ -271,21 +198,21 @@ impl<'a> Row<'a> {
             &frame.clear.numbers(),
             frame.previous_clear.is_some(),
             &previous.numbers(),
-            &self.handed.ids,
-            &self.handed.covers,
-            &mut self.taken.ids,
-            &mut self.taken.covers,
-            self.list.ids.as_mut_slice(),
-            self.list.covers.as_mut_slice(),
-            self.list.flags.as_mut_slice(),
-            self.list.unmasked.as_mut_slice(),
+            &self.at.handed.ids,
+            &self.at.handed.covers,
+            &mut self.at.taken.ids,
+            &mut self.at.taken.covers,
+            &mut list.ids,
+            &mut list.covers,
+            &mut list.flags,
+            &mut list.unmasked,
             &mut told,
             &mut bottom,
         ))?;
         // What was handed on is now taken in, and what was written is handed on.
-        mem::swap(&mut self.taken, &mut self.handed);
+        mem::swap(&mut self.at.taken, &mut self.at.handed);
         let [decision, before, listed, passed_over] = told;
-        (self.list.tile, self.list.count, self.list.passed_over) = (tile, listed, passed_over);
+        (list.tile, list.count, list.passed_over) = (tile, listed, passed_over);
         Ok(Worked { tile, decision: decision_of(decision, before, bottom), listed, passed_over })
     }
 
@@ -296,30 +223,8 @@ impl<'a> Row<'a> {
     /// Refused by 2 (not the next tile, or past the last), 7, 8 (a listed layer that the table lacks), 9; the list is
     /// then as it was.
     pub fn list(&mut self, tile: i32, list: &mut TileList) -> Result<(), Refusal> {
-        let (layers, colors, count) = self.table.lent();
-        let mut listed = 0;
-        // The public operation, as in `work`.
-        Refusal::judge(exports::list_tile(
-            &mut self.state.words,
-            &mut self.state.counts,
-            tile,
-            segment::words_of(self.segments),
-            layers,
-            colors,
-            count,
-            &self.handed.ids,
-            &self.handed.covers,
-            &mut self.taken.ids,
-            &mut self.taken.covers,
-            list.ids.as_mut_slice(),
-            list.covers.as_mut_slice(),
-            list.flags.as_mut_slice(),
-            &mut listed,
-        ))?;
-        mem::swap(&mut self.taken, &mut self.handed);
-        list.unmasked.fill(true);
-        (list.tile, list.count, list.passed_over) = (tile, listed, 0);
-        (self.list.count, self.list.passed_over) = (0, 0);
+        self.at.list(self.segments, self.table, tile, list)?;
+        self.list.clear();
         Ok(())
     }
 
@@ -340,12 +245,13 @@ impl<'a> Row<'a> {
         let cached = cached.unwrap_or(&mut none);
         let previous = frame.previous_clear.unwrap_or_default();
         let (layers, colors, count) = self.table.lent();
+        let list = list.lent();
         let mut told = [0; 3];
         let mut bottom = [0.0; 4];
         Refusal::judge(exports::decide_tile(
-            list.ids.as_slice(),
-            list.covers.as_slice(),
-            list.flags.as_slice(),
+            &list.ids,
+            &list.covers,
+            &list.flags,
             list.count,
             layers,
             colors,
@@ -355,7 +261,7 @@ impl<'a> Row<'a> {
             &frame.clear.numbers(),
             frame.previous_clear.is_some(),
             &previous.numbers(),
-            list.unmasked.as_mut_slice(),
+            &mut list.unmasked,
             &mut told,
             &mut bottom,
         ))?;
@@ -365,20 +271,20 @@ impl<'a> Row<'a> {
         Ok(Worked { tile: list.tile, decision, listed: list.count, passed_over })
     }
 
-    /// The list of the tile just worked, ascending: the bottom layer first. Empty before the first tile, and after a
-    /// tile that was only listed.
+    /// The list of the tile just worked, ascending: the bottom layer first. Empty before the first tile, after a tile
+    /// that was only listed, and after a batch.
     pub fn listed(&self) -> impl DoubleEndedIterator<Item = Listed> + ExactSizeIterator + '_ {
         self.list.listed()
     }
 
     /// What the tile just worked took in, ascending by layer. Empty before the first tile.
     pub fn incoming(&self) -> impl ExactSizeIterator<Item = Carry> + '_ {
-        self.taken.carries(self.state.counts[1])
+        self.at.taken.carries(self.at.state.counts[1])
     }
 
     /// What is handed on to the next tile, ascending by layer; before the first tile what the row opened with.
     pub fn carries(&self) -> impl ExactSizeIterator<Item = Carry> + '_ {
-        self.handed.carries(self.state.counts[0])
+        self.at.handed.carries(self.at.state.counts[0])
     }
 
     /// Paints a layer of the tile just worked or listed: its coverages into the plane, and their mark. A clip becomes
@@ -393,18 +299,17 @@ impl<'a> Row<'a> {
         let (layers, colors, count) = self.table.lent();
         let tile = self.next_tile() - 1;
         let mut mark = 0;
-        // The public operation, as in `work`.
         Refusal::judge(exports::paint_layer(
-            &mut self.state.words,
-            &mut self.state.counts,
+            &mut self.at.state.words,
+            &mut self.at.state.counts,
             tile,
             layer,
             segment::words_of(self.segments),
             layers,
             colors,
             count,
-            &self.taken.ids,
-            &self.taken.covers,
+            &self.at.taken.ids,
+            &self.at.taken.covers,
             plane.as_numbers_mut(),
             &mut mark,
         ))?;

@@ -8,35 +8,13 @@ mod page;
 #[path = "../examples/inspect/pictures.rs"]
 mod pictures;
 
+mod stored;
+
 use std::{fs, path::PathBuf, process::Command};
-
-fn jobs(name: &str) -> PathBuf {
-    PathBuf::from(env!("CARGO_MANIFEST_DIR")).join("../../crates/jobs").join(name)
-}
-
-/// The name, the text and the printed answer of each job file.
-fn stored() -> Vec<(String, Vec<u8>, String)> {
-    let names = fs::read_to_string(jobs("args")).unwrap();
-    let names: Vec<&str> = names.lines().collect();
-    let printed = fs::read_to_string(jobs("stdout")).unwrap();
-    let mut lines = printed.lines().peekable();
-    let mut stored = Vec::new();
-    for (place, &name) in names.iter().enumerate() {
-        assert_eq!(lines.next(), Some(name), "the program names the file before its answer");
-        let next = names.get(place + 1).copied();
-        let mut answer = String::new();
-        while let Some(line) = lines.next_if(|&line| Some(line) != next) {
-            answer += line;
-            answer += "\n";
-        }
-        stored.push((name.to_string(), fs::read(jobs("data").join(name)).unwrap(), answer));
-    }
-    stored
-}
 
 #[test]
 fn each_job_gives_what_the_row_program_prints() {
-    let stored = stored();
+    let stored = stored::jobs();
     assert!(stored.len() > 150, "there are job files");
     for (name, text, printed) in stored {
         assert_eq!(support::driven::answer(&text), printed, "{name}");
@@ -51,13 +29,15 @@ fn texts<'a>(page: &'a str, start: &str) -> Vec<&'a str> {
 
 #[test]
 fn the_page_has_the_numbers_of_the_row_program() {
-    for (name, text, printed) in stored() {
+    for (name, text, printed) in stored::jobs() {
         let page = page::page(&name, &text, Some(0..4095));
         let lines: Vec<&str> = printed.lines().filter(|&line| line != support::driven::NAMES).collect();
         assert_eq!(texts(&page, "<code class=\"line\">"), lines, "{name}");
-        let refused_open = !page.contains("class=\"strip\"");
+        let refused_open = !page.contains("class=\"strip");
         let tiles = texts(&page, "href=\"#tile-").len();
         assert_eq!(tiles, if refused_open { 0 } else { lines.len() }, "{name}: the strip has each tile");
+        let printed = page.matches("<span class=\"choose ").count();
+        assert!(printed == 0 && tiles <= 8 || printed == tiles, "{name}: on paper the strip has each tile");
         for line in lines.iter().filter(|line| !line.starts_with("refused")) {
             let fields: Vec<&str> = line.split(' ').collect();
             let [tile, op, listed, shown, octets, carried] = fields[..] else { panic!("{line}") };
@@ -73,7 +53,7 @@ fn the_page_has_the_numbers_of_the_row_program() {
 /// Each octet that a page draws, each carry and each listed layer is one that the row program counts.
 #[test]
 fn the_page_draws_what_it_counts() {
-    for (name, text, printed) in stored() {
+    for (name, text, printed) in stored::jobs() {
         let page = page::page(&name, &text, Some(0..4095));
         let sum = |field: usize| -> usize {
             let lines = printed.lines().filter(|line| line.starts_with(|first: char| first.is_ascii_digit()));
@@ -90,10 +70,11 @@ fn the_page_draws_what_it_counts() {
 fn the_tours_pages_are_the_inspectors() {
     for name in ["carry_to_the_right", "covered_carry_to_the_right", "equal_keys"] {
         let file = format!("{name}.job");
-        let page = page::page(&format!("crates/jobs/data/{file}"), &fs::read(jobs("data").join(&file)).unwrap(), None);
+        let page =
+            page::page(&format!("crates/jobs/data/{file}"), &fs::read(stored::path("data").join(&file)).unwrap(), None);
         let kept = PathBuf::from(env!("CARGO_MANIFEST_DIR")).join(format!("../../docs/tour/pages/{name}.html"));
         assert!(fs::read_to_string(kept).unwrap() == page, "{name}: `inspect {file}` makes another page");
-        let tour = fs::read_to_string(jobs("../../docs/TOUR.md")).unwrap();
+        let tour = fs::read_to_string(stored::path("../../docs/TOUR.md")).unwrap();
         assert!(tour.contains(&format!("(tour/pages/{name}.html)")), "{name}: the tour links it");
     }
 }
@@ -115,7 +96,7 @@ fn a_browser_loads_the_page() {
     let key = "dispatchEvent(new KeyboardEvent('keydown', { key: 'End' }))";
     let mouse = "document.querySelectorAll('a.choose')[1].click()";
     for name in ["example.job", "clip_that_is_used.job", "nine_kept_carry.job"] {
-        let (name, text, printed) = stored().into_iter().find(|(stored, ..)| stored == name).expect("a job file");
+        let (name, text, printed) = stored::jobs().into_iter().find(|(stored, ..)| stored == name).expect("a job file");
         let page = page::page(&name, &text, None);
         let lines: Vec<&str> = printed.lines().filter(|&line| line != support::driven::NAMES).collect();
         for (script, chosen) in [("", 0), (key, lines.len() - 1), (mouse, 1)] {

@@ -1,4 +1,4 @@
-//! Rows: frames with cached tiles, refusals after which a row is used on, rows on several threads.
+//! Rows by single calls: frames with cached tiles, refusals after which a row is used on, a row that moves to a thread.
 
 #[path = "../examples/support/mod.rs"]
 mod support;
@@ -147,20 +147,6 @@ fn a_draw_that_lacks_its_clip() {
     let mut marks = Vec::new();
     row.paint_shown(&mut Plane::new(), |listed, plane, mark| marks.push((listed.id, plane.at(7, 7), mark.0))).unwrap();
     assert_eq!(marks, [(1, 0.5, 0), (2, 0.5, 0), (3, 1.0, 0)]);
-}
-
-#[test]
-fn rows_on_several_threads_give_what_one_thread_gives() {
-    fn is_send<T: Send>() {}
-    is_send::<Row<'static>>();
-    let segments = plates::made(7, 40, 12);
-    let one = plates::worked(&segments, 40, 0..12, 1).unwrap();
-    assert_eq!(one.len(), 40);
-    let paints = one.iter().flatten().filter(|line| line.contains(" paint ")).count();
-    assert!(paints > 100, "the plate has tiles to paint: {paints}");
-    for threads in [2, 3, 8] {
-        assert_eq!(plates::worked(&segments, 40, 0..12, threads).unwrap(), one, "{threads} threads");
-    }
 }
 
 /// A row moves to another thread between two tiles.

@@ -1,27 +1,50 @@
-//! Whole rows through the crate of bindings/rust beside the exports that it calls: what its types cost.
+//! Whole rows through the crate of bindings/rust, beside the exports that it calls (what its types cost) and beside the
+//! Rust.
 
 use std::hint::black_box;
 
-use tile_rows::{segment, Color, Frame, LayerTable, Plane, Row as OpenRow};
+use reference::{
+    cpu::RGBA,
+    painter::{row::Frame as RustFrame, timed::TimedRow},
+    Table,
+};
+use tile_rows::{
+    exports, four_high, segment, Batch, BatchTile, Color, FillRule, Frame, LayerTable, Plane, Row as OpenRow,
+};
 
 use crate::{
+    given::Fields,
     layers::lent,
+    library,
     loads::Asked,
     random::Random,
     timed_rows::{Ours, CLEAR},
-    timed_scenes::{bands, draws, load, Row},
+    timed_scenes::{bands, clips, draws, load, Row},
     timing::Bench,
+    words,
 };
 
-/// What the ratio should be at most: it is to cost nothing that can be measured.
+/// What the ratio to the exports should be at most: it is to cost nothing that can be measured.
 const AIM: f64 = 1.02;
+
+fn frame() -> Frame {
+    Frame { clear: Color::from(CLEAR), previous_clear: None }
+}
+
+fn table(row: &Row) -> LayerTable {
+    let words = lent(&row.records);
+    LayerTable::from_words(words.layers, words.colors, words.count)
+}
+
+fn open<'a>(row: &'a Row, table: &'a LayerTable) -> OpenRow<'a> {
+    OpenRow::open(segment::segments_of(&row.words), table, 0, 0..row.tiles as i32).unwrap()
+}
 
 /// The row opened, each tile worked and its shown layers painted; how many were.
 #[inline(never)]
 fn through(row: &Row, table: &LayerTable, plane: &mut Plane) -> usize {
-    let frame = Frame { clear: Color::from(CLEAR), previous_clear: None };
-    let mut painted = 0;
-    let mut open = OpenRow::open(segment::segments_of(&row.words), table, 0, 0..row.tiles as i32).unwrap();
+    let (mut painted, frame) = (0, frame());
+    let mut open = open(row, table);
     for tile in open.tiles() {
         if open.work(tile, &frame, None).unwrap().decision.word() == "paint" {
             open.paint_shown(plane, |_, plane, _| {
@@ -34,9 +57,139 @@ fn through(row: &Row, table: &LayerTable, plane: &mut Plane) -> usize {
     painted
 }
 
+/// The same in batches, with a look at each tile.
+#[inline(never)]
+fn in_batches(row: &Row, table: &LayerTable, batch: &mut Batch, mut seen: impl FnMut(&BatchTile<'_>)) {
+    let (mut open, frame) = (open(row, table), frame());
+    while open.work_tiles(usize::MAX, &frame, None, batch).unwrap() > 0 {
+        batch.tiles().for_each(|tile| seen(&tile));
+    }
+}
+
+/// Each tile and each painted layer is looked at.
+fn look_at(tile: &BatchTile<'_>) {
+    for layer in black_box(tile).painted() {
+        black_box((layer.id, layer.mark, layer.plane));
+    }
+}
+
+/// The batches paint the Rust's coverages in the same order. How many layers that is, and whether a tile mixes colours.
+fn check(row: &Row) -> (usize, bool) {
+    let bits = |plane: &[f32; 256]| plane.map(f32::to_bits);
+    let records = Table::new(&row.records);
+    let mut rust = rust_side(row, &records);
+    rust.painter.planes = Some(Vec::new());
+    rust.run(0, row.tiles);
+    let (mut ours, mut mixes) = (Vec::new(), false);
+    in_batches(row, &table(row), &mut Batch::new(), |tile| {
+        ours.extend(tile.painted().map(|layer| bits(layer.plane.as_numbers())));
+        mixes |= !tile.mixed().is_empty();
+    });
+    assert!(rust.painter.planes.unwrap().iter().map(bits).eq(ours.iter().copied()));
+    (ours.len(), mixes)
+}
+
+fn rust_side<'t>(row: &Row, records: &'t Table) -> TimedRow<'t> {
+    let segments = row.words.iter().map(|&word| words::segment(word)).collect();
+    TimedRow::new(segments, records, RustFrame { clear: CLEAR, previous_clear: None, channels: RGBA })
+}
+
+/// The exports that `in_batches` comes to, with memory that is made before.
+struct Direct {
+    table: (Vec<u32>, Vec<f32>, usize),
+    queues: [(Vec<u32>, Vec<i8>); 2],
+    told: Vec<usize>,
+    bottoms: Vec<f32>,
+    planes: Vec<f32>,
+    painted: Vec<u32>,
+}
+
+impl Direct {
+    fn new(row: &Row) -> Direct {
+        let words = lent(&row.records);
+        let queue = || (vec![0; 256], vec![0; 4096]);
+        Direct {
+            table: (words.layers, words.colors, words.count),
+            queues: [queue(), queue()],
+            told: vec![0; 5 * row.tiles],
+            bottoms: vec![0.0; 4 * row.tiles],
+            planes: vec![0.0; 256 * 287],
+            painted: vec![0; 2 * 287],
+        }
+    }
+
+    /// One call to open the row, and one for each batch.
+    #[inline(never)]
+    fn run(&mut self, row: &Row) -> usize {
+        let Direct { table: (layers, colors, count), queues, told, bottoms, planes, painted } = self;
+        let [(a_ids, a_covers), (b_ids, b_covers)] = queues;
+        let (mut words, mut counts, tiles) = ([0; 6], [0; 2], row.tiles as i32);
+        let number = exports::open_tile_row(
+            0,
+            0,
+            tiles,
+            &row.words,
+            layers,
+            colors,
+            *count,
+            a_ids,
+            a_covers,
+            &mut words,
+            &mut counts,
+        );
+        assert_eq!(number, 0);
+        let (mut sum, mut queues) = (0, [(a_ids, a_covers), (b_ids, b_covers)]);
+        while (words[3] as i32) < tiles {
+            let next = words[3] as i32;
+            let [(a_ids, a_covers), (b_ids, b_covers)] = &mut queues;
+            let mut done = [0; 3];
+            let number = exports::work_tiles(
+                &mut words,
+                &mut counts,
+                next,
+                (tiles - next) as usize,
+                &row.words,
+                layers,
+                colors,
+                *count,
+                false,
+                &mut [],
+                &CLEAR,
+                false,
+                &[0.0; 4],
+                a_ids,
+                a_covers,
+                b_ids,
+                b_covers,
+                told,
+                bottoms,
+                planes,
+                painted,
+                &mut done,
+            );
+            assert_eq!(number, 0);
+            queues.rotate_left(done[2]);
+            sum += look(&told[..5 * done[0]], planes, painted);
+        }
+        sum
+    }
+}
+
+/// Looks at each tile and each painted layer of a batch; how many of these there are.
+fn look(told: &[usize], planes: &[f32], painted: &[u32]) -> usize {
+    let mut used = 0;
+    for tile in told.chunks_exact(5) {
+        let paints = if black_box(tile)[0] == 2 { tile[4] } else { 0 };
+        for plane in used..used + paints {
+            black_box((painted[2 * plane], painted[2 * plane + 1], &planes[256 * plane..256 * plane + 256]));
+        }
+        used += paints;
+    }
+    used
+}
+
 fn line(bench: &mut Bench, name: &str, row: &Row) {
-    let words = lent(&row.records);
-    let table = LayerTable::from_words(words.layers, words.colors, words.count);
+    let table = table(row);
     let mut plane = Plane::new();
     let mut ours = Ours::new(row);
     let mut painted = 0;
@@ -54,9 +207,76 @@ fn line(bench: &mut Bench, name: &str, row: &Row) {
     bench.line(&format!("crate: {name}, {painted} painted"), 1, Some(AIM), exports, through);
 }
 
+fn line_in_batches(bench: &mut Bench, name: &str, row: &Row) {
+    let (table, mut batch, mut direct) = (table(row), Batch::new(), Direct::new(row));
+    let (painted, mixes) = check(row);
+    assert_eq!(direct.run(row), painted);
+    let exports = || {
+        black_box(direct.run(black_box(row)));
+    };
+    let through = || in_batches(black_box(row), &table, &mut batch, look_at);
+    let (told, aim) = if mixes { (", mixing", None) } else { ("", Some(AIM)) };
+    bench.line(&format!("crate in batches: {name}{told}, {painted} painted"), 1, aim, exports, through);
+}
+
+fn line_beside_rust(bench: &mut Bench, name: &str, row: &Row) {
+    let (records, table, mut batch) = (Table::new(&row.records), table(row), Batch::new());
+    let mut rust = rust_side(row, &records);
+    let (painted, _) = check(row);
+    let rust = || black_box(&mut rust).run(black_box(0), black_box(row.tiles));
+    let through = || in_batches(black_box(row), &table, &mut batch, look_at);
+    bench.line(&format!("crate by batches: {name}, {painted} painted"), 1, None, rust, through);
+}
+
+/// One layer's row of tiles four pixels high.
+fn line_four_high(bench: &mut Bench) {
+    let mut random = Random::new(3);
+    let mut one = |tile_x| Fields {
+        layer_id: 1,
+        tile_x,
+        tile_y: 0,
+        local_x: random.below(16) as u8,
+        local_y: random.below(4) as u8,
+        double_area_multiplier: 16,
+        cover: random.pick(&[-1, 1]),
+    };
+    let words: Vec<u64> = (0..64).map(|tile_x| library::gpu_pack(one(tile_x)).1).collect();
+    let segments: Vec<four_high::PixelSegment> =
+        words.iter().copied().map(four_high::PixelSegment::from_word).collect();
+    let (mut numbers, mut plane) = ([0.0; 64], four_high::Plane::new());
+    let exports = || {
+        let (mut state, mut cover) = ([0; 6], [0; 4]);
+        assert_eq!(exports::gpu_open_layer_row(0, 0, 64, 1, 0, black_box(&words), &mut state, &mut cover), 0);
+        for tile in 0..64 {
+            assert_eq!(exports::gpu_work_tile(&mut state, &mut cover, tile, &words, &mut numbers), 0);
+            black_box(&mut numbers);
+        }
+    };
+    let through = || {
+        let mut row = four_high::LayerRow::open(black_box(&segments), 0, 0..64, 1, FillRule::NonZero).unwrap();
+        while row.work_next(&mut plane).unwrap().is_some() {
+            black_box(&mut plane);
+        }
+    };
+    bench.line("crate: a layer's row, four high, 64 tiles", 1, Some(AIM), exports, through);
+}
+
 pub fn print(bench: &mut Bench) {
     for (tiles, segments) in [(16, 128), (64, 512)] {
         line(bench, &format!("{tiles} tiles, {segments} segments"), &load(Asked { seed: 0, tiles, segments }, 0));
     }
     line(bench, "32 tiles, 32 translucent", &bands(&mut Random::new(2), draws(32, 0.5)));
+    line_four_high(bench);
+    let loads = [(16, 128), (64, 512), (256, 512), (4095, 512)].map(|(tiles, segments)| {
+        (format!("{tiles} tiles, {segments} segments"), load(Asked { seed: 0, tiles, segments }, 0))
+    });
+    let random = &mut Random::new(2);
+    let banded = [
+        ("32 tiles, 32 opaque".to_string(), bands(random, draws(32, 1.0))),
+        ("32 tiles, 32 translucent".to_string(), bands(random, draws(32, 0.5))),
+        ("32 tiles, 64 with clips".to_string(), bands(random, clips(64))),
+    ];
+    loads.iter().chain(&banded).for_each(|(name, row)| line_in_batches(bench, name, row));
+    bench.titled("Whole rows by the crate, in batches", ["the Rust", "the crate"]);
+    loads.iter().chain(&banded).for_each(|(name, row)| line_beside_rust(bench, name, row));
 }

@@ -1,5 +1,5 @@
 //! The crate bindings/rust against the Rust, and the second model where it judges (W-205, W-208): random rows over several
-//! frames, tile after tile.
+//! frames, tile after tile and in batches.
 
 use comparison::{
     kept_histories::{any_history, picture, Shot, TILES},
@@ -9,8 +9,8 @@ use comparison::{
 };
 use reference::plain::{self, Cached, Record, Worked};
 use tile_rows::{
-    segment, settle, BlendMode, CachedTile, Color, Cover, Decision, Fill, FillRule, Frame, Func, Layer, LayerTable,
-    Listed, PixelSegment, Plane, Row, Settled, Style, TileHistory,
+    segment, settle, Batch, BatchTile, BlendMode, CachedTile, Color, Cover, Decision, Fill, FillRule, Frame, Func,
+    Layer, LayerTable, Listed, PixelSegment, Plane, Row, Settled, Style, TileHistory,
 };
 
 fn layer(record: &Record) -> Layer {
@@ -79,8 +79,63 @@ fn check_cached(mut kept: Option<CachedTile>, rust: &Worked, scene: &Scene) -> O
     kept
 }
 
-/// One frame; gives how many tiles got each decision.
-fn check_frame(scene: &Scene, picture: &Picture, cached: &mut [CachedTile]) -> [u32; 3] {
+/// A tile of a batch as the Rust has it: its numbers, the layers to mix, and each painted layer.
+fn check_batched(tile: &BatchTile<'_>, rust: &Worked, scene: &Scene) {
+    assert_eq!(decided(&tile.decision), decided_by_rust(&rust.decision), "{scene:?}");
+    let shown: Vec<u32> = rust.list.iter().skip(rust.skipped).filter(|one| one.shown).map(|one| one.id).collect();
+    let numbers = (rust.list.len(), rust.skipped, shown.len());
+    assert_eq!((tile.listed, tile.passed_over, tile.shown), numbers, "{scene:?}");
+    let mixed = match rust.decision {
+        plain::Decision::Solid { before, .. } => &shown[before..],
+        _ => &[],
+    };
+    assert_eq!(tile.mixed(), mixed, "{scene:?}");
+    assert_eq!(tile.painted().len(), rust.painted.len(), "{scene:?}");
+    for (layer, wanted) in tile.painted().zip(&rust.painted) {
+        assert_eq!((layer.id, layer.mark.0), (wanted.id, wanted.mark), "{scene:?}");
+        assert!(layer.plane.rows().flatten().map(f32::to_bits).eq(wanted.plane.map(f32::to_bits)), "{scene:?}");
+    }
+}
+
+/// How batches are made, and how many were.
+struct Batches {
+    batch: Batch,
+    sizes: Random,
+    count: usize,
+}
+
+impl Batches {
+    /// A frame's row in batches of random sizes; some end sooner, where four planes are used. The cached tiles begin
+    /// with the row.
+    fn check(
+        &mut self,
+        mut row: Row<'_>,
+        frame: &Frame,
+        rust: &[Worked],
+        mut kept: Option<&mut [CachedTile]>,
+        scene: &Scene,
+    ) {
+        let (first, mut left) = (row.tiles().start, rust);
+        while row.work_tiles(1 + self.sizes.below(8), frame, kept.as_deref_mut(), &mut self.batch).unwrap() > 0 {
+            self.count += 1;
+            let (here, rest) = left.split_at(self.batch.tiles().len());
+            left = rest;
+            for (tile, rust) in self.batch.tiles().zip(here) {
+                check_batched(&tile, rust, scene);
+                let place = kept.as_deref_mut().map(|kept| &mut kept[(tile.tile - first) as usize]);
+                let after = check_cached(place.as_deref().copied(), rust, scene);
+                place.zip(after).into_iter().for_each(|(place, after)| *place = after);
+            }
+            let carries = row.carries().map(|carry| (carry.id, carry.cover.0));
+            let last = here.last().expect("a batch has a tile");
+            assert!(carries.eq(last.queue.iter().map(|carry| (carry.id, carry.cover))), "{scene:?}");
+        }
+        assert!(left.is_empty(), "{scene:?}");
+    }
+}
+
+/// One frame, tile after tile and then in batches; gives how many tiles got each decision.
+fn check_frame(scene: &Scene, picture: &Picture, cached: &mut [CachedTile], batches: &mut Batches) -> [u32; 3] {
     let segments = segment::segments_of(&picture.words);
     assert!(segments.iter().all(|segment| PixelSegment::new(segment.fields()) == Ok(*segment)));
     let table = LayerTable::new(&picture.records.iter().map(layer).collect::<Vec<_>>());
@@ -90,6 +145,7 @@ fn check_frame(scene: &Scene, picture: &Picture, cached: &mut [CachedTile]) -> [
     let mut rust = Models::open(scene.tile_y, scene.from, scene.to, &picture.words, &tables);
     let tiles = scene.from as i32..scene.to as i32;
     let mut row = Row::open(segments, &table, scene.tile_y as i32, tiles).expect("a scene meets no condition");
+    let (mut all, mut kept_in_batches, row_in_batches) = (Vec::new(), cached.to_vec(), row.clone());
     let mut decisions = [0; 3];
     for tile in row.tiles() {
         let place = &mut cached[tile as usize];
@@ -99,7 +155,11 @@ fn check_frame(scene: &Scene, picture: &Picture, cached: &mut [CachedTile]) -> [
         check_tile(&mut row, &ours.decision, &theirs, scene);
         *place = check_cached(kept, &theirs, scene).unwrap_or(*place);
         decisions[decided(&ours.decision).0 as usize] += 1;
+        all.push(theirs);
     }
+    let kept = scene.caches.then_some(&mut kept_in_batches[scene.from..]);
+    batches.check(row_in_batches, &frame, &all, kept, scene);
+    assert_eq!(kept_in_batches, cached, "{scene:?}");
     decisions
 }
 
@@ -107,16 +167,17 @@ fn check_frame(scene: &Scene, picture: &Picture, cached: &mut [CachedTile]) -> [
 fn rows_through_the_crate_are_those_of_the_rust() {
     let mut random = Random::new(36);
     let mut decisions = [0; 3];
+    let mut batches = Batches { batch: Batch::with_planes(4), sizes: Random::new(37), count: 0 };
     for _ in 0..4000 {
         let scene = any_scene(&mut random);
         let mut cached = vec![CachedTile::default(); scene.tiles];
         for picture in &scene.pictures {
-            let counted = check_frame(&scene, picture, &mut cached);
+            let counted = check_frame(&scene, picture, &mut cached, &mut batches);
             (0..3).for_each(|at| decisions[at] += counted[at]);
         }
     }
     assert!(decisions.iter().all(|&count| count > 1000), "the scenes lack a decision: {decisions:?}");
-    println!("tiles compared, by decision none, solid, paint: {decisions:?}");
+    println!("tiles compared, by decision none, solid, paint: {decisions:?}, in {} batches", batches.count);
 }
 
 /// A tile by its history, and the pixels that it shows.

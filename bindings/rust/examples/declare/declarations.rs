@@ -80,7 +80,8 @@ const RUST_HEAD: &str = "\
 //! The plain operations: each export of the library as a safe function, for callers with memory of their own.
 //!
 //! Each judges all that it is given, however it was made. A call that can be refused returns the number of the
-//! refusal ([`Refusal::judge`](crate::Refusal::judge)), or 0; a refused call leaves what it was lent as it was.
+//! refusal ([`Refusal::judge`](crate::Refusal::judge)), or 0; a refused call leaves what it was lent as it was, but for
+//! [`work_tiles`], which may have worked tiles before the refused one.
 //! The contracts stand in crates/ffi/src. Fill rules, modes and fills are numbers here, as in a layer record.
 
 ";
@@ -94,8 +95,8 @@ const C_HEAD: &str = "\
 /* The exports of target/staticlib/libffi.a, for x86-64. A slice is a pointer and a length, and the pointer is not NULL
    even where the length is 0; an array of fixed length is a pointer. What a call may write must not overlap anything
    else that it is lent. A call that can be refused returns the number of the refusal, or 0, and then leaves what it
-   was lent as it was. A bool that is lent holds 0 or 1. oracle/README.md, 'The exported names', tells of states and
-   answers. */
+   was lent as it was, but for ffi_work_tiles, which may have worked tiles before the refused one. A bool that is lent
+   holds 0 or 1. oracle/README.md, 'The exported names', tells of states and answers. */
 
 #ifndef TILE_ROWS_H
 #define TILE_ROWS_H

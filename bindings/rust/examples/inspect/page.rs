@@ -15,6 +15,9 @@ use super::{
 /// How many tiles a page has where no range is given.
 const TILES: usize = 100;
 
+/// How many tiles fit beside each other on paper.
+const PRINTED: usize = 7;
+
 /// A job that was driven, with what pictures need.
 struct Scene<'a> {
     job: &'a Job,
@@ -130,37 +133,48 @@ impl Scene<'_> {
     }
 
     /// A column for each tile, a line for each layer, the top one first, and an arrow for each carry between two tiles.
+    /// Paper does not scroll: where there are many tiles, it gets a table for every few of them.
     fn strip(&self) -> String {
-        let mut text = String::from(
-            "<div class=\"strip\" role=\"region\" aria-label=\"the tiles of the row\"><table>\n<tr><td></td><td></td>",
-        );
-        for tile in self.tiles {
-            let word = tile.decision.word();
-            let number = tile.tile;
-            write!(
-                text,
-                "<th><a class=\"choose {word}\" href=\"#tile-{number}\">{number}<b>{word}</b></a></th><td></td>"
-            )
-            .unwrap();
+        let whole = self.lanes(self.tiles, true);
+        let strip = |class: &str| {
+            format!("<div class=\"{class}\" role=\"region\" aria-label=\"the tiles of the row\">{whole}</div>\n")
+        };
+        if self.tiles.len() <= PRINTED {
+            return strip("strip");
         }
-        if let Some((tile, refusal)) = self.refused_at() {
-            let number = refusal.number();
-            write!(
-                text,
-                "<th><a class=\"choose refused\" href=\"#tile-{tile}\">{tile}<b>refused {number}</b></a></th>"
-            )
-            .unwrap();
+        let parts: String = self.tiles.chunks(PRINTED).map(|tiles| self.lanes(tiles, false)).collect();
+        format!("{}<div class=\"strip paper\">{parts}</div>\n", strip("strip screen"))
+    }
+
+    /// Tiles beside each other; on the screen each is a link to its list.
+    fn lanes(&self, tiles: &[Tile], linked: bool) -> String {
+        let mut text = String::from("<table>\n<tr><td></td><td></td>");
+        let head = |tile: i32, class: &str, word: &str| {
+            let name = if linked {
+                format!("a class=\"choose {class}\" href=\"#tile-{tile}\"")
+            } else {
+                format!("span class=\"choose {class}\"")
+            };
+            format!("<th><{name}>{tile}<b>{word}</b></{}></th>", if linked { "a" } else { "span" })
+        };
+        for tile in tiles {
+            let word = tile.decision.word();
+            text += &(head(tile.tile, word, word) + "<td></td>");
+        }
+        let is_end = tiles.last().map(|tile| tile.tile) == self.tiles.last().map(|tile| tile.tile);
+        if let Some((tile, refusal)) = self.refused_at().filter(|_| is_end) {
+            text += &head(tile, "refused", &format!("refused {}", refusal.number()));
         }
         text += "</tr>\n";
-        self.ids.iter().for_each(|&id| text += &self.lane(id));
-        text + "</table></div>\n"
+        self.ids.iter().for_each(|&id| text += &self.lane(id, tiles));
+        text + "</table>"
     }
 
     /// A layer's line of the strip.
-    fn lane(&self, id: u32) -> String {
-        let first = self.tiles.first().map_or(&[][..], |tile| &tile.incoming);
+    fn lane(&self, id: u32, tiles: &[Tile]) -> String {
+        let first = tiles.first().map_or(&[][..], |tile| &tile.incoming);
         let mut text = format!("<tr><th>{}</th><td>{}</td>", self.swatch(id), self.handed(id, first));
-        for tile in self.tiles {
+        for tile in tiles {
             let entry = tile.list.iter().find(|entry| entry.listed.id == id);
             let cell = entry.map_or(String::new(), |entry| self.cell(&entry.listed));
             write!(text, "<td class=\"at\">{cell}</td><td>{}</td>", self.handed(id, &tile.carries)).unwrap();

@@ -1,6 +1,6 @@
 //! A row driven from a job: what the row program prints of it, and all that the inspector shows.
 
-use tile_rows::{Carry, Color, Decision, Frame, Listed, Mark, PixelSegment, Plane, Refusal, Row};
+use tile_rows::{CachedTile, Carry, Color, Decision, Frame, Listed, Mark, PixelSegment, Plane, Refusal, Row};
 
 use super::job::Job;
 
@@ -58,7 +58,12 @@ pub struct Driven {
 
 /// Works the next tile, and paints its shown layers where that is due.
 pub fn work(row: &mut Row<'_>, tile: i32) -> Result<Tile, Refusal> {
-    let worked = row.work(tile, &FRAME, None)?;
+    work_in(row, tile, &FRAME, None)
+}
+
+/// The same in a frame, with a cached tile.
+pub fn work_in(row: &mut Row<'_>, tile: i32, frame: &Frame, cached: Option<&mut CachedTile>) -> Result<Tile, Refusal> {
+    let worked = row.work(tile, frame, cached)?;
     let mut list: Vec<Entry> = row.listed().map(|listed| Entry { listed, painted: None }).collect();
     if worked.decision == Decision::Paint {
         let mut plane = Plane::new();

@@ -6,15 +6,15 @@ use std::{
     thread,
 };
 
-use tile_rows::{Fields, Layer, LayerTable, PixelSegment, Plate, Refusal, Row, Style};
+use tile_rows::{Batch, BatchTile, Decision, Fields, Layer, LayerTable, PixelSegment, Plate, Refusal, Row, Style};
 
-use super::driven::{self, FRAME};
+use super::driven::FRAME;
 
 /// How many layers the made plate has.
 const LAYERS: u32 = 8;
 
 /// The next number of a linear congruence, 0 to 65,535.
-fn draw(state: &mut u32) -> u32 {
+pub fn draw(state: &mut u32) -> u32 {
     *state = state.wrapping_mul(1_664_525).wrapping_add(1_013_904_223);
     *state >> 16
 }
@@ -49,29 +49,53 @@ pub fn table() -> LayerTable {
     LayerTable::new(&layers)
 }
 
-/// The lines of a row, as the row program has them.
-pub fn lines(plate: &Plate<'_>, table: &LayerTable, j: usize, tiles: Range<i32>) -> Result<Vec<String>, Refusal> {
-    let mut row = Row::open(plate.row(j), table, j as i32, tiles)?;
-    row.tiles().map(|tile| driven::work(&mut row, tile).map(|tile| tile.line())).collect()
+/// What is told of a tile.
+#[derive(Clone, Copy, Debug, PartialEq)]
+pub struct Told {
+    pub tile: i32,
+    pub decision: Decision,
+    pub listed: usize,
+    pub shown: usize,
+    /// Used octets, summed over the painted layers.
+    pub octets: u32,
 }
 
-/// The lines of so many rows, worked on so many threads: each takes the next row that nobody has.
+impl Told {
+    fn of(tile: BatchTile<'_>) -> Told {
+        let BatchTile { tile: number, decision, listed, shown, .. } = tile;
+        let octets = tile.painted().map(|layer| layer.mark.octets()).sum();
+        Told { tile: number, decision, listed, shown, octets }
+    }
+}
+
+/// The tiles of a row, worked in batches.
+pub fn tiles(row: &mut Row<'_>, batch: &mut Batch) -> Result<Vec<Told>, Refusal> {
+    let mut told = Vec::new();
+    while row.work_tiles(usize::MAX, &FRAME, None, batch)? > 0 {
+        told.extend(batch.tiles().map(Told::of));
+    }
+    Ok(told)
+}
+
+/// The tiles of so many rows, worked on so many threads: each takes the next row that nobody has.
 pub fn worked(
     segments: &[PixelSegment],
     rows: usize,
-    tiles: Range<i32>,
+    range: Range<i32>,
     threads: usize,
-) -> Result<Vec<Vec<String>>, Refusal> {
+) -> Result<Vec<Vec<Told>>, Refusal> {
     let (plate, table, next) = (Plate::new(segments), table(), AtomicUsize::new(0));
-    let work = || -> Result<Vec<(usize, Vec<String>)>, Refusal> {
+    let work = || -> Result<Vec<(usize, Vec<Told>)>, Refusal> {
+        let mut batch = Batch::new();
         let taken = std::iter::repeat_with(|| next.fetch_add(1, Ordering::Relaxed)).take_while(|&j| j < rows);
-        taken.map(|j| Ok((j, lines(&plate, &table, j, tiles.clone())?))).collect()
+        let mut row = |j| tiles(&mut Row::open(plate.row(j), &table, j as i32, range.clone())?, &mut batch);
+        taken.map(|j| Ok((j, row(j)?))).collect()
     };
     let results: Vec<_> = thread::scope(|scope| {
         let workers: Vec<_> = (0..threads).map(|_| scope.spawn(work)).collect();
         workers.into_iter().map(|worker| worker.join().expect("a worker does not panic")).collect()
     });
     let mut all = results.into_iter().collect::<Result<Vec<_>, _>>()?.concat();
-    all.sort();
-    Ok(all.into_iter().map(|(_, lines)| lines).collect())
+    all.sort_by_key(|&(j, _)| j);
+    Ok(all.into_iter().map(|(_, tiles)| tiles).collect())
 }
