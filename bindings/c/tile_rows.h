@@ -3,8 +3,8 @@
 /* The exports of target/staticlib/libffi.a, for x86-64. A slice is a pointer and a length, and the pointer is not NULL
    even where the length is 0; an array of fixed length is a pointer. What a call may write must not overlap anything
    else that it is lent. A call that can be refused returns the number of the refusal, or 0, and then leaves what it
-   was lent as it was. A bool that is lent holds 0 or 1. oracle/README.md, 'The exported names', tells of states and
-   answers. */
+   was lent as it was, but for ffi_work_tiles, which may have worked tiles before the refused one. A bool that is lent
+   holds 0 or 1. oracle/README.md, 'The exported names', tells of states and answers. */
 
 #ifndef TILE_ROWS_H
 #define TILE_ROWS_H

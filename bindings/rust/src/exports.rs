@@ -3,7 +3,8 @@
 //! The plain operations: each export of the library as a safe function, for callers with memory of their own.
 //!
 //! Each judges all that it is given, however it was made. A call that can be refused returns the number of the
-//! refusal ([`Refusal::judge`](crate::Refusal::judge)), or 0; a refused call leaves what it was lent as it was.
+//! refusal ([`Refusal::judge`](crate::Refusal::judge)), or 0; a refused call leaves what it was lent as it was, but for
+//! [`work_tiles`], which may have worked tiles before the refused one.
 //! The contracts stand in crates/ffi/src. Fill rules, modes and fills are numbers here, as in a layer record.
 
 mod raw {
