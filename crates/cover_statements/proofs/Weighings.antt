@@ -1,25 +1,19 @@
--- Laws of weights in the places of doubled areas: they are 0 to 512, their coverages are the coverages of the areas, and the mark is read from
--- them: a coverage is above 0 exactly where its weight is. Assumes nothing.
-use mathlib.Core.Path.{_≡_, refl, sym, ap, _∙_}
+-- Laws of weights in the places of doubled areas: they are 0 to 512, and their coverages are the coverages of the areas. Assumes nothing.
+use mathlib.Core.Path.{_≡_, refl, ap, _∙_}
 use mathlib.Core.List.{List, [], _∷_, map}
-use Prim.Native.Nat.{ℕ, _+_, _*_, _≤_, _<_}
+use Prim.Native.Nat.{ℕ, _<_}
 use native.Mathlib.Omega.{arith}
-use lib.Ieee.{Float, nan}
-use lib.IntN.{ℤ, pos, negsuc, natAbs}
+use lib.Ieee.{Float}
+use lib.IntN.{ℤ, pos}
 use lib.ListN.{length, getD, length-map}
 use lib.Seq.{drop-cons}
-use lib.Signed.{ltZ}
 use Rattle.laws.proofs.Drops.{map-at}
-use Rattle.laws.specs.Integer.{minus}
 use Rattle.styling.specs.declared.FillRule.{FillRule}
 use Rattle.cover_statements.specs.Cover.{coverAt}
-use Rattle.cover_statements.specs.Coverage.{coverageOf, isAbove}
-use Rattle.cover_statements.specs.Mark.{some, someAbove}
+use Rattle.cover_statements.specs.Coverage.{coverageOf}
 use Rattle.cover_statements.specs.Plane.{coveragesOf}
 use Rattle.cover_statements.specs.Weight.{weightOf}
-use Rattle.cover_statements.specs.InnerWeighed.{weightIn, weightsOf, Weighed, coverageIn, coveragesIn}
-use Rattle.cover_statements.proofs.Coverages.{coverage-above}
-use Rattle.cover_statements.proofs.Marks.{offset, offset-is, some-ext}
+use Rattle.cover_statements.specs.InnerWeighed.{weightIn, weightsOf, Weighed, coveragesIn}
 use Rattle.cover_statements.proofs.Weights.{weight-le}
 
 -- an element of a mapped list
@@ -40,21 +34,3 @@ weights-are {weights} rule areas e =
 pub coverages-are : (rule : FillRule) (areas : List ℤ) → coveragesIn (weightsOf rule areas) ≡ coveragesOf rule areas
 coverages-are rule [] = refl
 coverages-are rule (d ∷ ds) = ap (λ (r : List Float). coverageOf (weightOf rule d) ∷ r) (coverages-are rule ds)
-
--- ---- the mark
-
-above-zero : (w : ℤ) → minus w ≡ 0 → natAbs w ≤ 512 → ltZ (pos 0) w ≡ isAbove (coverageIn w)
-above-zero (pos n) e h = sym (coverage-above n h)
-above-zero (negsuc n) e h = absurd (omega arith)
-
--- eight weights tell whether one of their coverages is above 0
-pub weights-above : {weights : List ℤ} (octet : ℕ) → Weighed weights → 8 * octet + 8 ≤ length weights → some 8 (λ i. ltZ (pos 0) (coverAt weights (offset 1 (8 * octet) i))) ≡ someAbove (coveragesIn weights) octet
-unfolding someAbove
-weights-above {weights} octet c h =
-    some-ext 8 (λ i. ltZ (pos 0) (coverAt weights (offset 1 (8 * octet) i))) (λ i. isAbove (getD (coveragesIn weights) (8 * octet + i) nan))
-    (λ i l.
-    let k = 8 * octet + i in
-    let p : k < length weights = omega arith in
-    ap (λ (j : ℕ). ltZ (pos 0) (coverAt weights j)) (omega (arith, offset-is 1 (8 * octet) i))
-    ∙ above-zero (coverAt weights k) (c .low k p) (c .high k p)
-    ∙ ap isAbove (sym (map-lt coverageIn weights k nan (pos 0) p)))
