@@ -131,12 +131,13 @@ module _ (table : List Layer) (n : ℕ) (ids : List ℕ) (covers : List ℤ) (pa
             → needs ≡ (isClipped (layer .props .func) && not (ltb (r .id) (w .«free_below»)))
             → PaintsOwn own cover (r .id) layer needs (clipIn (w .clip)) old p plane
             → below ≡ freeAfter (itemFor layer (record { id = r .id; cover = cover; segments = ltb (w .segments) (r .end); changed = false })) (w .«free_below»)
-            → PaintsNext table n ids covers part w old (record { walk = v; mark = p .mark }) plane
+            → PaintsNext table n ids covers part w old (record { walk = v; id = r .id; mark = p .mark }) plane
         paints-next {v} {layer} {cover} {own} {needs} {old} {plane} {below} {hint} p e found ec eo en po eb =
-            subst (λ (x : PaintWalk). PaintsNext table n ids covers part w old (record { walk = x; mark = p .mark }) plane) (sym e)
+            subst (λ (x : PaintWalk). PaintsNext table n ids covers part w old (record { walk = x; id = r .id; mark = p .mark }) plane) (sym e)
             (record {
               holds = stepped (p .clip) hint (rw (found, ← ec) eb);
               one-more = refl;
+              id-is = id-is;
               paints = λ l el.
                   let same : layer ≡ l = cc (found, el, id-is) in
                   let t = painted table (queueOf n ids covers) part (idIn (queueOf n ids covers) part (w .passed)) layer (clipIn (w .clip)) old

@@ -34,9 +34,10 @@ pub struct PaintWalk {
     pub hint: usize,
 }
 
-// What painting the next layer gives: where the walk stands after it, and its mark.
+// What painting the next layer gives: where the walk stands after it, its id and its mark.
 pub struct PaintedNext {
     pub walk: PaintWalk,
+    pub id: u32,
     pub mark: u32,
 }
 
@@ -207,11 +208,13 @@ pub fn paint_next(
             let free_below = free_after(layer, next.id, cover, j < end, at.free_below);
             PaintedNext {
                 walk: step(at.passed, next, after, free_below, p + 1),
+                id: next.id,
                 mark: painted.mark,
             }
         }
         Found::Absent => PaintedNext {
             walk: step(at.passed, next, clip, at.free_below, at.hint),
+            id: next.id,
             mark: 0,
         },
     }

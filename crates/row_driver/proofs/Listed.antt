@@ -4,6 +4,7 @@ use mathlib.Core.Path.{_≡_, refl, ap, sym, _∙_}
 use mathlib.Core.Bool.{true, not}
 use mathlib.Core.List.{List, map}
 use mathlib.Core.Logic.{⊎-elim}
+use mathlib.Core.Option.{none}
 use Prim.Native.Nat.{ℕ, _≤_, _<_}
 use native.Mathlib.Omega.{arith}
 use lib.ListN.{length, take, drop, length-map}
@@ -28,6 +29,7 @@ use Rattle.pass_statements.proofs.Words.{outcome-long, skipped-within}
 use Rattle.pass_statements.specs.Decision.{codeOf, decisionIn}
 use Rattle.layer_workbench.specs.Work.{entryOf, outcomeByEntries, clearUnchanged, countFrom}
 use Rattle.cached_tile.specs.Kept.{previousCount}
+use Rattle.painter.specs.Clip.{clipIn}
 use Rattle.refusals.specs.Refusal.{Judgement, pass, refuse, numberOf}
 use Rattle.refusals.specs.declared.Refusal.{Refusal}
 use Rattle.row_statements.specs.Lent.{carriesIn, layersOf}
@@ -62,7 +64,7 @@ module _ (table : List Layer) (q : List Carry) (part : List ℕ) (up : strictlyA
       }
 
 -- the front of a lent column
-front {ℓ} : {A : Type ℓ} (ws old : List A) (n : ℕ) → n ≡ length ws → take n (over ws old) ≡ ws
+pub front {ℓ} : {A : Type ℓ} (ws old : List A) (n : ℕ) → n ≡ length ws → take n (over ws old) ≡ ws
 unfolding over
 front ws old n e = ap (λ (k : ℕ). take k (over ws old)) e ∙ take-append-seam ws (drop (length ws) old)
 
@@ -93,6 +95,7 @@ module _ (a : WorkCall) (lent : WorkLent) (ready : Workable a lent) where
     pub passes : layersVerdict a ≡ pass
     pub done : tileAnswerIn d ≡ tileAnswer (saysFor a)
     pub left : s .left ≡ length (saysFor a .handed)
+    pub no-clip : clipIn (s .clip) ≡ none
     pub list-unmasked : back .list .unmasked ≡ over (saysFor a .outcome .unmasked) (lent .list .unmasked)
 
   pub accepted : {w : TileWorked} {back : WorkLent} {d : TileDone} → w .answer ≡ worked.Done d → GivesWork (workedBy a lent) w back → Accepted d (w .state) back
@@ -106,6 +109,7 @@ module _ (a : WorkCall) (lent : WorkLent) (ready : Workable a lent) where
             passes = ev;
             done = cc;
             left = ap (λ (x : State). x .left) es;
+            no-clip = ap (λ (x : State). x .clip) es;
             list-unmasked = ap (λ (x : WorkLent). x .list .unmasked) el;
           }
 
@@ -117,7 +121,7 @@ module _ (a : WorkCall) (lent : WorkLent) (ready : Workable a lent) where
       let z : _≡_ {A = ℕ} 0 1 = cc in omega arith
 
   -- as many flags as layers
-  flags-long : length (saysFor a .outcome .unmasked) ≡ length (listedFor a)
+  pub flags-long : length (saysFor a .outcome .unmasked) ≡ length (listedFor a)
   unfolding outcomeByEntries
   flags-long =
       outcome-long (a .clear) (clearUnchanged (a .previous) (a .clear)) (countFrom (previousCount (a .kept))) (map (itemOf (layersOf (a .table))) (map (entryOf (layersOf (a .table))) (listedFor a)))
@@ -142,7 +146,7 @@ module _ (a : WorkCall) (lent : WorkLent) (ready : Workable a lent) where
     pub few : (d .listed ≤ 256) × (s .left ≤ 256)
     few = (omega (arith, count, listable .few), omega (arith, t .left, listable .few, handed-few (layersOf (a .table)) (listedFor a)))
 
-    unmasked-front : take (d .listed) (back .list .unmasked) ≡ saysFor a .outcome .unmasked
+    pub unmasked-front : take (d .listed) (back .list .unmasked) ≡ saysFor a .outcome .unmasked
     unmasked-front = ap (take (d .listed)) (t .list-unmasked) ∙ front (saysFor a .outcome .unmasked) (lent .list .unmasked) (d .listed) (count ∙ sym flags-long)
 
     pub walkable : Walkable (layersOf (a .table)) (carriesIn (a .state .left) (a .queue)) (tilePart (a .tile) (a .row)) (back .list .unmasked) (d .skipped .0) (d .listed)

@@ -28,7 +28,7 @@ use Rattle.shown_layers.specs.declared.Tally.{Tally}
 use Rattle.shown_layers.proofs.Tallying.{Tallying, start, next, end, counted, id-at, ids-long}
 
 -- the record that the table has
-found-layer : (table : List Layer) (id : ℕ) → isGiven (lookup table id) ≡ true → lookup table id ≡ given (layerIn table id)
+pub found-layer : (table : List Layer) (id : ℕ) → isGiven (lookup table id) ≡ true → lookup table id ≡ given (layerIn table id)
 found-layer table id h = by (lookup table id) refl h
   where
     by : (a : Answer Layer) → lookup table id ≡ a → isGiven a ≡ true → lookup table id ≡ given (layerIn table id)

@@ -1,18 +1,17 @@
 -- The walk over a tile's shown layers: what is tallied, with what is left, gives what the whole list gives. Assumes nothing.
-use mathlib.Core.Path.{_≡_, refl, ap, ap₂, sym, subst, _∙_}
+use mathlib.Core.Path.{_≡_, refl, ap, sym, _∙_}
 use mathlib.Core.Bool.{Bool, true, false, cond}
 use mathlib.Core.List.{List, [], _∷_}
 use Prim.Native.Nat.{ℕ, zero, suc, _+_, _*_, _≤_, _<_}
 use native.Mathlib.Nat.{le-of-suc-le-suc, add-zero}
-use native.Mathlib.Numerals.{add-one}
 use native.Mathlib.Omega.{arith}
-use lib.ListN.{length, drop, take, getD, length-map, drop-of-length-le}
-use lib.Seq.{drop-cons, getD-take, length-take-le}
+use lib.ListN.{length, take, getD, length-map}
 use Rattle.styling.specs.declared.Layer.{Layer}
 use Rattle.queue_statements.specs.Queue.{Carry, idsIn}
 use Rattle.tile_layers.specs.Listing.{Listed, noListed, layersIn, incomingOf}
-use Rattle.row_lines.specs.Shown.{flagged, shownIn}
+use Rattle.row_lines.specs.Shown.{shownIn}
 use Rattle.shown_layers.specs.Counting.{Sum, idsOf, atStart, tallyNext, tallied}
+use Rattle.shown_layers.proofs.Rest.{rest-shown, rest-masked, rest-none, walk-next, walk-end}
 
 -- ---- the ids of a tile's layers
 
@@ -23,26 +22,6 @@ id-at (l ∷ ls) (suc i) h = id-at ls i (le-of-suc-le-suc h)
 
 pub ids-long : (queue : List Carry) (part : List ℕ) → length (idsOf queue part) ≡ length (layersIn queue part)
 ids-long queue part = length-map (incomingOf (layersIn queue part)) (λ c. c .id) ∙ length-map (layersIn queue part) (λ x. record { id = x .id; cover = x .cover })
-
--- ---- the shown layers, from a place on
-
-module _ (ids : List ℕ) (shown : List Bool) (n i : ℕ) (li : length ids ≡ n) (ls : n ≤ length shown) where
-  rest-by : i < n → shownIn i (take n shown) ids ≡ cond (getD shown i false) (getD ids i 0 ∷ shownIn (suc i) (take n shown) ids) (shownIn (suc i) (take n shown) ids)
-  unfolding flagged
-  rest-by p =
-      ap₂ flagged
-      (drop-cons (take n shown) i false (omega (arith, length-take-le n shown ls)) ∙ ap (λ (s : Bool). s ∷ drop (suc i) (take n shown)) (getD-take n shown i false p))
-      (drop-cons ids i 0 (omega (arith, li)))
-
-  rest-shown : i < n → getD shown i false ≡ true → shownIn i (take n shown) ids ≡ getD ids i 0 ∷ shownIn (i + 1) (take n shown) ids
-  rest-shown p e = rest-by p ∙ rw (e, add-one i)
-
-  rest-masked : i < n → getD shown i false ≡ false → shownIn i (take n shown) ids ≡ shownIn (i + 1) (take n shown) ids
-  rest-masked p e = rest-by p ∙ rw (e, add-one i)
-
-  rest-none : n ≤ i → shownIn i (take n shown) ids ≡ []
-  unfolding flagged
-  rest-none p = ap₂ flagged (drop-of-length-le (take n shown) {i = i} (omega (arith, length-take-le n shown ls))) (drop-of-length-le ids {i = i} (omega (arith, li)))
 
 -- ---- layers that are counted
 
@@ -94,39 +73,32 @@ pub record Tallying (table : List Layer) (queue : List Carry) (part ids : List �
   pub used : t .octets ≤ 32 * i
   pub same : tallied true table queue part t (shownIn i (take n shown) ids) ≡ tallied true table queue part atStart (shownIn skipped (take n shown) ids)
 
+one-tallied : (table : List Layer) (queue : List Carry) (part : List ℕ) (t : Sum) (id : ℕ) (ids : List ℕ) → tallied true table queue part t (id ∷ ids) ≡ tallied true table queue part (tallyNext true table queue part t id) ids
+unfolding tallied
+one-tallied table queue part t id ids = refl
+
+none-tallied : (table : List Layer) (queue : List Carry) (part : List ℕ) (t : Sum) → tallied true table queue part t [] ≡ t
+unfolding tallied
+none-tallied table queue part t = refl
+
+-- at most one more is shown
+one-shown : (table : List Layer) (queue : List Carry) (part : List ℕ) (b : Bool) (t : Sum) (id : ℕ) → cond b (tallyNext true table queue part t id) t .shown ≤ t .shown + 1
+one-shown table queue part true t id = omega (arith, next-shown true table queue part t id)
+one-shown table queue part false t id = omega arith
+
 module _ {table : List Layer} {queue : List Carry} {part ids : List ℕ} {shown : List Bool} {skipped n : ℕ} where
   pub start : Tallying table queue part ids shown skipped n atStart skipped
   start = record { few = omega arith; used = omega arith; same = refl }
 
   module _ {t : Sum} {i : ℕ} (v : Tallying table queue part ids shown skipped n t i) (li : length ids ≡ n) (ls : n ≤ length shown) where
-    shown-next : {r : Sum} → i < n → getD shown i false ≡ true → r ≡ tallyNext true table queue part t (getD ids i 0) → r .octets ≤ t .octets + 32 → Tallying table queue part ids shown skipped n r (i + 1)
-    unfolding tallied
-    shown-next {r} p e is h =
-        let count : r .shown ≡ t .shown + 1 = ap (λ (x : Sum). x .shown) is ∙ next-shown true table queue part t (getD ids i 0) in
-        record {
-          few = omega (arith, count, v .few);
-          used = omega (arith, h, v .used);
-          same =
-              ap (λ (x : Sum). tallied true table queue part x (shownIn (i + 1) (take n shown) ids)) is
-              ∙ sym (ap (tallied true table queue part t) (rest-shown ids shown n i li ls p e))
-              ∙ v .same;
-        }
-
-    masked-next : i < n → getD shown i false ≡ false → Tallying table queue part ids shown skipped n t (i + 1)
-    masked-next p e =
-        record {
-          few = omega (arith, v .few);
-          used = omega (arith, v .used);
-          same = sym (ap (tallied true table queue part t) (rest-masked ids shown n i li ls p e)) ∙ v .same;
-        }
-
     pub next : {r : Sum} → i < n → r ≡ cond (getD shown i false) (tallyNext true table queue part t (getD ids i 0)) t → r .octets ≤ t .octets + 32 → Tallying table queue part ids shown skipped n r (i + 1)
-    next {r} p is h = by (getD shown i false) refl is
-      where
-        by : (b : Bool) → getD shown i false ≡ b → r ≡ cond b (tallyNext true table queue part t (getD ids i 0)) t → Tallying table queue part ids shown skipped n r (i + 1)
-        by true e is = shown-next p e is h
-        by false e is = subst (λ (x : Sum). Tallying table queue part ids shown skipped n x (i + 1)) (sym is) (masked-next p e)
+    next {r} p is h =
+        let count = ap (λ (x : Sum). x .shown) is in
+        record {
+          few = omega (arith, count, one-shown table queue part (getD shown i false) t (getD ids i 0), v .few);
+          used = omega (arith, h, v .used);
+          same = walk-next ids shown n i li ls (tallyNext true table queue part) (tallied true table queue part) (one-tallied table queue part) p is ∙ v .same;
+        }
 
     pub end : n ≤ i → t ≡ tallied true table queue part atStart (shownIn skipped (take n shown) ids)
-    unfolding tallied
-    end p = sym (ap (tallied true table queue part t) (rest-none ids shown n i li ls p)) ∙ v .same
+    end p = sym (walk-end ids shown n i li ls (tallyNext true table queue part) (tallied true table queue part) (none-tallied table queue part) t p) ∙ v .same

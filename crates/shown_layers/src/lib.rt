@@ -133,7 +133,7 @@ fn counted(shown: u32, is_shown: bool) -> u32
 }
 
 // How many of the listed layers from `skipped` on are not masked off.
-fn count_shown(list_unmasked: &[bool], skipped: usize, listed: usize) -> u32
+pub fn count_shown(list_unmasked: &[bool], skipped: usize, listed: usize) -> u32
     requires { ⌜ (listed ≤ 256) × (listed ≤ length (now «list_unmasked»)) ⌝ }
     ensures { λ r. ⌜ CountsShown (take listed (now («list_unmasked» .entry))) skipped listed r ⌝ }
 {

@@ -45,16 +45,19 @@ use Rattle.row_statements.specs.InnerHolding.{HoldsQueue}
 use Rattle.row_statements.proofs.Holding.{holds-written}
 use Rattle.row_statements.proofs.Works.{Listable, list-passed, args-passed, judged}
 use Rattle.row_lines.specs.Shown.{shownIn}
+use Rattle.shown_layers.specs.Counting.{idsOf}
 use Rattle.row_lines.specs.Lines.{isPaint}
 use Rattle.row_lines.specs.Calls.{shownBy}
 use Rattle.row_lines.proofs.Accepted.{AllPass, shown-pass}
 use Rattle.row_driver.specs.InnerSteps as driver
-use Rattle.tile_batch.proofs.Listed.{front, flags-long, ids-long, Accepted, accepted, ids-front, unmasked-front}
+use Rattle.row_driver.proofs.Listed.{front, flags-long, Accepted, accepted, unmasked-front}
+use Rattle.shown_layers.proofs.Tallying.{ids-long}
 use Rattle.batch_statements.specs.BatchLent.{BatchLent, batchLent, sided, keptAt, keptOver, tileNumbers, bottomsOver}
 use Rattle.batch_statements.specs.Batch.{BatchRow, BatchAt, BatchGiven, PlanesAt, ownList, callAt, planesPast, lentPast, tilePast, turnBy, turnOf, paintsFrom, GivesBatch}
 use Rattle.tile_batch.specs.InnerTurns.{batchIn, BatchStands, NotesTile, sameFlag, GivesTurn}
-use Rattle.tile_batch.specs.InnerShown.{WalkAt, walkFrom, PlaneRoom}
-use Rattle.tile_batch.proofs.Paintings.{planesOn, PaintsAre, paints-are, worked-right, walk-paints, walk-shown}
+use Rattle.batch_painting.specs.InnerShown.{WalkAt, walkFrom, PlaneRoom}
+use Rattle.tile_batch.proofs.Paintings.{planesOn, PaintsAre, paints-are, worked-right, walk-paints}
+use Rattle.batch_painting.proofs.Steps.{walk-shown}
 use Rattle.batch_statements.specs.declared.Batch.{Batch}
 use Rattle.batch_statements.proofs.ShownFew.{shown-few}
 
@@ -186,13 +189,13 @@ module _ (c : BatchRow) (s : BatchAt) (stands : BatchStands c s) where
         let ls = listedFor (callAt c s) in
         ap₂ (shownIn (says .outcome .skipped))
         (front (says .outcome .unmasked) (ownList c .unmasked) (length ls) (sym (flags-long (callAt c s) (workLent (s .lent .other) (ownList c)) own-workable)))
-        (front (idsIn (incomingOf ls)) (ownList c .ids) (length ls) (sym (ids-long (callAt c s) (workLent (s .lent .other) (ownList c)) own-workable)))
+        (front (idsIn (incomingOf ls)) (ownList c .ids) (length ls) (sym (ids-long carriesHere partHere)))
 
     few : length shownHere ≤ 256
     few =
         let says = saysFor (callAt c s) in
         let h = shown-few (says .outcome .skipped) (says .outcome .unmasked) (idsIn (incomingOf (listedFor (callAt c s)))) in
-        omega (arith, h, ids-long (callAt c s) (workLent (s .lent .other) (ownList c)) own-workable, listable .few)
+        omega (arith, h, ids-long carriesHere partHere, listable .few)
 
     handed : HoldsQueue (saysFor (callAt c s) .handed) (doneWith .lent .queue)
     unfolding workOut
@@ -275,16 +278,15 @@ module _ (c : BatchRow) (s : BatchAt) (stands : BatchStands c s) where
         unfolding workOut
         state-is = done .state
 
-        shown-is : shownIn (d .skipped .0) (take (d .listed) (back .list .unmasked)) (take (d .listed) (back .list .ids)) ≡ shownHere
+        shown-is : shownIn (d .skipped .0) (take (d .listed) (back .list .unmasked)) (idsOf carriesHere partHere) ≡ shownHere
         shown-is =
             let us = unmasked-front (callAt c s) (workLent (s .lent .other) list) ready told in
-            let ids = ids-front (callAt c s) (workLent (s .lent .other) list) ready told in
-            λ i. shownIn (told .done i .skipped) (us i) (ids i)
+            λ i. shownIn (told .done i .skipped) (us i) (idsOf carriesHere partHere)
 
         abbrev pub walked : WalkAt
         walked =
             walkFrom (isPaint (decisionIn (d .decision))) (layersOf (c .table)) carriesHere partHere (record { at = record { state = stateIn (w .state); used = s .used; planes = s .lent .planes; painted = s .lent .painted }; shown = 0 })
-            (shownIn (d .skipped .0) (take (d .listed) (back .list .unmasked)) (take (d .listed) (back .list .ids)))
+            (shownIn (d .skipped .0) (take (d .listed) (back .list .unmasked)) (idsOf carriesHere partHere))
 
         walked-is : walked ≡ walkFrom (isPaint (saysFor (callAt c s) .outcome .decision)) (layersOf (c .table)) carriesHere partHere (record { at = planesOn c s stands inside (length (saysFor (callAt c s) .handed)) none (s .used) (s .lent .planes) (s .lent .painted); shown = 0 }) shownHere
         walked-is = λ i. walkFrom (isPaint (told .done i .decision)) (layersOf (c .table)) carriesHere partHere (record { at = record { state = state-is i; used = s .used; planes = s .lent .planes; painted = s .lent .painted }; shown = 0 }) (shown-is i)

@@ -25,10 +25,11 @@ use Rattle.row_statements.specs.declared.TileDone.{TileDone}
 use Rattle.row_statements.specs.declared.TileWorked.{TileWorked}
 use Rattle.row_lines.specs.Lines.{isPaint}
 use Rattle.row_lines.specs.Shown.{shownIn}
+use Rattle.shown_layers.specs.Counting.{idsOf}
 use Rattle.batch_statements.specs.BatchLent.{BatchLent, sided, keptAt, keptOver, tileNumbers, bottomsOver}
 use Rattle.batch_statements.specs.Batch.{BatchRow, BatchAt, BatchGiven}
 use Rattle.batch_statements.specs.declared.Batch.{Batch}
-use Rattle.tile_batch.specs.InnerShown.{WalkAt, walkAt, walkFrom, PlaneRoom}
+use Rattle.batch_painting.specs.InnerShown.{WalkAt, walkAt, walkFrom, PlaneRoom}
 
 -- where a batch stands, by the code's value: the tile is the state's next
 abbrev pub batchIn : Batch → BatchLent → BatchAt
@@ -36,11 +37,11 @@ batchIn b m = record { state = stateIn (b .state); tile = pos (b .state .next); 
 
 -- ---- what is noted of a tile that is accepted
 
--- the walk over its shown layers, from the list that the work left
-abbrev pub walkPast : Batch → TileWorked → TileDone → List Layer → List Carry → List ℕ → List ℕ → List Bool → List Float → List ℕ → WalkAt
-walkPast b w d table queue part ids unmasked planes painted =
+-- the walk over its shown layers, from the flags that the work left
+abbrev pub walkPast : Batch → TileWorked → TileDone → List Layer → List Carry → List ℕ → List Bool → List Float → List ℕ → WalkAt
+walkPast b w d table queue part unmasked planes painted =
     walkFrom (isPaint (decisionIn (d .decision))) table queue part (walkAt (record { state = w .state; used = b .used; shown = 0 }) planes painted)
-    (shownIn (d .skipped .0) (take (d .listed) unmasked) (take (d .listed) ids))
+    (shownIn (d .skipped .0) (take (d .listed) unmasked) (idsOf queue part))
 
 pub record NotesTile (keeps : Bool) (b : Batch) (w : TileWorked) (d : TileDone) (x : WalkAt) (kept told : List ℕ) (bottoms : List Float) (r : Batch) (kept′ told′ : List ℕ) (bottoms′ planes′ : List Float) (painted′ : List ℕ) : Type 0 where
   pub state : stateIn (r .state) ≡ x .at .state

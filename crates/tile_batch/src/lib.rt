@@ -1,7 +1,5 @@
 // Several tiles of a row worked and painted in one call, judged once. The tiles are worked by the inner functions, and
 // two queues take turns.
-pub mod noting;
-pub mod shown;
 pub mod tile;
 
 use batch_statements::Batch;

@@ -1,6 +1,4 @@
 // One tile of a batch: judged by what the tile itself can be refused for, worked, noted, and its shown layers painted.
-use crate::noting;
-use crate::shown;
 use batch_statements::Batch;
 use cached_tile::kept::Kept;
 use layer_workbench::PreviousClear;
@@ -15,6 +13,7 @@ use segment_rows::parts;
 use styling::Color;
 ghost use mathlib.Core.Path.{_≡_};
 ghost use mathlib.Core.Bool.{not};
+ghost use mathlib.Core.Option.{none};
 ghost use Prim.Native.Nat.{_≤_};
 ghost use lib.Dec.{leb};
 ghost use Rattle.refusals.specs.Refusal.{judgementIn, pass, unless};
@@ -22,11 +21,14 @@ ghost use Rattle.refusals.specs.declared.Verdict.the-variants as verdict;
 ghost use Rattle.layer_table.specs.Table.{tableOf};
 ghost use Rattle.cached_tile.specs.Kept.{tagOutOfRange};
 ghost use Rattle.queue_statements.specs.Queue.{queueOf};
+ghost use Rattle.painter.specs.Clip.{clipIn};
+ghost use Rattle.listed_painting.specs.InnerWalk.{Painter};
+ghost use Rattle.shown_layers.specs.InnerTally.{Walkable};
 ghost use Rattle.row_statements.specs.Lent.{columns, listColumns, lentTable};
 ghost use Rattle.row_statements.specs.State.{stateIn};
 ghost use Rattle.batch_statements.specs.BatchLent.{batchLent, sided};
 ghost use Rattle.batch_statements.specs.Batch.{batchRow, turnOf, GivesBatch};
-ghost use Rattle.tile_batch.specs.InnerShown.{PlaneRoom, TilePainter, ListWalk};
+ghost use Rattle.batch_painting.specs.InnerShown.{PlaneRoom};
 ghost use Rattle.tile_batch.specs.InnerTurns.{batchIn, walkPast, NotesTile, NoteRoom};
 ghost use Rattle.tile_batch.specs.InnerTurns.{Turnable, HereWorkable, GivesTurn};
 
@@ -75,7 +77,6 @@ fn note_tile(
     keeps: bool,
     ids: &[u32],
     covers: &[i8],
-    list_ids: &[u32],
     list_unmasked: &[bool],
     kept: &mut [u8],
     told: &mut [usize],
@@ -83,16 +84,16 @@ fn note_tile(
     planes: &mut [f32],
     painted: &mut [u32],
 ) -> Batch
-    requires { ⌜ TilePainter n (now ids) (now covers) (now part) (now layers) (now colors) count
-        × ListWalk (tableOf (now layers) (now colors) count) (queueOf n (now ids) (now covers)) (now part)
-        (now «list_ids») (now «list_unmasked») (done .listed)
+    requires { ⌜ Painter n (now ids) (now covers) (now part) (now layers) (now colors) count
+        × Walkable (tableOf (now layers) (now colors) count) (queueOf n (now ids) (now covers)) (now part)
+        (now «list_unmasked») (done .skipped .0) (done .listed)
         × NoteRoom keeps (at .worked) (batchLent (columns (now ids) (now covers)) (columns (now ids) (now covers))
         (now kept) (now told) (now bottoms) (now planes) (now painted))
-        × PlaneRoom (at .used) 256 (now planes) (now painted) ⌝ }
+        × PlaneRoom (at .used) 256 (now planes) (now painted) × (clipIn (worked .state .clip) ≡ none) ⌝ }
     ensures { λ r. ⌜ NotesTile keeps at worked done
         (walkPast at worked done (tableOf (now (layers .entry)) (now (colors .entry)) count)
         (queueOf n (now (ids .entry)) (now (covers .entry))) (now (part .entry))
-        (now («list_ids» .entry)) (now («list_unmasked» .entry)) (now (planes .entry)) (now (painted .entry)))
+        (now («list_unmasked» .entry)) (now (planes .entry)) (now (painted .entry)))
         (now (kept .entry)) (now (told .entry)) (now (bottoms .entry))
         r (now (kept .exit)) (now (told .exit)) (now (bottoms .exit)) (now (planes .exit)) (now (painted .exit)) ⌝ }
 {
@@ -102,7 +103,7 @@ fn note_tile(
     let skipped = done.skipped;
     let i = at.worked;
     let next = i + 1;
-    let made = shown::paint_shown(
+    let made = batch_painting::paint_shown(
         is_paint(decision),
         ids,
         covers,
@@ -111,7 +112,6 @@ fn note_tile(
         layers,
         colors,
         count,
-        list_ids,
         list_unmasked,
         skipped.0,
         done.listed,
@@ -120,9 +120,9 @@ fn note_tile(
         planes,
         painted,
     );
-    noting::put_kept(keeps, kept, i, tile);
-    noting::put_told(told, i, done, made.shown);
-    noting::put_bottom(bottoms, i, decision);
+    batch_noting::put_kept(keeps, kept, i, tile);
+    batch_noting::put_told(told, i, done, made.shown);
+    batch_noting::put_bottom(bottoms, i, decision);
     let state = made.state;
     Batch {
         state: state,
@@ -212,7 +212,6 @@ fn work_here(
                 keeps,
                 ids,
                 covers,
-                list_ids,
                 list_unmasked,
                 kept,
                 told,
@@ -265,7 +264,7 @@ fn work_next(
         (now (kept .exit)) (now (told .exit)) (now (bottoms .exit)) (now (planes .exit)) (now (painted .exit))) ⌝ }
 {
     let state = at.state;
-    let held = noting::kept_at(keeps, kept, at.worked);
+    let held = batch_noting::kept_at(keeps, kept, at.worked);
     match judge_next(state, held) {
         Verdict::Refuse(refusal) => refused(at, refusal),
         Verdict::Pass => work_here(

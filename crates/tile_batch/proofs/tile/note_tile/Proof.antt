@@ -6,12 +6,12 @@ use borrow.Author.Needs.{needs}
 use lib.Seq.{sets}
 use Rattle.row_statements.specs.TileWork.{tileAnswerIn}
 use Rattle.batch_statements.specs.BatchLent.{tileNumbers}
-use Rattle.tile_batch.specs.InnerShown.{WalkAt}
+use Rattle.batch_painting.specs.InnerShown.{WalkAt}
 use Rattle.tile_batch.proofs.tile.note_tile.Statement.{statement}
 use Rattle.tile_batch.proofs.tile.note_tile.Tie as tie
 
 add-next : tie.Need-add-next
-add-next c = omega (arith, c .before .before .before .before .before .before .before .before .before .before .before .before .before .before .pre .2 .told, c .before .before .before .before .before .before .before .before .before .before .before .before .before .before .good .1 .1 .1 .1 .1 .1 .1 .1 .1 .1 .1 .1 .1 .1 .0 .0)
+add-next c = omega (arith, c .before .before .before .before .before .before .before .before .before .before .before .before .before .pre .2 .told, c .before .before .before .before .before .before .before .before .before .before .before .before .before .good .1 .1 .1 .1 .1 .1 .1 .1 .1 .1 .1 .1 .1 .0 .0)
 
 is-paint-requires : tie.Need-is-paint-requires
 is-paint-requires c κs = search needs
@@ -20,13 +20,13 @@ paint-shown-requires : tie.Need-paint-shown-requires
 paint-shown-requires c κs = search needs
 
 put-kept-requires : tie.Need-put-kept-requires
-put-kept-requires c κs = c .before .before .before .before .before .before .before .before .before .before .before .before .before .before .before .before .before .before .before .before .before .before .before .pre .2 .kept
+put-kept-requires c κs = c .before .before .before .before .before .before .before .before .before .before .before .before .before .before .before .before .before .before .before .before .before .before .pre .2 .kept
 
 put-told-requires : tie.Need-put-told-requires
-put-told-requires c κs = c .before .before .before .before .before .before .before .before .before .before .before .before .before .before .before .before .before .before .before .before .before .before .before .before .before .before .before .pre .2 .told
+put-told-requires c κs = c .before .before .before .before .before .before .before .before .before .before .before .before .before .before .before .before .before .before .before .before .before .before .before .before .before .before .pre .2 .told
 
 put-bottom-requires : tie.Need-put-bottom-requires
-put-bottom-requires c κs = c .before .before .before .before .before .before .before .before .before .before .before .before .before .before .before .before .before .before .before .before .before .before .before .before .before .before .before .before .before .before .before .pre .2 .bottoms
+put-bottom-requires c κs = c .before .before .before .before .before .before .before .before .before .before .before .before .before .before .before .before .before .before .before .before .before .before .before .before .before .before .before .before .before .before .pre .2 .bottoms
 
 same-length : tie.Need-same-length
 same-length c = search needs
@@ -45,7 +45,7 @@ same-length-5 c = search needs
 
 returns : tie.Need-returns
 returns c =
-    let a = c .before .before .before .before .before .before .before .before .before .before .before .before .before .before .before .before .before .before .before .before .before .before .before .before .before .before .before .before .before .before .before .before .before .before .before .before .args in
+    let a = c .before .before .before .before .before .before .before .before .before .before .before .before .before .before .before .before .before .before .before .before .before .before .before .before .before .before .before .before .before .before .before .before .before .before .before .args in
     let p = rw (c .before .before .before .before .before .before .before .before .before .before .before .before .before .before .before .before .before .before .before .before .before .is-paint .ensures) at (c .before .before .before .before .before .before .before .before .before .before .before .before .before .before .before .before .before .before .paint-shown .ensures) in
     record {
       state = ap (λ (x : WalkAt). x .at .state) p;

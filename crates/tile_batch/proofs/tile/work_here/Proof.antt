@@ -15,7 +15,7 @@ use Rattle.row_statements.specs.Lent.{ListColumns, columns, listColumns, lentTa
 use Rattle.row_statements.specs.TileWork.{WorkLent, workLent, GivesWork}
 use Rattle.row_statements.specs.InnerWork.{workedBy}
 use Rattle.row_driver.specs.InnerSteps as driver
-use Rattle.tile_batch.proofs.Listed.{painter, accepted, walkable}
+use Rattle.row_driver.proofs.Listed.{painter, accepted, walkable}
 use Rattle.batch_statements.specs.BatchLent.{batchLent}
 use Rattle.batch_statements.specs.Batch.{BatchRow, BatchAt, batchRow, callAt}
 use Rattle.tile_batch.specs.InnerTurns.{batchIn}
@@ -82,11 +82,11 @@ in-tile-requires c κs = search needs
 
 note-tile-requires : tie.Need-note-tile-requires
 note-tile-requires c κs =
-    let s = c .before .before .before .before .before .before .before .before .before .before .before .before .before .before .before .before .before .before .before .before .before .before .before .before .before .before .before .before .before .before .before .before .before .before .before .before .before .before .before .before .before .before in
-    let t = accepted (callAt (rowOf s) (standOf s)) (workLent (standOf s .lent .other) (listOf s)) (ready s) (c .before .before .before .before .before .before .before .before .before .answer2 .given .1) (given-is (c .before .before .before .before .before .before .before .before .before .before .before .before .before .before .before .before .before .before .before .before .before)) in
+    let s = c .before .before .before .before .before .before .before .before .before .before .before .before .before .before .before .before .before .before .before .before .before .before .before .before .before .before .before .before .before .before .before .before .before .before .before .before .before .before .before .before .before in
+    let t = accepted (callAt (rowOf s) (standOf s)) (workLent (standOf s .lent .other) (listOf s)) (ready s) (c .before .before .before .before .before .before .before .before .answer2 .given .1) (given-is (c .before .before .before .before .before .before .before .before .before .before .before .before .before .before .before .before .before .before .before .before)) in
     let n = s .pre .turns .notes in
-    rw (part-is (c .before .before .before .before .before .before .before))
-    (painter (callAt (rowOf s) (standOf s)) (workLent (standOf s .lent .other) (listOf s)) (ready s), walkable (callAt (rowOf s) (standOf s)) (workLent (standOf s .lent .other) (listOf s)) (ready s) t, record { kept = n .kept; told = n .told; bottoms = n .bottoms }, s .pre .turns .planes)
+    rw (part-is (c .before .before .before .before .before .before))
+    (painter (callAt (rowOf s) (standOf s)) (workLent (standOf s .lent .other) (listOf s)) (ready s), walkable (callAt (rowOf s) (standOf s)) (workLent (standOf s .lent .other) (listOf s)) (ready s) t, record { kept = n .kept; told = n .told; bottoms = n .bottoms }, s .pre .turns .planes, t .no-clip)
 
 same-length : tie.Need-same-length
 same-length c = search needs
@@ -112,22 +112,22 @@ returns c =
     turn-told-refused (rowOf s) (s .args .at) (standOf s .lent) (s .pre .turns .stands) (own s) (listOf s) (s .pre .turns .list-long) (given-is (c .before .before .before .before .before .before .before .before .before .before .before .before .before .before)) (c .before .before .answer .given .1) (c .refused .ensures)
 
 same-length-7 : tie.Need-same-length-7
-same-length-7 c = c .before .before .before .before .before .before .before .before .before .before .before .before .before .before .before .before .before .before .before .before .before .before .before .before .before .before .before .before .before .before .before .before .work-judged .kept .1 .1 .1 .1 .1 .1 .1 .1 .1 .1 .1 .0
+same-length-7 c = c .before .before .before .before .before .before .before .before .before .before .before .before .before .before .before .before .before .before .before .before .before .before .before .before .before .before .before .before .before .before .before .work-judged .kept .1 .1 .1 .1 .1 .1 .1 .1 .1 .1 .1 .0
 
 same-length-8 : tie.Need-same-length-8
-same-length-8 c = c .before .before .before .before .before .before .before .before .before .before .before .before .before .before .before .before .before .before .before .before .before .before .before .before .before .before .before .before .before .before .before .before .work-judged .kept .1 .1 .1 .1 .1 .1 .1 .1 .1 .1 .1 .1 .0
+same-length-8 c = c .before .before .before .before .before .before .before .before .before .before .before .before .before .before .before .before .before .before .before .before .before .before .before .before .before .before .before .before .before .before .before .work-judged .kept .1 .1 .1 .1 .1 .1 .1 .1 .1 .1 .1 .1 .0
 
 same-length-9 : tie.Need-same-length-9
-same-length-9 c = c .before .before .before .before .before .before .before .before .before .before .before .before .before .before .before .before .before .before .before .before .before .before .before .before .before .before .before .before .before .before .before .before .work-judged .kept .1 .1 .1 .1 .1 .1 .1 .1 .1 .1 .1 .1 .1 .0
+same-length-9 c = c .before .before .before .before .before .before .before .before .before .before .before .before .before .before .before .before .before .before .before .before .before .before .before .before .before .before .before .before .before .before .before .work-judged .kept .1 .1 .1 .1 .1 .1 .1 .1 .1 .1 .1 .1 .1 .0
 
 same-length-10 : tie.Need-same-length-10
-same-length-10 c = c .before .before .before .before .before .before .before .before .before .before .before .before .before .before .before .before .before .before .before .before .before .before .before .before .before .before .before .before .before .before .before .before .work-judged .kept .1 .1 .1 .1 .1 .1 .1 .1 .1 .1 .1 .1 .1 .1 .0
+same-length-10 c = c .before .before .before .before .before .before .before .before .before .before .before .before .before .before .before .before .before .before .before .before .before .before .before .before .before .before .before .before .before .before .before .work-judged .kept .1 .1 .1 .1 .1 .1 .1 .1 .1 .1 .1 .1 .1 .1 .0
 
 same-length-11 : tie.Need-same-length-11
-same-length-11 c = c .before .before .before .before .before .before .before .before .before .before .before .before .before .before .before .before .before .before .before .before .before .before .before .before .before .before .before .before .before .before .before .before .work-judged .kept .1 .1 .1 .1 .1 .1 .1 .1 .1 .1 .1 .1 .1 .1 .1 .0
+same-length-11 c = c .before .before .before .before .before .before .before .before .before .before .before .before .before .before .before .before .before .before .before .before .before .before .before .before .before .before .before .before .before .before .before .work-judged .kept .1 .1 .1 .1 .1 .1 .1 .1 .1 .1 .1 .1 .1 .1 .1 .0
 
 same-length-12 : tie.Need-same-length-12
-same-length-12 c = c .before .before .before .before .before .before .before .before .before .before .before .before .before .before .before .before .before .before .before .before .before .before .before .before .before .before .before .before .before .before .before .before .work-judged .kept .1 .1 .1 .1 .1 .1 .1 .1 .1 .1 .1 .1 .1 .1 .1 .1 .0
+same-length-12 c = c .before .before .before .before .before .before .before .before .before .before .before .before .before .before .before .before .before .before .before .before .before .before .before .before .before .before .before .before .before .before .before .work-judged .kept .1 .1 .1 .1 .1 .1 .1 .1 .1 .1 .1 .1 .1 .1 .1 .1 .0
 
 same-length-13 : tie.Need-same-length-13
 same-length-13 c = search needs
@@ -146,11 +146,11 @@ same-length-17 c = search needs
 
 returns-2 : tie.Need-returns-2
 returns-2 c =
-    let s = c .before .before .before .before .before .before .before .before .before .before .before .before .before .before .before .before .before .before .before .before .before .before .before .before .before .before .before .before .before .before .before .before .before .before .before .before .before .before .before .before .before .before .before .before .before .before .before .before .before .before .before .before .before in
-    let g = given-is (c .before .before .before .before .before .before .before .before .before .before .before .before .before .before .before .before .before .before .before .before .before .before .before .before .before .before .before .before .before .before .before .before) in
-    let e = c .before .before .before .before .before .before .before .before .before .before .before .before .before .before .before .before .before .before .before .before .answer2 .given .1 in
+    let s = c .before .before .before .before .before .before .before .before .before .before .before .before .before .before .before .before .before .before .before .before .before .before .before .before .before .before .before .before .before .before .before .before .before .before .before .before .before .before .before .before .before .before .before .before .before .before .before .before .before .before .before .before in
+    let g = given-is (c .before .before .before .before .before .before .before .before .before .before .before .before .before .before .before .before .before .before .before .before .before .before .before .before .before .before .before .before .before .before .before) in
+    let e = c .before .before .before .before .before .before .before .before .before .before .before .before .before .before .before .before .before .before .before .answer2 .given .1 in
     let v = both-pass (rowOf s) (s .args .at) (standOf s .lent) (s .pre .turns .stands) (own s) (listOf s) (s .pre .turns .list-long) g e in
-    turn-done (rowOf s) (standOf s) (s .pre .turns .stands) v (s .pre .turns .planes) (s .args .at) (standOf s .lent) refl (listOf s) (s .pre .turns .list-long) g e (rw (part-is (c .before .before .before .before .before .before .before .before .before .before .before .before .before .before .before .before .before .before)) at (c .before .before .before .before .before .before .before .before .before .before .note-tile .ensures))
+    turn-done (rowOf s) (standOf s) (s .pre .turns .stands) v (s .pre .turns .planes) (s .args .at) (standOf s .lent) refl (listOf s) (s .pre .turns .list-long) g e (rw (part-is (c .before .before .before .before .before .before .before .before .before .before .before .before .before .before .before .before .before)) at (c .before .before .before .before .before .before .before .before .before .before .note-tile .ensures))
 
 pub work-here-spec : {M : Type 1} → statement M
 work-here-spec =

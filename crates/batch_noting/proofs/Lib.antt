@@ -1,0 +1,2 @@
+-- Laws of what a batch notes.
+pub mod Stores
