@@ -5,14 +5,13 @@ use mathlib.Core.Logic.{⊎-elim}
 use Prim.Native.Nat.{ℕ, zero, suc, _+_, _≤_, _<_, min}
 use native.Mathlib.Numerals.{add-one}
 use native.Mathlib.Omega.{arith}
-use borrow.Author.Tests.{leb-true, lt-ltb, le-ltb, le-leb, lt-leb}
+use borrow.Author.Tests.{lt-ltb, le-ltb, le-leb, lt-leb}
 use lib.Dec.{leb}
 use lib.IntN.{ℤ, pos, negsuc, _+ℤ_}
 use lib.Signed.{leZ}
 use mir.Syntax.{w16, w32}
 use mir.Val.{SFits}
 use Rattle.laws.proofs.Machine.{within, sfits}
-use Rattle.laws.proofs.Bools.{same}
 use Rattle.laws.proofs.Orders.{le-or-lt}
 use Rattle.laws.proofs.Parts.{added}
 use Rattle.pixel_segment.specs.Field.{tileOf}
@@ -27,24 +26,41 @@ wider z h =
     let b = within w16 z h in
     sfits w32 z (record { above = omega arith; below = omega arith })
 
--- a number is above another from the next one on
-above-next : (n k : ℕ) → leb (k + 1) n ≡ isGt (compareOf n k)
-above-next n k =
+-- ---- the rank of a number, by the least one above the key: the number after it is compared with that one
+
+-- a number is above the key from that one on
+pub above-rank : (n above : ℕ) → leb above n ≡ isGt (compareOf (n + 1) above)
+above-rank n above =
+    ⊎-elim
+    (λ (p : above ≤ n). le-leb above n p ∙ sym (ap isGt (compare-greater (n + 1) above (omega arith))))
+    (λ (p : n < above).
+    ⊎-elim
+    (λ (q : above ≤ n + 1). lt-leb above n p ∙ sym (ap isGt (compare-equal (n + 1) above (omega arith))))
+    (λ (q : n + 1 < above). lt-leb above n p ∙ sym (ap isGt (compare-less (n + 1) above q)))
+    (le-or-lt above (n + 1)))
+    (le-or-lt above n)
+
+next-rank : (n k above : ℕ) → above ≡ k + 1 → compareOf (n + 1) above ≡ compareOf n k
+next-rank n k above e =
     ⊎-elim
     (λ (p : n ≤ k).
     ⊎-elim
-    (λ (q : k ≤ n). lt-leb (k + 1) n (omega arith) ∙ sym (ap isGt (compare-equal n k (omega arith))))
-    (λ (q : n < k). lt-leb (k + 1) n (omega arith) ∙ sym (ap isGt (compare-less n k q)))
+    (λ (q : k ≤ n). compare-equal (n + 1) above (omega arith) ∙ sym (compare-equal n k (omega arith)))
+    (λ (q : n < k). compare-less (n + 1) above (omega arith) ∙ sym (compare-less n k q))
     (le-or-lt k n))
-    (λ (p : k < n). le-leb (k + 1) n (omega arith) ∙ sym (ap isGt (compare-greater n k p)))
+    (λ (p : k < n). compare-greater (n + 1) above (omega arith) ∙ sym (compare-greater n k p))
     (le-or-lt n k)
 
--- and nothing that is below the limit from the limit on
-pub above-number : (n k limit : ℕ) → n < limit → leb (min (k + 1) limit) n ≡ isGt (compareOf n k)
-above-number n k limit h = same-test (min (k + 1) limit) (k + 1) (λ p. omega arith) (λ p. omega arith) ∙ above-next n k
-  where
-    same-test : (a b : ℕ) → (a ≤ n → b ≤ n) → (b ≤ n → a ≤ n) → leb a n ≡ leb b n
-    same-test a b f g = same (leb a n) (leb b n) (λ e. le-leb b n (f (leb-true a n e))) (λ e. le-leb a n (g (leb-true b n e)))
+-- of a number below a limit, which the key may be at or past
+pub number-rank : (n k limit : ℕ) → n + 1 < limit → compareOf (n + 1) (min (k + 1) limit) ≡ compareOf n k
+number-rank n k limit h =
+    ⊎-elim
+    (λ (p : k + 1 ≤ limit). next-rank n k (min (k + 1) limit) (omega arith))
+    (λ (p : limit < k + 1). compare-less (n + 1) (min (k + 1) limit) (omega arith) ∙ sym (compare-less n k (omega arith)))
+    (le-or-lt (k + 1) limit)
+
+pub above-number : (n k limit : ℕ) → n + 1 < limit → leb (min (k + 1) limit) n ≡ isGt (compareOf n k)
+above-number n k limit h = above-rank n (min (k + 1) limit) ∙ ap isGt (number-rank n k limit h)
 
 -- a stored tile number is at least a tile from that tile's stored number on
 pub at-least-tile : (t : ℤ) (n : ℕ) → leb (storedOf t) n ≡ leZ t (tileOf n)
@@ -60,19 +76,23 @@ pub left-of-all : (m n : ℕ) → compareℤ (tileOf n) (negsuc (suc m)) ≡ 2
 left-of-all m zero = rw (tile-zero, le-ltb (suc m) 0 (omega arith), lt-ltb 0 (suc m) (omega arith))
 left-of-all m (suc n) = rw tile-suc
 
--- and above it from the next tile's on
-pub above-tile : (t : ℤ) (n : ℕ) → leb (storedOf (t +ℤ pos 1)) n ≡ isGt (compareℤ (tileOf n) t)
-above-tile t n = by t
+-- of a stored tile number
+pub tile-rank : (t : ℤ) (n : ℕ) → compareOf (n + 1) (storedOf (t +ℤ pos 1)) ≡ compareℤ (tileOf n) t
+tile-rank t n = by t
   where
-    by-stored : (k above : ℕ) → above ≡ k + 1 → leb above n ≡ isGt (compareℤ (tileOf n) (tileOf k))
-    by-stored k above e = rw (e, compare-tile) (above-next n k)
+    by-stored : (k above : ℕ) → above ≡ k + 1 → compareOf (n + 1) above ≡ compareℤ (tileOf n) (tileOf k)
+    by-stored k above e = next-rank n k above e ∙ sym (compare-tile n k)
 
-    by : (t : ℤ) → leb (storedOf (t +ℤ pos 1)) n ≡ isGt (compareℤ (tileOf n) t)
+    by : (t : ℤ) → compareOf (n + 1) (storedOf (t +ℤ pos 1)) ≡ compareℤ (tileOf n) t
     by (pos m) = rw (← tile-suc m) (by-stored (suc m) (m + 1 + 1) (omega arith))
     by (negsuc zero) = rw (← tile-zero) (by-stored 0 1 refl)
     by (negsuc (suc m)) =
         let first = added (negsuc (suc m)) (pos 1) in
-        le-leb (storedOf (negsuc (suc m) +ℤ pos 1)) n (omega (arith, added (negsuc (suc m) +ℤ pos 1) (pos 1))) ∙ sym (ap isGt (left-of-all m n))
+        compare-greater (n + 1) (storedOf (negsuc (suc m) +ℤ pos 1)) (omega (arith, added (negsuc (suc m) +ℤ pos 1) (pos 1)))
+        ∙ sym (left-of-all m n)
+
+pub above-tile : (t : ℤ) (n : ℕ) → leb (storedOf (t +ℤ pos 1)) n ≡ isGt (compareℤ (tileOf n) t)
+above-tile t n = above-rank n (storedOf (t +ℤ pos 1)) ∙ ap isGt (tile-rank t n)
 
 -- above a key that asks whether a number is at least a start: nothing below the limit where that is wanted, else from the start on
 pub above-test : (wanted b : Bool) (start n limit : ℕ) → n < limit → leb start n ≡ b → leb (cond wanted limit start) n ≡ isGt (compareBool b wanted)

@@ -14,7 +14,7 @@ ghost use lib.IntN.{pos, _+ℤ_};
 ghost use lib.ListN.{length, getD};
 ghost use Rattle.laws.specs.Integer.{plus};
 ghost use Rattle.pixel_segment.specs.Field.{cpu, tileYOf, tileXOf, layerIdOf};
-ghost use Rattle.pixel_segment.specs.Order.{rank, isGt};
+ghost use Rattle.pixel_segment.specs.Order.{rank, isGt, compareOf};
 ghost use Rattle.pixel_segment.specs.Pack.{storedOf};
 ghost use Rattle.segment_rows.specs.Search.{placeIn, endOf, searchOf, ended, orderAt};
 ghost use Rattle.segment_rows.specs.InnerPlaces.{HalfOf};
@@ -163,6 +163,27 @@ pub fn halve(segments: &[u64], offset: u32, size: u64, above: u32) -> usize
     start
 }
 
+// The last word whose field is the number before `above`. Short enough to be compiled once for each field, too.
+fn search_number(segments: &[u64], offset: u32, size: u64, above: u32) -> Found
+    requires { ⌜ (offset < 64) × (0 < size) × (size < 2 ^ 32) ⌝ }
+    ensures { λ r. ⌜ placeIn r
+        ≡ searchOf (λ w. compareOf (w / 2 ^ offset % size + 1) above) (now (segments .entry)) ⌝ }
+{
+    let count = segments.len();
+    if count == 0 {
+        return Found::Absent(0);
+    }
+    let end = halve(segments, offset, size, above);
+    let next = field_at(segments, offset, size, end) + 1;
+    if next == above {
+        return Found::At(end);
+    }
+    if next < above {
+        return Found::Absent(end + 1);
+    }
+    Found::Absent(end)
+}
+
 fn halve_by_tile_y(segments: &[u64], above: u32) -> usize
     ensures { λ r. ⌜ r ≡ endOf (λ w. leb above (tileYOf cpu w)) (now (segments .entry)) ⌝ }
 {
@@ -215,22 +236,37 @@ pub fn search_last_by_key(segments: &[u64], key: Key) -> Found
 pub fn search_last_by_tile_y(segments: &[u64], tile_y: i16) -> Found
     ensures { λ r. ⌜ placeIn r ≡ searchOf (orderAt (Key.TileY «tile_y»)) (now (segments .entry)) ⌝ }
 {
-    let end = halve_by_tile_y(segments, above_tile(tile_y));
-    tell(segments, Key::TileY(tile_y), end)
+    let offset = consts::shift(BitField::TileY);
+    search_number(
+        segments,
+        offset,
+        consts::size(BitField::TileY),
+        above_tile(tile_y),
+    )
 }
 
 pub fn search_last_by_tile_x(segments: &[u64], tile_x: i16) -> Found
     ensures { λ r. ⌜ placeIn r ≡ searchOf (orderAt (Key.TileX «tile_x»)) (now (segments .entry)) ⌝ }
 {
-    let end = halve_by_tile_x(segments, above_tile(tile_x));
-    tell(segments, Key::TileX(tile_x), end)
+    let offset = consts::shift(BitField::TileX);
+    search_number(
+        segments,
+        offset,
+        consts::size(BitField::TileX),
+        above_tile(tile_x),
+    )
 }
 
 pub fn search_last_by_layer_id(segments: &[u64], layer_id: u32) -> Found
     ensures { λ r. ⌜ placeIn r ≡ searchOf (orderAt (Key.LayerId «layer_id»)) (now (segments .entry)) ⌝ }
 {
-    let end = halve_by_layer_id(segments, above_layer_id(layer_id));
-    tell(segments, Key::LayerId(layer_id), end)
+    let offset = consts::shift(BitField::LayerId);
+    search_number(
+        segments,
+        offset,
+        consts::size(BitField::LayerId),
+        above_layer_id(layer_id),
+    )
 }
 
 // The last segment whose tile x is, or is not, at least a start.

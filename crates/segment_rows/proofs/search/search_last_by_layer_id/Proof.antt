@@ -1,18 +1,24 @@
 -- `search::search_last_by_layer_id` meets its contract. Assumes nothing.
+use mathlib.Core.Path.{ap, fun-ext}
+use Prim.Native.Nat.{ℕ}
 use native.Mathlib.Omega.{arith}
 use borrow.Author.Needs.{needs}
 use Rattle.pixel_segment.specs.Field.{cpu, layerIdOf}
-use Rattle.segment_rows.proofs.Halving.{same-end}
-use Rattle.segment_rows.proofs.Above.{above-number}
+use Rattle.segment_rows.specs.Search.{searchOf}
+use Rattle.segment_rows.proofs.Above.{number-rank}
 use Rattle.segment_rows.proofs.search.search_last_by_layer_id.Statement.{statement}
 use Rattle.segment_rows.proofs.search.search_last_by_layer_id.Tie as tie
 
-tell-requires : tie.Need-tell-requires
-tell-requires c κs =
-    let s = c .before .before .before in
-    same-end _ _ _ (c .halve-by-layer-id .ensures)
-    (λ w. rw (c .before .above-layer-id .ensures) (above-number (layerIdOf cpu w) (s .args .layer-id) _ (omega arith)))
+search-number-requires : tie.Need-search-number-requires
+search-number-requires c κs = (omega (arith, c .before .before .shift .ensures), omega (arith, c .before .size .ensures), omega (arith, c .before .size .ensures))
+
+returns : tie.Need-returns
+returns c =
+    let s = c .before .before .before .before .before in
+    rw (c .search-number .ensures, c .before .above-layer-id .ensures, c .before .before .size .ensures, c .before .before .before .shift .ensures)
+    (ap (λ (at : ℕ → ℕ). searchOf at (s .args .segments .now)) (fun-ext (λ w. number-rank (layerIdOf cpu w) (s .args .layer-id) _ (omega arith))))
 
 pub search-last-by-layer-id-spec : {M : Type 1} → statement M
 search-last-by-layer-id-spec =
-    tie.close (tie.spec (λ c κs. search needs) (λ c κs. search needs) tell-requires (λ c. search needs))
+    tie.close
+    (tie.spec (λ c κs. search needs) (λ c κs. search needs) (λ c κs. search needs) search-number-requires returns)
