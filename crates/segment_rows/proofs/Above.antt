@@ -55,6 +55,11 @@ at-least-tile (negsuc m) n = le-leb (storedOf (negsuc m)) n (omega (arith, added
     all zero = rw tile-zero (le-leb 0 m (omega arith))
     all (suc n) = rw tile-suc
 
+-- every stored number is above a tile left of -1
+pub left-of-all : (m n : ℕ) → compareℤ (tileOf n) (negsuc (suc m)) ≡ 2
+left-of-all m zero = rw (tile-zero, le-ltb (suc m) 0 (omega arith), lt-ltb 0 (suc m) (omega arith))
+left-of-all m (suc n) = rw tile-suc
+
 -- and above it from the next tile's on
 pub above-tile : (t : ℤ) (n : ℕ) → leb (storedOf (t +ℤ pos 1)) n ≡ isGt (compareℤ (tileOf n) t)
 above-tile t n = by t
@@ -62,16 +67,12 @@ above-tile t n = by t
     by-stored : (k above : ℕ) → above ≡ k + 1 → leb above n ≡ isGt (compareℤ (tileOf n) (tileOf k))
     by-stored k above e = rw (e, compare-tile) (above-next n k)
 
-    all : (m n : ℕ) → isGt (compareℤ (tileOf n) (negsuc (suc m))) ≡ true
-    all m zero = rw (tile-zero, le-ltb (suc m) 0 (omega arith), lt-ltb 0 (suc m) (omega arith))
-    all m (suc n) = rw tile-suc
-
     by : (t : ℤ) → leb (storedOf (t +ℤ pos 1)) n ≡ isGt (compareℤ (tileOf n) t)
     by (pos m) = rw (← tile-suc m) (by-stored (suc m) (m + 1 + 1) (omega arith))
     by (negsuc zero) = rw (← tile-zero) (by-stored 0 1 refl)
     by (negsuc (suc m)) =
         let first = added (negsuc (suc m)) (pos 1) in
-        le-leb (storedOf (negsuc (suc m) +ℤ pos 1)) n (omega (arith, added (negsuc (suc m) +ℤ pos 1) (pos 1))) ∙ sym (all m n)
+        le-leb (storedOf (negsuc (suc m) +ℤ pos 1)) n (omega (arith, added (negsuc (suc m) +ℤ pos 1) (pos 1))) ∙ sym (ap isGt (left-of-all m n))
 
 -- above a key that asks whether a number is at least a start: nothing below the limit where that is wanted, else from the start on
 pub above-test : (wanted b : Bool) (start n limit : ℕ) → n < limit → leb start n ≡ b → leb (cond wanted limit start) n ≡ isGt (compareBool b wanted)

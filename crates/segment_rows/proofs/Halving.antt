@@ -12,6 +12,8 @@ use Rattle.laws.proofs.Orders.{le-or-lt}
 use Rattle.laws.proofs.Bools.{either}
 use Rattle.pixel_segment.specs.Order.{isGt}
 use Rattle.segment_rows.specs.Search.{Place, found, absent, halved, endOf, ended, searchOf, afterOf}
+use Rattle.segment_rows.specs.InnerPlaces.{HalfOf}
+use Rattle.segment_rows.specs.declared.search.Rest.{Rest}
 
 module _ (isAbove : ℕ → Bool) (l : List ℕ) where
   -- a turn with more than one element
@@ -65,17 +67,52 @@ module _ (isAbove : ℕ → Bool) (l : List ℕ) where
   pub begin : Left 0 (length l)
   begin = record { within = omega arith; same = refl }
 
-  pub next : {start len : ℕ} → Left start len → 1 < len → (t : Bool) → isAbove (getD l (start + len / 2) 0) ≡ t → Left (cond t start (start + len / 2)) (cond t (len / 2) (len - len / 2))
-  next {start} {len} left h true e = record { within = omega arith; same = sym (halved-left start len h e) ∙ left .same }
-  next {start} {len} left h false e = record { within = omega arith; same = sym (halved-right start len h e) ∙ left .same }
+  -- a half of what is left: of one element, the start stays
+  next : {start len : ℕ} → Left start len → 0 < len → (t : Bool) → isAbove (getD l (start + len / 2) 0) ≡ t → Left (cond t start (start + len / 2)) (cond t (len / 2) (len - len / 2))
+  next {start} {len} left h t e = ⊎-elim (one t) (many t e) (le-or-lt len 1)
+    where
+      one : (t : Bool) → len ≤ 1 → Left (cond t start (start + len / 2)) (cond t (len / 2) (len - len / 2))
+      one true p =
+          record {
+            within = omega arith;
+            same = halved-end (len / 2) start (len / 2) (omega arith) ∙ sym (halved-end len start len p) ∙ left .same;
+          }
+      one false p =
+          let stays : start + len / 2 ≡ start = omega arith in
+          record {
+            within = omega arith;
+            same =
+                halved-end (len - len / 2) (start + len / 2) (len - len / 2) (omega arith)
+                ∙ stays
+                ∙ sym (halved-end len start len p)
+                ∙ left .same;
+          }
+
+      many : (t : Bool) → isAbove (getD l (start + len / 2) 0) ≡ t → 1 < len → Left (cond t start (start + len / 2)) (cond t (len / 2) (len - len / 2))
+      many true e p = record { within = omega arith; same = sym (halved-left start len p e) ∙ left .same }
+      many false e p = record { within = omega arith; same = sym (halved-right start len p e) ∙ left .same }
+
+  pub half-left : {start len : ℕ} {r : Rest} → Left start len → 0 < len → HalfOf isAbove l start len r → Left (r .start) (r .len)
+  half-left {start} {len} left h half =
+      rw (half .start-is, half .len-is) (next left h (isAbove (getD l (start + len / 2) 0)) refl)
+
+  -- fewer elements are left, and one at least
+  pub half-some : {start len : ℕ} {r : Rest} → 1 < len → HalfOf isAbove l start len r → 0 < r .len
+  half-some {start} {len} h half = rw (half .len-is) (by (isAbove (getD l (start + len / 2) 0)))
+    where
+      by : (t : Bool) → 0 < cond t (len / 2) (len - len / 2)
+      by true = omega arith
+      by false = omega arith
+
+  pub half-fewer : {start len : ℕ} {r : Rest} → 0 < len → HalfOf isAbove l start len r → (r .len ≤ len) × (1 < len → r .len < len)
+  half-fewer {start} {len} h half = rw (half .len-is) (by (isAbove (getD l (start + len / 2) 0)))
+    where
+      by : (t : Bool) → (cond t (len / 2) (len - len / 2) ≤ len) × (1 < len → cond t (len / 2) (len - len / 2) < len)
+      by true = (omega arith, λ p. omega arith)
+      by false = (omega arith, λ p. omega arith)
 
   pub ends : {start len : ℕ} → Left start len → len ≤ 1 → start ≡ endOf isAbove l
   ends {start} {len} left h = sym (halved-end len start len h) ∙ left .same
-
--- fewer elements are left
-pub fewer : (len : ℕ) → 1 < len → (t : Bool) → cond t (len / 2) (len - len / 2) < len
-fewer len h true = omega arith
-fewer len h false = omega arith
 
 -- the whole search, of a list that is not empty
 pub search-is : (at : ℕ → ℕ) (l : List ℕ) → 0 < length l → searchOf at l ≡ ended (at (getD l (endOf (λ w. isGt (at w)) l) 0)) (endOf (λ w. isGt (at w)) l)
@@ -118,6 +155,36 @@ halved-lt isAbove l (suc turns) start len h t =
 
 pub end-lt : (isAbove : ℕ → Bool) (l : List ℕ) {end : ℕ} → 0 < length l → end ≡ endOf isAbove l → end < length l
 end-lt isAbove l some e = rw e (omega (arith, halved-lt isAbove l (length l) 0 (length l) some (omega arith)))
+
+-- ---- in a list whose first element is not above, at one that is not above either, before one that is, in whatever order
+
+pub record LastBelow (isAbove : ℕ → Bool) (l : List ℕ) (s : ℕ) : Type 0 where
+  pub inside : s < length l
+  pub low : isAbove (getD l s 0) ≡ false
+  pub high : s + 1 < length l → isAbove (getD l (s + 1) 0) ≡ true
+
+last-below : (isAbove : ℕ → Bool) (l : List ℕ) (turns start len : ℕ) → 1 ≤ len → len ≤ turns → start + len ≤ length l → isAbove (getD l start 0) ≡ false → (start + len < length l → isAbove (getD l (start + len) 0) ≡ true) → LastBelow isAbove l (halved isAbove l len start len)
+last-below isAbove l zero start len h t w low high = absurd (omega arith)
+last-below isAbove l (suc turns) start len h t w low high =
+    let left = last-below isAbove l turns start (len / 2) in
+    let right = last-below isAbove l turns (start + len / 2) (len - len / 2) in
+    ⊎-elim
+    (λ (one : len ≤ 1).
+    let e : len ≡ 1 = omega arith in
+    rw (halved-end isAbove l len start len one) (record { inside = omega arith; low = low; high = rw e at high }))
+    (λ (many : 1 < len).
+    ⊎-elim
+    (λ (g : isAbove (getD l (start + len / 2) 0) ≡ true).
+    rw (halved-left isAbove l start len many g) (left (omega arith) (omega arith) (omega arith) low (λ p. g)))
+    (λ (g : isAbove (getD l (start + len / 2) 0) ≡ false).
+    let e : start + len / 2 + (len - len / 2) ≡ start + len = omega arith in
+    rw (halved-right isAbove l start len many g) (right (omega arith) (omega arith) (omega arith) g (rw e high)))
+    (either (isAbove (getD l (start + len / 2) 0))))
+    (le-or-lt len 1)
+
+pub end-below : (isAbove : ℕ → Bool) (l : List ℕ) {end : ℕ} → 0 < length l → isAbove (getD l 0 0) ≡ false → end ≡ endOf isAbove l → LastBelow isAbove l end
+end-below isAbove l some first e =
+    rw e (last-below isAbove l (length l) 0 (length l) some (omega arith) (omega arith) first (λ p. absurd (omega arith)))
 
 pub after-le : (at : ℕ → ℕ) (l : List ℕ) → afterOf (searchOf at l) ≤ length l
 after-le at l =

@@ -8,3 +8,5 @@ pub mod Above
 pub mod TileParts
 pub mod TileLayers
 pub mod Opposite
+pub mod Ends
+pub mod TilePlaces

@@ -1,9 +1,10 @@
 -- `search_last_by_key`: the Rust's halving. `at w` is the rank of the element w: how its key compares with the key that is looked for, so
 -- one definition serves every key. Keys and parts take the table of widths as a parameter. On a slice that the key does not sort, the halving decides; on a sorted one see proofs/Sorted. Stands for
 -- the clause on `search_last_by_key`, P5.
+use mathlib.Core.Path.{_≡_}
 use mathlib.Core.Bool.{Bool, false, cond}
 use mathlib.Core.List.{List, [], _∷_}
-use Prim.Native.Nat.{ℕ, zero, suc, _+_, _-_, _/_}
+use Prim.Native.Nat.{ℕ, zero, suc, _+_, _-_, _/_, _≤_}
 use lib.Dec.{ltb, leb}
 use lib.IntN.{ℤ, pos}
 use lib.ListN.{length, getD, take, drop}
@@ -103,3 +104,9 @@ tilePart t row = tilePartIn cpu t row
 
 unfoldable pub layerPart : ℕ → List ℕ → List ℕ
 layerPart id part = layerPartIn cpu id part
+
+-- the place where a tile's segments stand in a row
+pub record TileStands (t : ℤ) (row : List ℕ) (start end : ℕ) : Type 0 where
+  pub ascending : start ≤ end
+  pub within : end ≤ length row
+  pub part : between start end row ≡ tilePart t row

@@ -2,4 +2,5 @@
 // tile or a layer.
 pub mod order;
 pub mod parts;
+pub mod places;
 pub mod search;

@@ -11,11 +11,13 @@ ghost use mathlib.Core.Bool.{cond};
 ghost use Prim.Native.Nat.{_+_, _-_, _/_, _%_, _^_, _≤_, _<_, min};
 ghost use lib.Dec.{leb};
 ghost use lib.IntN.{pos, _+ℤ_};
+ghost use lib.ListN.{length, getD};
 ghost use Rattle.laws.specs.Integer.{plus};
 ghost use Rattle.pixel_segment.specs.Field.{cpu, tileYOf, tileXOf, layerIdOf};
 ghost use Rattle.pixel_segment.specs.Order.{rank, isGt};
 ghost use Rattle.pixel_segment.specs.Pack.{storedOf};
 ghost use Rattle.segment_rows.specs.Search.{placeIn, endOf, searchOf, ended, orderAt};
+ghost use Rattle.segment_rows.specs.InnerPlaces.{HalfOf};
 
 pub enum Key {
     TileY(i16),
@@ -114,8 +116,38 @@ fn choose(is_first: bool, first: usize, second: usize) -> usize
     if is_first { first } else { second }
 }
 
-// Where the halving ends: left of the middle where the field of the middle word, of so many values from a bit on, is at
-// least `above`, else from the middle on. Short enough to be compiled once for each field, with its bits as constants.
+// The field, of so many values from a bit on, of the word at a place.
+pub fn field_at(segments: &[u64], offset: u32, size: u64, i: usize) -> u32
+    requires { ⌜ (offset < 64) × (0 < size) × (size ≤ 2 ^ 32) × (i < length (now segments)) ⌝ }
+    ensures { λ r. ⌜ r ≡ getD (now (segments .entry)) i 0 / 2 ^ offset % size ⌝ }
+{
+    ((segments[i] >> offset) % size) as u32
+}
+
+// What is left of a slice: so many words from a place on.
+struct Rest {
+    start: usize,
+    len: usize,
+}
+
+// The half to go on with: the one left of the middle where the field of the middle word is at least `above`, else the
+// one from the middle on. Of one word the start stays.
+fn half_of(segments: &[u64], offset: u32, size: u64, above: u32, start: usize, len: usize) -> Rest
+    requires { ⌜ (offset < 64) × (0 < size) × (size ≤ 2 ^ 32) × (0 < len) × (start + len ≤ length (now segments)) ⌝ }
+    ensures { λ r. ⌜ HalfOf (λ w. leb above (w / 2 ^ offset % size)) (now (segments .entry)) start len r ⌝ }
+{
+    let half = len / 2;
+    let mid = start + half;
+    let is_above = above <= field_at(segments, offset, size, mid);
+    Rest {
+        start: choose(is_above, start, mid),
+        len: choose(is_above, half, len - half),
+    }
+}
+
+// Where the halving ends, by the field of so many values from a bit on. Two halves a turn, which needs fewer tests of
+// what is left: a half of one word changes nothing. Short enough to be compiled once for each field, with its bits as
+// constants.
 pub fn halve(segments: &[u64], offset: u32, size: u64, above: u32) -> usize
     requires { ⌜ (offset < 64) × (0 < size) × (size ≤ 2 ^ 32) ⌝ }
     ensures { λ r. ⌜ r ≡ endOf (λ w. leb above (w / 2 ^ offset % size)) (now (segments .entry)) ⌝ }
@@ -123,11 +155,10 @@ pub fn halve(segments: &[u64], offset: u32, size: u64, above: u32) -> usize
     let mut start = 0;
     let mut len = segments.len();
     while 1 < len {
-        let half = len / 2;
-        let mid = start + half;
-        let is_above = above <= ((segments[mid] >> offset) % size) as u32;
-        start = choose(is_above, start, mid);
-        len = choose(is_above, half, len - half);
+        let first = half_of(segments, offset, size, above, start, len);
+        let second = half_of(segments, offset, size, above, first.start, first.len);
+        start = second.start;
+        len = second.len;
     }
     start
 }

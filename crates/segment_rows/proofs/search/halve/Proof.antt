@@ -1,49 +1,42 @@
 -- `search::halve` meets its contract. What holds of the part that is left is `Left`. Assumes nothing.
-use mathlib.Core.Path.{refl}
 use mathlib.Core.Bool.{Bool}
-use Prim.Native.Nat.{ℕ, _+_, _/_, _%_, _^_}
-use native.Mathlib.Nat.{mod-lt}
+use Prim.Native.Nat.{ℕ, _/_, _%_, _^_}
 use native.Mathlib.Omega.{arith}
 use borrow.Author.Needs.{needs}
 use lib.Dec.{leb}
-use lib.ListN.{getD}
-use Rattle.segment_rows.proofs.Halving.{Left, begin, next, fewer, ends}
+use Rattle.segment_rows.proofs.Halving.{Left, begin, half-left, half-some, half-fewer, ends}
 use Rattle.segment_rows.proofs.search.halve.Statement.{statement}
 use Rattle.segment_rows.proofs.search.halve.Tie as tie
 
-abbrev isAbove : ℕ → ℕ → ℕ → ℕ → Bool
-isAbove offset size above w = leb above (w / 2 ^ offset % size)
-
 abbrev Inv-loop : tie.InvT-loop
-Inv-loop segments offset size above start₀ len₀ start len = Left (isAbove offset size above) segments start len
+Inv-loop segments offset size above start₀ len₀ start len = Left (λ w. leb above (w / 2 ^ offset % size)) segments start len
 
 abbrev μ-loop : tie.MeasureT-loop
 μ-loop segments offset size above start₀ len₀ start len = len
 
--- the middle word of a turn, and its flag
-abbrev middle : tie.After-shared-slice-known2 Inv-loop μ-loop → ℕ
-middle c =
-    let at-loop = c .before .before .loop in
-    getD (c .before .before .before .before .args .segments .now) (at-loop .start + at-loop .len / 2) 0
-
-abbrev is-above : tie.After-choose Inv-loop μ-loop → Bool
-is-above c =
-    let s = c .before .before .before .before .before .args in
-    isAbove (s .offset) (s .size) (s .above) (middle (c .before))
-
 loop-holds : tie.Need-loop-holds Inv-loop μ-loop
 loop-holds c = begin _ _
 
-cast-is-above : tie.Need-cast-is-above Inv-loop μ-loop
-cast-is-above c = omega (arith, mod-lt (middle c / 2 ^ c .before .before .before .before .args .offset) (c .before .before .before .before .pre .1))
+half-of-requires : tie.Need-half-of-requires Inv-loop μ-loop
+half-of-requires c κs = search needs
+
+half-of-requires-2 : tie.Need-half-of-requires-2 Inv-loop μ-loop
+half-of-requires-2 c κs =
+    let s = c .before .before .before .before .pre in
+    let left = half-left _ _ (c .before .before .loop .inv) (omega arith) (c .half-of .ensures) in
+    (s .0, s .1, s .2, half-some _ _ (omega arith) (c .half-of .ensures), left .within)
 
 loop-less : tie.Need-loop-less Inv-loop μ-loop
-loop-less c = rw (c .choose2 .ensures) (fewer _ (omega arith) (is-above (c .before)))
+loop-less c =
+    let some = half-some _ _ (omega arith) (c .before .half-of .ensures) in
+    let first = half-fewer _ _ (omega arith) (c .before .half-of .ensures) in
+    let less = first .1 (omega arith) in
+    omega (arith, half-fewer _ _ some (c .half-of2 .ensures) .0)
 
 loop-again : tie.Need-loop-again Inv-loop μ-loop
 loop-again c =
-    rw (c .choose2 .ensures, c .before .choose .ensures)
-    (next _ _ (c .before .before .before .before .loop .inv) (omega arith) (is-above (c .before)) refl)
+    let some = half-some _ _ (omega arith) (c .before .half-of .ensures) in
+    half-left _ _ (half-left _ _ (c .before .before .before .loop .inv) (omega arith) (c .before .half-of .ensures)) some (c .half-of2 .ensures)
 
 returns : tie.Need-returns Inv-loop μ-loop
 returns c = ends _ _ (c .before .loop .inv) (omega arith)
@@ -55,9 +48,8 @@ halve-spec =
     Inv-loop
     μ-loop
     loop-holds
-    (λ c. omega arith) (λ c. omega arith) (λ c. omega arith) (λ c. omega arith) (λ c. omega arith)
-    cast-is-above
-    (λ c κs. search needs) (λ c. omega arith) (λ c κs. search needs)
+    half-of-requires
+    half-of-requires-2
     loop-less
     loop-again
     returns)
