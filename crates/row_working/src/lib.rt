@@ -22,6 +22,7 @@ ghost use Rattle.row_statements.specs.Lent.{columns, listColumns, lentTable};
 ghost use Rattle.row_statements.specs.State.{stateIn};
 ghost use Rattle.row_statements.specs.TileWork.{workCall, workLent, layersVerdict, saysFor, workOut, workOf, GivesWork};
 ghost use Rattle.row_statements.specs.InnerWork.{refusedWork, doneWork, WorkJudged, workedBy};
+ghost use Rattle.row_working.specs.InnerPart.{PartJudged, WorksPart};
 
 fn refuse(state: RowState, kept: Kept, refusal: Refusal) -> TileWorked
     ensures { λ r. ⌜ r ≡ refusedWork state kept refusal ⌝ }
@@ -64,7 +65,70 @@ fn done(state: RowState, worked: Worked) -> TileWorked
     }
 }
 
-// The work on a tile that 1 to 6 don't refuse: judged by 7 to 9, and then done.
+// The work on a tile's part: judged by 7 to 9, and then done.
+pub fn work_part(
+    state: RowState,
+    part: &[u64],
+    layers: &[u32],
+    colors: &[f32],
+    count: usize,
+    kept: Kept,
+    clear: Color,
+    previous: PreviousClear,
+    ids: &[u32],
+    covers: &[i8],
+    next_ids: &mut [u32],
+    next_covers: &mut [i8],
+    list_ids: &mut [u32],
+    list_covers: &mut [i8],
+    list_flags: &mut [bool],
+    list_unmasked: &mut [bool],
+) -> TileWorked
+    requires { ⌜ PartJudged state (now part) (lentTable (now layers) (now colors) count)
+        (columns (now ids) (now covers))
+        (workLent (columns (now «next_ids») (now «next_covers»))
+        (listColumns (now «list_ids») (now «list_covers»)
+        (now «list_flags») (now «list_unmasked»))) ⌝ }
+    ensures { λ r. ⌜ WorksPart state (now (part .entry)) (lentTable (now (layers .entry)) (now (colors .entry)) count)
+        kept clear previous (columns (now (ids .entry)) (now (covers .entry)))
+        (workLent (columns (now («next_ids» .entry)) (now («next_covers» .entry)))
+        (listColumns (now («list_ids» .entry)) (now («list_covers» .entry))
+        (now («list_flags» .entry)) (now («list_unmasked» .entry))))
+        r
+        (workLent (columns (now («next_ids» .exit)) (now («next_covers» .exit)))
+        (listColumns (now («list_ids» .exit)) (now («list_covers» .exit))
+        (now («list_flags» .exit)) (now («list_unmasked» .exit)))) ⌝ }
+{
+    let judged = judging::judge_list(ids, covers, state.left, part, layers, colors, count);
+    let verdict = judged.verdict;
+    match verdict {
+        Verdict::Refuse(refusal) => refuse(state, kept, refusal),
+        Verdict::Pass => done(
+            state,
+            layer_workbench::work(
+                ids,
+                covers,
+                state.left,
+                part,
+                judged.listed,
+                layers,
+                colors,
+                count,
+                kept,
+                clear,
+                previous,
+                next_ids,
+                next_covers,
+                list_ids,
+                list_covers,
+                list_flags,
+                list_unmasked,
+            ),
+        ),
+    }
+}
+
+// The work on a tile that 1 to 6 don't refuse.
 pub fn work_judged(
     state: RowState,
     tile: i32,
@@ -104,33 +168,24 @@ pub fn work_judged(
         (now («list_flags» .exit)) (now («list_unmasked» .exit)))) ⌝ }
 {
     let part = parts::in_tile(row, tile as i16);
-    let judged = judging::judge_list(ids, covers, state.left, part, layers, colors, count);
-    let verdict = judged.verdict;
-    match verdict {
-        Verdict::Refuse(refusal) => refuse(state, kept, refusal),
-        Verdict::Pass => done(
-            state,
-            layer_workbench::work(
-                ids,
-                covers,
-                state.left,
-                part,
-                judged.listed,
-                layers,
-                colors,
-                count,
-                kept,
-                clear,
-                previous,
-                next_ids,
-                next_covers,
-                list_ids,
-                list_covers,
-                list_flags,
-                list_unmasked,
-            ),
-        ),
-    }
+    work_part(
+        state,
+        part,
+        layers,
+        colors,
+        count,
+        kept,
+        clear,
+        previous,
+        ids,
+        covers,
+        next_ids,
+        next_covers,
+        list_ids,
+        list_covers,
+        list_flags,
+        list_unmasked,
+    )
 }
 
 // Works the next tile of a row.

@@ -1,14 +1,20 @@
 -- A batch as the loop over its tiles goes: what is left, from where it stands, gives what the whole batch gives. Assumes nothing.
 use mathlib.Core.Path.{_≡_, refl, ap, ap₂, sym, _∙_}
 use mathlib.Core.Bool.{Bool, true, false, cond, _&&_}
-use Prim.Native.Nat.{ℕ, suc, _+_, _-_, _≤_, _<_}
+use Prim.Native.Nat.{ℕ, suc, _+_, _-_, _^_, _≤_, _<_}
 use native.Mathlib.Omega.{arith}
 use borrow.Author.Tests.{le-ltb, lt-ltb, ltb-false, ltb-true, leb-false, leb-true}
 use lib.Dec.{ltb, leb}
 use lib.IntN.{pos}
 use Rattle.refusals.specs.Refusal.{Judgement, pass, refuse}
+use Rattle.pixel_segment.specs.Field.{cpu, tileXOf}
+use Rattle.pixel_segment.proofs.Heights.{cpu-keyed}
+use Rattle.segment_rows.specs.Rows.{Ordered}
+use Rattle.segment_rows.proofs.Keys.{tile-x-ordered}
+use Rattle.segment_rows.specs.Search.{TileStands}
 use Rattle.row_statements.specs.Lent.{ListColumns, isListShort}
 use Rattle.row_statements.specs.State.{State}
+use Rattle.row_statements.proofs.Works.{in-row}
 use Rattle.batch_statements.specs.BatchLent.{BatchLent, sided}
 use Rattle.batch_statements.specs.Batch.{BatchRow, BatchAt, turnOf, nextBy, tilesFrom, GivesBatch}
 use Rattle.batch_statements.specs.declared.Batch.{Batch}
@@ -39,6 +45,14 @@ goes a b x y e = by (ltb a b) (leb x y) refl refl e
     by true false ep eq h = absurd (let z : _≡_ {A = ℕ} 0 1 = cc in omega arith)
     by false q ep eq h = absurd (let z : _≡_ {A = ℕ} 0 1 = cc in omega arith)
 
+-- the row is in order by tile, and the next tile's number is narrow
+module _ {c : BatchRow} {s : BatchAt} (stands : BatchStands c s) where
+  pub row-ordered : Ordered (tileXOf cpu) (c .row)
+  row-ordered = tile-x-ordered cpu cpu-keyed (suc (s .state .tileY)) (c .row) (stands .words) (stands .ascends)
+
+  pub narrow : s .state .next < 2 ^ 15
+  narrow = let r = in-row (s .state) (stands .in-state) in omega (arith, r .last, r .within)
+
 pub record Going (c : BatchRow) (planes tiles : ℕ) (s₀ s : BatchAt) : Type 0 where
   pub stands : BatchStands c s
   pub room : BatchRoom (c .keeps) tiles planes (s .lent)
@@ -52,11 +66,12 @@ module _ (c : BatchRow) (spare tiles : ℕ) (s₀ : BatchAt) where
       record { stands = stands; room = room; within = omega (arith, e); rest = ap (λ (k : ℕ). tilesFrom c (spare + 256) k s₀) all }
 
   module _ (s : BatchAt) (v : Going c (spare + 256) tiles s₀ s) where
-    pub turnable : (list : ListColumns) → isListShort list ≡ false → s .worked < tiles → s .used ≤ spare → Turnable c s list
-    turnable list e p u =
+    pub turnable : (list : ListColumns) {start end : ℕ} → isListShort list ≡ false → TileStands (s .tile) (c .row) start end → s .worked < tiles → s .used ≤ spare → Turnable c s list start end
+    turnable list e t p u =
         let r = v .room in
         record {
           stands = v .stands;
+          place = t;
           list-long = e;
           notes = record { kept = λ k. let h = r .kept k in omega (arith, h, p); told = omega (arith, r .told, p); bottoms = omega (arith, r .bottoms, p) };
           planes = record { planes-long = omega (arith, r .planes-long, u); painted-long = omega (arith, r .painted-long, u) };

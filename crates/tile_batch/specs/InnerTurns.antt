@@ -5,12 +5,13 @@ use mathlib.Core.List.{List}
 use Prim.Native.Nat.{ℕ, suc, _+_, _*_, _≤_}
 use lib.Ieee.{Float}
 use lib.Dec.{leb}
-use lib.IntN.{ℤ, pos}
+use lib.IntN.{pos}
 use lib.ListN.{length, take}
 use lib.Seq.{sets}
 use Rattle.refusals.specs.Refusal.{pass, unless, judgementIn}
 use Rattle.pixel_segment.specs.Field.{cpu}
 use Rattle.segment_rows.specs.Rows.{Words, isRow}
+use Rattle.segment_rows.specs.Search.{TileStands}
 use Rattle.styling.specs.declared.Layer.{Layer}
 use Rattle.queue_statements.specs.Queue.{Carry, isQueue}
 use Rattle.cached_tile.specs.Kept.{tagOutOfRange}
@@ -75,17 +76,17 @@ pub record BatchStands (c : BatchRow) (s : BatchAt) : Type 0 where
   pub other-room : isQueueShort (s .lent .other) ≡ false
   pub in-queue : isQueue (s .state .left) (s .lent .queue .ids) ≡ true
 
--- what a tile asks
-pub record Turnable (c : BatchRow) (s : BatchAt) (list : ListColumns) : Type 0 where
+-- what a tile asks, whose segments stand at a place
+pub record Turnable (c : BatchRow) (s : BatchAt) (list : ListColumns) (start end : ℕ) : Type 0 where
   pub stands : BatchStands c s
+  pub place : TileStands (s .tile) (c .row) start end
   pub list-long : isListShort list ≡ false
   pub notes : NoteRoom (c .keeps) (s .worked) (s .lent)
   pub planes : PlaneRoom (s .used) 256 (s .lent .planes) (s .lent .painted)
 
 -- what the work on it asks, once 2 and 6 don't refuse it
-pub record HereWorkable (c : BatchRow) (s : BatchAt) (list : ListColumns) (tile : ℤ) (held : kept.Kept) : Type 0 where
-  pub turns : Turnable c s list
-  pub tile-is : tile ≡ s .tile
+pub record HereWorkable (c : BatchRow) (s : BatchAt) (list : ListColumns) (start end : ℕ) (held : kept.Kept) : Type 0 where
+  pub turns : Turnable c s list start end
   pub held-is : held ≡ keptAt (c .keeps) (s .lent .kept) (s .worked)
   pub passes : unless (leb (s .state .to) (s .state .next)) 2 (unless (tagOutOfRange held) 6 pass) ≡ pass
 

@@ -7,6 +7,7 @@ use layer_workbench::PreviousClear;
 use refusals::Verdict;
 use row_statements::RowState;
 use row_working::judging;
+use segment_rows::parts;
 use styling::Color;
 ghost use mathlib.Core.Path.{_≡_};
 ghost use mathlib.Core.Bool.{false, _&&_};
@@ -70,7 +71,7 @@ fn goes_on(at: Batch, tiles: usize, spare: usize) -> bool
     (at.worked < tiles) & (at.used <= spare)
 }
 
-// Works tile after tile.
+// Works tile after tile. Each tile's segments are looked for where those of the tile before end.
 fn work_many(
     state: RowState,
     tiles: usize,
@@ -122,10 +123,16 @@ fn work_many(
         first: true,
         verdict: Verdict::Pass,
     };
+    let mut hint: usize = 0;
     while goes_on(at, tiles, spare) {
+        let stood = at.state;
+        let place = parts::place_of_tile(row, stood.next as i16, hint);
+        hint = place.end;
         at = tile::turn(
             at,
             row,
+            place.start,
+            place.end,
             layers,
             colors,
             count,

@@ -9,7 +9,6 @@ use row_statements::RowState;
 use row_statements::TileDone;
 use row_statements::TileWorked;
 use row_statements::WorkAnswer;
-use segment_rows::parts;
 use styling::Color;
 ghost use mathlib.Core.Path.{_≡_};
 ghost use mathlib.Core.Bool.{not};
@@ -133,11 +132,12 @@ fn note_tile(
     }
 }
 
-// Works a tile that neither 2 nor 6 refuses.
+// Works a tile that neither 2 nor 6 refuses, whose segments stand from `start` up to `end`.
 fn work_here(
     at: Batch,
-    tile: i32,
     row: &[u64],
+    start: usize,
+    end: usize,
     layers: &[u32],
     colors: &[f32],
     count: usize,
@@ -162,7 +162,7 @@ fn work_here(
     requires { ⌜ HereWorkable (batchRow (now row) (lentTable (now layers) (now colors) count) keeps clear previous)
         (batchIn at (batchLent (columns (now ids) (now covers)) (columns (now «next_ids») (now «next_covers»))
         (now kept) (now told) (now bottoms) (now planes) (now painted)))
-        (listColumns (now «list_ids») (now «list_covers») (now «list_flags») (now «list_unmasked»)) tile held ⌝ }
+        (listColumns (now «list_ids») (now «list_covers») (now «list_flags») (now «list_unmasked»)) start end held ⌝ }
     ensures { λ r. ⌜ GivesTurn (at .first)
         (turnOf (batchRow (now (row .entry)) (lentTable (now (layers .entry)) (now (colors .entry)) count)
         keeps clear previous)
@@ -176,10 +176,10 @@ fn work_here(
         (now (kept .exit)) (now (told .exit)) (now (bottoms .exit)) (now (planes .exit)) (now (painted .exit))) ⌝ }
 {
     let state = at.state;
-    let worked = row_working::work_judged(
+    let part = &row[start..end];
+    let worked = row_working::work_part(
         state,
-        tile,
-        row,
+        part,
         layers,
         colors,
         count,
@@ -198,28 +198,25 @@ fn work_here(
     let answer = worked.answer;
     match answer {
         WorkAnswer::Refused(refusal) => refused(at, refusal),
-        WorkAnswer::Done(done) => {
-            let part = parts::in_tile(row, tile as i16);
-            note_tile(
-                at,
-                worked,
-                done,
-                state.left,
-                part,
-                layers,
-                colors,
-                count,
-                keeps,
-                ids,
-                covers,
-                list_unmasked,
-                kept,
-                told,
-                bottoms,
-                planes,
-                painted,
-            )
-        }
+        WorkAnswer::Done(done) => note_tile(
+            at,
+            worked,
+            done,
+            state.left,
+            part,
+            layers,
+            colors,
+            count,
+            keeps,
+            ids,
+            covers,
+            list_unmasked,
+            kept,
+            told,
+            bottoms,
+            planes,
+            painted,
+        ),
     }
 }
 
@@ -227,6 +224,8 @@ fn work_here(
 fn work_next(
     at: Batch,
     row: &[u64],
+    start: usize,
+    end: usize,
     layers: &[u32],
     colors: &[f32],
     count: usize,
@@ -250,7 +249,7 @@ fn work_next(
     requires { ⌜ Turnable (batchRow (now row) (lentTable (now layers) (now colors) count) keeps clear previous)
         (batchIn at (batchLent (columns (now ids) (now covers)) (columns (now «next_ids») (now «next_covers»))
         (now kept) (now told) (now bottoms) (now planes) (now painted)))
-        (listColumns (now «list_ids») (now «list_covers») (now «list_flags») (now «list_unmasked»)) ⌝ }
+        (listColumns (now «list_ids») (now «list_covers») (now «list_flags») (now «list_unmasked»)) start end ⌝ }
     ensures { λ r. ⌜ GivesTurn (at .first)
         (turnOf (batchRow (now (row .entry)) (lentTable (now (layers .entry)) (now (colors .entry)) count)
         keeps clear previous)
@@ -269,8 +268,9 @@ fn work_next(
         Verdict::Refuse(refusal) => refused(at, refusal),
         Verdict::Pass => work_here(
             at,
-            state.next as i32,
             row,
+            start,
+            end,
             layers,
             colors,
             count,
@@ -299,6 +299,8 @@ fn work_next(
 pub fn turn(
     at: Batch,
     row: &[u64],
+    start: usize,
+    end: usize,
     layers: &[u32],
     colors: &[f32],
     count: usize,
@@ -323,7 +325,7 @@ pub fn turn(
         (batchIn at (sided (at .first)
         (batchLent (columns (now «a_ids») (now «a_covers»)) (columns (now «b_ids») (now «b_covers»))
         (now kept) (now told) (now bottoms) (now planes) (now painted))))
-        (listColumns (now «list_ids») (now «list_covers») (now «list_flags») (now «list_unmasked»)) ⌝ }
+        (listColumns (now «list_ids») (now «list_covers») (now «list_flags») (now «list_unmasked»)) start end ⌝ }
     ensures { λ r. ⌜ GivesBatch
         (turnOf (batchRow (now (row .entry)) (lentTable (now (layers .entry)) (now (colors .entry)) count)
         keeps clear previous)
@@ -341,6 +343,8 @@ pub fn turn(
         work_next(
             at,
             row,
+            start,
+            end,
             layers,
             colors,
             count,
@@ -365,6 +369,8 @@ pub fn turn(
         work_next(
             at,
             row,
+            start,
+            end,
             layers,
             colors,
             count,

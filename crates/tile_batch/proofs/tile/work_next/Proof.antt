@@ -27,10 +27,6 @@ standOf s =
     let a = s .args in
     batchIn (a .at) (batchLent (columns (a .ids .now) (a .covers .now)) (columns (a .next-ids .now) (a .next-covers .now)) (a .kept .now) (a .told .now) (a .bottoms .now) (a .planes .now) (a .painted .now))
 
--- the tile is a small number
-low : (s : tie.Start) → s .args .at .state .next < 2 ^ 31
-low s = let r = in-row (stateIn (s .args .at .state)) (s .pre .stands .in-state) in omega (arith, r .last, r .within)
-
 kept-at-requires : tie.Need-kept-at-requires
 kept-at-requires c κs = c .before .before .before .before .before .before .before .before .before .before .before .before .before .before .before .pre .notes .kept
 
@@ -46,17 +42,13 @@ refused-requires c κs = search needs
 enum-told : tie.Need-enum-told
 enum-told c = search needs
 
-cast-work-here : tie.Need-cast-work-here
-cast-work-here c = small w32 (pos (c .before .before .before .before .before .before .before .before .before .before .before .before .before .before .before .before .before .before .before .before .args .at .state .next)) (low (c .before .before .before .before .before .before .before .before .before .before .before .before .before .before .before .before .before .before .before .before))
-
 work-here-requires : tie.Need-work-here-requires
 work-here-requires c κs =
-    let s = c .before .before .before .before .before .before .before .before .before .before .before .before .before .before .before .before .before .before .before .before .before .before .before .before .before .before .before .before .before .before .before in
+    let s = c .before .before .before .before .before .before .before .before .before .before .before .before .before .before .before .before .before .before .before .before .before .before .before .before .before .before .before .before .before .before in
     record {
       turns = s .pre;
-      tile-is = toZ-pos w32 (low s);
-      held-is = c .before .before .before .before .before .before .before .before .before .before .before .before .before .before .before .kept-at .ensures;
-      passes = sym (c .before .before .before .before .before .before .before .before .before .before .before .before .before .before .judge-next .ensures) ∙ ap judgementIn (c .before .before .before .before .before .before .before .before .before .before .before .before .enum-told .given .1);
+      held-is = c .before .before .before .before .before .before .before .before .before .before .before .before .before .before .kept-at .ensures;
+      passes = sym (c .before .before .before .before .before .before .before .before .before .before .before .before .before .judge-next .ensures) ∙ ap judgementIn (c .before .before .before .before .before .before .before .before .before .before .before .enum-told .given .1);
     }
 
 same-length : tie.Need-same-length
@@ -113,7 +105,6 @@ work-next-spec =
     enum-known-refusal
     refused-requires
     enum-told
-    cast-work-here
     work-here-requires
     same-length
     returns
