@@ -91,8 +91,8 @@ fn write_row(row: &[i16; 16], y: usize, plane: &mut [f32])
     }
 }
 
-// The plane of 256 weights that stand by columns: the exchange of the two places is here. What lies past it stays. A row
-// is read whole before it is written: four rows are then read and written at a time.
+// The plane of 256 weights that stand by columns: the exchange of the two places is here. What lies past it stays. A
+// row is read whole before it is written: four rows are then read and written at a time.
 pub fn write_plane(weights: &[i16], plane: &mut [f32])
     requires { ⌜ Weighed (now weights) × (256 ≤ length (now weights)) × (256 ≤ length (now plane)) ⌝ }
     ensures { λ _. ⌜ now (plane .exit) ≡ over (weightsPlane 16 (now (weights .entry))) (now (plane .entry)) ⌝ }
