@@ -13,32 +13,38 @@ ghost use Prim.Native.Nat.{_≤_};
 ghost use lib.ListN.{length};
 ghost use Rattle.laws.specs.Lists.{over};
 ghost use Rattle.pixel_segment.specs.Field.{cpu};
-ghost use Rattle.cover_statements.specs.Area.{areasOf};
 ghost use Rattle.cover_statements.specs.Carry.{isLight};
-ghost use Rattle.cover_statements.specs.Cover.{coverAt};
+ghost use Rattle.cover_statements.specs.InnerCell.{noCells, JudgedAreas};
 ghost use Rattle.cover_statements.specs.Mark.{markOf};
 ghost use Rattle.cover_statements.specs.Paint.{partPlane, Painting};
 
-// The coverages of a part by its doubled areas, and their mark. Part and cover are there to say whose areas they are.
-fn paint_areas(
-    part: &[u64],
-    cover: Cover,
-    areas: &mut [i16; 256],
-    rule: FillRule,
-    plane: &mut [f32],
-) -> u32
-    requires { ⌜ (isLight cpu 16 (cover .covers) (now part) ≡ true)
-        × (now areas ≡ areasOf cpu 16 (coverAt (cover .covers)) (now part)) × (256 ≤ length (now plane)) ⌝ }
-    ensures { λ r. ⌜ (now (plane .exit) ≡ over (partPlane cpu rule (cover .covers) (now (part .entry)))
-        (now (plane .entry))) × (r ≡ markOf (partPlane cpu rule (cover .covers) (now (part .entry)))) ⌝ }
+// The doubled areas of a part, or false where number 9 refuses it. Of one that is known not to be refused they are
+// summed without loads.
+fn sum_areas(is_known: bool, part: &[u64], cover: Cover, areas: &mut [i16; 256]) -> bool
+    requires { ⌜ (now areas ≡ noCells 16)
+        × («is_known» ≡ true → isLight cpu 16 (cover .covers) (now part) ≡ true) ⌝ }
+    ensures { λ r. ⌜ JudgedAreas cpu 16 (cover .covers) (now (part .entry)) r (now (areas .exit)) ⌝ }
 {
-    shade::paint(areas, rule, plane)
+    if is_known {
+        light::sum_areas(part, cover, areas);
+        true
+    } else {
+        area::judged_areas(part, cover, areas)
+    }
 }
 
 // The coverages of any part in a plane that has room for them, and their mark; or refusal 9, which leaves the plane as
-// it was: what is summed before it is found stands in arrays of its own.
-fn paint_judged(part: &[u64], cover: Cover, rule: FillRule, plane: &mut [f32]) -> Painted
-    requires { ⌜ 256 ≤ length (now plane) ⌝ }
+// it was: what is summed before it is found stands in arrays of its own. One function serves those who judge and those
+// who know, so that the areas are a local where they are shaded: lent, they might be the plane's memory.
+fn paint_judged(
+    is_known: bool,
+    part: &[u64],
+    cover: Cover,
+    rule: FillRule,
+    plane: &mut [f32],
+) -> Painted
+    requires { ⌜ (256 ≤ length (now plane))
+        × («is_known» ≡ true → isLight cpu 16 (cover .covers) (now part) ≡ true) ⌝ }
     ensures { λ r. ⌜ Painting cpu rule (cover .covers) (now (part .entry)) (now (plane .entry)) r
         (now (plane .exit)) ⌝ }
 {
@@ -49,10 +55,10 @@ fn paint_judged(part: &[u64], cover: Cover, rule: FillRule, plane: &mut [f32]) -
         return Painted::Mark(column::paint(cover, rule, plane));
     }
     let mut areas = [0i16; 256];
-    if !area::judged_areas(part, cover, &mut areas) {
+    if !sum_areas(is_known, part, cover, &mut areas) {
         return Painted::CoverTooLarge;
     }
-    Painted::Mark(paint_areas(part, cover, &mut areas, rule, plane))
+    Painted::Mark(shade::paint(&mut areas, rule, plane))
 }
 
 // The coverages of a part that nothing refuses, and their mark. It is not judged again.
@@ -61,12 +67,11 @@ pub fn paint(part: &[u64], cover: Cover, rule: FillRule, plane: &mut [f32]) -> u
     ensures { λ r. ⌜ (now (plane .exit) ≡ over (partPlane cpu rule (cover .covers) (now (part .entry)))
         (now (plane .entry))) × (r ≡ markOf (partPlane cpu rule (cover .covers) (now (part .entry)))) ⌝ }
 {
-    if part.len() == 0 {
-        return column::paint(cover, rule, plane);
+    match paint_judged(true, part, cover, rule, plane) {
+        Painted::Mark(mark) => mark,
+        Painted::PlaneTooShort => 0,
+        Painted::CoverTooLarge => 0,
     }
-    let mut areas = [0i16; 256];
-    light::sum_areas(part, cover, &mut areas);
-    paint_areas(part, cover, &mut areas, rule, plane)
 }
 
 // The coverages of any part, and their mark; or a refusal, which leaves the plane as it was.
@@ -77,6 +82,6 @@ pub fn paint_part(part: &[u64], cover: Cover, rule: FillRule, plane: &mut [f32])
     if plane.len() < 256 {
         Painted::PlaneTooShort
     } else {
-        paint_judged(part, cover, rule, plane)
+        paint_judged(false, part, cover, rule, plane)
     }
 }
