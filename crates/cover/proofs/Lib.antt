@@ -1,1 +1,2 @@
--- The proofs of the functions. The laws are of cover_statements.
+-- The laws that the proofs of the functions cite. Others are of cover_statements.
+pub mod RowSums

@@ -57,17 +57,17 @@ fn add_loads(part: &[u64], incoming: [u16; 16]) -> [u16; 16]
     loads
 }
 
-// Whether no load is above 127.
+// Whether no load is above 127. Light rows are counted: a conjunction would be worked out row by row.
 pub fn are_light(loads: [u16; 16]) -> bool
     ensures { λ r. ⌜ r ≡ allLight loads ⌝ }
 {
-    let mut ok = true;
+    let mut light: u16 = 0;
     let mut y = 0;
     while y < 16 {
-        ok = ok & (loads[y] <= 127);
+        light += (loads[y] <= 127) as u16;
         y += 1;
     }
-    ok
+    light == 16
 }
 
 // Number 9: whether it applies at no pixel row.
@@ -94,20 +94,50 @@ pub fn add_segments(part: &[u64], cover: Cover) -> Cover
     Cover { covers }
 }
 
+// The covers of a part added to those that come in, as long as the absolute covers of each pixel row stay within 127;
+// refused where they do not. `incoming` has the absolute values of those that come in. A load bounds the sum of its
+// row, so one pass does both.
+fn sum_judged(part: &[u64], incoming: [u16; 16], cover: Cover) -> Carried
+    requires { ⌜ Magnitudes (cover .covers) incoming × (allLight incoming ≡ true) ⌝ }
+    ensures { λ r. ⌜ Adding cpu 16 (cover .covers) (now (part .entry)) r ⌝ }
+{
+    let mut loads = incoming;
+    let mut covers = cover.covers;
+    let mut i = 0;
+    while i < part.len() {
+        let segment = PixelSegment(part[i]);
+        let y = segment.local_y() as usize;
+        let own = segment.cover();
+        let before = loads[y];
+        let load = before + weight::cover_magnitude(own);
+        if 127 < load {
+            return Carried {
+                accepted: false,
+                cover,
+            };
+        }
+        loads[y] = load;
+        covers[y] = covers[y] + own;
+        i += 1;
+    }
+    let sum = Cover { covers };
+    Carried {
+        accepted: true,
+        cover: sum,
+    }
+}
+
 // The carry of any part, or refusal 9.
 pub fn carry(part: &[u64], cover: Cover) -> Carried
     ensures { λ r. ⌜ Adding cpu 16 (cover .covers) (now (part .entry)) r ⌝ }
 {
-    if is_light(part, cover) {
-        let sum = add_segments(part, cover);
-        Carried {
-            accepted: true,
-            cover: sum,
-        }
-    } else {
-        Carried {
+    let incoming = cover.covers;
+    let loads = magnitudes(incoming);
+    if !are_light(loads) {
+        return Carried {
             accepted: false,
             cover,
-        }
+        };
     }
+    sum_judged(part, loads, cover)
 }

@@ -10,13 +10,10 @@ use lib.IntN.{pos}
 use mir.Facts.{toZ-ofZ}
 use mir.Syntax.{w8}
 use Rattle.cover_statements.specs.Cover.{emptyAt, isEmpty}
+use Rattle.cover_statements.proofs.Areas.{and-false}
 use Rattle.cover_statements.proofs.Testing.{Testing, test-start, test-next, test-end, and-true}
 use Rattle.cover.proofs.Cover.is_empty.Statement.{statement}
 use Rattle.cover.proofs.Cover.is_empty.Tie as tie
-
-and-false : (a : Bool) → (a && false) ≡ false
-and-false true = refl
-and-false false = refl
 
 -- none is counted exactly where none was before and the next does not count
 none-more : (k : ℕ) (t : Bool) → eqb (k + cond t 0 1) 0 ≡ (eqb k 0 && t)
