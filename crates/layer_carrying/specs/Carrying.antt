@@ -36,16 +36,21 @@ isCarried table c = not (isEmpty (ruleIn table (c .id)) (c .cover))
 unfoldable pub handedOn : List Layer → List Listed → List Carry
 handedOn table ls = filter (isCarried table) (map carryFor ls)
 
+-- a column that holds the carries of all layers, empty ones too, from its front on
+pub record HoldsCarries (ls : List Listed) (sums : List ℤ) : Type 0 where
+  pub old : List ℤ
+  pub sums-are : sums ≡ over (coversIn (map carryFor ls)) old
+
 -- what handing on promises: how many carries, and the two columns
 pub record Hands (q : List Carry) (oldIds : List ℕ) (oldCovers : List ℤ) (r : ℕ) (ids : List ℕ) (covers : List ℤ) : Type 0 where
   pub count : r ≡ length q
   pub ids-are : ids ≡ over (idsIn q) oldIds
   pub covers-are : covers ≡ over (coversIn q) oldCovers
 
--- the columns have an entry for each layer, though not every one is handed on
-pub record QueueRoom (ls : List Listed) (ids : List ℕ) (covers : List ℤ) : Type 0 where
-  pub ids-long : length ls ≤ length ids
-  pub covers-long : 16 * length ls ≤ length covers
+-- two columns have an entry for each of n carries
+pub record EntryRoom (n : ℕ) (ids : List ℕ) (covers : List ℤ) : Type 0 where
+  pub ids-long : n ≤ length ids
+  pub covers-long : 16 * n ≤ length covers
 
 -- one carry written at place m, where it is kept
 pub record Puts (m id : ℕ) (cover : List ℤ) (keep : Bool) (oldIds : List ℕ) (oldCovers : List ℤ) (r : ℕ) (ids : List ℕ) (covers : List ℤ) : Type 0 where

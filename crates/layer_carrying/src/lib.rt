@@ -1,19 +1,15 @@
 // The carries that a tile hands on.
 use cover::Cover;
-use cover::carry;
 use cover::entry;
 use layer_table::Found;
 use styling::FillRule;
-use tile_layers::walk;
 ghost use mathlib.Core.Path.{_≡_};
-ghost use mathlib.Core.Bool.{true};
 ghost use Prim.Native.Nat.{_*_, _+_, _≤_, _<_};
 ghost use lib.ListN.{length};
+ghost use Rattle.laws.specs.Lists.{filter};
 ghost use Rattle.layer_table.specs.Table.{Table, tableOf};
 ghost use Rattle.queue_statements.specs.Queue.{queueOf};
-ghost use Rattle.tile_layers.specs.Listing.{layersIn, areLight};
-ghost use Rattle.layer_carrying.specs.Carrying.{ruleIn, handedOn, Hands, Puts, QueueRoom};
-ghost use Rattle.tile_layers.specs.InnerWalk.{Walks};
+ghost use Rattle.layer_carrying.specs.Carrying.{ruleIn, isCarried, Hands, Puts, EntryRoom};
 
 // The fill rule of a layer.
 pub fn rule_of(layers: &[u32], colors: &[f32], count: usize, hint: usize, id: u32) -> FillRule
@@ -52,37 +48,31 @@ fn put_carry(
     }
 }
 
-// For every layer of the tile, incoming plus own covers, without the empty ones; how many there are.
+// Of the first n carries of two columns those that are not empty, one after the other; how many there are.
 pub fn hand_on(
     ids: &[u32],
-    covers: &[i8],
+    sums: &[i8],
     n: usize,
-    part: &[u64],
     layers: &[u32],
     colors: &[f32],
     count: usize,
     next_ids: &mut [u32],
     next_covers: &mut [i8],
 ) -> usize
-    requires { ⌜ Walks n (now ids) (now part) × (16 * n ≤ length (now covers)) × Table (now layers) (now colors) count
-        × (areLight (layersIn (queueOf n (now ids) (now covers)) (now part)) ≡ true)
-        × QueueRoom (layersIn (queueOf n (now ids) (now covers)) (now part)) (now «next_ids») (now «next_covers») ⌝ }
-    ensures { λ r. ⌜ Hands (handedOn (tableOf (now (layers .entry)) (now (colors .entry)) count)
-        (layersIn (queueOf n (now (ids .entry)) (now (covers .entry))) (now (part .entry)))) (now («next_ids» .entry))
-        (now («next_covers» .entry)) r (now («next_ids» .exit)) (now («next_covers» .exit)) ⌝ }
+    requires { ⌜ EntryRoom n (now ids) (now sums) × Table (now layers) (now colors) count
+        × EntryRoom n (now «next_ids») (now «next_covers») ⌝ }
+    ensures { λ r. ⌜ Hands (filter (isCarried (tableOf (now (layers .entry)) (now (colors .entry)) count))
+        (queueOf n (now (ids .entry)) (now (sums .entry)))) (now («next_ids» .entry)) (now («next_covers» .entry)) r
+        (now («next_ids» .exit)) (now («next_covers» .exit)) ⌝ }
 {
     let mut m: usize = 0;
     let mut i: usize = 0;
-    let mut j: usize = 0;
-    while i + j < n + part.len() {
-        let next = walk::next_layer(ids, n, part, i, j);
-        let end = next.end;
-        let cover = walk::incoming_cover(covers, next.carried, i);
-        let sum = carry::add_segments(&part[j..end], cover);
-        let keep = !sum.is_empty(rule_of(layers, colors, count, m, next.id));
-        m = put_carry(next_ids, next_covers, m, next.id, sum, keep);
-        i = next.i;
-        j = end;
+    while i < n {
+        let id = ids[i];
+        let sum = entry::read_cover(sums, i);
+        let keep = !sum.is_empty(rule_of(layers, colors, count, i, id));
+        m = put_carry(next_ids, next_covers, m, id, sum, keep);
+        i += 1;
     }
     m
 }

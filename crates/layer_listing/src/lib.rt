@@ -1,15 +1,18 @@
 // The layers of a tile, surveyed for refusals 7, 8 and 9, and written into the columns of a lent list.
 pub mod marks;
 
+use cover::Cover;
 use cover::carry;
 use cover::entry;
 use layer_table::Found;
 use tile_layers::walk;
 ghost use mathlib.Core.Path.{_≡_};
-ghost use mathlib.Core.Bool.{true};
+ghost use mathlib.Core.Bool.{true, cond};
 ghost use Prim.Native.Nat.{_*_, _+_, _≤_, _<_};
+ghost use lib.Dec.{ltb};
 ghost use lib.ListN.{length};
 ghost use Rattle.laws.specs.Answer.{isGiven};
+ghost use Rattle.cover_statements.specs.Entry.{putEntry};
 ghost use Rattle.layer_table.specs.Lookup.{lookup};
 ghost use Rattle.layer_table.specs.Table.{Table, tableOf};
 ghost use Rattle.queue_statements.specs.Queue.{queueOf};
@@ -35,7 +38,18 @@ fn is_known(layers: &[u32], colors: &[f32], count: usize, hint: usize, id: u32) 
     }
 }
 
-// The layers of a tile, counted and judged in one walk.
+// A carry kept at a place of a column that has 256.
+fn keep_carry(sums: &mut [i8], place: usize, sum: Cover)
+    requires { ⌜ 4096 ≤ length (now sums) ⌝ }
+    ensures { λ _. ⌜ now (sums .exit)
+        ≡ cond (ltb place 256) (putEntry 16 place (sum .covers) (now (sums .entry))) (now (sums .entry)) ⌝ }
+{
+    if place < 256 {
+        entry::write_cover(sums, place, sum);
+    }
+}
+
+// The layers of a tile, counted and judged in one walk. Their carries, which judging adds up, are kept for handing on.
 pub fn survey_layers(
     ids: &[u32],
     covers: &[i8],
@@ -44,11 +58,12 @@ pub fn survey_layers(
     layers: &[u32],
     colors: &[f32],
     count: usize,
+    sums: &mut [i8],
 ) -> Survey
-    requires { ⌜ Walks n (now ids) (now part) × (16 * n ≤ length (now covers))
-        × Table (now layers) (now colors) count ⌝ }
+    requires { ⌜ Walks n (now ids) (now part) × (16 * n ≤ length (now covers)) × Table (now layers) (now colors) count
+        × (4096 ≤ length (now sums)) ⌝ }
     ensures { λ r. ⌜ Surveyed (tableOf (now (layers .entry)) (now (colors .entry)) count)
-        (layersIn (queueOf n (now (ids .entry)) (now (covers .entry))) (now (part .entry))) r ⌝ }
+        (layersIn (queueOf n (now (ids .entry)) (now (covers .entry))) (now (part .entry))) r (now (sums .exit)) ⌝ }
 {
     let mut total: usize = 0;
     let mut known = true;
@@ -60,7 +75,10 @@ pub fn survey_layers(
         let end = next.end;
         let cover = walk::incoming_cover(covers, next.carried, i);
         known = known & is_known(layers, colors, count, total, next.id);
-        light = light & carry::is_light(&part[j..end], cover);
+        let carried = carry::carry(&part[j..end], cover);
+        let sum = carried.cover;
+        light = light & carried.accepted;
+        keep_carry(sums, total, sum);
         i = next.i;
         j = end;
         total += 1;

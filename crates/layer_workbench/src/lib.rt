@@ -8,13 +8,13 @@ use pass_statements::unchanged::PreviousCount;
 use passes::decide;
 use styling::Color;
 ghost use mathlib.Core.Path.{_≡_};
-ghost use mathlib.Core.Bool.{true};
 ghost use Prim.Native.Nat.{_*_, _≤_};
 ghost use lib.ListN.{length};
 ghost use Rattle.layer_table.specs.Table.{Table, tableOf};
 ghost use Rattle.queue_statements.specs.Queue.{queueOf};
-ghost use Rattle.tile_layers.specs.Listing.{layersIn, areLight};
+ghost use Rattle.tile_layers.specs.Listing.{layersIn};
 ghost use Rattle.tile_layers.specs.InnerWalk.{Walks};
+ghost use Rattle.layer_carrying.specs.Carrying.{HoldsCarries};
 ghost use Rattle.cached_tile.specs.Tile.{countIn};
 ghost use Rattle.pass_statements.specs.Entry.{entriesOf};
 ghost use Rattle.pass_statements.specs.Decision.{decisionIn};
@@ -121,13 +121,14 @@ pub fn decide_tile(
     }
 }
 
-// The work on a tile that no refusal turns down, `listed` being the number of its layers.
+// The work on a tile that no refusal turns down, `listed` being the number of its layers and `sums` their carries.
 pub fn work(
     ids: &[u32],
     covers: &[i8],
     n: usize,
     part: &[u64],
     listed: usize,
+    sums: &[i8; 4096],
     layers: &[u32],
     colors: &[f32],
     count: usize,
@@ -143,7 +144,7 @@ pub fn work(
 ) -> Worked
     requires { ⌜ Walks n (now ids) (now part) × (16 * n ≤ length (now covers)) × Table (now layers) (now colors) count
         × Rooms (now «list_ids») (now «list_covers») (now «list_flags») (now «list_unmasked») (now «next_ids»)
-        (now «next_covers») × (areLight (layersIn (queueOf n (now ids) (now covers)) (now part)) ≡ true)
+        (now «next_covers») × HoldsCarries (layersIn (queueOf n (now ids) (now covers)) (now part)) (now sums)
         × (listed ≡ length (layersIn (queueOf n (now ids) (now covers)) (now part))) × (listed ≤ 256) ⌝ }
     ensures answer { λ r. ⌜ Works (tableOf (now (layers .entry)) (now (colors .entry)) count) kept clear previous
         (layersIn (queueOf n (now (ids .entry)) (now (covers .entry))) (now (part .entry))) r ⌝ }
@@ -187,10 +188,9 @@ pub fn work(
         list_unmasked,
     );
     let left = layer_carrying::hand_on(
-        ids,
-        covers,
-        n,
-        part,
+        list_ids,
+        sums,
+        listed,
         layers,
         colors,
         count,

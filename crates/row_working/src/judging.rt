@@ -16,6 +16,7 @@ ghost use Rattle.queue_statements.specs.Queue.{queueOf};
 ghost use Rattle.cached_tile.specs.Kept.{tagOutOfRange};
 ghost use Rattle.tile_layers.specs.Listing.{layersIn};
 ghost use Rattle.tile_layers.specs.InnerWalk.{Walks};
+ghost use Rattle.layer_carrying.specs.Carrying.{HoldsCarries};
 ghost use Rattle.row_statements.specs.Lent.{lentTable, listColumns, areEntriesShort, isListShort};
 ghost use Rattle.row_statements.specs.State.{stateIn};
 ghost use Rattle.row_statements.specs.InnerWork.{judgedBy, judgedWith, JudgesList};
@@ -98,7 +99,7 @@ pub fn judge_work(
     }
 }
 
-// Refusals 7 to 9, the lowest that applies to the layers of a tile.
+// Refusals 7 to 9, the lowest that applies to the layers of a tile. Where none does, `sums` holds their carries.
 pub fn judge_list(
     ids: &[u32],
     covers: &[i8],
@@ -107,13 +108,16 @@ pub fn judge_list(
     layers: &[u32],
     colors: &[f32],
     count: usize,
+    sums: &mut [i8; 4096],
 ) -> ListJudged
     requires { ⌜ Walks n (now ids) (now part) × (16 * n ≤ length (now covers))
         × Table (now layers) (now colors) count ⌝ }
-    ensures { λ r. ⌜ JudgesList (tableOf (now (layers .entry)) (now (colors .entry)) count)
+    ensures judged { λ r. ⌜ JudgesList (tableOf (now (layers .entry)) (now (colors .entry)) count)
         (layersIn (queueOf n (now (ids .entry)) (now (covers .entry))) (now (part .entry))) r ⌝ }
+    ensures carries { λ r. ⌜ (judgementIn (r .verdict) ≡ pass → HoldsCarries
+        (layersIn (queueOf n (now (ids .entry)) (now (covers .entry))) (now (part .entry))) (now (sums .exit))) ⌝ }
 {
-    let found = layer_listing::survey_layers(ids, covers, n, part, layers, colors, count);
+    let found = layer_listing::survey_layers(ids, covers, n, part, layers, colors, count, sums);
     let listed = found.count;
     if 256 < listed {
         return ListJudged {

@@ -65,7 +65,8 @@ fn done(state: RowState, worked: Worked) -> TileWorked
     }
 }
 
-// The work on a tile's part: judged by 7 to 9, and then done.
+// The work on a tile's part: judged by 7 to 9, and then done. `sums` is room for the carries; what it holds is of no
+// account before and after.
 pub fn work_part(
     state: RowState,
     part: &[u64],
@@ -83,6 +84,7 @@ pub fn work_part(
     list_covers: &mut [i8],
     list_flags: &mut [bool],
     list_unmasked: &mut [bool],
+    sums: &mut [i8; 4096],
 ) -> TileWorked
     requires { ⌜ PartJudged state (now part) (lentTable (now layers) (now colors) count)
         (columns (now ids) (now covers))
@@ -99,7 +101,16 @@ pub fn work_part(
         (listColumns (now («list_ids» .exit)) (now («list_covers» .exit))
         (now («list_flags» .exit)) (now («list_unmasked» .exit)))) ⌝ }
 {
-    let judged = judging::judge_list(ids, covers, state.left, part, layers, colors, count);
+    let judged = judging::judge_list(
+        ids,
+        covers,
+        state.left,
+        part,
+        layers,
+        colors,
+        count,
+        sums,
+    );
     let verdict = judged.verdict;
     match verdict {
         Verdict::Refuse(refusal) => refuse(state, kept, refusal),
@@ -111,6 +122,7 @@ pub fn work_part(
                 state.left,
                 part,
                 judged.listed,
+                sums,
                 layers,
                 colors,
                 count,
@@ -168,6 +180,7 @@ pub fn work_judged(
         (now («list_flags» .exit)) (now («list_unmasked» .exit)))) ⌝ }
 {
     let part = parts::in_tile(row, tile as i16);
+    let mut sums = [0i8; 4096];
     work_part(
         state,
         part,
@@ -185,6 +198,7 @@ pub fn work_judged(
         list_covers,
         list_flags,
         list_unmasked,
+        &mut sums,
     )
 }
 

@@ -9,15 +9,16 @@ use Rattle.layer_listing.proofs.survey_layers.Statement.{statement}
 use Rattle.layer_listing.proofs.survey_layers.Tie as tie
 
 abbrev Inv-loop : tie.InvT-loop
-Inv-loop ids covers n part layers colors count total₀ known₀ light₀ i₀ j₀ total known light i j = Surveying n ids covers part (tableOf layers colors count) total known light i j
+Inv-loop ids covers n part layers colors count sums₀ total₀ known₀ light₀ i₀ j₀ sums total known light i j = Surveying n ids covers part (tableOf layers colors count) sums₀ total known light sums i j
 
 abbrev μ-loop : tie.MeasureT-loop
-μ-loop ids covers n part layers colors count total₀ known₀ light₀ i₀ j₀ total known light i j = n + length part - (i + j)
+μ-loop ids covers n part layers colors count sums₀ total₀ known₀ light₀ i₀ j₀ sums total known light i j = n + length part - (i + j)
 
 loop-holds : tie.Need-loop-holds Inv-loop μ-loop
 loop-holds c =
-    let a = c .before .before .before .before .args in
-    survey-start (a .n) (a .ids .now) (a .covers .now) (a .part .now) (tableOf (a .layers .now) (a .colors .now) (a .count))
+    let s = c .before .before .before .before in
+    let a = s .args in
+    survey-start (a .n) (a .ids .now) (a .covers .now) (a .part .now) (tableOf (a .layers .now) (a .colors .now) (a .count)) (a .sums .now) (s .pre .3)
 
 add-loop : tie.Need-add-loop Inv-loop μ-loop
 add-loop c = omega (arith, c .loop .inv .walking, c .before .before .before .before .before .pre .0)
@@ -39,35 +40,42 @@ incoming-cover-requires c κs =
 is-known-requires : tie.Need-is-known-requires Inv-loop μ-loop
 is-known-requires c κs = c .before .before .before .before .before .before .before .before .pre .2
 
-mul-is-light : tie.Need-mul-is-light Inv-loop μ-loop
-mul-is-light c = omega (arith, c .before .before .next-layer .ensures .1)
+mul-carry : tie.Need-mul-carry Inv-loop μ-loop
+mul-carry c = omega (arith, c .before .before .next-layer .ensures .1)
 
-sub-is-light : tie.Need-sub-is-light Inv-loop μ-loop
-sub-is-light c = omega (arith, c .before .before .next-layer .ensures .1)
+sub-carry : tie.Need-sub-carry Inv-loop μ-loop
+sub-carry c = omega (arith, c .before .before .next-layer .ensures .1)
 
-part-is-light-start : tie.Need-part-is-light-start Inv-loop μ-loop
-part-is-light-start c = omega (arith, c .before .before .next-layer .ensures .1)
+part-carry-start : tie.Need-part-carry-start Inv-loop μ-loop
+part-carry-start c = omega (arith, c .before .before .next-layer .ensures .1)
 
-part-is-light-end : tie.Need-part-is-light-end Inv-loop μ-loop
-part-is-light-end c = omega (arith, c .before .before .next-layer .ensures .1)
+part-carry-end : tie.Need-part-carry-end Inv-loop μ-loop
+part-carry-end c = omega (arith, c .before .before .next-layer .ensures .1)
+
+keep-carry-requires : tie.Need-keep-carry-requires Inv-loop μ-loop
+keep-carry-requires c κs = let v = c .before .before .before .before .before .before .before .before .before .loop .inv in omega (arith, v .long, v .same)
 
 add-total : tie.Need-add-total Inv-loop μ-loop
-add-total c = omega (arith, c .before .before .before .before .before .before .loop .inv .walking, c .before .before .before .before .before .before .before .before .before .before .before .pre .0)
+add-total c = omega (arith, c .before .before .before .before .before .before .before .before .before .before .before .loop .inv .walking, c .before .before .before .before .before .before .before .before .before .before .loop-test .taken, c .before .before .before .before .before .before .before .before .before .before .before .before .before .before .before .before .pre .0, c .before .before .before .before .before .before .before .before .before .before .before .before .before .before .before .before .good)
 
 loop-less : tie.Need-loop-less Inv-loop μ-loop
-loop-less c = omega (arith, c .before .before .before .before .next-layer .ensures .1, c .before .before .before .before .before .before .loop .inv .walking, c .before .before .before .before .before .loop-test .taken)
+loop-less c = omega (arith, c .before .before .before .before .before .before .before .before .before .next-layer .ensures .1, c .before .before .before .before .before .before .before .before .before .before .before .loop .inv .walking, c .before .before .before .before .before .before .before .before .before .before .loop-test .taken)
 
 loop-again : tie.Need-loop-again Inv-loop μ-loop
 loop-again c =
-    let a = c .before .before .before .before .before .before .before .before .before .before .before .args in
-    let n = c .before .before .before .before .next-layer in
-    survey-next (a .n) (a .ids .now) (a .covers .now) (a .part .now) (tableOf (a .layers .now) (a .colors .now) (a .count)) (c .before .before .before .before .before .before .loop .inv) (n .result)
-    (n .ensures .0 (a .covers .now)) (n .ensures .1) _ _ _ (c .before .before .is-known .ensures) (c .before .before .before .incoming-cover .ensures) (c .is-light .ensures)
+    let a = c .before .before .before .before .before .before .before .before .before .before .before .before .before .before .before .before .args in
+    let n = c .before .before .before .before .before .before .before .before .before .next-layer in
+    let k = c .before .keep-carry in
+    survey-next (a .n) (a .ids .now) (a .covers .now) (a .part .now) (tableOf (a .layers .now) (a .colors .now) (a .count)) (a .sums .now) (c .before .before .before .before .before .before .before .before .before .before .before .loop .inv) (n .result)
+    (n .ensures .0 (a .covers .now)) (n .ensures .1) _ _ _ _ (c .before .before .before .before .before .before .before .is-known .ensures) (c .before .before .before .before .before .before .before .before .incoming-cover .ensures) (c .before .before .before .before .before .carry .ensures) (k .ensures) (k .kept .0)
+
+same-length : tie.Need-same-length Inv-loop μ-loop
+same-length c = c .before .loop .inv .same
 
 returns : tie.Need-returns Inv-loop μ-loop
 returns c =
     let a = c .before .before .before .before .before .before .args in
-    survey-end (a .n) (a .ids .now) (a .covers .now) (a .part .now) (tableOf (a .layers .now) (a .colors .now) (a .count)) (c .before .loop .inv) (c .loop-test .left)
+    survey-end (a .n) (a .ids .now) (a .covers .now) (a .part .now) (tableOf (a .layers .now) (a .colors .now) (a .count)) (a .sums .now) (c .before .loop .inv) (c .loop-test .left)
 
 pub survey-layers-spec : {M : Type 1} → statement M
 survey-layers-spec =
@@ -81,12 +89,14 @@ survey-layers-spec =
     next-layer-requires
     incoming-cover-requires
     is-known-requires
-    mul-is-light
-    sub-is-light
-    part-is-light-start
-    part-is-light-end
+    mul-carry
+    sub-carry
+    part-carry-start
+    part-carry-end
     (λ c κs. search needs)
+    keep-carry-requires
     add-total
     loop-less
     loop-again
+    same-length
     returns)

@@ -25,13 +25,13 @@ cast-in-tile c = rw (toZ-ofZ (c .before .before .before .before .before .before 
 
 work-part-requires : tie.Need-work-part-requires
 work-part-requires c κs =
-    let s = c .before .before .before .before .before .before .before .before .before .before .before .before .before .before .before in
-    part-judged (s .args .state) (s .args .tile) (s .args .row .now) _ (s .args .kept) (s .args .clear) (s .args .previous) _ _ (part-is (c .before .before .before .before .before .before)) (s .pre)
+    let s = c .before .before .before .before .before .before .before .before .before .before .before .before .before .before .before .before in
+    part-judged (s .args .state) (s .args .tile) (s .args .row .now) _ (s .args .kept) (s .args .clear) (s .args .previous) _ _ (part-is (c .before .before .before .before .before .before .before)) (s .pre)
 
 returns : tie.Need-returns
 returns c =
-    let s = c .before .before .before .before .before .before .before .before .before .before .before .before .before .before .before .before .before .before .before .before .before .before .before .before .before .before in
-    c .before .before .before .before .before .before .before .before .before .before .work-part .ensures .gives (s .args .tile) (s .args .row .now) (part-is (c .before .before .before .before .before .before .before .before .before .before .before .before .before .before .before .before .before))
+    let s = c .before .before .before .before .before .before .before .before .before .before .before .before .before .before .before .before .before .before .before .before .before .before .before .before .before .before .before in
+    c .before .before .before .before .before .before .before .before .before .before .work-part .ensures .gives (s .args .tile) (s .args .row .now) (part-is (c .before .before .before .before .before .before .before .before .before .before .before .before .before .before .before .before .before .before))
 
 pub work-judged-spec : {M : Type 1} → statement M
 work-judged-spec =

@@ -1,29 +1,48 @@
--- `judging::judge_list` meets its contract. Assumes nothing.
+-- `judging::judge_list` meets its contract: where a number refuses, nothing is said of the carries. Assumes nothing.
+use mathlib.Core.Path.{_≡_, refl, sym}
+use mathlib.Core.Bool.{Bool, true, false, not, false≢true}
+use Prim.Native.Nat.{ℕ}
+use native.Mathlib.Omega.{arith}
 use borrow.Author.Tests.{lt-ltb, le-ltb}
 use borrow.Author.Needs.{needs}
+use Rattle.refusals.specs.Refusal.{pass, refuse}
 use Rattle.row_statements.specs.TileWork.{listVerdict}
 use Rattle.row_working.proofs.judging.judge_list.Statement.{statement}
 use Rattle.row_working.proofs.judging.judge_list.Tie as tie
 
+never : (n : ℕ) → refuse n ≡ pass → ⊥
+never n e = let z : _≡_ {A = ℕ} 0 1 = cc in omega arith
+
+held : (b : Bool) → not b ≡ false → b ≡ true
+held true e = refl
+held false e = absurd (false≢true (sym e))
+
 returns : tie.Need-returns
 unfolding listVerdict
-returns c = let s = c .before .survey-layers .ensures in
-    record { verdict = rw (← s .count, lt-ltb _ _ (c .if1 .taken)); listed = s .count }
+returns c =
+    let s = c .before .survey-layers .ensures in
+    (record { verdict = rw (← s .count, lt-ltb _ _ (c .if1 .taken)); listed = s .count }, λ e. absurd (never 7 e))
 
 returns-2 : tie.Need-returns-2
 unfolding listVerdict
-returns-2 c = let s = c .before .before .before .survey-layers .ensures in
-    record { verdict = rw (← s .count, le-ltb _ _ (c .before .before .if1 .left), ← s .known, c .if2 .taken); listed = s .count }
+returns-2 c =
+    let s = c .before .before .before .survey-layers .ensures in
+    (record { verdict = rw (← s .count, le-ltb _ _ (c .before .before .if1 .left), ← s .known, c .if2 .taken); listed = s .count }, λ e. absurd (never 8 e))
 
 returns-3 : tie.Need-returns-3
 unfolding listVerdict
-returns-3 c = let s = c .before .before .before .before .before .survey-layers .ensures in
-    record { verdict = rw (← s .count, le-ltb _ _ (c .before .before .before .before .if1 .left), ← s .known, c .before .before .if2 .left, ← s .light, c .if3 .taken); listed = s .count }
+returns-3 c =
+    let s = c .before .before .before .before .before .survey-layers .ensures in
+    (record { verdict = rw (← s .count, le-ltb _ _ (c .before .before .before .before .if1 .left), ← s .known, c .before .before .if2 .left, ← s .light, c .if3 .taken); listed = s .count }, λ e. absurd (never 9 e))
 
 returns-4 : tie.Need-returns-4
 unfolding listVerdict
-returns-4 c = let s = c .before .before .before .before .before .survey-layers .ensures in
-    record { verdict = rw (← s .count, le-ltb _ _ (c .before .before .before .before .if1 .left), ← s .known, c .before .before .if2 .left, ← s .light, c .if3 .left); listed = s .count }
+returns-4 c =
+    let s = c .before .before .before .before .before .survey-layers .ensures in
+    (
+      record { verdict = rw (← s .count, le-ltb _ _ (c .before .before .before .before .if1 .left), ← s .known, c .before .before .if2 .left, ← s .light, c .if3 .left); listed = s .count },
+      λ e. s .carries (omega (arith, s .count, c .before .before .before .before .if1 .left)) (held _ (c .if3 .left)),
+    )
 
 pub judge-list-spec : {M : Type 1} → statement M
 judge-list-spec = tie.close (tie.spec (λ c κs. search needs) returns returns-2 returns-3 returns-4)
