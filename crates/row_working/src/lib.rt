@@ -101,16 +101,7 @@ pub fn work_part(
         (listColumns (now («list_ids» .exit)) (now («list_covers» .exit))
         (now («list_flags» .exit)) (now («list_unmasked» .exit)))) ⌝ }
 {
-    let judged = judging::judge_list(
-        ids,
-        covers,
-        state.left,
-        part,
-        layers,
-        colors,
-        count,
-        sums,
-    );
+    let judged = judging::judge_list(ids, covers, state.left, part, layers, colors, count, sums);
     let verdict = judged.verdict;
     match verdict {
         Verdict::Refuse(refusal) => refuse(state, kept, refusal),

@@ -1,6 +1,7 @@
 // Several tiles of a row worked and painted in one call, judged once. The tiles are worked by the inner functions, and
 // two queues take turns.
 pub mod tile;
+pub mod tile_judging;
 
 use batch_statements::Batch;
 use layer_workbench::PreviousClear;
@@ -96,6 +97,7 @@ fn work_many(
     bottoms: &mut [f32],
     planes: &mut [f32],
     painted: &mut [u32],
+    sums: &mut [i8; 4096],
 ) -> Batch
     requires { ⌜ Startable (batchRow (now row) (lentTable (now layers) (now colors) count)
         keeps clear previous) state tiles (spare + 256)
@@ -152,6 +154,7 @@ fn work_many(
             bottoms,
             planes,
             painted,
+            sums,
         );
         let verdict = at.verdict;
         match verdict {
@@ -164,7 +167,7 @@ fn work_many(
     at
 }
 
-// Works tile after tile with a list of its own.
+// Works tile after tile with a list and room for carries of its own.
 fn work_listed(
     state: RowState,
     tiles: usize,
@@ -207,6 +210,7 @@ fn work_listed(
     let mut list_covers = [0i8; 4096];
     let mut list_flags = [false; 512];
     let mut list_unmasked = [false; 256];
+    let mut sums = [0i8; 4096];
     work_many(
         state,
         tiles,
@@ -231,6 +235,7 @@ fn work_listed(
         bottoms,
         planes,
         painted,
+        &mut sums,
     )
 }
 

@@ -1,11 +1,11 @@
 // One tile of a batch: judged by what the tile itself can be refused for, worked, noted, and its shown layers painted.
+use crate::tile_judging;
 use batch_statements::Batch;
 use cached_tile::kept::Kept;
 use layer_workbench::PreviousClear;
 use refusals::Refusal;
 use refusals::Verdict;
 use row_driver::tile::is_paint;
-use row_statements::RowState;
 use row_statements::TileDone;
 use row_statements::TileWorked;
 use row_statements::WorkAnswer;
@@ -14,11 +14,8 @@ ghost use mathlib.Core.Path.{_≡_};
 ghost use mathlib.Core.Bool.{not};
 ghost use mathlib.Core.Option.{none};
 ghost use Prim.Native.Nat.{_≤_};
-ghost use lib.Dec.{leb};
-ghost use Rattle.refusals.specs.Refusal.{judgementIn, pass, unless};
 ghost use Rattle.refusals.specs.declared.Verdict.the-variants as verdict;
 ghost use Rattle.layer_table.specs.Table.{tableOf};
-ghost use Rattle.cached_tile.specs.Kept.{tagOutOfRange};
 ghost use Rattle.queue_statements.specs.Queue.{queueOf};
 ghost use Rattle.painter.specs.Clip.{clipIn};
 ghost use Rattle.listed_painting.specs.InnerWalk.{Painter};
@@ -48,19 +45,6 @@ fn refused(at: Batch, refusal: Refusal) -> Batch
         first: at.first,
         verdict: Verdict::Refuse(refusal),
     }
-}
-
-// Refusals 2 and 6: no tile is left, or the cached tile's tag is above 3.
-fn judge_next(state: RowState, kept: Kept) -> Verdict
-    ensures { λ r. ⌜ judgementIn r ≡ unless (leb (state .to) (state .next)) 2 (unless (tagOutOfRange kept) 6 pass) ⌝ }
-{
-    if state.to <= state.next {
-        return Verdict::Refuse(Refusal::Tile);
-    }
-    if kept.is_tag_out_of_range() {
-        return Verdict::Refuse(Refusal::Tag);
-    }
-    Verdict::Pass
 }
 
 // Paints the shown layers of a tile that is accepted, and notes the tile.
@@ -158,6 +142,7 @@ fn work_here(
     bottoms: &mut [f32],
     planes: &mut [f32],
     painted: &mut [u32],
+    sums: &mut [i8; 4096],
 ) -> Batch
     requires { ⌜ HereWorkable (batchRow (now row) (lentTable (now layers) (now colors) count) keeps clear previous)
         (batchIn at (batchLent (columns (now ids) (now covers)) (columns (now «next_ids») (now «next_covers»))
@@ -194,6 +179,7 @@ fn work_here(
         list_covers,
         list_flags,
         list_unmasked,
+        sums,
     );
     let answer = worked.answer;
     match answer {
@@ -245,6 +231,7 @@ fn work_next(
     bottoms: &mut [f32],
     planes: &mut [f32],
     painted: &mut [u32],
+    sums: &mut [i8; 4096],
 ) -> Batch
     requires { ⌜ Turnable (batchRow (now row) (lentTable (now layers) (now colors) count) keeps clear previous)
         (batchIn at (batchLent (columns (now ids) (now covers)) (columns (now «next_ids») (now «next_covers»))
@@ -264,7 +251,7 @@ fn work_next(
 {
     let state = at.state;
     let held = batch_noting::kept_at(keeps, kept, at.worked);
-    match judge_next(state, held) {
+    match tile_judging::judge_next(state, held) {
         Verdict::Refuse(refusal) => refused(at, refusal),
         Verdict::Pass => work_here(
             at,
@@ -291,6 +278,7 @@ fn work_next(
             bottoms,
             planes,
             painted,
+            sums,
         ),
     }
 }
@@ -320,6 +308,7 @@ pub fn turn(
     bottoms: &mut [f32],
     planes: &mut [f32],
     painted: &mut [u32],
+    sums: &mut [i8; 4096],
 ) -> Batch
     requires { ⌜ Turnable (batchRow (now row) (lentTable (now layers) (now colors) count) keeps clear previous)
         (batchIn at (sided (at .first)
@@ -364,6 +353,7 @@ pub fn turn(
             bottoms,
             planes,
             painted,
+            sums,
         )
     } else {
         work_next(
@@ -390,6 +380,7 @@ pub fn turn(
             bottoms,
             planes,
             painted,
+            sums,
         )
     }
 }

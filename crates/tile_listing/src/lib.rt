@@ -9,14 +9,13 @@ use row_statements::RowState;
 use row_working::judging;
 use segment_rows::parts;
 ghost use mathlib.Core.Path.{_≡_};
-ghost use mathlib.Core.Bool.{true};
 ghost use Prim.Native.Nat.{_*_, _≤_};
 ghost use lib.ListN.{length};
 ghost use Rattle.layer_table.specs.Table.{Table, tableOf};
 ghost use Rattle.queue_statements.specs.Queue.{queueOf};
-ghost use Rattle.tile_layers.specs.Listing.{layersIn, areLight, Lists};
+ghost use Rattle.tile_layers.specs.Listing.{layersIn, Lists};
 ghost use Rattle.tile_layers.specs.InnerWalk.{Walks};
-ghost use Rattle.layer_carrying.specs.Carrying.{handedOn, Hands};
+ghost use Rattle.layer_carrying.specs.Carrying.{handedOn, HoldsCarries, Hands};
 ghost use Rattle.row_statements.specs.Lent.{columns, lentTable};
 ghost use Rattle.row_statements.specs.State.{stateIn};
 ghost use Rattle.listing_statements.specs.Listing.{tileList, listCall, listLent, listingOf, ListsTile};
@@ -52,13 +51,14 @@ fn done(state: RowState, n: usize, left: usize) -> TileListed
     }
 }
 
-// Writes a tile's list, `listed` being the number of its layers, and hands on its carries: how many.
+// Writes a tile's list, `listed` being the number of its layers, and hands on its carries, which `sums` holds: how many.
 fn write_tile(
     ids: &[u32],
     covers: &[i8],
     n: usize,
     part: &[u64],
     listed: usize,
+    sums: &[i8; 4096],
     layers: &[u32],
     colors: &[f32],
     count: usize,
@@ -70,7 +70,7 @@ fn write_tile(
 ) -> usize
     requires { ⌜ Walks n (now ids) (now part) × (16 * n ≤ length (now covers)) × Table (now layers) (now colors) count
         × ListingRooms (now «list_ids») (now «list_covers») (now «list_flags») (now «next_ids») (now «next_covers»)
-        × (areLight (layersIn (queueOf n (now ids) (now covers)) (now part)) ≡ true)
+        × HoldsCarries (layersIn (queueOf n (now ids) (now covers)) (now part)) (now sums)
         × (length (layersIn (queueOf n (now ids) (now covers)) (now part)) ≤ 256)
         × (listed ≡ length (layersIn (queueOf n (now ids) (now covers)) (now part))) ⌝ }
     ensures list { λ _. ⌜ Lists (tableOf (now (layers .entry)) (now (colors .entry)) count)
@@ -95,10 +95,9 @@ fn write_tile(
         list_flags,
     );
     layer_carrying::hand_on(
-        ids,
-        covers,
-        n,
-        part,
+        list_ids,
+        sums,
+        listed,
         layers,
         colors,
         count,
@@ -140,7 +139,17 @@ fn list_judged(
         (tileList (now («list_ids» .exit)) (now («list_covers» .exit)) (now («list_flags» .exit)))) ⌝ }
 {
     let part = parts::in_tile(row, tile as i16);
-    let judged = judging::judge_list(ids, covers, state.left, part, layers, colors, count);
+    let mut sums = [0i8; 4096];
+    let judged = judging::judge_list(
+        ids,
+        covers,
+        state.left,
+        part,
+        layers,
+        colors,
+        count,
+        &mut sums,
+    );
     let verdict = judged.verdict;
     match verdict {
         Verdict::Refuse(refusal) => refuse(state, refusal),
@@ -153,6 +162,7 @@ fn list_judged(
                 state.left,
                 part,
                 judged.listed,
+                &sums,
                 layers,
                 colors,
                 count,

@@ -21,8 +21,7 @@ list-layers-requires c κs =
 decide-tile-requires : tie.Need-decide-tile-requires
 decide-tile-requires c κs =
     let s = c .before .before .before .before .before .before .before .before .before .before .before .before .before .before .before .before .before .before .before .before .before in
-    let kept = c .before .before .before .before .before .before .before .before .before .list-layers .kept in
-    (
+    let kept = c .before .before .before .before .before .before .before .before .before .list-layers .kept in (
       record {
         few = s .pre .6;
         ids-long = omega (arith, s .pre .3, s .pre .6, kept);
@@ -35,8 +34,7 @@ decide-tile-requires c κs =
 
 hand-on-requires : tie.Need-hand-on-requires
 hand-on-requires c κs =
-    let s = c .before .before .before .before .before .before .before .before .before .before .before .before .before .before .before .before .before .before .before .before .before .before .before .before .before .before .before .before in
-    (
+    let s = c .before .before .before .before .before .before .before .before .before .before .before .before .before .before .before .before .before .before .before .before .before .before .before .before .before .before .before .before in (
       record { ids-long = omega (arith, s .pre .3, s .pre .5, s .pre .6, c .before .before .before .before .before .before .before .before .before .before .before .before .before .before .before .before .list-layers .kept); covers-long = omega (arith, s .pre .5, s .pre .6) },
       s .pre .2,
       record { ids-long = omega (arith, s .pre .3, s .pre .5, s .pre .6); covers-long = omega (arith, s .pre .3, s .pre .5, s .pre .6) },

@@ -38,8 +38,7 @@ returns-3 c =
 returns-4 : tie.Need-returns-4
 unfolding listVerdict
 returns-4 c =
-    let s = c .before .before .before .before .before .survey-layers .ensures in
-    (
+    let s = c .before .before .before .before .before .survey-layers .ensures in (
       record { verdict = rw (← s .count, le-ltb _ _ (c .before .before .before .before .if1 .left), ← s .known, c .before .before .if2 .left, ← s .light, c .if3 .left); listed = s .count },
       λ e. s .carries (omega (arith, s .count, c .before .before .before .before .if1 .left)) (held _ (c .if3 .left)),
     )

@@ -1,8 +1,8 @@
--- `tile::judge_next` meets its contract. Assumes nothing.
+-- `tile_judging::judge_next` meets its contract. Assumes nothing.
 use borrow.Author.Needs.{needs}
 use borrow.Author.Tests.{le-leb, lt-leb}
-use Rattle.tile_batch.proofs.tile.judge_next.Statement.{statement}
-use Rattle.tile_batch.proofs.tile.judge_next.Tie as tie
+use Rattle.tile_batch.proofs.tile_judging.judge_next.Statement.{statement}
+use Rattle.tile_batch.proofs.tile_judging.judge_next.Tie as tie
 
 returns : tie.Need-returns
 returns c = rw (le-leb _ _ (c .if1 .taken))
