@@ -1,5 +1,5 @@
 -- A row that the driver opens: what an accepted opening leaves lets its tiles be driven, and a refused one ends the row. Assumes nothing.
-use mathlib.Core.Path.{_≡_, refl, ap, sym, subst, _∙_}
+use mathlib.Core.Path.{_≡_, refl, ap, sym, subst}
 use mathlib.Core.Bool.{false}
 use mathlib.Core.List.{List, [], flatten}
 use mathlib.Core.Option.{some}
@@ -7,14 +7,14 @@ use Prim.Native.Nat.{ℕ, _+_, _*_, _≤_}
 use native.Mathlib.Omega.{arith}
 use lib.IntN.{ℤ, pos}
 use lib.ListN.{length, replicate}
-use Rattle.laws.specs.Answer.{Answer, refused, given}
+use Rattle.laws.specs.Answer.{Answer, refused}
 use Rattle.laws.specs.Integer.{plus}
 use Rattle.laws.specs.Lists.{over}
 use Rattle.refusals.specs.Refusal.{numberOf}
 use Rattle.refusals.specs.declared.Refusal.{Refusal}
 use Rattle.segment_rows.specs.Rows.{Words}
 use Rattle.row_statements.specs.Lent.{Columns, ListColumns, isQueueShort, isListShort}
-use Rattle.row_statements.specs.State.{State, stateIn}
+use Rattle.row_statements.specs.State.{State}
 use Rattle.row_statements.specs.Opening.{OpenCall, openOf, OpensRow}
 use Rattle.row_statements.specs.Due.{OpenRow}
 use Rattle.row_statements.specs.Run.{openRow}

@@ -3,7 +3,7 @@
 use mathlib.Core.Path.{_≡_, refl, ap, sym, subst, _∙_}
 use mathlib.Core.Bool.{Bool, true, false, not}
 use mathlib.Core.Option.{some, none}
-use Prim.Native.Nat.{ℕ, suc, _+_, _<_}
+use Prim.Native.Nat.{ℕ, suc, _+_, _^_, _<_}
 use native.Mathlib.Omega.{arith}
 use borrow.Author.Tests.{le-ltb, lt-leb, eq-eqb}
 use lib.IntN.{pos}
@@ -11,14 +11,19 @@ use lib.ListN.{length}
 use Rattle.laws.specs.Answer.{refused, given}
 use Rattle.refusals.specs.Refusal.{Judgement, pass, refuse, numberOf, andThen}
 use Rattle.refusals.specs.declared.Refusal.{Refusal}
+use Rattle.pixel_segment.specs.Field.{cpu, tileXOf}
+use Rattle.pixel_segment.proofs.Heights.{cpu-keyed}
+use Rattle.segment_rows.specs.Rows.{Ordered}
+use Rattle.segment_rows.specs.Search.{tilePart}
+use Rattle.segment_rows.proofs.Keys.{tile-x-ordered}
 use Rattle.queue_statements.specs.Queue.{isQueue}
 use Rattle.cached_tile.specs.Kept.{noTile}
 use Rattle.layer_workbench.specs.declared.PreviousClear.the-variants.{Absent}
-use Rattle.row_statements.specs.Lent.{Columns, ListColumns, carriesIn, isQueueShort, isListShort}
+use Rattle.row_statements.specs.Lent.{Columns, ListColumns, carriesIn, isListShort}
 use Rattle.row_statements.specs.State.{State, stateIn}
 use Rattle.row_statements.specs.TileWork.{WorkLent, workLent, listedFor, saysFor, listVerdict, argsVerdict, layersVerdict, workOut, workOf, workAnswer, tileAnswerIn, GivesWork}
-use Rattle.row_statements.specs.Due.{OpenRow, Past, WorkChoice, tableOn, layersOn, saysOn, stateOn, isNotDue, workDueVerdict, workDue, pastWork}
-use Rattle.row_statements.specs.Run.{SameCarries, workOn}
+use Rattle.row_statements.specs.Due.{OpenRow, Past, WorkChoice, tableOn, layersOn, saysOn, stateOn, isNotDue, workDueVerdict}
+use Rattle.row_statements.specs.Run.{Held, SameCarries, workOn}
 use Rattle.row_statements.specs.Claim.{RightWork}
 use Rattle.row_statements.specs.InnerHolding.{IsOpen, Holds}
 use Rattle.row_statements.specs.declared.RowState.{RowState}
@@ -36,6 +41,18 @@ use Rattle.row_driver.proofs.LineLaws as line
 pub list-kept : (list list′ : ListColumns) → length (list′ .ids) ≡ length (list .ids) → length (list′ .covers) ≡ length (list .covers) → length (list′ .flags) ≡ length (list .flags) → length (list′ .unmasked) ≡ length (list .unmasked) → isListShort list ≡ false → isListShort list′ ≡ false
 list-kept list list′ ei ec es eh h = rw (ei, ec, es, eh) h
 
+-- the row is in order by tile
+pub row-ordered : {o : OpenRow} → IsOpen o → Ordered (tileXOf cpu) (o .row)
+row-ordered {o} is-open = tile-x-ordered cpu cpu-keyed (suc (o .tileY)) (o .row) (is-open .in-order .words) (is-open .in-order .is-row)
+
+-- the tile is the state's next, and its number is narrow
+module _ {o : OpenRow} {n : ℕ} {h : Held} (is-open : IsOpen o) (holds : Holds o (record { tiles = n; clip = none }) h) where
+  tile-is : h .state .next ≡ o .from + n
+  tile-is = ap (λ (x : State). x .next) (holds .state)
+
+  pub narrow : h .state .next < 2 ^ 15
+  narrow = omega (arith, tile-is, holds .inside, is-open .last)
+
 -- the side whose turn it is not
 other-side : (in-a : Bool) (a b : Columns) → side (not (not in-a)) a b ≡ side in-a a b
 other-side true a b = refl
@@ -43,7 +60,7 @@ other-side false a b = refl
 
 module _ {o : OpenRow} {n : ℕ} (in-a : Bool) (s : RowState) (a b : Columns) (is-open : IsOpen o) (holds : Holds o (record { tiles = n; clip = none }) (heldBy in-a s a b)) (inside : o .from + n < o .to) (list : ListColumns) (list-long : isListShort list ≡ false) where
   choice : WorkChoice
-  choice = record { tile = pos (o .from + n); kept = noTile; clear = clearColor; previous = Absent; queue = side in-a a b; lent = workLent (side (not in-a) a b) list }
+  choice = record { tile = pos (s .next); kept = noTile; clear = clearColor; previous = Absent; queue = side in-a a b; lent = workLent (side (not in-a) a b) list }
 
   past : Past
   past = record { tiles = n; clip = none }
@@ -51,18 +68,14 @@ module _ {o : OpenRow} {n : ℕ} (in-a : Bool) (s : RowState) (a b : Columns) (i
   same : SameCarries (heldBy in-a s a b .state .left) (heldBy in-a s a b .queue) (side in-a a b)
   same = record { reads = refl; room = refl; order = refl }
 
-  due : isNotDue o n (pos (o .from + n)) ≡ false
-  due = rw (lt-leb (o .to) (o .from + n) inside, le-ltb (o .from + n) 0 (omega arith), eq-eqb (o .from + n) (o .from + n) refl)
+  due : isNotDue o n (pos (s .next)) ≡ false
+  due = rw (tile-is is-open holds, lt-leb (o .to) (o .from + n) inside, le-ltb (o .from + n) 0 (omega arith), eq-eqb (o .from + n) (o .from + n) refl)
 
   passes : argsVerdict (workOn o (heldBy in-a s a b) choice) (choice .lent) ≡ pass
   unfolding choice
   passes = args-due is-open holds choice same ∙ rw (holds .taken-long, list-long, due)
 
-  -- the tile is the state's next
-  pub tile-is : s .next ≡ o .from + n
-  tile-is = ap (λ (x : State). x .next) (holds .state)
-
-  pub workable : Workable (argsOf s (pos (o .from + n)) (o .row) (o .table .words) (o .table .floats) (o .table .count) (side in-a a b)) (workLent (side (not in-a) a b) list)
+  pub workable : Workable (argsOf s (o .row) (o .table .words) (o .table .floats) (o .table .count) (side in-a a b)) (workLent (side (not in-a) a b) list)
   unfolding choice
   workable =
       let args = workOn o (heldBy in-a s a b) choice in
@@ -75,7 +88,7 @@ module _ {o : OpenRow} {n : ℕ} (in-a : Bool) (s : RowState) (a b : Columns) (i
   unfolding choice
   layers-are = layers-due is-open holds choice same due
 
-  module _ {r : TileLine} (a′ b′ : Columns) (list′ : ListColumns) (t : Turns in-a s (pos (o .from + n)) (o .row) (o .table .words) (o .table .floats) (o .table .count) a b list r a′ b′ list′) where
+  module _ {r : TileLine} (a′ b′ : Columns) (list′ : ListColumns) (t : Turns in-a s (o .row) (o .table .words) (o .table .floats) (o .table .count) a b list r a′ b′ list′) where
     back : WorkLent
     back = workLent (side (not in-a) a′ b′) list′
 
@@ -114,7 +127,7 @@ module _ {o : OpenRow} {n : ℕ} (in-a : Bool) (s : RowState) (a b : Columns) (i
         let v = accepted e in
         t .works .line-is (ap (listVerdict (tableOn o)) layers-are ∙ v)
         ∙ line.line-is is-open n (list-passed (tableOn o) (layersOn o n) v .known) layers-are
-        (ap (λ (x : State). carriesIn (x .left) (side in-a a b)) (holds .state) ∙ holds .queue .reads) refl
+        (ap (λ (x : State). carriesIn (x .left) (side in-a a b)) (holds .state) ∙ holds .queue .reads) (ap (λ (m : ℕ). tilePart (pos m) (o .row)) (tile-is is-open holds))
 
     pub holds-next : {d : TileDone} → r .worked .answer ≡ worked.Done d → Holds o (record { tiles = suc n; clip = none }) (heldBy (not in-a) (r .worked .state) a′ b′)
     unfolding choice back

@@ -5,7 +5,7 @@ use mathlib.Core.Bool.{Bool, true, false, not}
 use mathlib.Core.List.{List}
 use Prim.Native.Nat.{ℕ, _+_, _*_, _≤_}
 use lib.Ieee.{Float}
-use lib.IntN.{ℤ}
+use lib.IntN.{pos}
 use lib.ListN.{length}
 use Rattle.segment_rows.specs.Search.{tilePart}
 use Rattle.queue_statements.specs.Queue.{idsIn, isQueue}
@@ -46,9 +46,9 @@ lineAt a =
       carried = length (saysFor a .handed);
     }
 
--- what a driver calls a work with
-abbrev pub argsOf : RowState → ℤ → List ℕ → List ℕ → List Float → ℕ → Columns → WorkCall
-argsOf s tile row words floats count queue = workCall (stateIn s) tile row (lentTable words floats count) noTile clearColor Absent queue
+-- what a driver calls a work with: the tile is the state's next
+abbrev pub argsOf : RowState → List ℕ → List ℕ → List Float → ℕ → Columns → WorkCall
+argsOf s row words floats count queue = workCall (stateIn s) (pos (s .next)) row (lentTable words floats count) noTile clearColor Absent queue
 
 -- what the work of a tile asks
 pub record Workable (a : WorkCall) (lent : WorkLent) : Type 0 where
@@ -67,8 +67,8 @@ side true a b = a
 side false a b = b
 
 -- the work on the side whose turn it is, the other side written, and this one kept
-pub record Turns (in-a : Bool) (s : RowState) (tile : ℤ) (row words : List ℕ) (floats : List Float) (count : ℕ) (a b : Columns) (list : ListColumns) (r : TileLine) (a′ b′ : Columns) (list′ : ListColumns) : Type 0 where
-  pub works : WorksLine (argsOf s tile row words floats count (side in-a a b)) (workLent (side (not in-a) a b) list) r (workLent (side (not in-a) a′ b′) list′)
+pub record Turns (in-a : Bool) (s : RowState) (row words : List ℕ) (floats : List Float) (count : ℕ) (a b : Columns) (list : ListColumns) (r : TileLine) (a′ b′ : Columns) (list′ : ListColumns) : Type 0 where
+  pub works : WorksLine (argsOf s row words floats count (side in-a a b)) (workLent (side (not in-a) a b) list) r (workLent (side (not in-a) a′ b′) list′)
   pub kept : side in-a a′ b′ ≡ side in-a a b
 
 -- what a driver holds: the queue of the side whose turn it is

@@ -8,6 +8,7 @@ use row_lines::Line;
 use row_statements::Opened;
 use row_statements::RowState;
 use row_statements::WorkAnswer;
+use segment_rows::parts;
 ghost use mathlib.Core.Path.{_≡_};
 ghost use Prim.Native.Nat.{_+_, _≤_, min};
 ghost use lib.ListN.{length};
@@ -51,7 +52,7 @@ fn write_line(lines: &mut [u32], at: usize, line: Line)
     lines[at + 4] = line.carried;
 }
 
-// Drives the first n tiles of an open row.
+// Drives the first n tiles of an open row. Each tile's segments are looked for where those of the tile before end.
 fn drive_tiles(
     state: RowState,
     n: usize,
@@ -81,13 +82,17 @@ fn drive_tiles(
 {
     let mut at = state;
     let mut in_a = true;
+    let mut hint: usize = 0;
     let mut i: usize = 0;
     while i < n {
+        let place = parts::place_of_tile(row, at.next as i16, hint);
+        hint = place.end;
         let step = tile::turn(
             in_a,
             at,
-            at.next as i32,
             row,
+            place.start,
+            place.end,
             layers,
             colors,
             count,

@@ -8,12 +8,13 @@ use row_statements::RowState;
 use row_statements::TileDone;
 use row_statements::TileWorked;
 use row_statements::WorkAnswer;
-use segment_rows::parts;
 use shown_layers::Tally;
 use styling::Color;
 ghost use mathlib.Core.Path.{_≡_};
 ghost use mathlib.Core.Bool.{not};
 ghost use Prim.Native.Nat.{_≤_};
+ghost use lib.IntN.{pos};
+ghost use Rattle.segment_rows.specs.Search.{TileStands};
 ghost use Rattle.pass_statements.specs.Decision.{codeOf, decisionIn};
 ghost use Rattle.row_statements.specs.Lent.{columns, listColumns};
 ghost use Rattle.row_statements.specs.TileWork.{workLent};
@@ -77,11 +78,13 @@ fn line_of(done: TileDone, tally: Tally, left: usize) -> Line
     }
 }
 
-// Works a tile, and paints its shown layers where it is to be painted.
+// Works the state's next tile, whose segments stand from `start` up to `end`, and paints its shown layers where it is to
+// be painted.
 fn work_line(
     state: RowState,
-    tile: i32,
     row: &[u64],
+    start: usize,
+    end: usize,
     layers: &[u32],
     colors: &[f32],
     count: usize,
@@ -95,12 +98,13 @@ fn work_line(
     list_unmasked: &mut [bool],
 ) -> TileLine
     requires { ⌜ Workable
-        (argsOf state tile (now row) (now layers) (now colors) count (columns (now ids) (now covers)))
+        (argsOf state (now row) (now layers) (now colors) count (columns (now ids) (now covers)))
         (workLent (columns (now «next_ids») (now «next_covers»))
         (listColumns (now «list_ids») (now «list_covers») (now «list_flags»)
-        (now «list_unmasked»))) ⌝ }
+        (now «list_unmasked»)))
+        × TileStands (pos (state .next)) (now row) start end ⌝ }
     ensures { λ r. ⌜ WorksLine
-        (argsOf state tile (now (row .entry)) (now (layers .entry)) (now (colors .entry)) count
+        (argsOf state (now (row .entry)) (now (layers .entry)) (now (colors .entry)) count
         (columns (now (ids .entry)) (now (covers .entry))))
         (workLent (columns (now («next_ids» .entry)) (now («next_covers» .entry)))
         (listColumns (now («list_ids» .entry)) (now («list_covers» .entry)) (now («list_flags» .entry))
@@ -110,10 +114,10 @@ fn work_line(
         (listColumns (now («list_ids» .exit)) (now («list_covers» .exit)) (now («list_flags» .exit))
         (now («list_unmasked» .exit)))) ⌝ }
 {
-    let worked = row_working::work_judged(
+    let part = &row[start..end];
+    let worked = row_working::work_part(
         state,
-        tile,
-        row,
+        part,
         layers,
         colors,
         count,
@@ -139,7 +143,6 @@ fn work_line(
             let after = worked.state;
             let decision = done.decision;
             let skipped = done.skipped;
-            let part = parts::in_tile(row, tile as i16);
             let tally = shown_layers::tally_shown(
                 is_paint(decision),
                 ids,
@@ -165,8 +168,9 @@ fn work_line(
 pub fn turn(
     in_a: bool,
     state: RowState,
-    tile: i32,
     row: &[u64],
+    start: usize,
+    end: usize,
     layers: &[u32],
     colors: &[f32],
     count: usize,
@@ -180,13 +184,14 @@ pub fn turn(
     list_unmasked: &mut [bool],
 ) -> TileLine
     requires { ⌜ Workable
-        (argsOf state tile (now row) (now layers) (now colors) count
+        (argsOf state (now row) (now layers) (now colors) count
         (side «in_a» (columns (now «a_ids») (now «a_covers»)) (columns (now «b_ids») (now «b_covers»))))
         (workLent
         (side (not «in_a») (columns (now «a_ids») (now «a_covers»)) (columns (now «b_ids») (now «b_covers»)))
         (listColumns (now «list_ids») (now «list_covers») (now «list_flags»)
-        (now «list_unmasked»))) ⌝ }
-    ensures { λ r. ⌜ Turns «in_a» state tile
+        (now «list_unmasked»)))
+        × TileStands (pos (state .next)) (now row) start end ⌝ }
+    ensures { λ r. ⌜ Turns «in_a» state
         (now (row .entry)) (now (layers .entry)) (now (colors .entry)) count
         (columns (now («a_ids» .entry)) (now («a_covers» .entry)))
         (columns (now («b_ids» .entry)) (now («b_covers» .entry)))
@@ -201,8 +206,9 @@ pub fn turn(
     if in_a {
         work_line(
             state,
-            tile,
             row,
+            start,
+            end,
             layers,
             colors,
             count,
@@ -218,8 +224,9 @@ pub fn turn(
     } else {
         work_line(
             state,
-            tile,
             row,
+            start,
+            end,
             layers,
             colors,
             count,

@@ -1,6 +1,5 @@
 -- `drive_row` meets its contract: the opening and what it leaves are laws of `Opening`. Assumes nothing.
 use mathlib.Core.Path.{_≡_}
-use native.Mathlib.Omega.{arith}
 use borrow.Author.Needs.{needs}
 use mir.Facts.{toZ-ofZ}
 use Rattle.row_statements.specs.Lent.{lentTable}

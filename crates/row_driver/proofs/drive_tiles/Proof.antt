@@ -1,17 +1,16 @@
 -- `drive_tiles` meets its contract: each turn is a tile of `Turning`, and the lines that are written go by `Driving`. Assumes nothing.
 use mathlib.Core.Path.{_≡_, refl, ap, _∙_}
-use Prim.Native.Nat.{_+_, _*_, _-_, _^_, _<_}
+use mathlib.Core.Option.{none}
+use Prim.Native.Nat.{_+_, _*_, _-_, _<_}
 use native.Mathlib.Numerals.{add-one}
 use native.Mathlib.Omega.{arith}
 use borrow.Author.Needs.{needs}
 use lib.IntN.{pos}
 use lib.ListN.{length}
 use lib.Seq.{sets}
-use mir.Syntax.{w32}
-use mir.Val.{toZ}
+use mir.Syntax.{w16}
 use mir.Facts.{toZ-pos}
 use Rattle.laws.proofs.Machine.{small}
-use mathlib.Core.Option.{none}
 use Rattle.row_statements.specs.InnerHolding.{Holds}
 use Rattle.row_statements.specs.Lent.{Columns, ListColumns}
 use Rattle.row_lines.specs.Lines.{lineWords}
@@ -23,7 +22,7 @@ use Rattle.row_driver.proofs.Turning as turning
 use Rattle.row_driver.proofs.Driving.{Driving, start, next, done, refused}
 
 abbrev Inv-loop : tie.InvT-loop
-Inv-loop n row layers colors count a-ids₀ a-covers₀ b-ids₀ b-covers₀ list-ids₀ list-covers₀ list-flags₀ list-unmasked₀ lines₀ at₀ in-a₀ i₀ a-ids a-covers b-ids b-covers list-ids list-covers list-flags list-unmasked lines at in-a i =
+Inv-loop n row layers colors count a-ids₀ a-covers₀ b-ids₀ b-covers₀ list-ids₀ list-covers₀ list-flags₀ list-unmasked₀ lines₀ at₀ in-a₀ hint₀ i₀ a-ids a-covers b-ids b-covers list-ids list-covers list-flags list-unmasked lines at in-a hint i =
     Driving (rowBy at₀ row layers colors count) n lines₀ i lines
     × Holds (rowBy at₀ row layers colors count) (record { tiles = i; clip = none }) (heldBy in-a at (record { ids = a-ids; covers = a-covers }) (record { ids = b-ids; covers = b-covers }))
     × (length a-ids ≡ length a-ids₀)
@@ -36,48 +35,37 @@ Inv-loop n row layers colors count a-ids₀ a-covers₀ b-ids₀ b-covers₀ lis
     × (length list-unmasked ≡ length list-unmasked₀)
 
 abbrev μ-loop : tie.MeasureT-loop
-μ-loop n row layers colors count a-ids₀ a-covers₀ b-ids₀ b-covers₀ list-ids₀ list-covers₀ list-flags₀ list-unmasked₀ lines₀ at₀ in-a₀ i₀ a-ids a-covers b-ids b-covers list-ids list-covers list-flags list-unmasked lines at in-a i =
+μ-loop n row layers colors count a-ids₀ a-covers₀ b-ids₀ b-covers₀ list-ids₀ list-covers₀ list-flags₀ list-unmasked₀ lines₀ at₀ in-a₀ hint₀ i₀ a-ids a-covers b-ids b-covers list-ids list-covers list-flags list-unmasked lines at in-a hint i =
     n - i
 
 loop-holds : tie.Need-loop-holds Inv-loop μ-loop
 loop-holds c =
     let p = c .before .before .before .before .before .before .before .before .before .pre in (start (p .room), p .holds, refl, refl, refl, refl, refl, refl, refl, refl)
 
-cast-turn : tie.Need-cast-turn Inv-loop μ-loop
-cast-turn c =
-    let s = c .before .before .before .before .before .before .before .before .before .before .before .before in
-    let a = s .args in
-    let p = s .pre in
-    let l = c .before .before .loop in
-    let h = c .before .loop-test .taken in
-    let left : Columns = record { ids = l .a-ids; covers = l .a-covers } in
-    let right : Columns = record { ids = l .b-ids; covers = l .b-covers } in
-    let list₀ : ListColumns = record { ids = a .list-ids .now; covers = a .list-covers .now; flags = a .list-flags .now; unmasked = a .list-unmasked .now } in
-    let list : ListColumns = record { ids = l .list-ids; covers = l .list-covers; flags = l .list-flags; unmasked = l .list-unmasked } in
-    let inside : a .state .from + l .i < a .state .to = omega (arith, h, p .inside) in
-    let long = turning.list-kept list₀ list (l .inv .6) (l .inv .7) (l .inv .8) (l .inv .9) (p .list-long) in
-    let next-is = turning.tile-is (l .in-a) (l .at) left right (p .is-open) (l .inv .1) inside list long in
-    let low : l .at .next < 2 ^ 31 = omega (arith, next-is, inside, p .is-open .last) in
-    let tile : toZ w32 (l .at .next) ≡ pos (a .state .from + l .i) = toZ-pos w32 low ∙ ap pos next-is in
-    small w32 (pos (l .at .next)) low
+cast-place-of-tile : tie.Need-cast-place-of-tile Inv-loop μ-loop
+cast-place-of-tile c =
+    small w16 (pos (c .before .before .loop .at .next)) (turning.narrow (c .before .before .before .before .before .before .before .before .before .before .before .before .pre .is-open) (c .before .before .loop .inv .1))
+
+place-of-tile-requires : tie.Need-place-of-tile-requires Inv-loop μ-loop
+place-of-tile-requires c κs =
+    turning.row-ordered (c .before .before .before .before .before .before .before .before .before .before .before .before .pre .is-open)
 
 turn-requires : tie.Need-turn-requires Inv-loop μ-loop
 turn-requires c κs =
-    let s = c .before .before .before .before .before .before .before .before .before .before .before .before .before .before .before .before .before .before .before .before in
+    let s = c .before .before .before .before .before .before .before .before .before .before .before .before .before .before .before .before .before .before .before .before .before in
     let a = s .args in
     let p = s .pre in
-    let l = c .before .before .before .before .before .before .before .before .before .before .loop in
-    let h = c .before .before .before .before .before .before .before .before .before .loop-test .taken in
+    let l = c .before .before .before .before .before .before .before .before .before .before .before .loop in
+    let h = c .before .before .before .before .before .before .before .before .before .before .loop-test .taken in
     let left : Columns = record { ids = l .a-ids; covers = l .a-covers } in
     let right : Columns = record { ids = l .b-ids; covers = l .b-covers } in
     let list₀ : ListColumns = record { ids = a .list-ids .now; covers = a .list-covers .now; flags = a .list-flags .now; unmasked = a .list-unmasked .now } in
     let list : ListColumns = record { ids = l .list-ids; covers = l .list-covers; flags = l .list-flags; unmasked = l .list-unmasked } in
     let inside : a .state .from + l .i < a .state .to = omega (arith, h, p .inside) in
-    let long = turning.list-kept list₀ list (l .inv .6) (l .inv .7) (l .inv .8) (l .inv .9) (p .list-long) in
-    let next-is = turning.tile-is (l .in-a) (l .at) left right (p .is-open) (l .inv .1) inside list long in
-    let low : l .at .next < 2 ^ 31 = omega (arith, next-is, inside, p .is-open .last) in
-    let tile : toZ w32 (l .at .next) ≡ pos (a .state .from + l .i) = toZ-pos w32 low ∙ ap pos next-is in
-    rw tile (turning.workable (l .in-a) (l .at) left right (p .is-open) (l .inv .1) inside list long)
+    let long = turning.list-kept list₀ list (l .inv .6) (l .inv .7) (l .inv .8) (l .inv .9) (p .list-long) in (
+      turning.workable (l .in-a) (l .at) left right (p .is-open) (l .inv .1) inside list long,
+      rw (toZ-pos w16 (turning.narrow (p .is-open) (l .inv .1))) at (c .before .before .before .before .before .before .before .before .place-of-tile .ensures),
+    )
 
 enum-known-answer : tie.Need-enum-known-answer Inv-loop μ-loop
 enum-known-answer c =
@@ -85,57 +73,54 @@ enum-known-answer c =
 
 same-length : tie.Need-same-length Inv-loop μ-loop
 same-length c =
-    c .before .before .before .before .before .before .before .before .before .before .before .before .before .before .before .before .before .before .turn .kept .1 .1 .1 .1 .1 .1 .1 .0 ∙ c .before .before .before .before .before .before .before .before .before .before .before .before .before .before .before .before .before .before .before .before .before .before .before .before .before .before .before .before .before .loop .inv .2
+    c .before .before .before .before .before .before .before .before .before .before .before .before .before .before .before .before .before .before .turn .kept .1 .1 .1 .1 .1 .1 .1 .1 .0 ∙ c .before .before .before .before .before .before .before .before .before .before .before .before .before .before .before .before .before .before .before .before .before .before .before .before .before .before .before .before .before .before .loop .inv .2
 
 same-length-2 : tie.Need-same-length-2 Inv-loop μ-loop
 same-length-2 c =
-    c .before .before .before .before .before .before .before .before .before .before .before .before .before .before .before .before .before .before .turn .kept .1 .1 .1 .1 .1 .1 .1 .1 .0 ∙ c .before .before .before .before .before .before .before .before .before .before .before .before .before .before .before .before .before .before .before .before .before .before .before .before .before .before .before .before .before .loop .inv .3
+    c .before .before .before .before .before .before .before .before .before .before .before .before .before .before .before .before .before .before .turn .kept .1 .1 .1 .1 .1 .1 .1 .1 .1 .0 ∙ c .before .before .before .before .before .before .before .before .before .before .before .before .before .before .before .before .before .before .before .before .before .before .before .before .before .before .before .before .before .before .loop .inv .3
 
 same-length-3 : tie.Need-same-length-3 Inv-loop μ-loop
 same-length-3 c =
-    c .before .before .before .before .before .before .before .before .before .before .before .before .before .before .before .before .before .before .turn .kept .1 .1 .1 .1 .1 .1 .1 .1 .1 .0 ∙ c .before .before .before .before .before .before .before .before .before .before .before .before .before .before .before .before .before .before .before .before .before .before .before .before .before .before .before .before .before .loop .inv .4
+    c .before .before .before .before .before .before .before .before .before .before .before .before .before .before .before .before .before .before .turn .kept .1 .1 .1 .1 .1 .1 .1 .1 .1 .1 .0 ∙ c .before .before .before .before .before .before .before .before .before .before .before .before .before .before .before .before .before .before .before .before .before .before .before .before .before .before .before .before .before .before .loop .inv .4
 
 same-length-4 : tie.Need-same-length-4 Inv-loop μ-loop
 same-length-4 c =
-    c .before .before .before .before .before .before .before .before .before .before .before .before .before .before .before .before .before .before .turn .kept .1 .1 .1 .1 .1 .1 .1 .1 .1 .1 .0 ∙ c .before .before .before .before .before .before .before .before .before .before .before .before .before .before .before .before .before .before .before .before .before .before .before .before .before .before .before .before .before .loop .inv .5
+    c .before .before .before .before .before .before .before .before .before .before .before .before .before .before .before .before .before .before .turn .kept .1 .1 .1 .1 .1 .1 .1 .1 .1 .1 .1 .0 ∙ c .before .before .before .before .before .before .before .before .before .before .before .before .before .before .before .before .before .before .before .before .before .before .before .before .before .before .before .before .before .before .loop .inv .5
 
 same-length-5 : tie.Need-same-length-5 Inv-loop μ-loop
 same-length-5 c =
-    c .before .before .before .before .before .before .before .before .before .before .before .before .before .before .before .before .before .before .turn .kept .1 .1 .1 .1 .1 .1 .1 .1 .1 .1 .1 .0 ∙ c .before .before .before .before .before .before .before .before .before .before .before .before .before .before .before .before .before .before .before .before .before .before .before .before .before .before .before .before .before .loop .inv .6
+    c .before .before .before .before .before .before .before .before .before .before .before .before .before .before .before .before .before .before .turn .kept .1 .1 .1 .1 .1 .1 .1 .1 .1 .1 .1 .1 .0 ∙ c .before .before .before .before .before .before .before .before .before .before .before .before .before .before .before .before .before .before .before .before .before .before .before .before .before .before .before .before .before .before .loop .inv .6
 
 same-length-6 : tie.Need-same-length-6 Inv-loop μ-loop
 same-length-6 c =
-    c .before .before .before .before .before .before .before .before .before .before .before .before .before .before .before .before .before .before .turn .kept .1 .1 .1 .1 .1 .1 .1 .1 .1 .1 .1 .1 .0 ∙ c .before .before .before .before .before .before .before .before .before .before .before .before .before .before .before .before .before .before .before .before .before .before .before .before .before .before .before .before .before .loop .inv .7
+    c .before .before .before .before .before .before .before .before .before .before .before .before .before .before .before .before .before .before .turn .kept .1 .1 .1 .1 .1 .1 .1 .1 .1 .1 .1 .1 .1 .0 ∙ c .before .before .before .before .before .before .before .before .before .before .before .before .before .before .before .before .before .before .before .before .before .before .before .before .before .before .before .before .before .before .loop .inv .7
 
 same-length-7 : tie.Need-same-length-7 Inv-loop μ-loop
 same-length-7 c =
-    c .before .before .before .before .before .before .before .before .before .before .before .before .before .before .before .before .before .before .turn .kept .1 .1 .1 .1 .1 .1 .1 .1 .1 .1 .1 .1 .1 .0 ∙ c .before .before .before .before .before .before .before .before .before .before .before .before .before .before .before .before .before .before .before .before .before .before .before .before .before .before .before .before .before .loop .inv .8
+    c .before .before .before .before .before .before .before .before .before .before .before .before .before .before .before .before .before .before .turn .kept .1 .1 .1 .1 .1 .1 .1 .1 .1 .1 .1 .1 .1 .1 .0 ∙ c .before .before .before .before .before .before .before .before .before .before .before .before .before .before .before .before .before .before .before .before .before .before .before .before .before .before .before .before .before .before .loop .inv .8
 
 same-length-8 : tie.Need-same-length-8 Inv-loop μ-loop
 same-length-8 c =
-    c .before .before .before .before .before .before .before .before .before .before .before .before .before .before .before .before .before .before .turn .kept .1 .1 .1 .1 .1 .1 .1 .1 .1 .1 .1 .1 .1 .1 .0 ∙ c .before .before .before .before .before .before .before .before .before .before .before .before .before .before .before .before .before .before .before .before .before .before .before .before .before .before .before .before .before .loop .inv .9
+    c .before .before .before .before .before .before .before .before .before .before .before .before .before .before .before .before .before .before .turn .kept .1 .1 .1 .1 .1 .1 .1 .1 .1 .1 .1 .1 .1 .1 .1 .0 ∙ c .before .before .before .before .before .before .before .before .before .before .before .before .before .before .before .before .before .before .before .before .before .before .before .before .before .before .before .before .before .before .loop .inv .9
 
 same-length-9 : tie.Need-same-length-9 Inv-loop μ-loop
 same-length-9 c =
-    c .before .before .before .before .before .before .before .before .before .before .before .before .before .before .before .before .before .before .before .before .before .before .before .before .before .before .before .before .before .loop .inv .0 .long
+    c .before .before .before .before .before .before .before .before .before .before .before .before .before .before .before .before .before .before .before .before .before .before .before .before .before .before .before .before .before .before .loop .inv .0 .long
 
 returns : tie.Need-returns Inv-loop μ-loop
 returns c =
-    let s = c .before .before .before .before .before .before .before .before .before .before .before .before .before .before .before .before .before .before .before .before .before .before .before .before .before .before .before .before .before .before .before .before .before .before .before .before .before .before .before in
+    let s = c .before .before .before .before .before .before .before .before .before .before .before .before .before .before .before .before .before .before .before .before .before .before .before .before .before .before .before .before .before .before .before .before .before .before .before .before .before .before .before .before in
     let a = s .args in
     let p = s .pre in
-    let l = c .before .before .before .before .before .before .before .before .before .before .before .before .before .before .before .before .before .before .before .before .before .before .before .before .before .before .before .before .before .loop in
-    let h = c .before .before .before .before .before .before .before .before .before .before .before .before .before .before .before .before .before .before .before .before .before .before .before .before .before .before .before .before .loop-test .taken in
+    let l = c .before .before .before .before .before .before .before .before .before .before .before .before .before .before .before .before .before .before .before .before .before .before .before .before .before .before .before .before .before .before .loop in
+    let h = c .before .before .before .before .before .before .before .before .before .before .before .before .before .before .before .before .before .before .before .before .before .before .before .before .before .before .before .before .before .loop-test .taken in
     let left : Columns = record { ids = l .a-ids; covers = l .a-covers } in
     let right : Columns = record { ids = l .b-ids; covers = l .b-covers } in
     let list₀ : ListColumns = record { ids = a .list-ids .now; covers = a .list-covers .now; flags = a .list-flags .now; unmasked = a .list-unmasked .now } in
     let list : ListColumns = record { ids = l .list-ids; covers = l .list-covers; flags = l .list-flags; unmasked = l .list-unmasked } in
     let inside : a .state .from + l .i < a .state .to = omega (arith, h, p .inside) in
     let long = turning.list-kept list₀ list (l .inv .6) (l .inv .7) (l .inv .8) (l .inv .9) (p .list-long) in
-    let next-is = turning.tile-is (l .in-a) (l .at) left right (p .is-open) (l .inv .1) inside list long in
-    let low : l .at .next < 2 ^ 31 = omega (arith, next-is, inside, p .is-open .last) in
-    let tile : toZ w32 (l .at .next) ≡ pos (a .state .from + l .i) = toZ-pos w32 low ∙ ap pos next-is in
-    let t = rw tile at (c .before .before .before .before .before .before .before .before .before .before .before .before .before .before .before .before .before .before .turn .ensures) in
+    let t = c .before .before .before .before .before .before .before .before .before .before .before .before .before .before .before .before .before .before .turn .ensures in
     refused (l .inv .0) h (turning.refused-is (l .in-a) (l .at) left right (p .is-open) (l .inv .1) inside list long _ _ _ t (c .before .answer .given .1))
 
 enum-told : tie.Need-enum-told Inv-loop μ-loop
@@ -144,50 +129,47 @@ enum-told c =
 
 mul-write-line : tie.Need-mul-write-line Inv-loop μ-loop
 mul-write-line c =
-    let p = c .before .before .before .before .before .before .before .before .before .before .before .before .before .before .before .before .before .before .before .before .before .before .before .before .before .before .before .before .before .before .before .before .before .before .before .before .before .before .before .pre in omega (arith, c .before .before .before .before .before .before .before .before .before .before .before .before .before .before .before .before .before .before .before .before .before .before .before .before .before .before .before .before .loop-test .taken, p .inside, p .is-open .last)
+    let p = c .before .before .before .before .before .before .before .before .before .before .before .before .before .before .before .before .before .before .before .before .before .before .before .before .before .before .before .before .before .before .before .before .before .before .before .before .before .before .before .before .pre in omega (arith, c .before .before .before .before .before .before .before .before .before .before .before .before .before .before .before .before .before .before .before .before .before .before .before .before .before .before .before .before .before .loop-test .taken, p .inside, p .is-open .last)
 
 write-line-requires : tie.Need-write-line-requires Inv-loop μ-loop
 write-line-requires c κs =
-    let v = c .before .before .before .before .before .before .before .before .before .before .before .before .before .before .before .before .before .before .before .before .before .before .before .before .before .before .before .before .before .loop .inv .0 in omega (arith, c .before .before .before .before .before .before .before .before .before .before .before .before .before .before .before .before .before .before .before .before .before .before .before .before .before .before .before .before .loop-test .taken, v .long, v .room)
+    let v = c .before .before .before .before .before .before .before .before .before .before .before .before .before .before .before .before .before .before .before .before .before .before .before .before .before .before .before .before .before .before .loop .inv .0 in omega (arith, c .before .before .before .before .before .before .before .before .before .before .before .before .before .before .before .before .before .before .before .before .before .before .before .before .before .before .before .before .before .loop-test .taken, v .long, v .room)
 
 add-i : tie.Need-add-i Inv-loop μ-loop
 add-i c =
-    let p = c .before .before .before .before .before .before .before .before .before .before .before .before .before .before .before .before .before .before .before .before .before .before .before .before .before .before .before .before .before .before .before .before .before .before .before .before .before .before .before .before .before .before .before .pre in omega (arith, c .before .before .before .before .before .before .before .before .before .before .before .before .before .before .before .before .before .before .before .before .before .before .before .before .before .before .before .before .before .before .before .before .loop-test .taken, p .inside, p .is-open .last)
+    let p = c .before .before .before .before .before .before .before .before .before .before .before .before .before .before .before .before .before .before .before .before .before .before .before .before .before .before .before .before .before .before .before .before .before .before .before .before .before .before .before .before .before .before .before .before .pre in omega (arith, c .before .before .before .before .before .before .before .before .before .before .before .before .before .before .before .before .before .before .before .before .before .before .before .before .before .before .before .before .before .before .before .before .before .loop-test .taken, p .inside, p .is-open .last)
 
 loop-less : tie.Need-loop-less Inv-loop μ-loop
 loop-less c =
-    omega (arith, c .before .before .before .before .before .before .before .before .before .before .before .before .before .before .before .before .before .before .before .before .before .before .before .before .before .before .before .before .before .before .before .before .loop-test .taken)
+    omega (arith, c .before .before .before .before .before .before .before .before .before .before .before .before .before .before .before .before .before .before .before .before .before .before .before .before .before .before .before .before .before .before .before .before .before .loop-test .taken)
 
 loop-again : tie.Need-loop-again Inv-loop μ-loop
 loop-again c =
-    let s = c .before .before .before .before .before .before .before .before .before .before .before .before .before .before .before .before .before .before .before .before .before .before .before .before .before .before .before .before .before .before .before .before .before .before .before .before .before .before .before .before .before .before .before in
+    let s = c .before .before .before .before .before .before .before .before .before .before .before .before .before .before .before .before .before .before .before .before .before .before .before .before .before .before .before .before .before .before .before .before .before .before .before .before .before .before .before .before .before .before .before .before in
     let a = s .args in
     let p = s .pre in
-    let l = c .before .before .before .before .before .before .before .before .before .before .before .before .before .before .before .before .before .before .before .before .before .before .before .before .before .before .before .before .before .before .before .before .before .loop in
-    let h = c .before .before .before .before .before .before .before .before .before .before .before .before .before .before .before .before .before .before .before .before .before .before .before .before .before .before .before .before .before .before .before .before .loop-test .taken in
+    let l = c .before .before .before .before .before .before .before .before .before .before .before .before .before .before .before .before .before .before .before .before .before .before .before .before .before .before .before .before .before .before .before .before .before .before .loop in
+    let h = c .before .before .before .before .before .before .before .before .before .before .before .before .before .before .before .before .before .before .before .before .before .before .before .before .before .before .before .before .before .before .before .before .before .loop-test .taken in
     let left : Columns = record { ids = l .a-ids; covers = l .a-covers } in
     let right : Columns = record { ids = l .b-ids; covers = l .b-covers } in
     let list₀ : ListColumns = record { ids = a .list-ids .now; covers = a .list-covers .now; flags = a .list-flags .now; unmasked = a .list-unmasked .now } in
     let list : ListColumns = record { ids = l .list-ids; covers = l .list-covers; flags = l .list-flags; unmasked = l .list-unmasked } in
     let inside : a .state .from + l .i < a .state .to = omega (arith, h, p .inside) in
     let long = turning.list-kept list₀ list (l .inv .6) (l .inv .7) (l .inv .8) (l .inv .9) (p .list-long) in
-    let next-is = turning.tile-is (l .in-a) (l .at) left right (p .is-open) (l .inv .1) inside list long in
-    let low : l .at .next < 2 ^ 31 = omega (arith, next-is, inside, p .is-open .last) in
-    let tile : toZ w32 (l .at .next) ≡ pos (a .state .from + l .i) = toZ-pos w32 low ∙ ap pos next-is in
-    let t = rw tile at (c .before .before .before .before .before .before .before .before .before .before .before .before .before .before .before .before .before .before .before .before .before .before .turn .ensures) in
+    let t = c .before .before .before .before .before .before .before .before .before .before .before .before .before .before .before .before .before .before .before .before .before .before .turn .ensures in
     let e = c .before .before .before .before .before .enum-told .given .1 in
     let told = c .before .before .before .write-line .ensures ∙ ap (λ (x : Line). sets (l .lines) (l .i * 5) (lineWords x)) (turning.line-is (l .in-a) (l .at) left right (p .is-open) (l .inv .1) inside list long _ _ _ t e) in
     let k = c .before .before .before .before .before .before .before .before .before .before .before .before .before .before .before .before .before .before .before .before .before .before .turn .kept in (
       next (l .inv .0) h (turning.accepted (l .in-a) (l .at) left right (p .is-open) (l .inv .1) inside list long _ _ _ t e) told,
       rw (add-one (l .i)) (turning.holds-next (l .in-a) (l .at) left right (p .is-open) (l .inv .1) inside list long _ _ _ t e),
-      k .1 .1 .1 .1 .1 .1 .1 .0 ∙ l .inv .2,
-      k .1 .1 .1 .1 .1 .1 .1 .1 .0 ∙ l .inv .3,
-      k .1 .1 .1 .1 .1 .1 .1 .1 .1 .0 ∙ l .inv .4,
-      k .1 .1 .1 .1 .1 .1 .1 .1 .1 .1 .0 ∙ l .inv .5,
-      k .1 .1 .1 .1 .1 .1 .1 .1 .1 .1 .1 .0 ∙ l .inv .6,
-      k .1 .1 .1 .1 .1 .1 .1 .1 .1 .1 .1 .1 .0 ∙ l .inv .7,
-      k .1 .1 .1 .1 .1 .1 .1 .1 .1 .1 .1 .1 .1 .0 ∙ l .inv .8,
-      k .1 .1 .1 .1 .1 .1 .1 .1 .1 .1 .1 .1 .1 .1 .0 ∙ l .inv .9,
+      k .1 .1 .1 .1 .1 .1 .1 .1 .0 ∙ l .inv .2,
+      k .1 .1 .1 .1 .1 .1 .1 .1 .1 .0 ∙ l .inv .3,
+      k .1 .1 .1 .1 .1 .1 .1 .1 .1 .1 .0 ∙ l .inv .4,
+      k .1 .1 .1 .1 .1 .1 .1 .1 .1 .1 .1 .0 ∙ l .inv .5,
+      k .1 .1 .1 .1 .1 .1 .1 .1 .1 .1 .1 .1 .0 ∙ l .inv .6,
+      k .1 .1 .1 .1 .1 .1 .1 .1 .1 .1 .1 .1 .1 .0 ∙ l .inv .7,
+      k .1 .1 .1 .1 .1 .1 .1 .1 .1 .1 .1 .1 .1 .1 .0 ∙ l .inv .8,
+      k .1 .1 .1 .1 .1 .1 .1 .1 .1 .1 .1 .1 .1 .1 .1 .0 ∙ l .inv .9,
     )
 
 same-length-10 : tie.Need-same-length-10 Inv-loop μ-loop
@@ -237,7 +219,8 @@ drive-tiles-spec =
     Inv-loop
     μ-loop
     loop-holds
-    cast-turn
+    cast-place-of-tile
+    place-of-tile-requires
     turn-requires
     enum-known-answer
     same-length
