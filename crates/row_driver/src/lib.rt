@@ -68,6 +68,7 @@ fn drive_tiles(
     list_covers: &mut [i8],
     list_flags: &mut [bool],
     list_unmasked: &mut [bool],
+    sums: &mut [i8; 4096],
     lines: &mut [u32],
 ) -> Driven
     requires { ⌜ steps.Drivable (steps.rowBy state (now row) (now layers) (now colors) count) state n
@@ -104,6 +105,7 @@ fn drive_tiles(
             list_covers,
             list_flags,
             list_unmasked,
+            sums,
         );
         let worked = step.worked;
         let line = step.line;
@@ -123,7 +125,7 @@ fn drive_tiles(
     Driven::Done(n)
 }
 
-// Drives an open row with a second queue and a list of its own.
+// Drives an open row with a second queue, a list and room for carries of its own.
 fn drive_open(
     state: RowState,
     n: usize,
@@ -148,6 +150,7 @@ fn drive_open(
     let mut list_covers = [0i8; 4096];
     let mut list_flags = [false; 512];
     let mut list_unmasked = [false; 256];
+    let mut sums = [0i8; 4096];
     drive_tiles(
         state,
         n,
@@ -163,6 +166,7 @@ fn drive_open(
         &mut list_covers,
         &mut list_flags,
         &mut list_unmasked,
+        &mut sums,
         lines,
     )
 }

@@ -96,6 +96,7 @@ fn work_line(
     list_covers: &mut [i8],
     list_flags: &mut [bool],
     list_unmasked: &mut [bool],
+    sums: &mut [i8; 4096],
 ) -> TileLine
     requires { ⌜ Workable
         (argsOf state (now row) (now layers) (now colors) count (columns (now ids) (now covers)))
@@ -132,6 +133,7 @@ fn work_line(
         list_covers,
         list_flags,
         list_unmasked,
+        sums,
     );
     let answer = worked.answer;
     match answer {
@@ -182,6 +184,7 @@ pub fn turn(
     list_covers: &mut [i8],
     list_flags: &mut [bool],
     list_unmasked: &mut [bool],
+    sums: &mut [i8; 4096],
 ) -> TileLine
     requires { ⌜ Workable
         (argsOf state (now row) (now layers) (now colors) count
@@ -220,6 +223,7 @@ pub fn turn(
             list_covers,
             list_flags,
             list_unmasked,
+            sums,
         )
     } else {
         work_line(
@@ -238,6 +242,7 @@ pub fn turn(
             list_covers,
             list_flags,
             list_unmasked,
+            sums,
         )
     }
 }

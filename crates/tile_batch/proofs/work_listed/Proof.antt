@@ -17,7 +17,7 @@ slice-aggregate-work-many-4 : tie.Need-slice-aggregate-work-many-4
 slice-aggregate-work-many-4 c = search needs
 
 work-many-requires : tie.Need-work-many-requires
-work-many-requires c κs = (c .before .before .before .before .before .before .before .before .before .before .before .before .before .before .before .before .before .before .before .before .before .before .before .pre, refl)
+work-many-requires c κs = (c .before .before .before .before .before .before .before .before .before .before .before .before .before .before .before .before .before .before .before .before .before .before .before .before .pre, refl)
 
 same-length : tie.Need-same-length
 same-length c = c .before .before .before .before .before .before .before .before .before .before .before .before .before .before .before .before .before .before .before .before .work-many .kept .1 .1 .1 .1 .1 .1 .1 .1 .1 .1 .0

@@ -31,22 +31,22 @@ backOf c =
     workLent (columns (l .1 .1 .1 .1 .1 .1 .1 .1 .1 .1 .0) (l .1 .1 .1 .1 .1 .1 .1 .1 .1 .1 .1 .0)) (listColumns (l .1 .1 .1 .1 .1 .1 .1 .1 .1 .1 .1 .1 .0) (l .1 .1 .1 .1 .1 .1 .1 .1 .1 .1 .1 .1 .1 .0) (l .1 .1 .1 .1 .1 .1 .1 .1 .1 .1 .1 .1 .1 .1 .0) (l .1 .1 .1 .1 .1 .1 .1 .1 .1 .1 .1 .1 .1 .1 .1 .0))
 
 -- what it says, once: the slice is the part of the state's next tile
-given-is : (c : tie.After-work-part) → let s = c .before .before .before .before .before .before .before .before .before .before .before .before .before .before .before .before .before .before in GivesWork (workedBy (called s) (lentTo s)) (c .work-part .result) (backOf c)
+given-is : (c : tie.After-work-part) → let s = c .before .before .before .before .before .before .before .before .before .before .before .before .before .before .before .before .before .before .before in GivesWork (workedBy (called s) (lentTo s)) (c .work-part .result) (backOf c)
 unfolding called lentTo backOf
 given-is c =
-    let s = c .before .before .before .before .before .before .before .before .before .before .before .before .before .before .before .before .before .before in
-    rw (c .before .before .before .before .before .before .before .before .absent .ensures, c .before .before .before .before .before .before .before .clear-color .ensures) at (c .work-part .ensures .gives (pos (s .args .state .next)) (s .args .row .now) (s .pre .1 .part))
+    let s = c .before .before .before .before .before .before .before .before .before .before .before .before .before .before .before .before .before .before .before in
+    rw (c .before .before .before .before .before .before .before .before .before .absent .ensures, c .before .before .before .before .before .before .before .before .clear-color .ensures) at (c .work-part .ensures .gives (pos (s .args .state .next)) (s .args .row .now) (s .pre .1 .part))
 
 work-part-requires : tie.Need-work-part-requires
 work-part-requires c κs =
-    let s = c .before .before .before .before .before .before .before .before .before .before .before .before .before .before .before .before .before in
+    let s = c .before .before .before .before .before .before .before .before .before .before .before .before .before .before .before .before .before .before in
     let a = s .args in
     part-judged (a .state) (pos (a .state .next)) (a .row .now) (lentTable (a .layers .now) (a .colors .now) (a .count)) noTile clearColor Absent (columns (a .ids .now) (a .covers .now)) (workLent (columns (a .next-ids .now) (a .next-covers .now)) (listColumns (a .list-ids .now) (a .list-covers .now) (a .list-flags .now) (a .list-unmasked .now))) (s .pre .1 .part) (s .pre .0 .judged)
 
 tally-shown-requires : tie.Need-tally-shown-requires
 unfolding called lentTo backOf
 tally-shown-requires c κs =
-    let s = c .before .before .before .before .before .before .before .before .before .before .before .before .before .before .before .before .before .before .before .before .before .before .before .before .before .before .before .before .before .before .before .before .before .before .before in
+    let s = c .before .before .before .before .before .before .before .before .before .before .before .before .before .before .before .before .before .before .before .before .before .before .before .before .before .before .before .before .before .before .before .before .before .before .before .before in
     let given = given-is (c .before .before .before .before .before .before .before .before .before .before .before .before .before .before .before .before .before) in
     let t = accepted (called s) (lentTo s) (s .pre .0) (c .before .before .before .before .before .answer .given .1) given in
     rw (s .pre .1 .part) (painter (called s) (lentTo s) (s .pre .0), walkable (called s) (lentTo s) (s .pre .0) t)
@@ -54,14 +54,14 @@ tally-shown-requires c κs =
 line-of-requires : tie.Need-line-of-requires
 unfolding called lentTo
 line-of-requires c κs =
-    let s = c .before .before .before .before .before .before .before .before .before .before .before .before .before .before .before .before .before .before .before .before .before .before .before .before .before .before .before .before .before .before .before .before .before .before .before .before in
+    let s = c .before .before .before .before .before .before .before .before .before .before .before .before .before .before .before .before .before .before .before .before .before .before .before .before .before .before .before .before .before .before .before .before .before .before .before .before .before in
     let given = given-is (c .before .before .before .before .before .before .before .before .before .before .before .before .before .before .before .before .before .before) in
     few (called s) (lentTo s) (s .pre .0) (accepted (called s) (lentTo s) (s .pre .0) (c .before .before .before .before .before .before .answer .given .1) given)
 
 returns : tie.Need-returns
 unfolding called lentTo backOf
 returns c =
-    let s = c .before .before .before .before .before .before .before .before .before .before .before .before .before .before .before .before .before .before .before .before .before .before .before .before .before .before .before .before .before .before .before in
+    let s = c .before .before .before .before .before .before .before .before .before .before .before .before .before .before .before .before .before .before .before .before .before .before .before .before .before .before .before .before .before .before .before .before in
     let given = given-is (c .before .before .before .before .before .before .before .before .before .before .before .before .before) in
     record { works = given; line-is = λ e. absurd (line-refused (called s) (lentTo s) (s .pre .0) (c .before .enum-told .given .1) given e) }
 
@@ -86,7 +86,7 @@ same-length-12 c = c .before .before .before .before .before .before .before .be
 returns-2 : tie.Need-returns-2
 unfolding called lentTo backOf
 returns-2 c =
-    let s = c .before .before .before .before .before .before .before .before .before .before .before .before .before .before .before .before .before .before .before .before .before .before .before .before .before .before .before .before .before .before .before .before .before .before .before .before .before in
+    let s = c .before .before .before .before .before .before .before .before .before .before .before .before .before .before .before .before .before .before .before .before .before .before .before .before .before .before .before .before .before .before .before .before .before .before .before .before .before .before in
     let given = given-is (c .before .before .before .before .before .before .before .before .before .before .before .before .before .before .before .before .before .before .before) in
     let t = accepted (called s) (lentTo s) (s .pre .0) (c .before .before .before .before .before .before .before .answer .given .1) given in
     let tallied = rw (s .pre .1 .part, c .before .before .before .is-paint .ensures) at (c .before .tally-shown .ensures) in

@@ -44,9 +44,9 @@ backOf c =
     workLent (columns (l .1 .1 .1 .1 .1 .1 .1 .1 .1 .1 .0) (l .1 .1 .1 .1 .1 .1 .1 .1 .1 .1 .1 .0)) (listColumns (l .1 .1 .1 .1 .1 .1 .1 .1 .1 .1 .1 .1 .0) (l .1 .1 .1 .1 .1 .1 .1 .1 .1 .1 .1 .1 .1 .0) (l .1 .1 .1 .1 .1 .1 .1 .1 .1 .1 .1 .1 .1 .1 .0) (l .1 .1 .1 .1 .1 .1 .1 .1 .1 .1 .1 .1 .1 .1 .1 .0))
 
 -- what the work says, once
-given-is : (c : tie.After-work-part) → let s = c .before .before .before .before .before .before .before .before .before .before .before .before .before .before .before .before .before .before .before .before .before .before in GivesWork (workedBy (callAt (rowOf s) (standOf s)) (workLent (standOf s .lent .other) (listOf s))) (c .work-part .result) (backOf c)
+given-is : (c : tie.After-work-part) → let s = c .before .before .before .before .before .before .before .before .before .before .before .before .before .before .before .before .before .before .before .before .before .before .before in GivesWork (workedBy (callAt (rowOf s) (standOf s)) (workLent (standOf s .lent .other) (listOf s))) (c .work-part .result) (backOf c)
 given-is c =
-    let s = c .before .before .before .before .before .before .before .before .before .before .before .before .before .before .before .before .before .before .before .before .before .before in
+    let s = c .before .before .before .before .before .before .before .before .before .before .before .before .before .before .before .before .before .before .before .before .before .before .before in
     rw (s .pre .held-is) at (c .work-part .ensures .gives (standOf s .tile) (s .args .row .now) (s .pre .turns .place .part))
 
 mul-part : tie.Need-mul-part
@@ -63,7 +63,7 @@ part-part-end c = search needs
 
 work-part-requires : tie.Need-work-part-requires
 work-part-requires c κs =
-    let s = c .before .before .before .before .before .before .before .before .before .before .before .before .before .before .before .before .before .before .before .before .before in
+    let s = c .before .before .before .before .before .before .before .before .before .before .before .before .before .before .before .before .before .before .before .before .before .before in
     let a = s .args in
     part-judged (a .at .state) (standOf s .tile) (a .row .now) (rowOf s .table) (keptAt (a .keeps) (a .kept .now) (a .at .worked)) (a .clear) (a .previous) (standOf s .lent .queue) (workLent (standOf s .lent .other) (listOf s)) (s .pre .turns .place .part) (ready s .judged)
 
@@ -78,7 +78,7 @@ enum-known-answer-2 c = search needs
 
 note-tile-requires : tie.Need-note-tile-requires
 note-tile-requires c κs =
-    let s = c .before .before .before .before .before .before .before .before .before .before .before .before .before .before .before .before .before .before .before .before .before .before .before .before .before .before .before .before .before .before .before .before .before .before .before .before .before .before .before .before .before in
+    let s = c .before .before .before .before .before .before .before .before .before .before .before .before .before .before .before .before .before .before .before .before .before .before .before .before .before .before .before .before .before .before .before .before .before .before .before .before .before .before .before .before .before .before in
     let t = accepted (callAt (rowOf s) (standOf s)) (workLent (standOf s .lent .other) (listOf s)) (ready s) (c .before .before .before .before .before .before .before .answer2 .given .1) (given-is (c .before .before .before .before .before .before .before .before .before .before .before .before .before .before .before .before .before .before .before)) in
     let n = s .pre .turns .notes in
     rw (s .pre .turns .place .part)
@@ -104,7 +104,7 @@ same-length-6 c = search needs
 
 returns : tie.Need-returns
 returns c =
-    let s = c .before .before .before .before .before .before .before .before .before .before .before .before .before .before .before .before .before .before .before .before .before .before .before .before .before .before .before .before .before .before .before .before .before .before .before .before in
+    let s = c .before .before .before .before .before .before .before .before .before .before .before .before .before .before .before .before .before .before .before .before .before .before .before .before .before .before .before .before .before .before .before .before .before .before .before .before .before in
     turn-told-refused (rowOf s) (s .args .at) (standOf s .lent) (s .pre .turns .stands) (own s) (listOf s) (s .pre .turns .list-long) (given-is (c .before .before .before .before .before .before .before .before .before .before .before .before .before .before)) (c .before .before .answer .given .1) (c .refused .ensures)
 
 same-length-7 : tie.Need-same-length-7
@@ -142,7 +142,7 @@ same-length-17 c = search needs
 
 returns-2 : tie.Need-returns-2
 returns-2 c =
-    let s = c .before .before .before .before .before .before .before .before .before .before .before .before .before .before .before .before .before .before .before .before .before .before .before .before .before .before .before .before .before .before .before .before .before .before .before .before .before .before .before .before .before .before .before .before .before .before .before .before .before .before .before .before in
+    let s = c .before .before .before .before .before .before .before .before .before .before .before .before .before .before .before .before .before .before .before .before .before .before .before .before .before .before .before .before .before .before .before .before .before .before .before .before .before .before .before .before .before .before .before .before .before .before .before .before .before .before .before .before .before in
     let g = given-is (c .before .before .before .before .before .before .before .before .before .before .before .before .before .before .before .before .before .before .before .before .before .before .before .before .before .before .before .before .before .before) in
     let e = c .before .before .before .before .before .before .before .before .before .before .before .before .before .before .before .before .before .before .answer2 .given .1 in
     let v = both-pass (rowOf s) (s .args .at) (standOf s .lent) (s .pre .turns .stands) (own s) (listOf s) (s .pre .turns .list-long) g e in

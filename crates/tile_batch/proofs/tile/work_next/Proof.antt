@@ -44,11 +44,11 @@ enum-told c = search needs
 
 work-here-requires : tie.Need-work-here-requires
 work-here-requires c κs =
-    let s = c .before .before .before .before .before .before .before .before .before .before .before .before .before .before .before .before .before .before .before .before .before .before .before .before .before .before .before .before .before .before in
+    let s = c .before .before .before .before .before .before .before .before .before .before .before .before .before .before .before .before .before .before .before .before .before .before .before .before .before .before .before .before .before .before .before in
     record {
       turns = s .pre;
-      held-is = c .before .before .before .before .before .before .before .before .before .before .before .before .before .before .kept-at .ensures;
-      passes = sym (c .before .before .before .before .before .before .before .before .before .before .before .before .before .judge-next .ensures) ∙ ap judgementIn (c .before .before .before .before .before .before .before .before .before .before .before .enum-told .given .1);
+      held-is = c .before .before .before .before .before .before .before .before .before .before .before .before .before .before .before .kept-at .ensures;
+      passes = sym (c .before .before .before .before .before .before .before .before .before .before .before .before .before .before .judge-next .ensures) ∙ ap judgementIn (c .before .before .before .before .before .before .before .before .before .before .before .before .enum-told .given .1);
     }
 
 same-length : tie.Need-same-length
