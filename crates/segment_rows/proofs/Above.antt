@@ -100,3 +100,13 @@ above-test true true start n limit h e = lt-leb limit n h
 above-test true false start n limit h e = lt-leb limit n h
 above-test false true start n limit h e = e
 above-test false false start n limit h e = e
+
+-- nothing where that is wanted
+pub never-above : (b : Bool) → isGt (compareBool b true) ≡ false
+never-above true = refl
+never-above false = refl
+
+-- else what is at least the start
+pub above-unwanted : (b : Bool) → b ≡ isGt (compareBool b false)
+above-unwanted true = refl
+above-unwanted false = refl

@@ -156,6 +156,22 @@ halved-lt isAbove l (suc turns) start len h t =
 pub end-lt : (isAbove : ℕ → Bool) (l : List ℕ) {end : ℕ} → 0 < length l → end ≡ endOf isAbove l → end < length l
 end-lt isAbove l some e = rw e (omega (arith, halved-lt isAbove l (length l) 0 (length l) some (omega arith)))
 
+-- ---- where no element is above, it ends at the last one
+
+never-left : (isAbove : ℕ → Bool) (l : List ℕ) → ((w : ℕ) → isAbove w ≡ false) → (turns start len : ℕ) → 1 ≤ len → len ≤ turns → halved isAbove l len start len + 1 ≡ start + len
+never-left isAbove l none zero start len h t = absurd (omega arith)
+never-left isAbove l none (suc turns) start len h t =
+    let high = never-left isAbove l none turns (start + len / 2) (len - len / 2) in
+    ⊎-elim
+    (λ (one : len ≤ 1). rw (halved-end isAbove l len start len one) (omega arith))
+    (λ (many : 1 < len).
+    let b = high (omega arith) (omega arith) in
+    rw (halved-right isAbove l start len many (none (getD l (start + len / 2) 0))) (omega (arith, b)))
+    (le-or-lt len 1)
+
+pub end-last : (isAbove : ℕ → Bool) (l : List ℕ) {last : ℕ} → last + 1 ≡ length l → ((w : ℕ) → isAbove w ≡ false) → last ≡ endOf isAbove l
+end-last isAbove l {last} e none = omega (arith, never-left isAbove l none (length l) 0 (length l) (omega arith) (omega arith))
+
 -- ---- in a list whose first element is not above, at one that is not above either, before one that is, in whatever order
 
 pub record LastBelow (isAbove : ℕ → Bool) (l : List ℕ) (s : ℕ) : Type 0 where

@@ -13,8 +13,7 @@ ghost use lib.Dec.{leb};
 ghost use lib.IntN.{pos, _+ℤ_};
 ghost use lib.ListN.{length, getD};
 ghost use Rattle.laws.specs.Integer.{plus};
-ghost use Rattle.pixel_segment.specs.Field.{cpu, tileYOf, tileXOf, layerIdOf};
-ghost use Rattle.pixel_segment.specs.Order.{rank, isGt, compareOf};
+ghost use Rattle.pixel_segment.specs.Order.{rank, compareOf, compareBool};
 ghost use Rattle.pixel_segment.specs.Pack.{storedOf};
 ghost use Rattle.segment_rows.specs.Search.{placeIn, endOf, searchOf, ended, orderAt};
 ghost use Rattle.segment_rows.specs.InnerPlaces.{HalfOf};
@@ -184,36 +183,28 @@ fn search_number(segments: &[u64], offset: u32, size: u64, above: u32) -> Found
     Found::Absent(end)
 }
 
-fn halve_by_tile_y(segments: &[u64], above: u32) -> usize
-    ensures { λ r. ⌜ r ≡ endOf (λ w. leb above (tileYOf cpu w)) (now (segments .entry)) ⌝ }
-{
-    let offset = consts::shift(BitField::TileY);
-    halve(segments, offset, consts::size(BitField::TileY), above)
-}
-
-fn halve_by_tile_x(segments: &[u64], above: u32) -> usize
-    ensures { λ r. ⌜ r ≡ endOf (λ w. leb above (tileXOf cpu w)) (now (segments .entry)) ⌝ }
-{
-    let offset = consts::shift(BitField::TileX);
-    halve(segments, offset, consts::size(BitField::TileX), above)
-}
-
-fn halve_by_layer_id(segments: &[u64], above: u32) -> usize
-    ensures { λ r. ⌜ r ≡ endOf (λ w. leb above (layerIdOf cpu w)) (now (segments .entry)) ⌝ }
-{
-    let offset = consts::shift(BitField::LayerId);
-    halve(segments, offset, consts::size(BitField::LayerId), above)
-}
-
-// What a search tells where its halving ends.
-fn tell(segments: &[u64], key: Key, end: usize) -> Found
-    requires { ⌜ end ≡ endOf (λ w. isGt (orderAt key w)) (now segments) ⌝ }
-    ensures { λ r. ⌜ placeIn r ≡ searchOf (orderAt key) (now (segments .entry)) ⌝ }
+// The last word whose field is, or is not, at least a start. Where that is wanted no word is above the key, so that the
+// halving would end at the last word. Short enough to be compiled once for each field, too.
+fn search_at_least(segments: &[u64], offset: u32, size: u64, start: u32, wanted: bool) -> Found
+    requires { ⌜ (offset < 64) × (0 < size) × (size ≤ 2 ^ 32) ⌝ }
+    ensures { λ r. ⌜ placeIn r
+        ≡ searchOf (λ w. compareBool (leb start (w / 2 ^ offset % size)) wanted) (now (segments .entry)) ⌝ }
 {
     if segments.len() == 0 {
         return Found::Absent(0);
     }
-    answer(compare_key(segments[end], key), end)
+    if wanted {
+        let last = segments.len() - 1;
+        if start <= field_at(segments, offset, size, last) {
+            return Found::At(last);
+        }
+        return Found::Absent(last + 1);
+    }
+    let end = halve(segments, offset, size, start);
+    if field_at(segments, offset, size, end) < start {
+        return Found::At(end);
+    }
+    Found::Absent(end)
 }
 
 pub fn search_last_by_key(segments: &[u64], key: Key) -> Found
@@ -273,22 +264,41 @@ pub fn search_last_by_layer_id(segments: &[u64], layer_id: u32) -> Found
 pub fn search_last_by_tile_x_at_least(segments: &[u64], start: i16, wanted: bool) -> Found
     ensures { λ r. ⌜ placeIn r ≡ searchOf (orderAt (Key.TileXAtLeast start wanted)) (now (segments .entry)) ⌝ }
 {
-    let end = halve_by_tile_x(segments, above_start(wanted, stored(start as i32)));
-    tell(segments, Key::TileXAtLeast(start, wanted), end)
+    let offset = consts::shift(BitField::TileX);
+    let first = stored(start as i32);
+    search_at_least(
+        segments,
+        offset,
+        consts::size(BitField::TileX),
+        first,
+        wanted,
+    )
 }
 
 // The last segment whose layer id is, or is not, at least a start.
 pub fn search_last_by_layer_id_at_least(segments: &[u64], start: u32, wanted: bool) -> Found
     ensures { λ r. ⌜ placeIn r ≡ searchOf (orderAt (Key.LayerIdAtLeast start wanted)) (now (segments .entry)) ⌝ }
 {
-    let end = halve_by_layer_id(segments, above_start(wanted, start));
-    tell(segments, Key::LayerIdAtLeast(start, wanted), end)
+    let offset = consts::shift(BitField::LayerId);
+    search_at_least(
+        segments,
+        offset,
+        consts::size(BitField::LayerId),
+        start,
+        wanted,
+    )
 }
 
 // The last segment whose tile y is, or is not, at least 0.
 pub fn search_last_by_tile_y_not_negative(segments: &[u64], wanted: bool) -> Found
     ensures { λ r. ⌜ placeIn r ≡ searchOf (orderAt (Key.TileYNotNegative wanted)) (now (segments .entry)) ⌝ }
 {
-    let end = halve_by_tile_y(segments, above_start(wanted, stored(0)));
-    tell(segments, Key::TileYNotNegative(wanted), end)
+    let offset = consts::shift(BitField::TileY);
+    search_at_least(
+        segments,
+        offset,
+        consts::size(BitField::TileY),
+        stored(0),
+        wanted,
+    )
 }
