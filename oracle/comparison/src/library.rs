@@ -55,7 +55,8 @@ pub fn is_row(row: &[u64], stored_tile_y: u64) -> bool {
     unsafe { exports::ffi_is_row(row.as_ptr(), row.len(), stored_tile_y) }
 }
 
-#[inline]
+/// Always inlined: with a key that is known where it is called, one call is timed, as on the Rust's side.
+#[inline(always)]
 pub fn search_last_by_key(segments: &[u64], key: Key) -> Result<usize, usize> {
     let (start, len) = (segments.as_ptr(), segments.len());
     let mut place = 0;

@@ -15,8 +15,7 @@ list-layers-requires c κs =
 
 hand-on-requires : tie.Need-hand-on-requires
 hand-on-requires c κs =
-    let s = c .before .before .before .before .before .before .before .before .before .before .before .before .before .before .before .before .before .before .before .before in
-    (
+    let s = c .before .before .before .before .before .before .before .before .before .before .before .before .before .before .before .before .before .before .before .before in (
       record { ids-long = omega (arith, s .pre .3, s .pre .5, s .pre .6, c .before .before .before .before .before .before .before .before .before .list-layers .kept); covers-long = omega (arith, s .pre .5, s .pre .6) },
       s .pre .2,
       record { ids-long = omega (arith, s .pre .3, s .pre .5, s .pre .6); covers-long = omega (arith, s .pre .3, s .pre .5, s .pre .6) },
@@ -27,8 +26,7 @@ returns c =
     let s = c .before .before .before .before .before .before .before .before .before .before .before .before .before .before .before .before .before .before .before .before .before .before .before .before in
     let a = s .args in
     let ls = layersIn (queueOf (a .n) (a .ids .now) (a .covers .now)) (a .part .now) in
-    let lists = c .before .before .before .before .before .before .before .before .before .before .before .before .before .list-layers .ensures in
-    (
+    let lists = c .before .before .before .before .before .before .before .before .before .before .before .before .before .list-layers .ensures in (
       lists,
       hands-on (tableOf (a .layers .now) (a .colors .now) (a .count)) ls (holds-back ls (a .list-ids .now) (s .pre .6) (lists .ids-are) (s .pre .4)) (c .before .before .before .hand-on .ensures),
     )
