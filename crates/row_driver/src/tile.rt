@@ -78,8 +78,8 @@ fn line_of(done: TileDone, tally: Tally, left: usize) -> Line
     }
 }
 
-// Works the state's next tile, whose segments stand from `start` up to `end`, and paints its shown layers where it is to
-// be painted.
+// Works the state's next tile, whose segments stand from `start` up to `end`, and paints its shown layers where it is
+// to be painted.
 fn work_line(
     state: RowState,
     row: &[u64],

@@ -51,7 +51,7 @@ fn done(state: RowState, n: usize, left: usize) -> TileListed
     }
 }
 
-// Writes a tile's list, `listed` being the number of its layers, and hands on its carries, which `sums` holds: how many.
+// Writes a tile's list, `listed` being the number of its layers, and hands on the carries that `sums` holds: how many.
 fn write_tile(
     ids: &[u32],
     covers: &[i8],
