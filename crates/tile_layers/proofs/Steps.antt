@@ -1,15 +1,20 @@
 -- Laws of the walk's steps: which layer comes next. Assumes nothing.
-use mathlib.Core.Path.{_≡_, refl, ap, ap₂, sym, _∙_}
-use mathlib.Core.Bool.{true, false}
+use mathlib.Core.Path.{_≡_, refl, ap, ap₂, sym, subst, _∙_}
+use mathlib.Core.Bool.{Bool, true, false, _&&_, false≢true}
 use mathlib.Core.List.{List, [], _∷_}
+use mathlib.Core.Logic.{⊎-elim}
 use Prim.Native.Nat.{ℕ, suc, _+_, _≤_, _<_}
 use native.Mathlib.Omega.{arith}
 use native.Mathlib.Numerals.{add-one}
-use native.Mathlib.Nat.{sub-self}
-use borrow.Author.Tests.{lt-ltb, le-ltb}
+use native.Mathlib.Nat.{add-zero, sub-self}
+use borrow.Author.Tests.{lt-ltb, le-ltb, ltb-true, leb-true, leb-false}
+use lib.Dec.{ltb, leb}
 use lib.ListN.{length, getD, drop, take, drop-of-length-le}
 use lib.Seq.{drop-cons}
 use lib.IntN.{ℤ}
+use mir.Val.{boolByte}
+use Rattle.laws.proofs.Bools.{left, right}
+use Rattle.laws.proofs.Orders.{le-or-lt}
 use Rattle.laws.proofs.Rows.{length-tabulate, getD-tabulate}
 use Rattle.pixel_segment.specs.Field.{cpu, layerIdOf}
 use Rattle.segment_rows.specs.Search.{between}
@@ -17,7 +22,7 @@ use Rattle.cover_statements.specs.Entry.{coverEntry}
 use Rattle.queue_statements.specs.Queue.{Carry, carryAt, queueOf, zeros}
 use Rattle.tile_layers.specs.Groups.{Group, groupsOf}
 use Rattle.tile_layers.specs.Listing.{carried, fresh, joined, listOf}
-use Rattle.tile_layers.specs.InnerWalk.{GroupEnds, Stepped}
+use Rattle.tile_layers.specs.InnerWalk.{GroupEnds, Stepped, Moved}
 
 -- ---- merging, by what stands first
 
@@ -117,3 +122,24 @@ module _ (n : ℕ) (ids : List ℕ) (covers : List ℤ) where
               ap₂ listOf (queue-at i h) (g .group)
               ∙ both-first (carryAt ids covers i) (drop (i + 1) (queueOf n ids covers)) (record { id = layerIdOf cpu (getD part j 0); own = between j r part }) (groupsOf (drop r part)) eq;
         }
+
+    -- a group, and with it a carry where one is due that is of no lower layer
+    pub group-next : (r : ℕ) (is-due : Bool) → GroupEnds part j r → is-due ≡ (ltb i n && leb (getD ids i 0) (layerIdOf cpu (getD part j 0))) → (is-due ≡ true → layerIdOf cpu (getD part j 0) ≤ getD ids i 0) → Stepped n ids covers part i j (record { id = layerIdOf cpu (getD part j 0); carried = is-due; i = i + boolByte is-due; end = r })
+    group-next r true g e h =
+        let low = left (ltb i n) (leb (getD ids i 0) (layerIdOf cpu (getD part j 0))) (sym e) in
+        let high = right (ltb i n) (leb (getD ids i 0) (layerIdOf cpu (getD part j 0))) (sym e) in
+        let eq : getD ids i 0 ≡ layerIdOf cpu (getD part j 0) = omega (arith, leb-true (getD ids i 0) (layerIdOf cpu (getD part j 0)) high, h refl) in
+        subst (λ (id : ℕ). Stepped n ids covers part i j (record { id = id; carried = true; i = i + 1; end = r })) eq (same-layer r (ltb-true i n low) g eq)
+    group-next r false g e h =
+        rw (add-zero i)
+        (⊎-elim
+        (λ (p : n ≤ i). only-group r p g)
+        (λ (p : i < n). lower-group r p g (leb-false (getD ids i 0) (layerIdOf cpu (getD part j 0)) (sym (rw (lt-ltb i n p) at e))))
+        (le-or-lt n i))
+
+    pub group-moved : (r : ℕ) (is-due : Bool) (id : ℕ) → i ≤ n → GroupEnds part j r → is-due ≡ (ltb i n && leb (getD ids i 0) (layerIdOf cpu (getD part j 0))) → Moved n part i j (record { id = id; carried = is-due; i = i + boolByte is-due; end = r })
+    group-moved r true id h g e =
+        let low = ltb-true i n (left (ltb i n) (leb (getD ids i 0) (layerIdOf cpu (getD part j 0))) (sym e)) in
+        record { low-i = omega arith; high-i = omega (arith, low); low-j = omega (arith, g .further); high-j = g .within; further = omega (arith, g .further); has = λ t. low }
+    group-moved r false id h g e =
+        record { low-i = omega arith; high-i = omega (arith, h); low-j = omega (arith, g .further); high-j = g .within; further = omega (arith, g .further); has = λ t. absurd (false≢true t) }

@@ -6,8 +6,9 @@ use pixel_segment::PixelSegment;
 use segment_rows::search;
 use segment_rows::search::Found;
 ghost use mathlib.Core.Path.{_≡_};
-ghost use mathlib.Core.Bool.{true, cond};
+ghost use mathlib.Core.Bool.{true, cond, _&&_};
 ghost use Prim.Native.Nat.{_+_, _*_, _≤_, _<_};
+ghost use lib.Dec.{ltb, leb};
 ghost use lib.IntN.{ℤ};
 ghost use mathlib.Core.List.{List};
 ghost use lib.ListN.{length, getD};
@@ -45,6 +46,15 @@ fn group_end(part: &[u64], j: usize) -> usize
     }
 }
 
+// Whether a carry is left, and is of a layer or of one below it.
+fn is_carry_due(ids: &[u32], n: usize, i: usize, layer: u32) -> bool
+    requires { ⌜ n ≤ length (now ids) ⌝ }
+    ensures { λ r. ⌜ r ≡ (ltb i n && leb (getD (now (ids .entry)) i 0) layer) ⌝ }
+{
+    if i < n { ids[i] <= layer } else { false }
+}
+
+// The end of a group is looked for in one place, so that the whole is short enough to be compiled into the walks.
 pub fn next_layer(ids: &[u32], n: usize, part: &[u64], i: usize, j: usize) -> Next
     requires { ⌜ Walks n (now ids) (now part) × (i ≤ n) × (j ≤ length (now part)) × (i + j < n + length (now part)) ⌝ }
     ensures stepped { λ r. ⌜ ((covers : List ℤ) → Stepped n (now (ids .entry)) covers (now (part .entry)) i j r) ⌝ }
@@ -59,35 +69,22 @@ pub fn next_layer(ids: &[u32], n: usize, part: &[u64], i: usize, j: usize) -> Ne
         };
     }
     let layer = layer_at(part, j);
-    if i == n {
-        return Next {
-            id: layer,
-            carried: false,
-            i: i,
-            end: group_end(part, j),
-        };
-    }
-    let id = ids[i];
-    if id < layer {
-        return Next {
-            id: id,
-            carried: true,
-            i: i + 1,
-            end: j,
-        };
-    }
-    if layer < id {
-        return Next {
-            id: layer,
-            carried: false,
-            i: i,
-            end: group_end(part, j),
-        };
+    let carried = is_carry_due(ids, n, i, layer);
+    if carried {
+        let id = ids[i];
+        if id < layer {
+            return Next {
+                id: id,
+                carried: true,
+                i: i + 1,
+                end: j,
+            };
+        }
     }
     Next {
-        id: id,
-        carried: true,
-        i: i + 1,
+        id: layer,
+        carried: carried,
+        i: i + carried as usize,
         end: group_end(part, j),
     }
 }

@@ -1,9 +1,19 @@
--- `walk::next_layer` meets its contract: a case for each way in which the two lists go on. Assumes nothing.
-use mathlib.Core.Bool.{false≢true}
+-- `walk::next_layer` meets its contract: a carry comes next, or a group and a carry with it where one is due. Assumes nothing.
+use mathlib.Core.Path.{_≡_, sym, _∙_}
+use mathlib.Core.Bool.{Bool, true, false, false≢true, _&&_}
+use mathlib.Core.List.{[]}
+use mathlib.Core.Logic.{⊎-elim}
+use Prim.Native.Nat.{_≤_, _<_}
 use native.Mathlib.Omega.{arith}
 use borrow.Author.Needs.{needs}
+use borrow.Author.Tests.{ltb-true}
+use lib.Dec.{ltb, leb}
+use lib.ListN.{getD}
+use mir.Val.{boolByte}
+use Rattle.laws.proofs.Bools.{left}
+use Rattle.pixel_segment.specs.Field.{cpu, layerIdOf}
 use Rattle.tile_layers.proofs.Runs.{group-at}
-use Rattle.tile_layers.proofs.Steps.{only-carry, only-group, lower-carry, lower-group, same-layer}
+use Rattle.tile_layers.proofs.Steps.{only-carry, lower-carry, group-next, group-moved}
 use Rattle.tile_layers.proofs.walk.next_layer.Statement.{statement}
 use Rattle.tile_layers.proofs.walk.next_layer.Tie as tie
 
@@ -13,36 +23,50 @@ returns c =
     let a = s .args in
     ((λ covers. only-carry (a .n) (a .ids .now) covers (a .part .now) (a .i) (a .j) (omega arith) (omega arith)), record { low-i = omega arith; high-i = omega arith; low-j = omega arith; high-j = omega arith; further = omega arith; has = λ e. omega arith })
 
+-- whether a carry is due, by the layer of the next group
+due : (c : tie.After-is-carry-due) → c .is-carry-due .result ≡ (ltb (c .before .before .before .before .before .args .i) (c .before .before .before .before .before .args .n) && leb (getD (c .before .before .before .before .before .args .ids .now) (c .before .before .before .before .before .args .i) 0) (layerIdOf cpu (getD (c .before .before .before .before .before .args .part .now) (c .before .before .before .before .before .args .j) 0)))
+due c = rw (c .before .layer-at .ensures) at (c .is-carry-due .ensures)
+
+left-over : (c : tie.Then2) → c .before .before .before .before .before .before .args .i < c .before .before .before .before .before .before .args .n
+left-over c = ltb-true _ _ (left _ _ (sym (due (c .before)) ∙ c .if2 .taken))
+
+shared-slice-read-id : tie.Need-shared-slice-read-id
+shared-slice-read-id c = omega (arith, left-over (c .before), c .before .before .before .before .before .before .before .pre .0 .long)
+
 returns-2 : tie.Need-returns-2
 returns-2 c =
-    let s = c .before .before .before .before .before .before in
+    let s = c .before .before .before .before .before .before .before .before in
     let a = s .args in
-    (rw (c .before .before .layer-at .ensures) (λ covers. only-group (a .n) (a .ids .now) covers (a .part .now) (a .i) (a .j) (c .group-end .result) (omega arith) (c .group-end .ensures)), record { low-i = omega (arith, c .group-end .ensures); high-i = omega (arith, c .group-end .ensures); low-j = omega (arith, c .group-end .ensures); high-j = omega (arith, c .group-end .ensures); further = omega (arith, c .group-end .ensures); has = λ e. absurd (false≢true e) })
+    let e = c .before .before .before .before .layer-at .ensures in
+    let g = group-at (a .part .now) (a .j) (s .pre .0 .ordered) (omega arith) in
+    let h = left-over (c .before .before) in
+    ((λ covers. lower-carry (a .n) (a .ids .now) covers (a .part .now) (a .i) (a .j) (g .0) h (g .1) (omega (arith, e, c .if3 .taken))), record { low-i = omega arith; high-i = omega (arith, h); low-j = omega arith; high-j = omega arith; further = omega arith; has = λ e. h })
+
+one-at-most : (t : Bool) → boolByte t ≤ 1
+one-at-most true = omega arith
+one-at-most false = omega arith
+
+add-t20 : tie.Need-add-t20
+add-t20 c = let s = c .before .before .before .before .before .before in omega (arith, one-at-most (c .before .is-carry-due .result), s .pre .0 .few, s .pre .1)
+
+-- where one is due here, it is of no lower layer
+not-lower : (c : tie.Joined2) → c .before .is-carry-due .result ≡ true → layerIdOf cpu (getD (c .before .before .before .before .before .before .args .part .now) (c .before .before .before .before .before .before .args .j) 0) ≤ getD (c .before .before .before .before .before .before .args .ids .now) (c .before .before .before .before .before .before .args .i) 0
+not-lower c t =
+    ⊎-elim
+    (λ w. rw (c .before .before .layer-at .ensures) at (w .2 .left))
+    (λ w. absurd (false≢true (sym (w .left) ∙ t)))
+    (c .if2 .came)
 
 returns-3 : tie.Need-returns-3
 returns-3 c =
     let s = c .before .before .before .before .before .before .before in
     let a = s .args in
-    let e = c .before .before .before .layer-at .ensures in
-    let g = group-at (a .part .now) (a .j) (s .pre .0 .ordered) (omega arith) in
-    ((λ covers. lower-carry (a .n) (a .ids .now) covers (a .part .now) (a .i) (a .j) (g .0) (omega arith) (g .1) (omega (arith, e))), record { low-i = omega arith; high-i = omega arith; low-j = omega arith; high-j = omega arith; further = omega arith; has = λ e. omega arith })
-
-group-end-requires-2 : tie.Need-group-end-requires-2
-group-end-requires-2 c κs = (c .before .before .before .before .before .before .before .before .pre .0 .ordered, omega arith)
-
-returns-4 : tie.Need-returns-4
-returns-4 c =
-    let s = c .before .before .before .before .before .before .before .before .before in
-    let a = s .args in
-    let e = c .before .before .before .before .before .layer-at .ensures in
-    (rw e (λ covers. lower-group (a .n) (a .ids .now) covers (a .part .now) (a .i) (a .j) (c .group-end2 .result) (omega arith) (c .group-end2 .ensures) (omega (arith, e))), record { low-i = omega (arith, c .group-end2 .ensures); high-i = omega (arith, c .group-end2 .ensures); low-j = omega (arith, c .group-end2 .ensures); high-j = omega (arith, c .group-end2 .ensures); further = omega (arith, c .group-end2 .ensures); has = λ e. absurd (false≢true e) })
-
-returns-5 : tie.Need-returns-5
-returns-5 c =
-    let s = c .before .before .before .before .before .before .before .before .before in
-    let a = s .args in
-    let e = c .before .before .before .before .before .layer-at .ensures in
-    ((λ covers. same-layer (a .n) (a .ids .now) covers (a .part .now) (a .i) (a .j) (c .group-end3 .result) (omega arith) (c .group-end3 .ensures) (omega (arith, e))), record { low-i = omega (arith, c .group-end3 .ensures); high-i = omega (arith, c .group-end3 .ensures); low-j = omega (arith, c .group-end3 .ensures); high-j = omega (arith, c .group-end3 .ensures); further = omega (arith, c .group-end3 .ensures); has = λ e. omega arith })
+    let g = c .group-end .ensures in
+    let e = due (c .before .before) in
+    (
+      λ covers. rw (c .before .before .before .layer-at .ensures) (group-next (a .n) (a .ids .now) covers (a .part .now) (a .i) (a .j) (c .group-end .result) (c .before .before .is-carry-due .result) g e (not-lower (c .before))),
+      group-moved (a .n) (a .ids .now) [] (a .part .now) (a .i) (a .j) (c .group-end .result) (c .before .before .is-carry-due .result) (c .before .before .before .layer-at .result) (s .pre .1) g e,
+    )
 
 pub next-layer-spec : {M : Type 1} → statement M
 next-layer-spec =
@@ -50,11 +74,11 @@ next-layer-spec =
     (tie.spec
     (λ c. search needs) (λ c. search needs) (λ c. search needs)
     returns
-    (λ c κs. search needs) (λ c κs. search needs)
+    (λ c κs. search needs) (λ c κs. search needs) (λ c. search needs)
+    shared-slice-read-id
+    (λ c. search needs)
     returns-2
-    (λ c. search needs) (λ c. search needs) (λ c. search needs)
-    returns-3
-    group-end-requires-2
-    returns-4
-    (λ c. search needs) (λ c κs. search needs)
-    returns-5)
+    (λ c. search needs)
+    add-t20
+    (λ c κs. search needs)
+    returns-3)
