@@ -62,8 +62,7 @@ returns-3 c =
     let s = c .before .before .before .before .before .before .before in
     let a = s .args in
     let g = c .group-end .ensures in
-    let e = due (c .before .before) in
-    (
+    let e = due (c .before .before) in (
       λ covers. rw (c .before .before .before .layer-at .ensures) (group-next (a .n) (a .ids .now) covers (a .part .now) (a .i) (a .j) (c .group-end .result) (c .before .before .is-carry-due .result) g e (not-lower (c .before))),
       group-moved (a .n) (a .ids .now) [] (a .part .now) (a .i) (a .j) (c .group-end .result) (c .before .before .is-carry-due .result) (c .before .before .before .layer-at .result) (s .pre .1) g e,
     )
