@@ -7,7 +7,7 @@ ghost use mathlib.Core.Bool.{true};
 ghost use Prim.Native.Nat.{_+_, _≤_, min};
 ghost use lib.IntN.{natAbs};
 ghost use Rattle.pixel_segment.specs.Field.{cpu};
-ghost use Rattle.cover_statements.specs.Carry.{isLight, carryOf};
+ghost use Rattle.cover_statements.specs.Carry.{isLight};
 ghost use Rattle.cover.specs.Adding.{Adding};
 ghost use Rattle.cover_statements.specs.InnerLoad.{Capped, Magnitudes, loadsOf, allLight};
 
@@ -76,22 +76,6 @@ pub fn is_light(part: &[u64], cover: Cover) -> bool
 {
     let covers = cover.covers;
     are_light(add_loads(part, magnitudes(covers)))
-}
-
-// The carry of a part that number 9 does not refuse.
-pub fn add_segments(part: &[u64], cover: Cover) -> Cover
-    requires { ⌜ isLight cpu 16 (cover .covers) (now part) ≡ true ⌝ }
-    ensures { λ r. ⌜ r .covers ≡ carryOf cpu 16 (cover .covers) (now (part .entry)) ⌝ }
-{
-    let mut covers = cover.covers;
-    let mut i = 0;
-    while i < part.len() {
-        let segment = PixelSegment(part[i]);
-        let y = segment.local_y() as usize;
-        covers[y] = covers[y] + segment.cover();
-        i += 1;
-    }
-    Cover { covers }
 }
 
 // The covers of a part added to those that come in, as long as the absolute covers of each pixel row stay within 127;

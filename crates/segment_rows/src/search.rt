@@ -1,10 +1,8 @@
 // `search_last_by_key` (cpu/pixel_segment.rs): the last segment with a key, by halving. A key of the painter, with the
 // value that is looked for, is a value of `Key`, since there are no closures; each key has a function of its own, which
 // halves by the field as it is stored.
-use pixel_segment::PixelSegment;
 use pixel_segment::consts;
 use pixel_segment::consts::BitField;
-use pixel_segment::order;
 use pixel_segment::order::Ordering;
 ghost use mathlib.Core.Path.{_≡_};
 ghost use mathlib.Core.Bool.{cond};
@@ -38,24 +36,6 @@ pub enum Found {
 
 // Above every number that a field has.
 const NO_FIELD: u32 = 4294967295;
-
-// How a word's key compares with the one that is looked for.
-pub fn compare_key(word: u64, key: Key) -> Ordering
-    ensures { λ r. ⌜ rank r ≡ orderAt key word ⌝ }
-{
-    let segment = PixelSegment(word);
-    match key {
-        Key::TileY(tile_y) => order::compare_i16(segment.tile_y(), tile_y),
-        Key::TileX(tile_x) => order::compare_i16(segment.tile_x(), tile_x),
-        Key::LayerId(id) => order::compare(segment.layer_id() as u64, id as u64),
-        Key::TileXAtLeast(start, wanted) => order::compare_bool(start <= segment.tile_x(), wanted),
-        Key::LayerIdAtLeast(start, wanted) => order::compare_bool(
-            start <= segment.layer_id(),
-            wanted,
-        ),
-        Key::TileYNotNegative(wanted) => order::compare_bool(0 <= segment.tile_y(), wanted),
-    }
-}
 
 // The answer at the element where the halving ends.
 pub fn answer(order: Ordering, start: usize) -> Found
