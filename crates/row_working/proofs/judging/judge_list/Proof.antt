@@ -1,21 +1,19 @@
 -- `judging::judge_list` meets its contract: where a number refuses, nothing is said of the carries. Assumes nothing.
-use mathlib.Core.Path.{_≡_, refl, sym}
-use mathlib.Core.Bool.{Bool, true, false, not, false≢true}
+use mathlib.Core.Path.{_≡_, sym}
+use mathlib.Core.Bool.{true, false≢true}
 use Prim.Native.Nat.{ℕ}
 use native.Mathlib.Omega.{arith}
-use borrow.Author.Tests.{lt-ltb, le-ltb}
+use borrow.Author.Tests.{lt-ltb, le-ltb, not-false}
 use borrow.Author.Needs.{needs}
 use Rattle.refusals.specs.Refusal.{pass, refuse}
+use Rattle.refusals.proofs.Judging.{passed}
 use Rattle.row_statements.specs.TileWork.{listVerdict}
 use Rattle.row_working.proofs.judging.judge_list.Statement.{statement}
 use Rattle.row_working.proofs.judging.judge_list.Tie as tie
 
+-- a verdict that refuses does not pass
 never : (n : ℕ) → refuse n ≡ pass → ⊥
-never n e = let z : _≡_ {A = ℕ} 0 1 = cc in omega arith
-
-held : (b : Bool) → not b ≡ false → b ≡ true
-held true e = refl
-held false e = absurd (false≢true (sym e))
+never n e = false≢true (sym (passed true n pass e .0))
 
 returns : tie.Need-returns
 unfolding listVerdict
@@ -40,7 +38,7 @@ unfolding listVerdict
 returns-4 c =
     let s = c .before .before .before .before .before .survey-layers .ensures in (
       record { verdict = rw (← s .count, le-ltb _ _ (c .before .before .before .before .if1 .left), ← s .known, c .before .before .if2 .left, ← s .light, c .if3 .left); listed = s .count },
-      λ e. s .carries (omega (arith, s .count, c .before .before .before .before .if1 .left)) (held _ (c .if3 .left)),
+      λ e. s .carries (omega (arith, s .count, c .before .before .before .before .if1 .left)) (not-false _ (c .if3 .left)),
     )
 
 pub judge-list-spec : {M : Type 1} → statement M
