@@ -1,4 +1,5 @@
--- *None* by the full-cover pass is right where no listed clip is changed and nobody left the list or became another kind of layer. Assumes nothing.
+-- Where no listed clip is changed and nobody left the list or became another kind of layer, a tile that the full-cover pass keeps has its shown draws alike.
+-- Assumes nothing.
 use mathlib.Core.Path.{_≡_, refl, sym, ap, ap₂, _∙_, fun-ext}
 use mathlib.Core.Bool.{Bool, true, false, cond, not, _&&_, _||_, false≢true}
 use mathlib.Core.List.{List, [], _∷_, map}
@@ -24,16 +25,18 @@ use Rattle.pass_statements.specs.Rules.{isAscending, DrawAt, isFree}
 use Rattle.pass_statements.specs.declared.item.Item.{Item}
 use Rattle.pass_statements.specs.Decision as decision
 use Rattle.pass_statements.proofs.Outcomes.{ruled-at}
-use Rattle.kept_frames.specs.Picture.{unflagged, underIn, freedIn, isDrawn, hidesAll, topOf, drawsOf, seenOf, cutIn, isClearSeen, pictureOf}
+use Rattle.kept_frames.specs.Picture.{unflagged}
+use Rattle.kept_frames.proofs.Seen.{underIn, freedIn, isDrawn, coversAll, topOf, seenOf}
 use Rattle.kept_frames.specs.Told.{WasListed, Told}
-use Rattle.kept_frames.specs.Right.{Frames, FullCoverRight, DrawsUnchanged}
+use Rattle.kept_frames.specs.Stays.{listStays}
+use Rattle.kept_frames.specs.Right.{Frames}
 use Rattle.kept_frames.proofs.Within.{idsOf}
 use Rattle.kept_frames.proofs.SameKinds.{SameKind, Stays, all-stay}
 use Rattle.kept_frames.proofs.Parts.{Facts, was-in, same-part}
-use Rattle.kept_frames.proofs.Latest.{clipsIn, same-latest, same-under, same-freed, unchanged-clip}
-use Rattle.kept_frames.proofs.Top.{cut, top-cut, seen-above, clear-hidden}
-use Rattle.kept_frames.proofs.SeenUnchanged.{draws-unchanged}
-use Rattle.kept_frames.proofs.Floor.{none-found, none-start, Floor, floor}
+use Rattle.kept_frames.proofs.Latest.{clipsIn, same-under, same-freed, unchanged-clip}
+use Rattle.kept_frames.proofs.Top.{cut, top-cut}
+use Rattle.kept_frames.proofs.Floor.{none-start, Floor}
+use Rattle.kept_frames.proofs.Plain.{was-at, none-floor}
 
 -- ---- tests
 
@@ -53,11 +56,6 @@ whole false o true false h = absurd (false≢true h)
 whole false o false fr h = absurd (false≢true h)
 
 -- ---- places and flags
-
-pub was-at : (xs : List Item) (i : ℕ) → i < length xs → WasListed (itemAt xs i) xs
-was-at [] i h = absurd (omega (arith, h))
-was-at (x ∷ xs) zero h = inl refl
-was-at (x ∷ xs) (suc i) h = inr (was-at xs i (omega (arith, h)))
 
 facts-at : (P : Item → Bool) (before now : List Item) → Told before now → ((i : ℕ) → i < length now → P (itemAt now i) ≡ true → itemAt now i .unchanged ≡ true) → Facts P before now
 facts-at P before [] t h = tt
@@ -91,7 +89,7 @@ module _ (items : List Item) (up : isAscending items ≡ true) (f : Floor items 
   p-drawn =
       both (not (isClip (p .func))) (not (isClipped (p .func)) || underIn items (p .id)) (ap not (at-p .draws)) (sym (ruled-at items up at-p .unmasked-is) ∙ f .is-unmasked)
 
-  p-hides : hidesAll (freedIn items) p ≡ true
+  p-hides : coversAll (freedIn items) p ≡ true
   p-hides =
       whole (p .full) (isOpaque (p .func)) (isClipped (p .func)) (freedIn items (p .id)) (ap (λ (b : Bool). hides p b) (sym (ruled-at items up at-p .unclipped-is)) ∙ f .hides-all)
 
@@ -131,7 +129,7 @@ was-unflagged x (y ∷ ys) (inr s) = inr (was-unflagged x ys s)
 pub drawn-kinds : (under : ℕ → Bool) (x y : Item) → SameKind x y → isDrawn under x ≡ isDrawn under y
 drawn-kinds under x y k = rw (k .clip, k .clipped, k .id)
 
-module _ (under freed : ℕ → Bool) (p : Item) (d : isDrawn under p ≡ true) (h : hidesAll freed p ≡ true) where
+module _ (under freed : ℕ → Bool) (p : Item) (d : isDrawn under p ≡ true) (h : coversAll freed p ≡ true) where
   abbrev part : Item → Bool
   part x = isDrawn under x && cut (p .id) x
 
@@ -149,24 +147,7 @@ module _ (under freed : ℕ → Bool) (p : Item) (d : isDrawn under p ≡ true) 
       ∙ ap (topOf freed) (same-part part (λ y. refl) part-kinds before (fr .up-before) now (fr .up-now) facts st)
       ∙ sym (seen-by now sn)
 
-  unclear : (items : List Item) → WasListed p items → isClearSeen freed (map unflagged (filter (isDrawn under) items)) ≡ false
-  unclear items s = clear-hidden freed (map unflagged (filter (isDrawn under) items)) p (was-unflagged p (filter (isDrawn under) items) (was-in (isDrawn under) (λ y. refl) (drawn-kinds under) p items d s)) h
-
 -- ---- the claim
-
--- the clips are the same, so what is seen is a matter of the draws
-module _ (before now : List Item) (clips : map unflagged (clipsIn before) ≡ map unflagged (clipsIn now)) where
-  same-cuts : cutIn before ≡ cutIn now
-  same-cuts =
-      fun-ext (λ x. ap₂ (λ (f : Bool) (c : Option Item). cond (isClipped (x .func) && not f) c none) (ap (λ (f : ℕ → Bool). f (x .id)) (same-freed before now clips)) (same-latest before now clips (x .id)))
-
-  by-draws : (topOf (freedIn now) (map unflagged (filter (isDrawn (underIn now)) before)) ≡ seenOf now) → (isClearSeen (freedIn now) (map unflagged (filter (isDrawn (underIn now)) before)) ≡ false) → (isClearSeen (freedIn now) (drawsOf now) ≡ false) → pictureOf before ≡ pictureOf now
-  by-draws seen old new =
-      let under = same-under before now clips in
-      let freed = same-freed before now clips in
-      let top = ap₂ (λ (u : ℕ → Bool) (v : ℕ → Bool). topOf v (map unflagged (filter (isDrawn u) before))) under freed ∙ seen in
-      let clear = ap₂ (λ (u : ℕ → Bool) (v : ℕ → Bool). isClearSeen v (map unflagged (filter (isDrawn u) before))) under freed ∙ old ∙ sym new in
-      λ i. record { draws = map (λ x. record { draw = x; cut = same-cuts i x }) (top i); clear = clear i }
 
 module _ (before now : List Item) (fr : Frames before now) (st : Stays before now) (c : areClipsUnchanged now ≡ true) (f : Floor now (marksOf now .unmasked) (marksOf now .unclipped) (length now)) where
   abbrev low : Item
@@ -175,7 +156,7 @@ module _ (before now : List Item) (fr : Frames before now) (st : Stays before no
   low-drawn : isDrawn (underIn now) low ≡ true
   low-drawn = p-drawn now (fr .up-now) f
 
-  low-hides : hidesAll (freedIn now) low ≡ true
+  low-hides : coversAll (freedIn now) low ≡ true
   low-hides = p-hides now (fr .up-now) f
 
   low-now : WasListed low now
@@ -190,39 +171,25 @@ module _ (before now : List Item) (fr : Frames before now) (st : Stays before no
   low-before : WasListed low before
   low-before = fact-at upper before now facts (f .place) (f .listed) (both (isDrawn (underIn now) low) (cut (low .id) low) low-drawn (le-leb (low .id) (low .id) (omega arith)))
 
+  -- the clips are the same, so what is seen is a matter of the draws
   clips-same : map unflagged (clipsIn before) ≡ map unflagged (clipsIn now)
   clips-same = same-part (λ y. isClip (y .func)) (λ y. refl) (λ y z k. k .clip) before (fr .up-before) now (fr .up-now) (clip-facts before now (fr .told) c) st
 
-  by-floor : (pictureOf before ≡ pictureOf now) × (pictureOf now .clear ≡ false)
-  by-floor =
-      let hidden = unclear (underIn now) (freedIn now) low low-drawn low-hides now low-now in (
-        by-draws before now clips-same
-            (same-seen (underIn now) (freedIn now) low low-drawn low-hides before now fr st facts low-before low-now)
-            (unclear (underIn now) (freedIn now) low low-drawn low-hides before low-before)
-            hidden,
-        hidden,
-      )
+  freed-is : freedIn before ≡ freedIn now
+  freed-is = same-freed before now clips-same
 
--- every draw that is seen lies above the floor, so it is unchanged
-above-floor : (now : List Item) (up : isAscending now ≡ true) (c : areClipsUnchanged now ≡ true) (f : Floor now (marksOf now .unmasked) (marksOf now .unclipped) (length now)) → DrawsUnchanged now (pictureOf now .draws)
-above-floor now up c f =
-    let low = itemAt now (f .place) in
-    let under = isDrawn (underIn now) in
-    let listed = was-unflagged low (filter under now) (was-in under (λ y. refl) (drawn-kinds (underIn now)) low now (p-drawn now up f) (was-at now (f .place) (f .listed))) in
-    draws-unchanged now c
-    (λ i l d s. each now up f i l (both (under (itemAt now i)) (cut (low .id) (itemAt now i)) d (seen-above (freedIn now) (drawsOf now) low listed (p-hides now up f) (unflagged (itemAt now i)) s)))
+  seen-is : seenOf before ≡ seenOf now
+  seen-is =
+      ap₂ (λ (u : ℕ → Bool) (v : ℕ → Bool). topOf v (map unflagged (filter (isDrawn u) before))) (same-under before now clips-same) freed-is
+      ∙ same-seen (underIn now) (freedIn now) low low-drawn low-hides before now fr st facts low-before low-now
 
--- the floor of a tile that the full-cover pass keeps
-none-floor : (clear : Color) (removed : Bool) (now : List Item) → passedOf clear removed now .decision ≡ decision.none → Floor now (marksOf now .unmasked) (marksOf now .unclipped) (length now)
-none-floor clear removed now e =
-    let marks = marksOf now in
-    let b = none-found clear removed now e in
-    floor now (marks .unmasked) (marks .unclipped) (length now) (startOf now removed) (b .color) refl (b .is-opaque) (b .is-unchanged)
+pub record SeenAlike (before now : List Item) : Type 0 where
+  pub freed : freedIn before ≡ freedIn now
+  pub seen : seenOf before ≡ seenOf now
 
-pub full-cover-right : FullCoverRight
-full-cover-right clear removed before now fr st e =
-    by-floor before now fr (all-stay before now st) (right (not removed) (areClipsUnchanged now) (none-start clear removed now e)) (none-floor clear removed now e)
-
-pub full-cover-unchanged : (clear : Color) (removed : Bool) (now : List Item) → isAscending now ≡ true → passedOf clear removed now .decision ≡ decision.none → DrawsUnchanged now (pictureOf now .draws)
-full-cover-unchanged clear removed now up e =
-    above-floor now up (right (not removed) (areClipsUnchanged now) (none-start clear removed now e)) (none-floor clear removed now e)
+pub stays-seen : (clear : Color) (removed : Bool) (before now : List Item) → Frames before now → listStays before now ≡ true → passedOf clear removed now .decision ≡ decision.none → SeenAlike before now
+stays-seen clear removed before now fr st e =
+    let s = all-stay before now st in
+    let c = right (not removed) (areClipsUnchanged now) (none-start clear removed now e) in
+    let f = none-floor clear removed now e in
+    record { freed = freed-is before now fr s c f; seen = seen-is before now fr s c f }

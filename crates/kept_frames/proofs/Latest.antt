@@ -9,7 +9,8 @@ use Rattle.laws.specs.Lists.{filter}
 use Rattle.pass_statements.specs.Clips.{isClip}
 use Rattle.pass_statements.specs.Rules.{latestClip, isUnder, isFreed}
 use Rattle.pass_statements.specs.declared.item.Item.{Item}
-use Rattle.kept_frames.specs.Picture.{unflagged, underIn, freedIn, unflaggedClip}
+use Rattle.kept_frames.specs.Picture.{unflagged}
+use Rattle.kept_frames.proofs.Seen.{underIn, freedIn, unflaggedClip}
 
 abbrev pub clipsIn : List Item → List Item
 clipsIn items = filter (λ x. isClip (x .func)) items

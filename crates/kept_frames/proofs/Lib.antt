@@ -1,15 +1,21 @@
 -- Laws of a tile from frame to frame.
 pub mod Within
+pub mod Seen
+pub mod Latest
+pub mod Strokes
+pub mod Afresh
+pub mod Floor
+pub mod Plain
+pub mod Kept
+pub mod None
+pub mod AtNone
 pub mod SameKinds
 pub mod Parts
-pub mod Latest
 pub mod Top
-pub mod SeenUnchanged
-pub mod Floor
-pub mod Kept
 pub mod Covered
-pub mod None
 pub mod ShownDraws
+pub mod Whole
+pub mod Twice
 pub mod Tags
 pub mod Settled
 pub mod Refuted

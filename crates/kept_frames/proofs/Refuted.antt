@@ -1,4 +1,4 @@
--- The histories of specs/Wrong, computed. Assumes nothing.
+-- The histories of specs/Wrong and the pictures of specs/Example, computed. Assumes nothing.
 use mathlib.Core.Path.{refl}
 use mathlib.Core.Bool.{false≢true}
 use mathlib.Core.Logic.{inl, inr}
@@ -8,10 +8,12 @@ use Rattle.pass_statements.specs.Clips.{clipsFrom, stepOf}
 use Rattle.pass_statements.specs.Covered.{coveredFrom}
 use Rattle.pass_statements.specs.Decide.{outcomeOf, shownFrom}
 use Rattle.pass_statements.specs.Rules.{latestClip}
+use Rattle.kept_frames.specs.Picture.{strokesFrom}
+use Rattle.kept_frames.specs.Example.{PaintersClip}
 use Rattle.kept_frames.specs.Wrong.{WronglyKept}
 
 pub wrongly-kept : WronglyKept
-unfolding strictlyAscendsFrom outcomeOf clipsFrom stepOf coveredFrom shownFrom latestClip eq ofBits
+unfolding strictlyAscendsFrom outcomeOf clipsFrom stepOf coveredFrom shownFrom latestClip strokesFrom eq ofBits
 wrongly-kept =
     record {
       exchange = record { frames = record { up-before = refl; up-now = refl; told = ((λ e. absurd (false≢true e)), ((λ e. inl refl), tt)) }; kept = refl; shown = refl; fresh = refl };
@@ -32,3 +34,7 @@ wrongly-kept =
           };
       since-last-frame = record { told = ((λ e. inl refl), ((λ e. inr (inl refl)), tt)); kept = refl; shown = refl; fresh = refl };
     }
+
+pub painters-clip : PaintersClip
+unfolding clipsFrom stepOf coveredFrom shownFrom latestClip strokesFrom eq ofBits
+painters-clip = record { two-clips = refl; one-clip = refl; both-alive = refl; skipped-clip = refl }

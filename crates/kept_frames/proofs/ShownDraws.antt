@@ -21,16 +21,17 @@ use Rattle.pass_statements.specs.declared.item.Item.{Item}
 use Rattle.pass_statements.proofs.Covering.{Hiding, skipped-by, hidden-skipped}
 use Rattle.pass_statements.proofs.Deciding.{unmasked-long}
 use Rattle.pass_statements.proofs.Outcomes.{ruled-at, words-hide, hides-words}
-use Rattle.kept_frames.specs.Picture.{unflagged, underIn, freedIn, isDrawn, hidesAll, isSeen, drawsOf}
-use Rattle.kept_frames.specs.Right.{SeenShown}
+use Rattle.kept_frames.specs.Picture.{unflagged, shownAfresh}
+use Rattle.kept_frames.proofs.Seen.{underIn, freedIn, isDrawn, coversAll, isSeen, drawsOf, seenOf}
 use Rattle.kept_frames.proofs.Within.{idsOf}
 use Rattle.kept_frames.proofs.Parts.{was-in}
 use Rattle.kept_frames.proofs.Top.{seen-above}
-use Rattle.kept_frames.proofs.Covered.{was-at, was-unflagged, drawn-kinds, opaque-draws}
+use Rattle.kept_frames.proofs.Covered.{was-unflagged, drawn-kinds, opaque-draws}
+use Rattle.kept_frames.proofs.Plain.{was-at}
 
 -- ---- lists by their places
 
-abbrev isDraw : Item → Bool
+abbrev pub isDraw : Item → Bool
 isDraw x = not (isClip (x .func))
 
 shown-filter : (q p : Item → Bool) (xs : List Item) (ss : List Bool) (k skipped : ℕ) → length ss ≡ length xs
@@ -91,7 +92,7 @@ module _ (items : List Item) (up : isAscending items ≡ true) (removed : Bool) 
   unmasked-at i l d = ruled-at items up (draw-at i l d) .unmasked-is ∙ right (isDraw (itemAt items i)) (not (isClipped (itemAt items i .func)) || underIn items (itemAt items i .id)) d
 
   -- who hides all below it lies at or below the first that is not skipped
-  hider : (j : ℕ) → j < length items → draws (itemAt items j) ≡ true → hidesAll (freedIn items) (itemAt items j) ≡ true → j ≤ skipped
+  hider : (j : ℕ) → j < length items → draws (itemAt items j) ≡ true → coversAll (freedIn items) (itemAt items j) ≡ true → j ≤ skipped
   hider j l d h =
       let x = itemAt items j in
       let solid = left (x .full && isOpaque (x .func)) (not (isClipped (x .func) && not (freedIn items (x .id)))) h in
@@ -104,10 +105,10 @@ module _ (items : List Item) (up : isAscending items ≡ true) (removed : Bool) 
       } in
       hidden-skipped items (marksOf items .unmasked) (marksOf items .unclipped) (length items) (startOf items removed) j (words-hide items up words)
 
-  unseen : (i j : ℕ) → i < length items → j < length items → skipped ≤ i → draws (itemAt items j) ≡ true → not (hidesAll (freedIn items) (itemAt items j) && ltb (itemAt items i .id) (itemAt items j .id)) ≡ true
-  unseen i j l m s d = by (hidesAll (freedIn items) (itemAt items j)) refl (ltb (itemAt items i .id) (itemAt items j .id)) refl
+  unseen : (i j : ℕ) → i < length items → j < length items → skipped ≤ i → draws (itemAt items j) ≡ true → not (coversAll (freedIn items) (itemAt items j) && ltb (itemAt items i .id) (itemAt items j .id)) ≡ true
+  unseen i j l m s d = by (coversAll (freedIn items) (itemAt items j)) refl (ltb (itemAt items i .id) (itemAt items j .id)) refl
     where
-      by : (a : Bool) → hidesAll (freedIn items) (itemAt items j) ≡ a → (b : Bool) → ltb (itemAt items i .id) (itemAt items j .id) ≡ b → not (a && b) ≡ true
+      by : (a : Bool) → coversAll (freedIn items) (itemAt items j) ≡ a → (b : Bool) → ltb (itemAt items i .id) (itemAt items j .id) ≡ b → not (a && b) ≡ true
       by false e b f = refl
       by true e false f = refl
       by true e true f =
@@ -120,7 +121,7 @@ module _ (items : List Item) (up : isAscending items ≡ true) (removed : Bool) 
 
   seen-from : (i : ℕ) → i < length items → skipped ≤ i → isSeen (freedIn items) (drawsOf items) (unflagged (itemAt items i)) ≡ true
   seen-from i l s =
-      all-draws draws (λ y. not (hidesAll (freedIn items) y && ltb (itemAt items i .id) (y .id))) items (λ j m d. unseen i j l m s d)
+      all-draws draws (λ y. not (coversAll (freedIn items) y && ltb (itemAt items i .id) (y .id))) items (λ j m d. unseen i j l m s d)
 
   seen-to : (i : ℕ) → i < length items → isSeen (freedIn items) (drawsOf items) (unflagged (itemAt items i)) ≡ true → skipped ≤ i
   seen-to i l e = by (skipped-by items (marksOf items .unmasked) (marksOf items .unclipped) (length items) (startOf items removed))
@@ -152,7 +153,7 @@ module _ (items : List Item) (up : isAscending items ≡ true) (removed : Bool) 
           ∙ sym (and-assoc (isDraw (itemAt items i)) (not (isClipped (itemAt items i .func)) || underIn items (itemAt items i .id)) (leb skipped i))
           ∙ ap (λ (b : Bool). draws (itemAt items i) && b) seen
 
-pub seen-shown : SeenShown
-seen-shown clear removed items up =
-    shown-filter (isDrawn (underIn items)) (isSeen (freedIn items) (drawsOf items)) items (marksOf items .unmasked) 0 (skipped items up removed) (unmasked-long items)
-    (λ i l. ap (λ (m : ℕ). isDraw (itemAt items i) && (isUnmasked items i && leb (skipped items up removed) m)) (add-zero i) ∙ each-place items up removed i l)
+pub seen-shown : (items : List Item) → isAscending items ≡ true → map unflagged (filter isDraw (shownAfresh items)) ≡ seenOf items
+seen-shown items up =
+    shown-filter (isDrawn (underIn items)) (isSeen (freedIn items) (drawsOf items)) items (marksOf items .unmasked) 0 (skipped items up true) (unmasked-long items)
+    (λ i l. ap (λ (m : ℕ). isDraw (itemAt items i) && (isUnmasked items i && leb (skipped items up true) m)) (add-zero i) ∙ each-place items up true i l)

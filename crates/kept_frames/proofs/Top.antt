@@ -11,8 +11,8 @@ use Rattle.laws.specs.Lists.{all, filter}
 use Rattle.laws.proofs.Bools.{left, right, not-right}
 use Rattle.laws.proofs.Filtered.{filter-ext, filter-twice}
 use Rattle.pass_statements.specs.declared.item.Item.{Item}
-use Rattle.kept_frames.specs.Picture.{hidesAll, isSeen, topOf, isClearSeen}
 use Rattle.kept_frames.specs.Told.{WasListed}
+use Rattle.kept_frames.proofs.Seen.{coversAll, isSeen, topOf}
 
 implied : (a b : Bool) → (b ≡ true → a ≡ true) → (a && b) ≡ b
 implied true b h = refl
@@ -42,28 +42,22 @@ cut low x = leb low (x .id)
 
 module _ (freed : ℕ → Bool) where
   -- who is seen is not below one that hides
-  pub seen-above : (l : List Item) (p : Item) → WasListed p l → hidesAll freed p ≡ true → (x : Item) → isSeen freed l x ≡ true → cut (p .id) x ≡ true
+  pub seen-above : (l : List Item) (p : Item) → WasListed p l → coversAll freed p ≡ true → (x : Item) → isSeen freed l x ≡ true → cut (p .id) x ≡ true
   seen-above [] p s h x q = absurd s
   seen-above (y ∷ ys) p (inl e) h x q =
       let is : y .id ≡ p .id = ap (λ (z : Item). z .id) e in
-      let hides : hidesAll freed y ≡ true = ap (hidesAll freed) e ∙ h in
-      let one : not (hidesAll freed y && ltb (x .id) (y .id)) ≡ true = left (not (hidesAll freed y && ltb (x .id) (y .id))) (isSeen freed ys x) q in
-      let past : ltb (x .id) (y .id) ≡ false = ap (λ (b : Bool). b && ltb (x .id) (y .id)) (sym hides) ∙ not-true (hidesAll freed y && ltb (x .id) (y .id)) one in
+      let hides : coversAll freed y ≡ true = ap (coversAll freed) e ∙ h in
+      let one : not (coversAll freed y && ltb (x .id) (y .id)) ≡ true = left (not (coversAll freed y && ltb (x .id) (y .id))) (isSeen freed ys x) q in
+      let past : ltb (x .id) (y .id) ≡ false = ap (λ (b : Bool). b && ltb (x .id) (y .id)) (sym hides) ∙ not-true (coversAll freed y && ltb (x .id) (y .id)) one in
       le-leb (p .id) (x .id) (omega (arith, is, ltb-false (x .id) (y .id) past))
-  seen-above (y ∷ ys) p (inr s) h x q = seen-above ys p s h x (right (not (hidesAll freed y && ltb (x .id) (y .id))) (isSeen freed ys x) q)
+  seen-above (y ∷ ys) p (inr s) h x q = seen-above ys p s h x (right (not (coversAll freed y && ltb (x .id) (y .id))) (isSeen freed ys x) q)
 
   seen-cut : (low : ℕ) (l : List Item) (x : Item) → cut low x ≡ true → isSeen freed (filter (cut low) l) x ≡ isSeen freed l x
   seen-cut low l x c =
-      all-filter (cut low) (λ y. not (hidesAll freed y && ltb (x .id) (y .id))) l
-      (λ y e. ap not (not-right (hidesAll freed y) (ltb (x .id) (y .id)) (le-ltb (x .id) (y .id) (omega (arith, leb-true low (x .id) c, leb-false low (y .id) e)))))
+      all-filter (cut low) (λ y. not (coversAll freed y && ltb (x .id) (y .id))) l
+      (λ y e. ap not (not-right (coversAll freed y) (ltb (x .id) (y .id)) (le-ltb (x .id) (y .id) (omega (arith, leb-true low (x .id) c, leb-false low (y .id) e)))))
 
-  pub top-cut : (l : List Item) (p : Item) → WasListed p l → hidesAll freed p ≡ true → topOf freed l ≡ topOf freed (filter (cut (p .id)) l)
+  pub top-cut : (l : List Item) (p : Item) → WasListed p l → coversAll freed p ≡ true → topOf freed l ≡ topOf freed (filter (cut (p .id)) l)
   top-cut l p s h =
       sym (filter-under (isSeen freed l) (cut (p .id)) l (seen-above l p s h))
       ∙ sym (filter-on (cut (p .id)) (isSeen freed (filter (cut (p .id)) l)) (isSeen freed l) l (seen-cut (p .id) l))
-
-  -- nor is the clear colour seen
-  pub clear-hidden : (l : List Item) (p : Item) → WasListed p l → hidesAll freed p ≡ true → isClearSeen freed l ≡ false
-  clear-hidden [] p s h = absurd s
-  clear-hidden (y ∷ ys) p (inl e) h = ap (λ (b : Bool). not b && isClearSeen freed ys) (ap (hidesAll freed) e ∙ h)
-  clear-hidden (y ∷ ys) p (inr s) h = not-right (not (hidesAll freed y)) (isClearSeen freed ys) (clear-hidden ys p s h)

@@ -1,70 +1,56 @@
--- What a tile shows, by its list alone and in the words of the scope: the draws that are not masked off, from the topmost one up that is full and
--- opaque and cut by no clip. The passes have no part in it, nor have the flags.
-use mathlib.Core.Bool.{Bool, true, cond, not, _&&_, _||_}
-use mathlib.Core.List.{List, map}
+-- What a tile shows, as the painter draws it: the shown layers of a work without a cached tile, painted by one call each, ascending, from no clip. Of
+-- each draw: its record, whether it needs a clip, and whose coverages cut it. Those are of the clip that was painted last, while the painter has a clip,
+-- which is not always the latest listed one (P7). A draw that needs a clip while the painter has none paints nothing. Flags have no part in it.
+use mathlib.Core.Bool.{Bool, true, cond, not, _&&_}
+use mathlib.Core.List.{List, [], _∷_}
 use mathlib.Core.Option.{Option, some, none}
 use Prim.Native.Nat.{ℕ}
-use lib.Dec.{ltb}
-use Rattle.laws.specs.Lists.{all, filter}
-use Rattle.styling.specs.Style.{isClipped, isOpaque}
-use Rattle.pass_statements.specs.Clips.{isClip}
-use Rattle.pass_statements.specs.Rules.{latestClip, isUnder, isFreed}
+use Rattle.laws.specs.Lists.{all}
+use Rattle.styling.specs.Style.{isOpaque}
+use Rattle.pass_statements.specs.Clips.{isClip, marksOf}
+use Rattle.pass_statements.specs.Covered.{coveredOf}
+use Rattle.pass_statements.specs.Decide.{shownOf}
+use Rattle.pass_statements.specs.Rules.{needsClip}
 use Rattle.pass_statements.specs.declared.item.Item.{Item}
+use Rattle.painter.specs.Clip.{aliveAt, clipAfter, hasNoClip, lacksClip}
 
 -- a listed layer but for its flag: what it shows in the tile rests on this alone
 abbrev pub unflagged : Item → Item
 unflagged x = record { id = x .id; full = x .full; func = x .func; unchanged = true }
 
--- a layer id lies within the span of the latest listed clip below it; and that clip is full
-abbrev pub underIn : List Item → ℕ → Bool
-underIn items id = isUnder (latestClip items id none) id
+-- the shown layers of a work that draws the tile: not masked off by the second pass, and not skipped by the third
+abbrev pub shownAfresh : List Item → List Item
+shownAfresh items =
+    shownOf (coveredOf items (marksOf items .unmasked) (marksOf items .unclipped) true .skipped .0) items (marksOf items .unmasked)
 
-abbrev pub freedIn : List Item → ℕ → Bool
-freedIn items id = isFreed (latestClip items id none) id
-
--- a draw that is not masked off
-abbrev pub isDrawn : (ℕ → Bool) → Item → Bool
-isDrawn under x = not (isClip (x .func)) && (not (isClipped (x .func)) || under (x .id))
-
--- it hides all below it: full, opaque, and cut by no clip
-abbrev pub hidesAll : (ℕ → Bool) → Item → Bool
-hidesAll freed x = (x .full && isOpaque (x .func)) && not (isClipped (x .func) && not (freed (x .id)))
-
--- no draw above x hides it
-abbrev pub isSeen : (ℕ → Bool) → List Item → Item → Bool
-isSeen freed drawn x = all (λ y. not (hidesAll freed y && ltb (x .id) (y .id))) drawn
-
-abbrev pub topOf : (ℕ → Bool) → List Item → List Item
-topOf freed drawn = filter (isSeen freed drawn) drawn
-
--- the draws of a list, and those of them that are seen, ascending
-abbrev pub drawsOf : List Item → List Item
-drawsOf items = map unflagged (filter (isDrawn (underIn items)) items)
-
-abbrev pub seenOf : List Item → List Item
-seenOf items = topOf (freedIn items) (drawsOf items)
-
--- ---- the picture
-
--- a draw that is seen, and the clip that cuts it, if it needs one: the latest listed clip below it
-pub record SeenDraw : Type 0 where
+-- a draw as it is painted: whether it needs a clip, and lacks one, so that it paints nothing; and the clip layer whose coverages cut it
+pub record Stroke : Type 0 where
   pub draw : Item
-  pub cut : Option Item
+  pub needs : Bool
+  pub lacks : Bool
+  pub mask : Option ℕ
 
-abbrev pub unflaggedClip : Option Item → Option Item
-unflaggedClip none = none
-unflaggedClip (some c) = some (unflagged c)
+-- what cuts a draw: the mask, where the draw needs a clip and one is alive
+abbrev pub maskFor : {A : Type 0} → Bool → Option ℕ → Option A → Option A
+maskFor needs alive mask = cond (needs && not (hasNoClip alive)) mask none
 
-abbrev pub cutIn : List Item → Item → Option Item
-cutIn items x = cond (isClipped (x .func) && not (freedIn items (x .id))) (unflaggedClip (latestClip items (x .id) none)) none
+-- the layers that are left to paint, by the painter's clip and the clip layer that was painted last; `items` is the tile's list
+unfoldable pub strokesFrom : List Item → Option ℕ → Option ℕ → List Item → List Stroke
+strokesFrom items clip mask [] = []
+strokesFrom items clip mask (x ∷ xs) =
+    let needs = needsClip items (x .func) (x .id) in
+    let alive = aliveAt clip (x .id) in
+    let after = clipAfter (x .func) (x .id) clip in
+    cond (isClip (x .func))
+    (strokesFrom items after (some (x .id)) xs)
+    (record { draw = unflagged x; needs = needs; lacks = lacksClip needs alive; mask = maskFor needs alive mask } ∷ strokesFrom items after mask xs)
 
--- the clear colour is seen where no draw hides all below it
-abbrev pub isClearSeen : (ℕ → Bool) → List Item → Bool
-isClearSeen freed draws = all (λ x. not (hidesAll freed x)) draws
+abbrev pub pictureOf : List Item → List Stroke
+pictureOf items = strokesFrom items none none (shownAfresh items)
 
-pub record Picture : Type 0 where
-  pub draws : List SeenDraw
-  pub clear : Bool
+-- the clear colour is seen where no draw hides all below it: none is full, opaque and cut by no clip
+abbrev pub hidesAll : Stroke → Bool
+hidesAll s = (s .draw .full && isOpaque (s .draw .func)) && not (s .needs)
 
-abbrev pub pictureOf : List Item → Picture
-pictureOf items = record { draws = map (λ x. record { draw = x; cut = cutIn items x }) (seenOf items); clear = isClearSeen (freedIn items) (drawsOf items) }
+abbrev pub isClearSeen : List Stroke → Bool
+isClearSeen strokes = all (λ s. not (hidesAll s)) strokes

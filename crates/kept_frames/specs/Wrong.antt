@@ -16,7 +16,7 @@ use Rattle.pass_statements.specs.Decide.{outcomeOf}
 use Rattle.pass_statements.specs.Decision.{none}
 use Rattle.pass_statements.specs.declared.item.Item.{Item}
 use Rattle.pass_statements.specs.declared.unchanged.PreviousCount.the-variants.{Kept}
-use Rattle.kept_frames.specs.Picture.{seenOf}
+use Rattle.kept_frames.specs.Picture.{pictureOf}
 use Rattle.kept_frames.specs.Told.{Told}
 use Rattle.kept_frames.specs.Right.{Frames}
 
@@ -37,7 +37,7 @@ abbrev full : ℕ → Func → Bool → Item
 full id func unchanged = record { id = id; full = true; func = func; unchanged = unchanged }
 
 abbrev pub seenIds : List Item → List ℕ
-seenIds items = map (λ x. x .id) (seenOf items)
+seenIds items = map (λ s. s .draw .id) (pictureOf items)
 
 -- the tile is kept, with the clear colour unchanged, and shows other draws than are due
 pub record KeptWrongly (before now : List Item) (shows due : List ℕ) : Type 0 where

@@ -1,6 +1,6 @@
 -- The history of specs/Example, by the existence of runs. Assumes nothing.
 use mathlib.Core.Path.{_≡_, refl, sym, ap}
-use mathlib.Core.Bool.{Bool, true, false, cond}
+use mathlib.Core.Bool.{Bool, true, false, cond, false≢true}
 use mathlib.Core.List.{List, [], _∷_}
 use Prim.Native.Nat.{ℕ}
 use lib.Dec.{eqb}
@@ -15,8 +15,8 @@ use Rattle.segment_rows.specs.Search.{halved, searchOf, leftPart, tilePart, lay
 use Rattle.styling.specs.Ascending.{strictlyAscendsFrom}
 use Rattle.styling.specs.declared.Color.{Color}
 use Rattle.styling.specs.declared.Layer.{Layer}
-use Rattle.layer_table.specs.Lookup.{lookup}
-use Rattle.layer_table.specs.Table.{isTableShort, isValid, isTable, layerAt, tableOf}
+use Rattle.layer_table.specs.Lookup.{placeFrom, lookup}
+use Rattle.layer_table.specs.Table.{isTableShort, isValid, isTable, layerAt, tableOf, tableIds}
 use Rattle.cached_tile.specs.Tile.{emptyTile, keepColor}
 use Rattle.cached_tile.specs.Kept.{keepOrWrite, keepsSame}
 use Rattle.cached_tile.specs.declared.CachedTile.{CachedTile}
@@ -29,6 +29,7 @@ use Rattle.tile_layers.specs.Listing.{listOf}
 use Rattle.layer_carrying.specs.Carrying.{ruleFrom, handedOn}
 use Rattle.pass_statements.specs.Clips.{stepOf, clipsFrom}
 use Rattle.pass_statements.specs.Covered.{coveredFrom}
+use Rattle.pass_statements.specs.Rules.{latestClip}
 use Rattle.pass_statements.specs.Decide.{shownFrom, outcomeOf}
 use Rattle.layer_workbench.specs.Work.{outcomeByEntries}
 use Rattle.layer_workbench.specs.declared.PreviousClear.{PreviousClear}
@@ -48,7 +49,11 @@ use Rattle.row_statements.proofs.Runs.{heldWork}
 use Rattle.kept_frames.specs.Display.{Display, displayed}
 use Rattle.kept_rows.specs.Along.{propsBy, RowTold}
 use Rattle.kept_rows.specs.Shown.{WorkedTile, itemsFor}
-use Rattle.kept_rows.specs.History.{AcceptedWork, workedOf, Drawing, lentTile, allowedTile, Frame, History}
+use Rattle.kept_frames.specs.Picture.{strokesFrom}
+use Rattle.kept_frames.specs.Alike.{drawsAlike}
+use Rattle.kept_rows.specs.History.{AcceptedWork, workedOf, Drawing, lentTile, Rule, keptIf, Frame, History}
+use Rattle.kept_rows.specs.Since.{markedWords, marked}
+use Rattle.kept_rows.specs.Frames.{RowFrame, RowHistory}
 use Rattle.kept_rows.specs.Example.{opaqueDraw, frameCall, KeptTile}
 use Rattle.kept_rows.proofs.Once.{once}
 
@@ -88,16 +93,16 @@ abbrev bytes : List ℕ
 bytes = 255 ∷ 255 ∷ 255 ∷ 255 ∷ []
 
 abbrev settledTile : CachedTile
-settledTile = keepColor (firstWork .result .kept .tile) bytes
+settledTile = keepColor (firstWork .done .after .tile) bytes
 
 abbrev second : WorkedTile
 second = record { row = openRow (frameCall 1); place = 0; clear = black }
 
 abbrev keptTile : CachedTile
-keptTile = allowedTile (itemsFor (workedOf firstWork)) (itemsFor second) settledTile
+keptTile = keptIf (drawsAlike (itemsFor (workedOf firstWork)) (itemsFor second)) settledTile
 
 second-passes : workDueVerdict (openRow (frameCall 1)) 0 (heldWork (heldFirst begun (held 1)) (chosen keptTile (previous.Given black))) ≡ pass
-unfolding workOut outcomeByEntries outcomeOf clipsFrom stepOf coveredFrom shownFrom isFull eq ofBits odd listVerdict listOf groupsOf handedOn queueAfter addTo addAll leftPart tilePart layerPart searchOf halved lookup tableOf layerAt isLight carryOf isEmpty heldIn coverOf tileOf
+unfolding workOut outcomeByEntries outcomeOf clipsFrom stepOf coveredFrom shownFrom latestClip strokesFrom isFull eq ofBits odd listVerdict listOf groupsOf handedOn queueAfter addTo addAll leftPart tilePart layerPart searchOf halved lookup tableOf layerAt isLight carryOf isEmpty heldIn coverOf tileOf
 second-passes = refl
 
 abbrev secondWork : AcceptedWork
@@ -127,18 +132,39 @@ told-clear : (c : Color) → previous.Given black ≡ previous.Given c → c ≡
 unfolding clearIn
 told-clear c e = sym (ap clearIn e)
 
+isGivenClear : PreviousClear → Bool
+isGivenClear previous.Absent = false
+isGivenClear (previous.Given c) = true
+
+not-given : {c : Color} → previous.Absent ≡ previous.Given c → ⊥
+unfolding isGivenClear
+not-given e = false≢true (ap isGivenClear e)
+
+-- the flags as they are worked out
+marked-first : openRow (frameCall 0) ≡ marked (openRow (frameCall 0)) (openRow (frameCall 0))
+unfolding markedWords
+marked-first = refl
+
+marked-second : openRow (frameCall 1) ≡ marked (openRow (frameCall 0)) (openRow (frameCall 1))
+unfolding markedWords tableIds placeFrom ofBits odd
+marked-second = refl
+
 pub kept-tile : KeptTile
-unfolding workOut outcomeByEntries outcomeOf clipsFrom stepOf coveredFrom shownFrom isFull eq ofBits odd listOf groupsOf handedOn queueAfter addTo addAll leftPart tilePart layerPart searchOf halved lookup tableOf layerAt isLight carryOf isEmpty heldIn coverOf tileOf listVerdict
+unfolding workOut outcomeByEntries outcomeOf clipsFrom stepOf coveredFrom shownFrom latestClip strokesFrom isFull eq ofBits odd listOf groupsOf handedOn queueAfter addTo addAll leftPart tilePart layerPart searchOf halved lookup tableOf layerAt isLight carryOf isEmpty heldIn coverOf tileOf listVerdict
 kept-tile =
     record {
       first = firstWork;
       second = secondWork;
       calls = (refl, refl);
       decided = refl;
-      tile = secondWork .result .kept .tile;
-      display = displayed (keepOrWrite (keepsSame (firstWork .result .kept .tile) bytes)) bytes Display.other;
+      tile = secondWork .done .after .tile;
+      display = displayed (keepOrWrite (keepsSame (firstWork .done .after .tile) bytes)) bytes Display.other;
       history =
           History.next
           (History.next History.begins (Frame.first {d = Display.other} firstWork refl refl (Drawing.settles bytes)))
-          (Frame.again secondWork refl (record { flags = told; clear = told-clear }) refl Drawing.leaves);
+          (Frame.again secondWork refl (record { flags = told; clear = told-clear }) Rule.alike refl Drawing.leaves);
+      in-row =
+          RowHistory.next
+          (RowHistory.next (RowHistory.begins {l = record { row = openRow (frameCall 0); clear = black; worked = 0 }} refl) (RowFrame.works {d = Display.other} false (openRow (frameCall 0)) firstWork 1 refl marked-first (λ c e. absurd (not-given e)) (λ e z. absurd (false≢true e)) refl tt (Drawing.settles bytes)))
+          (RowFrame.works true (openRow (frameCall 1)) secondWork 1 refl marked-second told-clear (λ e z. refl) refl refl Drawing.leaves);
     }

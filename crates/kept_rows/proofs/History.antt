@@ -2,32 +2,38 @@
 use mathlib.Core.Path.{_≡_, refl, sym, ap, _∙_}
 use mathlib.Core.Bool.{Bool, true, false, cond}
 use mathlib.Core.List.{List}
+use mathlib.Core.Logic.{⊎-elim}
 use mathlib.Core.Option as option
 use mathlib.Core.Option.{some}
 use Prim.Native.Nat.{ℕ, _+_, _%_, _^_, _≤_}
 use native.Mathlib.Omega.{arith}
 use lib.ListN.{length}
+use Rattle.styling.specs.declared.Color.{Color}
+use Rattle.laws.proofs.Bools.{either}
 use Rattle.cached_tile.specs.Tile.{emptyTile, layerCountOf, keepCount, dropCount, dropColor}
 use Rattle.cached_tile.specs.Kept.{previousCount, counted}
 use Rattle.cached_tile.specs.declared.CachedTile.{CachedTile}
 use Rattle.cached_tile.specs.declared.kept.Kept as kept
 use Rattle.cached_tile.proofs.Counts.{count-kept, count-left, count-dropped}
-use Rattle.pass_statements.specs.Decide.{outcomeOf}
+use Rattle.pass_statements.specs.Decide.{Outcome, outcomeOf}
 use Rattle.pass_statements.specs.Decision.{TileDecision, none, solid, paint}
 use Rattle.pass_statements.specs.declared.item.Item.{Item}
 use Rattle.pass_statements.specs.declared.unchanged.PreviousCount.{PreviousCount}
 use Rattle.pass_statements.specs.declared.unchanged.PreviousCount.the-variants as counts
-use Rattle.layer_workbench.specs.Work.{clearUnchanged, countFrom, keptBy}
+use Rattle.pass_statements.specs.Unchanged.{isKept}
+use Rattle.pass_statements.proofs.Outcomes.{outcome-kept}
+use Rattle.layer_workbench.specs.Work.{clearUnchanged, countFrom, outcomeByEntries, keptBy}
 use Rattle.row_statements.specs.Due.{layersOn}
 use Rattle.row_statements.specs.InnerHolding.{IsOpen}
 use Rattle.kept_frames.specs.Display.{Display, KeepsShown}
-use Rattle.kept_frames.specs.Stays.{listStays}
-use Rattle.kept_frames.specs.Right.{allowedCount, ShowsSame}
+use Rattle.kept_frames.specs.Right.{Frames, countBy, ShowsSame}
+use Rattle.kept_frames.proofs.Afresh.{drawn-afresh}
 use Rattle.kept_frames.proofs.None.{none-right, uncounted-drawn}
+use Rattle.kept_frames.proofs.Whole.{stays-right}
 use Rattle.kept_frames.proofs.Settled.{solid-right, first-shown}
 use Rattle.kept_frames.proofs.Tags.{count-uncolored}
 use Rattle.kept_rows.specs.Shown.{WorkedTile, itemsFor, SameShown}
-use Rattle.kept_rows.specs.History.{AcceptedWork, openOn, workedOf, Standing, Drawing, drawnAt, lentTile, allowedTile, Frame, History, IsRight, FirstDrawn, FramesRight}
+use Rattle.kept_rows.specs.History.{AcceptedWork, openOn, workedOf, Standing, Drawing, drawnAt, lentTile, Rule, keptIf, Frame, History, IsRight, FirstDrawn, FramesRight, WorkShows}
 use Rattle.kept_rows.proofs.Along.{told-along}
 use Rattle.kept_rows.proofs.Works.{row-open, said, decided-by, items-long}
 use Rattle.kept_rows.proofs.Shown.{self-shown, same-shown}
@@ -63,48 +69,47 @@ whole n h = omega (arith, h)
 counted-stands : (b : CachedTile) (d : Display) (n : ℕ) → n ≤ 256 → KeepsShown b d → Stands (keepCount b n) d n
 counted-stands b d n h s = record { shows = solid-right b d s .none n; count = count-kept b (s .tag) n ∙ ap some (whole n h) }
 
-module _ (a : AcceptedWork) (b : CachedTile) (e : a .choice .kept ≡ lentTile b) where
+module _ (a : AcceptedWork) (b : CachedTile) (e : a .done .before ≡ lentTile b) where
   abbrev long : ℕ
   long = length (itemsFor (workedOf a))
 
-  tile-is : a .result .kept .tile ≡ tileBy (a .answer .decision) (keepCount b long)
+  tile-is : a .done .after .tile ≡ tileBy (a .done .decision) (keepCount b long)
   tile-is =
       ap (λ (k : kept.Kept). k .tile) (said a .kept-is)
-      ∙ ap (λ (k : kept.Kept). keptBy (a .answer .decision) (counted k (length (layersOn (openOn a) (a .past .tiles)))) .tile) e
-      ∙ tile-by (a .answer .decision) b (length (layersOn (openOn a) (a .past .tiles)))
-      ∙ ap (λ (n : ℕ). tileBy (a .answer .decision) (keepCount b n)) (sym (items-long a))
+      ∙ ap (λ (k : kept.Kept). keptBy (a .done .decision) (counted k (length (layersOn (openOn a) (a .done .place)))) .tile) e
+      ∙ tile-by (a .done .decision) b (length (layersOn (openOn a) (a .done .place)))
+      ∙ ap (λ (n : ℕ). tileBy (a .done .decision) (keepCount b n)) (sym (items-long a))
 
   long-few : long ≤ 256
   long-few = omega (arith, items-long a, said a .few)
 
-  work-stands : {k : CachedTile} {d d′ : Display} → KeepsShown b d → Drawing (a .answer .decision) (a .result .kept .tile) d k d′ → Stands k d′ long
+  work-stands : {k : CachedTile} {d d′ : Display} → KeepsShown b d → Drawing (a .done .decision) (a .done .after .tile) d k d′ → Stands k d′ long
   work-stands {k} {d} {d′} s g = after g (keepCount b long) tile-is (counted-stands b d long long-few s)
 
   -- the decision, by the count of the tile
-  decided : a .answer .decision ≡ outcomeOf (a .choice .clear) (clearUnchanged (a .choice .previous) (a .choice .clear)) (countFrom (layerCountOf b)) (itemsFor (workedOf a)) .decision
+  decided : a .done .decision ≡ outcomeOf (a .done .clear) (clearUnchanged (a .done .previous) (a .done .clear)) (countFrom (layerCountOf b)) (itemsFor (workedOf a)) .decision
   decided =
       decided-by a
-      ∙ ap (λ (k : kept.Kept). outcomeOf (a .choice .clear) (clearUnchanged (a .choice .previous) (a .choice .clear)) (countFrom (previousCount k)) (itemsFor (workedOf a)) .decision) e
+      ∙ ap (λ (k : kept.Kept). outcomeOf (a .done .clear) (clearUnchanged (a .done .previous) (a .done .clear)) (countFrom (previousCount k)) (itemsFor (workedOf a)) .decision) e
 
 pub first-drawn : FirstDrawn
 first-drawn a e h =
-    uncounted-drawn (a .choice .clear) (clearUnchanged (a .choice .previous) (a .choice .clear)) (itemsFor (workedOf a)) (sym (decided a emptyTile e) ∙ h)
+    uncounted-drawn (a .done .clear) (clearUnchanged (a .done .previous) (a .done .clear)) (itemsFor (workedOf a)) (sym (decided a emptyTile e) ∙ h)
 
--- ---- the protocol's count
+-- ---- the count by a rule
 
-allowed-shows : (before now : List Item) (k : CachedTile) (d : Display) → KeepsShown k d → KeepsShown (allowedTile before now k) d
-allowed-shows before now k d s = by (listStays before now)
-  where
-    by : (t : Bool) → KeepsShown (cond t k (dropCount k)) d
-    by true = s
-    by false = solid-right k d s .uncounted
+kept-shows : (may : Bool) (k : CachedTile) (d : Display) → KeepsShown k d → KeepsShown (keptIf may k) d
+kept-shows true k d s = s
+kept-shows false k d s = solid-right k d s .uncounted
 
-allowed-count : (before now : List Item) (k : CachedTile) (d : Display) → Stands k d (length before) → countFrom (layerCountOf (allowedTile before now k)) ≡ allowedCount before now
-allowed-count before now k d s = by (listStays before now)
-  where
-    by : (t : Bool) → countFrom (layerCountOf (cond t k (dropCount k))) ≡ cond t (counts.Kept (length before)) counts.Absent
-    by true = ap countFrom (s .count)
-    by false = ap countFrom (count-dropped k (s .shows .tag))
+kept-count : (may : Bool) (before : List Item) (k : CachedTile) (d : Display) → Stands k d (length before) → countFrom (layerCountOf (keptIf may k)) ≡ countBy may before
+kept-count true before k d s = ap countFrom (s .count)
+kept-count false before k d s = ap countFrom (count-dropped k (s .shows .tag))
+
+rule-right : {before now : List Item} {may : Bool} → Rule before now may → (clear : Color) (same : Bool) → Frames before now
+    → outcomeOf clear same (countBy may before) now .decision ≡ none → ShowsSame same before now
+rule-right {before} {now} Rule.alike clear same f e = none-right clear same before now f e
+rule-right {before} {now} Rule.stays clear same f e = stays-right clear same before now f e
 
 -- ---- through frames
 
@@ -127,20 +132,38 @@ frame-held : {t : ℕ} {s s′ : Standing} → Frame t s s′ → Held t s → H
 frame-held Frame.leaves h = h
 frame-held (Frame.first {d = d} a e k g) h =
     record { row-is = row-open a; tile-is = e; stands = work-stands a emptyTile k (first-shown d) g; same = self-shown (workedOf a) }
-frame-held {t} (Frame.again {k = k} {d = d} {drawn = drawn} {last = last} a e told q g) h =
+frame-held {t} (Frame.again {k = k} {d = d} {drawn = drawn} {last = last} {may = may} a e told rule q g) h =
     let now = workedOf a in
-    let b = allowedTile (itemsFor last) (itemsFor now) k in
+    let b = keptIf may k in
+    let same = clearUnchanged (a .done .previous) (a .done .clear) in
     let along = told-along (h .row-is) (row-open a) (told .flags) (last .place) (now .place) (h .tile-is ∙ sym e) in
-    let right : a .answer .decision ≡ none → ShowsSame (clearUnchanged (a .choice .previous) (a .choice .clear)) (itemsFor last) (itemsFor now) = λ z. none-right (a .choice .clear) (clearUnchanged (a .choice .previous) (a .choice .clear)) (itemsFor last) (itemsFor now) (along .frames)
-    (ap (λ (n : PreviousCount). outcomeOf (a .choice .clear) (clearUnchanged (a .choice .previous) (a .choice .clear)) n (itemsFor now) .decision) (sym (allowed-count (itemsFor last) (itemsFor now) k d (h .stands))) ∙ sym (decided a b q) ∙ z) in
+    let right : a .done .decision ≡ none → ShowsSame same (itemsFor last) (itemsFor now) = λ z. rule-right rule (a .done .clear) same (along .frames)
+    (ap (λ (n : PreviousCount). outcomeOf (a .done .clear) same n (itemsFor now) .decision) (sym (kept-count may (itemsFor last) k d (h .stands))) ∙ sym (decided a b q) ∙ z) in
     record {
       row-is = row-open a;
       tile-is = e;
-      stands = work-stands a b q (allowed-shows (itemsFor last) (itemsFor now) k d (h .stands .shows)) g;
-      same = by-decision (a .answer .decision) drawn now (λ z. same-shown drawn last now (a .choice .previous) (h .same) along (told .clear) (right z));
+      stands = work-stands a b q (kept-shows may k d (h .stands .shows)) g;
+      same = by-decision (a .done .decision) drawn now (λ z. same-shown drawn last now (a .done .previous) (h .same) along (told .clear) (right z));
+    }
+frame-held {t} (Frame.anew {k = k} {d = d} {drawn = drawn} {last = last} a e q g) h =
+    let now = workedOf a in
+    let drawn-now : a .done .decision ≡ none → ⊥ = λ z. uncounted-drawn (a .done .clear) (clearUnchanged (a .done .previous) (a .done .clear)) (itemsFor now)
+    (ap (λ (n : PreviousCount). outcomeOf (a .done .clear) (clearUnchanged (a .done .previous) (a .done .clear)) n (itemsFor now) .decision) (sym (ap countFrom (count-dropped k (h .stands .shows .tag)))) ∙ sym (decided a (dropCount k) q) ∙ z) in
+    record {
+      row-is = row-open a;
+      tile-is = e;
+      stands = work-stands a (dropCount k) q (solid-right k d (h .stands .shows) .uncounted) g;
+      same = by-decision (a .done .decision) drawn now (λ z. absurd (drawn-now z));
+    }
+frame-held {t} (Frame.draws {k = k} {d = d} {drawn = drawn} may a e q n g) h =
+    record {
+      row-is = row-open a;
+      tile-is = e;
+      stands = work-stands a (keptIf may k) q (kept-shows may k d (h .stands .shows)) g;
+      same = by-decision (a .done .decision) drawn (workedOf a) (λ z. absurd (n z));
     }
 
-held : {t : ℕ} {s : Standing} → History t s → Held t s
+pub held : {t : ℕ} {s : Standing} → History t s → Held t s
 held History.begins = tt
 held (History.next h f) = frame-held f (held h)
 
@@ -150,3 +173,17 @@ right-of t (Standing.worked k d drawn last) h = (h .same, λ bytes e. solid-righ
 
 pub frames-right : FramesRight
 frames-right t s h = right-of t s (held h)
+
+-- ---- what a work that draws shows
+
+pub work-shows : WorkShows
+unfolding outcomeByEntries
+work-shows a drawn =
+    let same = clearUnchanged (a .done .previous) (a .done .clear) in
+    let count = countFrom (previousCount (a .done .before)) in
+    let items = itemsFor (workedOf a) in
+    drawn-afresh (a .done .clear) same count items
+    (⊎-elim
+    (λ k. absurd (drawn (decided-by a ∙ ap (λ (o : Outcome). o .decision) (outcome-kept (a .done .clear) same count items k))))
+    (λ k. k)
+    (either (isKept same count items)))

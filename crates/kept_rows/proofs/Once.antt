@@ -16,7 +16,7 @@ use Rattle.row_statements.proofs.Run.{accepted, is-open, held-first}
 use Rattle.row_statements.proofs.Runs.{workResult, work-named, work-gives, as-held, heldWork, work-goes}
 use Rattle.listing_runs.specs.Run.{heldWith, RowCall, CallStep, RowCalls}
 use Rattle.two_rows.specs.Apart.{MadeCall}
-use Rattle.kept_rows.specs.History.{AcceptedWork}
+use Rattle.kept_rows.specs.History.{DoneIn, AcceptedWork}
 
 module _ (call : OpenCall) (lent back : Columns) (s : RowState) (words : Words (call .row)) (opens : OpensRow (openOf call lent) (opened.Row s) back) where
   abbrev held : Held
@@ -44,11 +44,6 @@ module _ (call : OpenCall) (lent back : Columns) (s : RowState) (words : Words (
         words = words;
         opens = opens;
         run = RowCalls.next (CallStep.row {h = heldWith held []} (Step.work {c = heldWork held c} as-held (work-goes row-open holds c))) RowCalls.none;
-        past = atFirst;
-        choice = heldWork held c;
-        result = workResult (workDue (openRow call) atFirst (heldWork held c));
-        list = workDue (openRow call) atFirst (heldWork held c) .lent;
-        made = MadeCall.here;
-        answer = tileAnswer (saysOn (openRow call) 0 (heldWork held c));
-        accepted = told (heldWork held c) e;
+        done = _;
+        made = DoneIn.work {c = heldWork held c} MadeCall.here (told (heldWork held c) e);
       }

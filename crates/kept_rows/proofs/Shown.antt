@@ -1,23 +1,24 @@
--- A tile that is decided *none* shows what drawing it afresh would, by coverages and styles. Assumes nothing.
+-- A tile that is decided *none* shows what drawing it afresh would, by styles, coverages, cuts and marks. Assumes nothing.
 use mathlib.Core.Path.{_≡_, refl, sym, ap, _∙_}
-use mathlib.Core.Bool.{true, false, false≢true}
+use mathlib.Core.Bool.{true, false, cond, false≢true}
 use mathlib.Core.List.{List, [], _∷_, map}
 use mathlib.Core.Option.{Option, some, none}
 use Prim.Native.Nat.{ℕ}
 use lib.Ieee.{Float}
 use Rattle.styling.specs.Color.{sameColor}
 use Rattle.styling.specs.declared.Color.{Color}
+use Rattle.cover_statements.specs.Mark.{markOf}
 use Rattle.tile_layers.specs.Listing.{isChanged}
-use Rattle.pass_statements.specs.declared.item.Item.{Item}
 use Rattle.layer_workbench.specs.Work.{clearUnchanged}
 use Rattle.layer_workbench.specs.declared.PreviousClear.{PreviousClear}
 use Rattle.layer_workbench.specs.declared.PreviousClear.the-variants.{Absent, Given}
 use Rattle.row_statements.specs.Due.{tableOn, layersOn, planeOn}
-use Rattle.kept_frames.specs.Picture.{SeenDraw, Picture, pictureOf}
-use Rattle.kept_frames.specs.Right.{CutUnchanged, DrawsUnchanged, ShowsSame}
+use Rattle.kept_frames.specs.Picture.{Stroke, pictureOf, isClearSeen}
+use Rattle.kept_frames.specs.Right.{MaskUnchanged, StrokesUnchanged, ShowsSame}
 use Rattle.kept_rows.specs.Along.{ToldAlong}
-use Rattle.kept_rows.specs.Shown.{WorkedTile, itemsFor, cutPlane, shownDraw, isClearShown, ClearChain, SameShown}
+use Rattle.kept_rows.specs.Shown.{WorkedTile, itemsFor, isClearShown, ClearChain, SameShown}
 use Rattle.kept_rows.proofs.Present.{listed-unchanged}
+use Rattle.kept_rows.proofs.Painted.{planesOf, painted, draws-painted}
 
 pub self-shown : (w : WorkedTile) → SameShown w w
 self-shown w = record { draws = refl; clear = refl; colour = λ h. ClearChain.same }
@@ -30,17 +31,17 @@ module _ (last now : WorkedTile) (planes : (id : ℕ) → isChanged (tableOn (no
   abbrev new : ℕ → List Float
   new = planeOn (now .row) (now .place)
 
-  same-cut : (c : Option Item) → CutUnchanged (itemsFor now) c → cutPlane old c ≡ cutPlane new c
-  same-cut none u = refl
-  same-cut (some c) u = ap some (planes (c .id) (listed-unchanged [] (tableOn (now .row)) (layersOn (now .row) (now .place)) (c .id) u))
+  same-mask : (c : Option ℕ) → MaskUnchanged (itemsFor now) c → planesOf old c ≡ planesOf new c
+  same-mask none u = refl
+  same-mask (some id) u = ap some (planes id (listed-unchanged [] (tableOn (now .row)) (layersOn (now .row) (now .place)) id u))
 
-  same-draws : (ds : List SeenDraw) → DrawsUnchanged (itemsFor now) ds → map (shownDraw old) ds ≡ map (shownDraw new) ds
+  same-draws : (ss : List Stroke) → StrokesUnchanged (itemsFor now) ss → map (painted old) ss ≡ map (painted new) ss
   same-draws [] u = refl
-  same-draws (d ∷ ds) ((u, c), us) =
-      let plane = planes (d .draw .id) (listed-unchanged [] (tableOn (now .row)) (layersOn (now .row) (now .place)) (d .draw .id) u) in
-      let cut = same-cut (d .cut) c in
-      let rest = same-draws ds us in
-      λ i. record { id = d .draw .id; func = d .draw .func; plane = plane i; cut = cut i } ∷ rest i
+  same-draws (s ∷ ss) ((u, c), us) =
+      let plane = planes (s .draw .id) (listed-unchanged [] (tableOn (now .row)) (layersOn (now .row) (now .place)) (s .draw .id) u) in
+      let cut = same-mask (s .mask) c in
+      let rest = same-draws ss us in
+      λ i. record { id = s .draw .id; func = s .draw .func; plane = plane i; mark = cond (s .lacks) 0 (markOf (plane i)); cut = cut i } ∷ rest i
 
 -- the previous clear colour is that of the last work
 told-clear : (previous : PreviousClear) (last clear : Color) → ((color : Color) → previous ≡ Given color → color ≡ last) → clearUnchanged previous clear ≡ true → sameColor last clear ≡ true
@@ -50,11 +51,13 @@ told-clear (Given color) last clear t h = ap (λ (x : Color). sameColor x clear)
 pub same-shown : (drawn last now : WorkedTile) (previous : PreviousClear) → SameShown drawn last → ToldAlong (last .row) (now .row) (last .place) (now .place)
     → ((color : Color) → previous ≡ Given color → color ≡ last .clear) → ShowsSame (clearUnchanged previous (now .clear)) (itemsFor last) (itemsFor now) → SameShown drawn now
 same-shown drawn last now previous s t c k =
-    let clear : isClearShown last ≡ isClearShown now = ap (λ (p : Picture). p .clear) (k .picture) in
+    let clear : isClearShown last ≡ isClearShown now = ap isClearSeen (k .picture) in
     record {
       draws = s .draws
-          ∙ ap (λ (p : Picture). map (shownDraw (planeOn (last .row) (last .place))) (p .draws)) (k .picture)
-          ∙ same-draws last now (t .planes) (pictureOf (itemsFor now) .draws) (k .unchanged);
+          ∙ draws-painted last
+          ∙ ap (map (painted (planeOn (last .row) (last .place)))) (k .picture)
+          ∙ same-draws last now (t .planes) (pictureOf (itemsFor now)) (k .unchanged)
+          ∙ sym (draws-painted now);
       clear = s .clear ∙ clear;
       colour = λ h. ClearChain.next (s .colour (clear ∙ h)) (told-clear previous (last .clear) (now .clear) c (k .clear h));
     }

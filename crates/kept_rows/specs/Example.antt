@@ -1,5 +1,5 @@
--- The theorem over frames is not empty: two frames of one tile that meet its premises, in the second of which the tile is kept. One opaque layer comes in
--- from tile -1 and fills the tile; in the second frame it is unchanged. proofs/Example has it.
+-- The theorems over frames are not empty: two frames of one tile that meet their premises, in the second of which the tile is kept. One opaque layer comes
+-- in from tile -1 and fills the tile; in the second frame it is unchanged, and so by what its rows and tables say. proofs/Example has it.
 use mathlib.Core.Path.{_≡_}
 use mathlib.Core.List.{List, [], _∷_}
 use Prim.Native.Nat.{ℕ}
@@ -12,8 +12,11 @@ use Rattle.pixel_segment.specs.Pack.{wordOf}
 use Rattle.cached_tile.specs.declared.CachedTile.{CachedTile}
 use Rattle.pass_statements.specs.Decision.{none}
 use Rattle.row_statements.specs.Opening.{OpenCall}
+use Rattle.row_statements.specs.Run.{openRow}
+use Rattle.row_statements.specs.Example.{black}
 use Rattle.kept_frames.specs.Display.{Display}
 use Rattle.kept_rows.specs.History.{AcceptedWork, workedOf, Standing, History}
+use Rattle.kept_rows.specs.Frames.{RowHistory}
 
 -- the record of an opaque draw, with its flag
 abbrev pub opaqueDraw : ℕ → List ℕ
@@ -34,7 +37,8 @@ pub record KeptTile : Type 0 where
   pub first : AcceptedWork
   pub second : AcceptedWork
   pub calls : (first .call ≡ frameCall 0) × (second .call ≡ frameCall 1)
-  pub decided : second .answer .decision ≡ none
+  pub decided : second .done .decision ≡ none
   pub tile : CachedTile
   pub display : Display
   pub history : History 0 (Standing.worked tile display (workedOf first) (workedOf second))
+  pub in-row : RowHistory 0 (record { row = openRow (frameCall 1); clear = black; worked = 1 }) (Standing.worked tile display (workedOf first) (workedOf second))

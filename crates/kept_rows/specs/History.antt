@@ -3,7 +3,7 @@
 -- the count is kept only where whoever was listed then is listed still, and every solid tile is settled and obeyed. Then what stands in the tile is
 -- always what drawing it afresh at its last accepted work shows. A frame in which the tile is not worked, or turned down, leaves it as it is.
 use mathlib.Core.Path.{_≡_}
-use mathlib.Core.Bool.{true, cond}
+use mathlib.Core.Bool.{Bool, true, cond}
 use mathlib.Core.List.{List, []}
 use Prim.Native.Nat.{ℕ, _+_}
 use Rattle.laws.specs.Answer.{given}
@@ -13,25 +13,54 @@ use Rattle.cached_tile.specs.Tile.{emptyTile, dropCount, keepColor}
 use Rattle.cached_tile.specs.Kept.{keepOrWrite, keepsSame}
 use Rattle.cached_tile.specs.declared.CachedTile.{CachedTile}
 use Rattle.cached_tile.specs.declared.kept.Kept as kept
+use Rattle.pass_statements.specs.Decide.{shownOf}
 use Rattle.pass_statements.specs.Decision.{TileDecision, none, solid, paint}
 use Rattle.pass_statements.specs.declared.item.Item.{Item}
+use Rattle.layer_workbench.specs.declared.PreviousClear.{PreviousClear}
 use Rattle.layer_workbench.specs.declared.PreviousClear.the-variants.{Given}
 use Rattle.row_statements.specs.Lent.{Columns}
 use Rattle.row_statements.specs.Opening.{OpenCall, openOf, OpensRow}
 use Rattle.row_statements.specs.TileWork.{WorkLent, TileAnswer, workAnswer}
-use Rattle.row_statements.specs.Due.{OpenRow, Past, atFirst, WorkChoice}
+use Rattle.row_statements.specs.Due.{outcomeOn, OpenRow, Past, atFirst, WorkChoice}
 use Rattle.row_statements.specs.Run.{openRow, heldFirst, Event}
 use Rattle.row_statements.specs.declared.RowState.{RowState}
 use Rattle.row_statements.specs.declared.TileWorked.{TileWorked}
 use Rattle.row_statements.specs.declared.Opened.the-variants as opened
+use Rattle.listing_statements.specs.Listing.{ListLent, listAnswer}
+use Rattle.listing_statements.specs.Deciding.{DecideSays, decideAnswer}
+use Rattle.listing_statements.specs.declared.TileListed.{TileListed}
+use Rattle.listing_statements.specs.declared.TileDecided.{TileDecided}
+use Rattle.listing_runs.specs.Due.{ListChoice, DecideChoice, nthOn}
 use Rattle.listing_runs.specs.Run.{HeldAll, heldWith, RowCall, RowCalls}
 use Rattle.two_rows.specs.Apart.{MadeCall}
 use Rattle.kept_frames.specs.Display.{Display, ShowsBytes, displayed}
+use Rattle.kept_frames.specs.Picture.{shownAfresh}
+use Rattle.kept_frames.specs.Alike.{drawsAlike}
 use Rattle.kept_frames.specs.Stays.{listStays}
 use Rattle.kept_rows.specs.Along.{RowTold}
 use Rattle.kept_rows.specs.Shown.{WorkedTile, itemsFor, SameShown}
 
 -- ---- an accepted work in a frame: a row that was opened, any list of calls, and one of them
+
+-- what a caller gives and gets of a tile
+pub record TileDone : Type 0 where
+  pub place : ℕ
+  pub before : kept.Kept
+  pub clear : Color
+  pub previous : PreviousClear
+  pub after : kept.Kept
+  pub decision : TileDecision
+
+-- by an accepted work; or by an accepted listing and an accepted deciding of the list of that tile
+pub data DoneIn (o : OpenRow) (es : List RowCall) : TileDone → Type 0 where
+  work : {p : Past} {c : WorkChoice} {r : TileWorked} {back : WorkLent} {t : TileAnswer} →
+      MadeCall o atFirst es p (RowCall.row (Event.work c r back)) → workAnswer (r .answer) ≡ given t →
+      DoneIn o es (record { place = p .tiles; before = c .kept; clear = c .clear; previous = c .previous; after = r .kept; decision = t .decision })
+  decide : {p q : Past} {l : ListChoice} {r : TileListed} {back : ListLent} {n : ℕ} {c : DecideChoice} {s : TileDecided} {masks : List Bool} {t : DecideSays} →
+      MadeCall o atFirst es p (RowCall.list l r back) → listAnswer (r .answer) ≡ given n →
+      MadeCall o atFirst es q (RowCall.decide c s masks) → decideAnswer (s .answer) ≡ given t →
+      nthOn o c ≡ p .tiles →
+      DoneIn o es (record { place = p .tiles; before = c .kept; clear = c .clear; previous = c .previous; after = s .kept; decision = t .decision })
 
 pub record AcceptedWork : Type 0 where
   pub call : OpenCall
@@ -43,22 +72,17 @@ pub record AcceptedWork : Type 0 where
   pub words : Words (call .row)
   pub opens : OpensRow (openOf call lent) (opened.Row state) back
   pub run : RowCalls (openRow call) (heldWith (heldFirst state back) []) calls held
-  pub past : Past
-  pub choice : WorkChoice
-  pub result : TileWorked
-  pub list : WorkLent
-  pub made : MadeCall (openRow call) atFirst calls past (RowCall.row (Event.work choice result list))
-  pub answer : TileAnswer
-  pub accepted : workAnswer (result .answer) ≡ given answer
+  pub done : TileDone
+  pub made : DoneIn (openRow call) calls done
 
 abbrev pub openOn : AcceptedWork → OpenRow
 openOn a = openRow (a .call)
 
 abbrev pub tileNumber : AcceptedWork → ℕ
-tileNumber a = openOn a .from + a .past .tiles
+tileNumber a = openOn a .from + a .done .place
 
 abbrev pub workedOf : AcceptedWork → WorkedTile
-workedOf a = record { row = openOn a; place = a .past .tiles; clear = a .choice .clear }
+workedOf a = record { row = openOn a; place = a .done .place; clear = a .done .clear }
 
 -- ---- what stands of a tile between frames
 
@@ -85,28 +109,45 @@ drawnAt paint drawn now = now
 abbrev pub lentTile : CachedTile → kept.Kept
 lentTile k = record { given = true; tile = k }
 
--- its count is dropped unless whoever was listed is listed still
-abbrev pub allowedTile : List Item → List Item → CachedTile → CachedTile
-allowedTile before now k = cond (listStays before now) k (dropCount k)
+-- the rules by which a count may stay: the shown draws are alike; or, narrower, whoever was listed is listed still
+pub data Rule (before now : List Item) : Bool → Type 0 where
+  alike : Rule before now (drawsAlike before now)
+  stays : Rule before now (listStays before now)
+
+-- the count is dropped where it may not stay
+abbrev pub keptIf : Bool → CachedTile → CachedTile
+keptIf may k = cond may k (dropCount k)
 
 -- flags and previous clear colour are relative to the tile's last accepted work
 pub record ToldSince (last : WorkedTile) (a : AcceptedWork) : Type 0 where
   pub flags : RowTold (last .row) (openOn a)
-  pub clear : (color : Color) → a .choice .previous ≡ Given color → color ≡ last .clear
+  pub clear : (color : Color) → a .done .previous ≡ Given color → color ≡ last .clear
 
 -- ---- a frame, and any list of them
 
 pub data Frame (t : ℕ) : Standing → Standing → Type 0 where
   leaves : {s : Standing} → Frame t s s
   first : {k : CachedTile} {d d′ : Display} (a : AcceptedWork) → tileNumber a ≡ t →
-      a .choice .kept ≡ lentTile emptyTile →
-      Drawing (a .answer .decision) (a .result .kept .tile) d k d′ →
+      a .done .before ≡ lentTile emptyTile →
+      Drawing (a .done .decision) (a .done .after .tile) d k d′ →
       Frame t Standing.unworked (Standing.worked k d′ (workedOf a) (workedOf a))
-  again : {k k′ : CachedTile} {d d′ : Display} {drawn last : WorkedTile} (a : AcceptedWork) → tileNumber a ≡ t →
+  again : {k k′ : CachedTile} {d d′ : Display} {drawn last : WorkedTile} {may : Bool} (a : AcceptedWork) → tileNumber a ≡ t →
       ToldSince last a →
-      a .choice .kept ≡ lentTile (allowedTile (itemsFor last) (itemsFor (workedOf a)) k) →
-      Drawing (a .answer .decision) (a .result .kept .tile) d k′ d′ →
-      Frame t (Standing.worked k d drawn last) (Standing.worked k′ d′ (drawnAt (a .answer .decision) drawn (workedOf a)) (workedOf a))
+      Rule (itemsFor last) (itemsFor (workedOf a)) may →
+      a .done .before ≡ lentTile (keptIf may k) →
+      Drawing (a .done .decision) (a .done .after .tile) d k′ d′ →
+      Frame t (Standing.worked k d drawn last) (Standing.worked k′ d′ (drawnAt (a .done .decision) drawn (workedOf a)) (workedOf a))
+  -- the count is dropped, whatever the flags, the previous clear colour and the first tile are
+  anew : {k k′ : CachedTile} {d d′ : Display} {drawn last : WorkedTile} (a : AcceptedWork) → tileNumber a ≡ t →
+      a .done .before ≡ lentTile (dropCount k) →
+      Drawing (a .done .decision) (a .done .after .tile) d k′ d′ →
+      Frame t (Standing.worked k d drawn last) (Standing.worked k′ d′ (drawnAt (a .done .decision) drawn (workedOf a)) (workedOf a))
+  -- the tile is drawn, with its count or without
+  draws : {k k′ : CachedTile} {d d′ : Display} {drawn last : WorkedTile} (may : Bool) (a : AcceptedWork) → tileNumber a ≡ t →
+      a .done .before ≡ lentTile (keptIf may k) →
+      (a .done .decision ≡ none → ⊥) →
+      Drawing (a .done .decision) (a .done .after .tile) d k′ d′ →
+      Frame t (Standing.worked k d drawn last) (Standing.worked k′ d′ (drawnAt (a .done .decision) drawn (workedOf a)) (workedOf a))
 
 pub data History (t : ℕ) : Standing → Type 0 where
   begins : History t Standing.unworked
@@ -121,7 +162,14 @@ IsRight (Standing.worked tile display drawn last) = SameShown drawn last × ((by
 
 -- the first work on a tile draws it
 abbrev pub FirstDrawn : Type 0
-FirstDrawn = (a : AcceptedWork) → a .choice .kept ≡ lentTile emptyTile → a .answer .decision ≡ none → ⊥
+FirstDrawn = (a : AcceptedWork) → a .done .before ≡ lentTile emptyTile → a .done .decision ≡ none → ⊥
 
 abbrev pub FramesRight : Type 0
 FramesRight = (t : ℕ) (s : Standing) → History t s → IsRight s
+
+-- a work that is decided *solid* or *paint* shows the layers of the picture
+abbrev pub WorkShows : Type 0
+WorkShows =
+    (a : AcceptedWork) → (a .done .decision ≡ none → ⊥) →
+    let o = outcomeOn (openOn a) (a .done .place) (a .done .before) (a .done .clear) (a .done .previous) in
+    shownOf (o .skipped) (itemsFor (workedOf a)) (o .unmasked) ≡ shownAfresh (itemsFor (workedOf a))

@@ -1,0 +1,105 @@
+-- The keep rule for tiles is what the theorem over frames asks for. Assumes nothing.
+use mathlib.Core.Path.{_≡_, refl, sym, ap, ap₂, _∙_}
+use mathlib.Core.Bool.{Bool, true, false, cond, not, _&&_, _||_, false≢true}
+use mathlib.Core.List.{List, [], _∷_}
+use Prim.Native.Nat.{ℕ, suc, _+_, _-_, _*_, _/_, _%_, _≤_, _<_}
+use native.Mathlib.Omega.{arith}
+use borrow.Author.Tests.{eqb-true, eq-eqb, ne-eqb, lt-ltb, ltb-false}
+use lib.Bits.{bitAnd}
+use lib.Dec.{eqb, leb, ltb}
+use lib.ListN.{length, getD, take, drop}
+use lib.Seq.{getD-take, getD-drop}
+use Rattle.laws.proofs.Bools.{both, left, right}
+use Rattle.laws.proofs.Rows.{getD-tabulate}
+use Rattle.refusals.specs.Refusal.{Judgement, pass, refuse, unless}
+use Rattle.refusals.proofs.Judging.{passed}
+use Rattle.pixel_segment.specs.Field.{cpu}
+use Rattle.segment_rows.specs.Rows.{isRow}
+use Rattle.cached_tile.specs.Tile.{dropCount}
+use Rattle.cached_tile.specs.declared.CachedTile.{CachedTile}
+use Rattle.row_statements.specs.Lent.{isLentShort, isLentTable}
+use Rattle.row_statements.specs.Due.{OpenRow}
+use Rattle.ffi_numbers.specs.Cached.{tileFrom}
+use Rattle.kept_frames.specs.Alike.{drawsAlike}
+use Rattle.kept_rows.specs.Along.{itemsOn}
+use Rattle.kept_rows.specs.History.{AcceptedWork, openOn, tileNumber, keptIf}
+use Rattle.kept_rows.specs.Frames.{LastRow, isWithin, mayStay}
+use Rattle.kept_tiles.specs.Tiles.{KeepCall, areListed, mayKeep, areTagged, tilesVerdict, ruledBytes, bytesBy, tileAt, TilesRuled, RuleStays}
+
+-- the call has the bytes of its tiles
+long : (c : KeepCall) (bytes : List ℕ) → tilesVerdict c bytes ≡ pass → 8 * c .tiles ≤ length bytes
+unfolding tilesVerdict
+long c bytes e =
+    let l = c .last .row in
+    let o = c .today in
+    let sixth = unless (not (areTagged (c .tiles) bytes)) 6 pass in
+    let fourth = unless (not (isLentTable (l .table) && isLentTable (o .table))) 4 sixth in
+    let third = unless (not (isRow cpu (suc (o .tileY)) (l .row) && isRow cpu (suc (o .tileY)) (o .row))) 3 fourth in
+    let second = unless (ltb 2046 (o .tileY) || ltb 4095 (o .to) || ltb (o .to) (o .from + c .tiles)) 2 third in
+    let one = passed (isLentShort (l .table) || isLentShort (o .table) || ltb (length bytes / 8) (c .tiles)) 1 second e in
+    let short = ltb-false (length bytes / 8) (c .tiles) (last (isLentShort (l .table)) (isLentShort (o .table)) (ltb (length bytes / 8) (c .tiles)) (one .0)) in
+    omega (arith, short)
+  where
+    last : (a b d : Bool) → (a || b || d) ≡ false → d ≡ false
+    last true b d e = absurd (let z : _≡_ {A = Bool} true false = e in false≢true (sym z))
+    last false true d e = absurd (let z : _≡_ {A = Bool} true false = e in false≢true (sym z))
+    last false false d e = e
+
+module _ (c : KeepCall) (bytes : List ℕ) (i : ℕ) (n : 8 * c .tiles ≤ length bytes) (h : i < c .tiles) where
+  abbrev may : Bool
+  may = mayKeep (c .last) (c .today) i
+
+  -- byte j of tile i
+  byte : (j : ℕ) (l : List ℕ) → j < 8 → getD (take 8 (drop (i * 8) l)) j 0 ≡ getD l (i * 8 + j) 0
+  byte j l p = getD-take 8 (drop (i * 8) l) j 0 p ∙ getD-drop (i * 8) l j 0
+
+  tag-is : getD (ruledBytes c bytes) (i * 8 + 0) 0 ≡ cond (not may) (bitAnd (getD bytes (i * 8 + 0) 0) 1) (getD bytes (i * 8 + 0) 0)
+  unfolding ruledBytes
+  tag-is =
+      let zeroed : (i * 8 + 0) % 8 ≡ 0 = omega arith in
+      let place : (i * 8 + 0) / 8 ≡ i = omega arith in
+      getD-tabulate (length bytes) _ 0 (i * 8 + 0) (omega (arith, n, h)) ∙ rw (zeroed, place, lt-ltb i (c .tiles) h) refl
+
+  rest-is : (j : ℕ) → 0 < j → j < 8 → getD (ruledBytes c bytes) (i * 8 + j) 0 ≡ getD bytes (i * 8 + j) 0
+  unfolding ruledBytes
+  rest-is j q p =
+      getD-tabulate (length bytes) _ 0 (i * 8 + j) (omega (arith, n, h, p)) ∙ rw (ne-eqb ((i * 8 + j) % 8) 0 (λ e. omega (arith, e, q, p))) refl
+
+  each : (j : ℕ) → 0 < j → j < 8 → getD (take 8 (drop (i * 8) (ruledBytes c bytes))) j 0 ≡ getD (take 8 (drop (i * 8) bytes)) j 0
+  each j q p = byte j (ruledBytes c bytes) p ∙ rest-is j q p ∙ sym (byte j bytes p)
+
+  tag : getD (take 8 (drop (i * 8) (ruledBytes c bytes))) 0 0 ≡ cond (not may) (bitAnd (getD (take 8 (drop (i * 8) bytes)) 0 0) 1) (getD (take 8 (drop (i * 8) bytes)) 0 0)
+  tag = byte 0 (ruledBytes c bytes) (omega arith) ∙ tag-is ∙ ap (λ (b : ℕ). cond (not may) (bitAnd b 1) b) (sym (byte 0 bytes (omega arith)))
+
+  ruled-tile : tileAt (ruledBytes c bytes) i ≡ keptIf may (tileAt bytes i)
+  ruled-tile =
+      let b1 = each 1 (omega arith) (omega arith) in
+      let b2 = each 2 (omega arith) (omega arith) in
+      let b3 = each 3 (omega arith) (omega arith) in
+      let b4 = each 4 (omega arith) (omega arith) in
+      let b5 = each 5 (omega arith) (omega arith) in
+      let b6 = each 6 (omega arith) (omega arith) in
+      let b7 = each 7 (omega arith) (omega arith) in
+      (λ z. record { tags = tag z; «layer_count» = b1 z ∷ b2 z ∷ b3 z ∷ []; «solid_color» = b4 z ∷ b5 z ∷ b6 z ∷ b7 z ∷ [] })
+      ∙ by may (tileAt bytes i)
+    where
+      by : (t : Bool) (k : CachedTile) → record { tags = cond (not t) (bitAnd (k .tags) 1) (k .tags); «layer_count» = k .«layer_count»; «solid_color» = k .«solid_color» } ≡ keptIf t k
+      by true k = refl
+      by false k = refl
+
+pub tiles-ruled : TilesRuled
+tiles-ruled c bytes i e h = ap (λ (v : Judgement). tileAt (bytesBy v c bytes) i) e ∙ ruled-tile c bytes i (long c bytes e) h
+
+pub rule-stays : RuleStays
+unfolding mayKeep
+rule-stays l a e =
+    let n = a .done .place in
+    let from = eqb (l .row .from) (openOn a .from) in
+    let here = from && isWithin l (openOn a .from + n) in
+    let lists = areListed (l .row) n && areListed (openOn a) n in
+    let alike = drawsAlike (itemsOn (l .row) n) (itemsOn (openOn a) n) in
+    let stood = left here (lists && alike) e in
+    let first = eqb-true (l .row .from) (openOn a .from) (left from (isWithin l (openOn a .from + n)) stood) in
+    let place : (openOn a .from + n) - l .row .from ≡ n = omega (arith, first) in
+    both here (drawsAlike (itemsOn (l .row) ((openOn a .from + n) - l .row .from)) (itemsOn (openOn a) n)) stood
+    (ap (λ (m : ℕ). drawsAlike (itemsOn (l .row) m) (itemsOn (openOn a) n)) place ∙ right lists alike (right here (lists && alike) e))

@@ -1,0 +1,90 @@
+-- The keep rule for the tiles of a row, as a public operation (`keep_tiles`), to be called before the row's tiles are worked: lent are the row as it was last
+-- worked, today's with the flags that `mark_unchanged` left, and the cached bytes of tiles, the first of them the row's first. Judged by 1 to 4 and 6, the
+-- lowest that applies; a refusal leaves every byte as it was. Else the tag byte of a tile loses the count's bit where its count may not stay, and no other
+-- byte is written. Where either row's list of the tile, or of one before it, would be turned down, the count may not stay.
+use mathlib.Core.Path.{_≡_}
+use mathlib.Core.Bool.{Bool, true, false, cond, not, _&&_, _||_}
+use mathlib.Core.List.{List}
+use Prim.Native.Nat.{ℕ, suc, _+_, _*_, _/_, _%_, _≤_, _<_}
+use lib.Bits.{bitAnd}
+use lib.Dec.{eqb, leb, ltb}
+use lib.ListN.{length, getD, take, drop}
+use Rattle.laws.specs.Answer.{Answer, refused, given}
+use Rattle.laws.specs.Lists.{tabulate, every}
+use Rattle.refusals.specs.Refusal.{Judgement, pass, refuse, unless}
+use Rattle.pixel_segment.specs.Field.{cpu}
+use Rattle.segment_rows.specs.Rows.{isRow}
+use Rattle.cached_tile.specs.declared.CachedTile.{CachedTile}
+use Rattle.row_statements.specs.Lent.{isLentShort, isLentTable}
+use Rattle.row_statements.specs.TileWork.{listVerdict}
+use Rattle.row_statements.specs.Due.{OpenRow, tableOn, layersOn}
+use Rattle.ffi_numbers.specs.Cached.{tileFrom}
+use Rattle.kept_frames.specs.Alike.{drawsAlike}
+use Rattle.kept_rows.specs.Along.{itemsOn}
+use Rattle.kept_rows.specs.History.{AcceptedWork, openOn, tileNumber, keptIf}
+use Rattle.kept_rows.specs.Frames.{LastRow, isWithin, mayStay}
+
+pub record KeepCall : Type 0 where
+  pub last : LastRow
+  pub today : OpenRow
+  pub tiles : ℕ
+
+-- ---- the rule of tile i
+
+abbrev pub isPass : Judgement → Bool
+isPass pass = true
+isPass (refuse n) = false
+
+-- 7, 8 and 9 apply to no list up to it
+abbrev pub areListed : OpenRow → ℕ → Bool
+areListed o i = every (suc i) (λ n. isPass (listVerdict (tableOn o) (layersOn o n)))
+
+unfoldable pub mayKeep : LastRow → OpenRow → ℕ → Bool
+mayKeep l o i =
+    (eqb (l .row .from) (o .from) && isWithin l (o .from + i)) && ((areListed (l .row) i && areListed o i) && drawsAlike (itemsOn (l .row) i) (itemsOn o i))
+
+-- ---- the verdict
+
+-- 6: a tag above 3
+abbrev pub areTagged : ℕ → List ℕ → Bool
+areTagged tiles bytes = every tiles (λ i. leb (getD bytes (8 * i) 0) 3)
+
+unfoldable pub tilesVerdict : KeepCall → List ℕ → Judgement
+tilesVerdict c bytes =
+    let l = c .last .row in
+    let o = c .today in
+    unless (isLentShort (l .table) || isLentShort (o .table) || ltb (length bytes / 8) (c .tiles)) 1
+    (unless (ltb 2046 (o .tileY) || ltb 4095 (o .to) || ltb (o .to) (o .from + c .tiles)) 2
+    (unless (not (isRow cpu (suc (o .tileY)) (l .row) && isRow cpu (suc (o .tileY)) (o .row))) 3
+    (unless (not (isLentTable (l .table) && isLentTable (o .table))) 4
+    (unless (not (areTagged (c .tiles) bytes)) 6
+    pass))))
+
+-- ---- the bytes as they are left
+
+unfoldable pub ruledBytes : KeepCall → List ℕ → List ℕ
+ruledBytes c bytes =
+    tabulate (length bytes)
+    (λ k. cond ((eqb (k % 8) 0 && ltb (k / 8) (c .tiles)) && not (mayKeep (c .last) (c .today) (k / 8))) (bitAnd (getD bytes k 0) 1) (getD bytes k 0))
+
+abbrev pub bytesBy : Judgement → KeepCall → List ℕ → List ℕ
+bytesBy (refuse number) c bytes = bytes
+bytesBy pass c bytes = ruledBytes c bytes
+
+abbrev pub keepTilesOf : KeepCall → List ℕ → List ℕ
+keepTilesOf c bytes = bytesBy (tilesVerdict c bytes) c bytes
+
+-- ---- the laws
+
+-- the i-th cached tile of the bytes
+abbrev pub tileAt : List ℕ → ℕ → CachedTile
+tileAt bytes i = tileFrom (take 8 (drop (i * 8) bytes))
+
+-- an accepted call leaves of every tile what the theorem over frames asks for (`kept_rows/specs/Frames`, `RowFrame.works`)
+abbrev pub TilesRuled : Type 0
+TilesRuled =
+    (c : KeepCall) (bytes : List ℕ) (i : ℕ) → tilesVerdict c bytes ≡ pass → i < c .tiles →
+    tileAt (keepTilesOf c bytes) i ≡ keptIf (mayKeep (c .last) (c .today) i) (tileAt bytes i)
+
+abbrev pub RuleStays : Type 0
+RuleStays = (l : LastRow) (a : AcceptedWork) → mayKeep l (openOn a) (a .done .place) ≡ true → mayStay l (tileNumber a) a ≡ true
