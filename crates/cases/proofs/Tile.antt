@@ -22,7 +22,8 @@ use Rattle.cover_statements.specs.Carry.{isLight}
 use Rattle.cover_statements.specs.Entry.{coverEntry}
 use Rattle.queue_statements.specs.Queue.{queueOf, heldIn}
 use Rattle.painter.specs.Clip.{clipIn, clipAfter}
-use Rattle.painter.specs.Painting.{markIn, planeIn, Ready, Paints}
+use Rattle.painter.specs.Painting.{markIn, planeIn, Paints}
+use Rattle.painter.specs.InnerReady.{Ready}
 use Rattle.painter.specs.declared.painting.Painting as painting
 use Rattle.cases.specs.Answers.{isHalf}
 use Rattle.cases.specs.Inputs.{firstClip, secondClip, clippedDraw, threeLayers, threeCarries}

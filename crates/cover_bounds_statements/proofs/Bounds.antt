@@ -9,14 +9,13 @@ use native.Mathlib.Omega.{arith}
 use borrow.Author.Tests.{le-leb}
 use lib.IntN.{ℤ, pos, natAbs}
 use lib.ListN.{length}
-use Rattle.laws.specs.Integer.{plus, minus, isWithin}
+use Rattle.laws.specs.Integer.{plus, minus, isWithin, AtMost}
 use Rattle.laws.specs.Lists.{tabulate}
 use Rattle.laws.proofs.Every.{every-intro}
-use Rattle.laws.proofs.Parts.{AtMost, whole, equal, most-of}
+use Rattle.laws.proofs.Parts.{whole, equal, most-of}
 use Rattle.laws.proofs.Ranges.{within, is-within}
 use Rattle.laws.proofs.Rows.{getD-tabulate}
 use Rattle.pixel_segment.specs.Field.{widthOf}
-use Rattle.pixel_segment.proofs.Ranges.{Layout}
 use Rattle.styling.specs.declared.FillRule.{FillRule}
 use Rattle.cover_statements.specs.Carry.{loadIn, lightAt, isLight}
 use Rattle.cover_statements.specs.Cover.{coverAt}
@@ -24,9 +23,10 @@ use Rattle.cover_statements.specs.Weight.{weightOf}
 use Rattle.cover_statements.proofs.Areas.{area-bound}
 use Rattle.cover_statements.proofs.Carries.{Light, light}
 use Rattle.cover_bounds_statements.specs.Interval.{leastWeight, greatestWeight}
-use Rattle.cover_bounds_statements.specs.Chosen.{chosen, chosenArea, InBounds, HeldCovers, heavier, isLightWithin}
+use Rattle.cover_bounds_statements.specs.Chosen.{chosen, chosenArea, InBounds, HeldCovers, heavier, isLightWithin, Ordered, Reached}
 use Rattle.cover_bounds_statements.proofs.Intervals.{least-is, greatest-is, least-one, greatest-one, narrower-least, narrower-greatest}
-use Rattle.cover_bounds_statements.proofs.Choosing.{Ordered, area-most, within-heavier, heavier-is, load-le}
+use Rattle.cover_bounds_statements.proofs.Choosing.{area-most, within-heavier, heavier-is, load-le}
+use Rattle.pixel_segment.specs.Layout.{Layout}
 
 -- ---- numbers within their bounds
 
@@ -85,20 +85,12 @@ module _ (ws : List ℕ) (layout : Layout ws) (n : ℕ) (part : List ℕ) (lows 
         let o : AtMost a z = omega (arith, lower, higher) in
         (least-is rule a z o .low d inside, greatest-is rule a z o .high d inside)
 
-  -- a d that some choice gives
-  pub record Reached (c y : ℕ) (d : ℤ) : Type 0 where
-    pub cover : ℕ → ℤ
-    pub carry : ℕ → ℤ
-    pub covers-in : InBounds (length part) lows highs cover
-    pub carry-in : InBounds n carryLow carryHigh carry
-    pub area-is : chosenArea ws carry part cover c y ≡ d
-
   module _ (o : Ordered (length part) lows highs) (ko : Ordered n carryLow carryHigh) (c y : ℕ) where
     -- the lowest and the highest d are given by choices
-    pub reached-lowest : Reached c y (chosenArea ws carryLow part lows c y)
+    pub reached-lowest : Reached ws n part lows highs carryLow carryHigh c y (chosenArea ws carryLow part lows c y)
     reached-lowest = record { cover = lows; carry = carryLow; covers-in = low-itself o; carry-in = low-itself ko; area-is = refl }
 
-    pub reached-highest : Reached c y (chosenArea ws carryHigh part highs c y)
+    pub reached-highest : Reached ws n part lows highs carryLow carryHigh c y (chosenArea ws carryHigh part highs c y)
     reached-highest = record { cover = highs; carry = carryHigh; covers-in = high-itself o; carry-in = high-itself ko; area-is = refl }
 
     pub in-order-areas : y < n → AtMost (chosenArea ws carryLow part lows c y) (chosenArea ws carryHigh part highs c y)

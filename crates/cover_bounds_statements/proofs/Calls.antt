@@ -25,11 +25,11 @@ use Rattle.cover_statements.specs.Cover.{coverAt}
 use Rattle.cover_statements.proofs.Carries.{light}
 use Rattle.cover_statements.proofs.Planes.{areas-at}
 use Rattle.segment_set_statements.specs.Set.{isOf}
-use Rattle.cover_bounds_statements.specs.Chosen.{chosen, HeldCovers, heavier}
+use Rattle.cover_bounds_statements.specs.Chosen.{chosen, HeldCovers, heavier, Ordered}
 use Rattle.cover_bounds_statements.specs.Within.{BoundsCall, BoundPlanes, boundAt, isBelow, lacksRoom, isCover, isBounded, areBounded, isCarryBounded, isCallLight, boundsVerdict, lowestAt, highestAt}
 use Rattle.cover_bounds_statements.specs.Sound.{Sound, ChosenIn}
 use Rattle.cover_bounds_statements.specs.InnerPlanes.{AddableSide, areaIn, Upward, Roomy}
-use Rattle.cover_bounds_statements.proofs.Choosing.{Ordered, area-most, heavier-is}
+use Rattle.cover_bounds_statements.proofs.Choosing.{area-most, heavier-is}
 use Rattle.cover_bounds_statements.proofs.Bounds.{low-itself, high-itself, inside, sound, exact-area, exact-least, exact-greatest, light-within}
 
 -- ---- bounds that 14 lets pass

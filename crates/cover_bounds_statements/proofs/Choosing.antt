@@ -11,17 +11,18 @@ use lib.Dec.{leb}
 use lib.IntN.{ℤ, pos, natAbs, _+ℤ_, _*ℤ_}
 use lib.ListN.{length, getD}
 use Rattle.laws.proofs.Orders.{le-or-lt}
-use Rattle.laws.proofs.Parts.{AtMost, whole, sum-most, times-most}
+use Rattle.laws.proofs.Parts.{whole, sum-most, times-most}
 use Rattle.laws.proofs.Rows.{length-tabulate, getD-tabulate}
 use Rattle.laws.proofs.Sums.{sumℤ-le, sumℕ-each}
 use Rattle.pixel_segment.specs.Field.{localXOf, localYOf, multiplierOf, coverOf, doubleAreaOf}
 use Rattle.pixel_segment.specs.Pack.{withCover}
-use Rattle.pixel_segment.proofs.Ranges.{Layout}
 use Rattle.pixel_segment.proofs.Covers.{with-field, with-cover}
 use Rattle.cover_statements.specs.Area.{isBefore, isOwn, coverBefore, ownArea, doubledArea}
 use Rattle.cover_statements.specs.Carry.{inRow, absCover, loadIn}
 use Rattle.cover_statements.specs.InnerCell.{cellOf}
-use Rattle.cover_bounds_statements.specs.Chosen.{chosen, chosenArea, HeldCovers, heavier}
+use Rattle.cover_bounds_statements.specs.Chosen.{chosen, chosenArea, HeldCovers, heavier, Ordered}
+use Rattle.pixel_segment.specs.Layout.{Layout}
+use Rattle.laws.specs.Integer.{AtMost}
 
 -- ---- the words
 
@@ -62,10 +63,6 @@ module _ (ws part : List ℕ) (cover : ℕ → ℤ) where
 cond-most : (t : Bool) (a b : ℤ) → AtMost a b → AtMost (cond t a (pos 0)) (cond t b (pos 0))
 cond-most true a b h = h
 cond-most false a b h = omega arith
-
--- covers that are at most others, of each segment
-pub record Ordered (count : ℕ) (f g : ℕ → ℤ) : Type 0 where
-  pub at : (i : ℕ) → i < count → AtMost (f i) (g i)
 
 module _ (ws : List ℕ) (layout : Layout ws) (part : List ℕ) (f g : ℕ → ℤ) where
   same-long : length (chosen ws part f) ≡ length (chosen ws part g)

@@ -11,12 +11,12 @@ use borrow.Author.Tests.{eqb-true, eqb-false, leb-true, leb-false}
 use lib.Dec.{eqb, leb, lit<}
 use lib.IntN.{ℤ, pos, natAbs, _+ℤ_, +ℤ-idr}
 use lib.Signed.{leZ}
-use Rattle.laws.specs.Integer.{plus, minus, modℤ}
+use Rattle.laws.specs.Integer.{plus, minus, modℤ, AtMost}
 use Rattle.laws.proofs.Bools.{both, left, right, clash, either}
 use Rattle.refusals.proofs.Judging.{or-left, or-right}
 use Rattle.laws.proofs.Mod.{remainder, moved}
 use Rattle.laws.proofs.Orders.{le-or-lt}
-use Rattle.laws.proofs.Parts.{AtMost, whole, added, difference, le-true, true-le}
+use Rattle.laws.proofs.Parts.{whole, added, difference, le-true, true-le}
 use Rattle.weight_table.specs.Rest.{restWeight}
 use Rattle.styling.specs.declared.FillRule.{FillRule}
 use Rattle.styling.specs.declared.FillRule.the-variants.{NonZero, EvenOdd}

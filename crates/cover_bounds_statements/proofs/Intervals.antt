@@ -7,13 +7,13 @@ use Prim.Native.Nat.{ℕ, zero, suc, _≤_}
 use native.Mathlib.Omega.{arith}
 use native.Mathlib.Nat.{eq-or-lt-of-le}
 use lib.IntN.{ℤ, pos, _+ℤ_, +ℤ-idr}
-use Rattle.laws.specs.Integer.{isWithin}
+use Rattle.laws.specs.Integer.{isWithin, AtMost}
 use Rattle.laws.proofs.Orders.{le-or-lt}
-use Rattle.laws.proofs.Parts.{AtMost, added, taken, equal}
+use Rattle.laws.proofs.Parts.{added, taken, equal}
 use Rattle.laws.proofs.Ranges.{within, is-within}
 use Rattle.styling.specs.declared.FillRule.{FillRule}
 use Rattle.cover_statements.specs.Weight.{weightOf}
-use Rattle.cover_bounds_statements.specs.Interval.{leastOver, greatestOver, distance, leastWeight, greatestWeight}
+use Rattle.cover_bounds_statements.specs.Interval.{leastOver, greatestOver, distance, leastWeight, greatestWeight, LeastFrom, GreatestFrom}
 
 -- ---- over a, a + 1, .., a + n
 
@@ -111,19 +111,6 @@ step-above a i = omega (arith, added a (pos i))
 
 step-below : (a b : ℤ) (i : ℕ) → AtMost a b → i ≤ distance a b → AtMost (a +ℤ pos i) b
 step-below a b i h k = omega (arith, taken b a, added a (pos i))
-
--- w is the least weight of the numbers from a to b: one of them has it, and none has less
-pub record LeastFrom (rule : FillRule) (a b : ℤ) (w : ℕ) : Type 0 where
-  pub number : ℤ
-  pub inside : isWithin a b number ≡ true
-  pub weight-is : weightOf rule number ≡ w
-  pub low : (d : ℤ) → isWithin a b d ≡ true → w ≤ weightOf rule d
-
-pub record GreatestFrom (rule : FillRule) (a b : ℤ) (w : ℕ) : Type 0 where
-  pub number : ℤ
-  pub inside : isWithin a b number ≡ true
-  pub weight-is : weightOf rule number ≡ w
-  pub high : (d : ℤ) → isWithin a b d ≡ true → weightOf rule d ≤ w
 
 module _ (rule : FillRule) (a b : ℤ) (h : AtMost a b) where
   -- a number from a to b, by how far it lies above a

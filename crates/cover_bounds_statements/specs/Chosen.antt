@@ -8,7 +8,7 @@ use Prim.Native.Nat.{ℕ, _-_, _^_, _≤_, _<_}
 use lib.Dec.{leb}
 use lib.IntN.{ℤ, natAbs}
 use lib.ListN.{length, getD}
-use Rattle.laws.specs.Integer.{plus, minus, isWithin}
+use Rattle.laws.specs.Integer.{plus, minus, isWithin, AtMost}
 use Rattle.laws.specs.Lists.{tabulate}
 use Rattle.pixel_segment.specs.Field.{widthOf}
 use Rattle.pixel_segment.specs.Pack.{withCover}
@@ -41,3 +41,15 @@ heavier a b = cond (leb (natAbs a) (natAbs b)) b a
 unfoldable pub isLightWithin : List ℕ → ℕ → List ℤ → List ℤ → List ℕ → (ℕ → ℤ) → (ℕ → ℤ) → Bool
 isLightWithin ws n low high part lows highs =
     isLight ws n (tabulate n (λ y. heavier (coverAt low y) (coverAt high y))) (chosen ws part (λ i. heavier (lows i) (highs i)))
+
+-- covers that are at most others, of each segment
+pub record Ordered (count : ℕ) (f g : ℕ → ℤ) : Type 0 where
+  pub at : (i : ℕ) → i < count → AtMost (f i) (g i)
+
+-- a d that some choice within the bounds gives
+pub record Reached (ws : List ℕ) (n : ℕ) (part : List ℕ) (lows highs carryLow carryHigh : ℕ → ℤ) (c y : ℕ) (d : ℤ) : Type 0 where
+  pub cover : ℕ → ℤ
+  pub carry : ℕ → ℤ
+  pub covers-in : InBounds (length part) lows highs cover
+  pub carry-in : InBounds n carryLow carryHigh carry
+  pub area-is : chosenArea ws carry part cover c y ≡ d

@@ -1,8 +1,10 @@
 -- The least and the greatest weight over all whole numbers of an interval, both ends included. Stands for W-211, 'the least and greatest weight over all
 -- whole numbers between them, under both rules': a walk from the lowest number upward, one number after the other.
-use Prim.Native.Nat.{ℕ, zero, suc, min, max}
+use mathlib.Core.Path.{_≡_}
+use mathlib.Core.Bool.{true}
+use Prim.Native.Nat.{ℕ, zero, suc, _≤_, min, max}
 use lib.IntN.{ℤ, pos, _+ℤ_, _-ℤ_}
-use Rattle.laws.specs.Integer.{plus}
+use Rattle.laws.specs.Integer.{plus, isWithin}
 use Rattle.styling.specs.declared.FillRule.{FillRule}
 use Rattle.cover_statements.specs.Weight.{weightOf}
 
@@ -25,3 +27,16 @@ leastWeight rule a b = leastOver rule a (distance a b)
 
 unfoldable pub greatestWeight : FillRule → ℤ → ℤ → ℕ
 greatestWeight rule a b = greatestOver rule a (distance a b)
+
+-- w is the least weight of the numbers from a to b: one of them has it, and none has less
+pub record LeastFrom (rule : FillRule) (a b : ℤ) (w : ℕ) : Type 0 where
+  pub number : ℤ
+  pub inside : isWithin a b number ≡ true
+  pub weight-is : weightOf rule number ≡ w
+  pub low : (d : ℤ) → isWithin a b d ≡ true → w ≤ weightOf rule d
+
+pub record GreatestFrom (rule : FillRule) (a b : ℤ) (w : ℕ) : Type 0 where
+  pub number : ℤ
+  pub inside : isWithin a b number ≡ true
+  pub weight-is : weightOf rule number ≡ w
+  pub high : (d : ℤ) → isWithin a b d ≡ true → weightOf rule d ≤ w

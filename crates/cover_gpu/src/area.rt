@@ -2,6 +2,7 @@
 // over the pixels.
 use crate::GpuCover;
 use crate::carry;
+use pixel_segment::consts;
 use pixel_segment_gpu::GpuSegment;
 ghost use mathlib.Core.Path.{_≡_};
 ghost use mathlib.Core.Bool.{true};
@@ -17,11 +18,11 @@ fn cell(segment: GpuSegment) -> usize
     segment.local_x() as usize * 4 + segment.local_y() as usize
 }
 
-// The cover of a segment, at 16 bits, with its field's size as a constant: what is worked out of it stays in registers.
+// The cover of a segment, at 16 bits.
 fn cover_of(segment: GpuSegment) -> i16
     ensures { λ r. ⌜ r ≡ coverOf gpu (segment .0) ⌝ }
 {
-    ((segment.0 % 64 + 32) % 64) as i16 - 32
+    consts::cover_of(segment.0)
 }
 
 // The double area of a segment with this cover.

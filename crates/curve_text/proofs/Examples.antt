@@ -1,16 +1,14 @@
--- Lines of the curve as they are printed: the names and the first three, and the one of greatest weight.
--- Assumes nothing.
-use mathlib.Core.Path.{_≡_, refl}
-use Rattle.laws.specs.Lists.{tabulate}
+-- The cases of specs/Examples, computed. Assumes nothing.
+use mathlib.Core.Path.{refl}
 use Rattle.decimal.specs.Decimal.{decimal, decimalIn}
-use Rattle.lines.specs.Bytes.{bytes}
 use Rattle.lines.specs.Text.{lineText, linesText, blockText}
-use Rattle.curve_text.specs.Curve.{curveNames, curveLine}
+use Rattle.curve_text.specs.Curve.{curveLine}
+use Rattle.curve_text.specs.Examples.{CurveLines}
 
-pub first-three : blockText curveNames (tabulate 3 curveLine) ≡ bytes "rest weight\n0 0\n1 1\n2 2\n"
-unfolding blockText linesText lineText decimal decimalIn curveLine
-first-three = refl
-
-pub greatest-line : lineText (curveLine 512) ≡ bytes "512 512\n"
-unfolding lineText decimal decimalIn curveLine
-greatest-line = refl
+pub curve-lines : CurveLines
+unfolding blockText curveLine decimal decimalIn lineText linesText
+curve-lines =
+    record {
+      first-three = refl;
+      greatest-line = refl;
+    }

@@ -1,2 +1,3 @@
 -- The text of the even-odd curve.
 pub mod Curve
+pub mod Examples

@@ -3,13 +3,8 @@ use mathlib.Core.List.{List, [], _∷_, map}
 use Rattle.row_statements.specs.Due.{OpenRow, Past}
 use Rattle.listing_runs.specs.Run.{HeldList}
 use Rattle.ffi_calls.specs.Calls.{HeldNumbers, NumbersTold, Calls, pastTold, AllTold, CallsClaim}
-use Rattle.ffi_calls.specs.ListingCalls.{heldBoth, listsTold, ListingTold, ListingCall, ListingCalls, AllListingTold}
+use Rattle.ffi_calls.specs.ListingCalls.{heldBoth, listsTold, ListingTold, ListingCall, ListingCalls, AllListingTold, listsToldAll}
 use Rattle.ffi_calls.proofs.ListingCalls.{listing-calls}
-
--- the lists that works leave are held besides
-abbrev pub listsToldAll : List NumbersTold → List HeldList → List HeldList
-listsToldAll [] ls = ls
-listsToldAll (t ∷ ts) ls = listsToldAll ts (listsTold t ls)
 
 pub as-listing-calls : {o : OpenRow} {k k′ : HeldNumbers} (ts : List NumbersTold) (ls : List HeldList) → Calls o k ts k′ → ListingCalls o (heldBoth k ls) (map ListingTold.row ts) (heldBoth k′ (listsToldAll ts ls))
 as-listing-calls ts ls Calls.none = ListingCalls.none

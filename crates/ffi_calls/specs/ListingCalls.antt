@@ -152,3 +152,8 @@ ListingCallsClaim =
     OpenTold (openOf c lent) old 0 new back →
     ListingCalls (openRow c) (heldBoth (heldOpened new back) []) ts k →
     ((n : ℕ) → TileFacts (openRow c) n) × AllListingTold (openRow c) atFirst ts
+
+-- the lists that works leave are held besides
+abbrev pub listsToldAll : List NumbersTold → List HeldList → List HeldList
+listsToldAll [] ls = ls
+listsToldAll (t ∷ ts) ls = listsToldAll ts (listsTold t ls)

@@ -4,12 +4,12 @@ use mathlib.Core.Bool.{Bool, true, false, cond, not, _&&_, Bool·beq, false≢tr
 use mathlib.Core.List.{List, [], _∷_, map}
 use Prim.Native.Nat.{ℕ, zero, suc, _+_, _*_, _/_, _%_, _≤_, _<_, min}
 use native.Mathlib.Omega.{arith}
-use borrow.Author.Tests.{eqb-true, eq-eqb, ne-eqb, lt-ltb, leb-true, le-leb}
+use borrow.Author.Tests.{eqb-true, ne-eqb, lt-ltb, le-leb}
 use lib.Dec.{eqb, ltb, leb}
 use lib.Ieee.{Float, nan, inf, fin}
 use lib.IntN.{ℤ, pos, negsuc}
 use lib.ListN.{length, getD}
-use Rattle.laws.specs.Answer.{Answer, refused, given}
+use Rattle.laws.specs.Answer.{Answer, given}
 use Rattle.laws.specs.Lists.{tabulate, all}
 use Rattle.laws.specs.Sum.{countBy}
 use Rattle.laws.proofs.Bools.{both, left, right}
@@ -17,21 +17,19 @@ use Rattle.laws.proofs.Maps.{map-tabulate}
 use Rattle.laws.proofs.Rows.{length-tabulate, getD-tabulate, is-tabulate}
 use Rattle.styling.specs.Ascending.{strictlyAscends}
 use Rattle.styling.specs.declared.Color.{Color}
-use Rattle.styling.specs.declared.FillRule.{FillRule}
 use Rattle.styling.specs.declared.Layer.{Layer}
 use Rattle.styling.specs.declared.Props.{Props}
 use Rattle.layer_table.specs.declared.Words.{Words}
 use Rattle.layer_table.specs.Record.{inRange, layerOf}
 use Rattle.layer_table.specs.Table.{idAt, wordsAt, colorAt, layerAt, tableIds, isTableShort, isValid, isTable, Table}
-use Rattle.layer_table.specs.Lookup.{lookup, recordPlace}
+use Rattle.layer_table.specs.Lookup.{lookup, recordPlace, Place, Missing}
 use Rattle.layer_table.proofs.Judging.{table}
 use Rattle.layer_table.proofs.Listed.{length-ids, getD-ids}
-use Rattle.layer_table.proofs.Looking.{Place, Missing, place, missing}
+use Rattle.layer_table.proofs.Looking.{place, missing}
 use Rattle.layer_table.proofs.Ranges.{in-range}
 use Rattle.layer_table.proofs.Places.{Sought, held, missed, sought}
 use Rattle.layer_carrying.specs.Carrying.{ruleFrom}
 use Rattle.tile_layers.specs.Listing.{isChangedBy, isChanged}
-use Rattle.row_statements.specs.Lent.{LentTable, isLentTable}
 use Rattle.row_statements.specs.Due.{OpenRow, tableOn}
 use Rattle.two_rows.specs.Apart.{belowTileY}
 use Rattle.kept_rows.specs.Along.{propsBy, SameIn}

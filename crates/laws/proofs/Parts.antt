@@ -12,7 +12,7 @@ use borrow.Author.Tests.{ltb-true, ltb-false, leb-true, lt-ltb, le-leb}
 use lib.Dec.{T, ltb, ltb→lt, nltb→le}
 use lib.Signed.{ltZ, leZ}
 use lib.IntN.{ℤ, pos, negsuc, negℤ, natAbs, subℕ, _+ℤ_, _-ℤ_, _*ℤ_}
-use Rattle.laws.specs.Integer.{plus, minus}
+use Rattle.laws.specs.Integer.{plus, minus, AtMost}
 
 -- what holds of every integer: one part is 0, and the absolute value is their sum
 pub record Whole (z : ℤ) : Type 0 where
@@ -156,9 +156,6 @@ true-lt (negsuc a) (pos b) h = refl
 true-lt (negsuc a) (negsuc b) h = lt-ltb b a (omega arith)
 
 -- ---- a is at most b, by the parts
-
-abbrev pub AtMost : ℤ → ℤ → Type 0
-AtMost a b = plus a + minus b ≤ plus b + minus a
 
 -- sums are in the order of their summands, and so are products with a natural number
 pub sum-most : (a b c d : ℤ) → AtMost a b → AtMost c d → AtMost (a +ℤ c) (b +ℤ d)

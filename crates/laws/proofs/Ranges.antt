@@ -4,9 +4,9 @@ use mathlib.Core.Bool.{true}
 use Prim.Native.Nat.{_+_, _≤_}
 use lib.IntN.{ℤ}
 use lib.Signed.{leZ}
-use Rattle.laws.specs.Integer.{plus, minus, isWithin}
+use Rattle.laws.specs.Integer.{plus, minus, isWithin, AtMost}
 use Rattle.laws.proofs.Bools.{both, left, right}
-use Rattle.laws.proofs.Parts.{AtMost, le-true, true-le}
+use Rattle.laws.proofs.Parts.{le-true, true-le}
 
 pub record Within (low high v : ℤ) : Type 0 where
   pub above : plus low + minus v ≤ plus v + minus low

@@ -12,8 +12,9 @@ use lib.ListN.{length, getD, drop, drop-of-length-le}
 use lib.Seq.{drop-cons}
 use Rattle.laws.specs.Sum.{sumBy, sumℤ, sumℕ, countBy}
 use Rattle.laws.specs.Lists.{all, filter}
-use Rattle.laws.proofs.Parts.{AtMost, added, sum-most, equal}
+use Rattle.laws.proofs.Parts.{added, sum-most, equal}
 use Rattle.laws.proofs.Bools.{left, right}
+use Rattle.laws.specs.Integer.{AtMost}
 
 module _ {A : Type 0} (add : A → A → A) (z : A) where
   -- what is left of a list, a word at a time: how a loop over a slice goes

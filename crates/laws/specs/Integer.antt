@@ -1,6 +1,6 @@
 -- Whole numbers (ℤ) by their two natural parts, their remainders, and ranges of them.
 use mathlib.Core.Bool.{Bool, _&&_}
-use Prim.Native.Nat.{ℕ, suc, _-_, _%_}
+use Prim.Native.Nat.{ℕ, suc, _+_, _-_, _%_, _≤_}
 use lib.IntN.{ℤ, pos, negsuc}
 use lib.Signed.{leZ}
 
@@ -22,3 +22,7 @@ modℤ m (negsuc n) = m - suc (n % m)
 -- low ≤ v ≤ high
 unfoldable pub isWithin : ℤ → ℤ → ℤ → Bool
 isWithin low high v = leZ low v && leZ v high
+
+-- a ≤ b
+abbrev pub AtMost : ℤ → ℤ → Type 0
+AtMost a b = plus a + minus b ≤ plus b + minus a

@@ -18,7 +18,7 @@ use Rattle.layer_table.specs.declared.Found.{Found}
 use Rattle.layer_table.specs.declared.Found.the-variants.{At, Absent}
 use Rattle.styling.specs.Ascending.{strictlyAscendsFrom, strictlyAscends}
 use Rattle.layer_table.specs.Table.{idAt, layerAt, tableOf, tableIds}
-use Rattle.layer_table.specs.Lookup.{lookup, recordPlace, foundOf}
+use Rattle.layer_table.specs.Lookup.{lookup, recordPlace, foundOf, Place, Missing}
 use Rattle.styling.proofs.Ascents.{ascends-tail, ascends-low}
 use Rattle.layer_table.proofs.Listed.{length-ids, getD-ids, length-table, getD-table, layer-id, ids-table, ids-lt}
 use Rattle.layer_table.proofs.Places.{Sought, held, missed, sought}
@@ -66,18 +66,6 @@ lookup-id [] id l e = let clash : _≡_ {A = ℕ} 0 1 = cc in absurd (omega arit
 lookup-id (x ∷ ls) id l e = ⊎-elim (λ q. let same : x ≡ l = cc (lookup-hit x ls id q) in ap idOf (sym same) ∙ q) (λ q. lookup-id ls id l (sym (lookup-pass x ls id q) ∙ e)) (eq-or-ne (x .id) id)
 
 -- ---- over the lent table
-
-module _ (words : List ℕ) (floats : List Float) (count id : ℕ) where
-  -- a place that holds the id
-  pub record Place (i : ℕ) : Type 0 where
-    pub within : i < count
-    pub holds : idAt words i ≡ id
-    pub looked : lookup (tableOf words floats count) id ≡ given (layerAt words floats i)
-
-  -- no place holds it
-  pub record Missing : Type 0 where
-    pub nowhere : (i : ℕ) → i < count → idAt words i ≡ id → ⊥
-    pub looked : lookup (tableOf words floats count) id ≡ refused 8
 
 module _ {words : List ℕ} {floats : List Float} {count id : ℕ} where
   pub place : {i : ℕ} → strictlyAscends (tableIds words count) ≡ true → i < count → idAt words i ≡ id → Place words floats count id i

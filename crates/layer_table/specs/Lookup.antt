@@ -1,10 +1,13 @@
 -- Looking a layer up in a table by its id: the first with that id, or refusal 8, 'a listed or painted layer is not in the table'.
+use mathlib.Core.Path.{_≡_}
 use mathlib.Core.Bool.{cond}
 use mathlib.Core.List.{List, [], _∷_}
-use Prim.Native.Nat.{ℕ, suc}
+use Prim.Native.Nat.{ℕ, suc, _<_}
 use lib.Dec.{eqb}
+use lib.Ieee.{Float}
 use Rattle.laws.specs.Answer.{Answer, refused, given}
 use Rattle.styling.specs.declared.Layer.{Layer}
+use Rattle.layer_table.specs.Table.{idAt, layerAt, tableOf}
 use Rattle.layer_table.specs.declared.Found.{Found}
 use Rattle.layer_table.specs.declared.Found.the-variants.{At, Absent}
 
@@ -25,3 +28,13 @@ recordPlace ids id = placeFrom 0 ids id
 abbrev pub foundOf : Found → Answer ℕ
 foundOf (At i) = given i
 foundOf Absent = refused 8
+
+-- a place of the lent table that holds the id; and that none does
+pub record Place (words : List ℕ) (floats : List Float) (count id i : ℕ) : Type 0 where
+  pub within : i < count
+  pub holds : idAt words i ≡ id
+  pub looked : lookup (tableOf words floats count) id ≡ given (layerAt words floats i)
+
+pub record Missing (words : List ℕ) (floats : List Float) (count id : ℕ) : Type 0 where
+  pub nowhere : (i : ℕ) → i < count → idAt words i ≡ id → ⊥
+  pub looked : lookup (tableOf words floats count) id ≡ refused 8

@@ -1,7 +1,7 @@
 -- The claim of specs/Claim: between calls the caller holds the row's carries and the lists of the tiles that are past, each call keeps that, and what is
 -- held makes each call right. Assumes nothing.
 use mathlib.Core.Path.{_≡_, subst, _∙_}
-use mathlib.Core.List.{List, [], _∷_, map}
+use mathlib.Core.List.{List, map}
 use Rattle.refusals.specs.Refusal.{Judgement, refuse}
 use Rattle.layer_carrying.specs.Carrying.{handedOn}
 use Rattle.row_statements.specs.Lent.{layersOf}
@@ -11,7 +11,7 @@ use Rattle.row_statements.specs.InnerHolding.{IsOpen, Holds}
 use Rattle.row_statements.proofs.Run.{facts, step-right, still-holds, accepted, is-open, held-first}
 use Rattle.listing_statements.specs.Listing.{ListCall, ListLent, listedBy, listingOut, listingOf, ListsTile}
 use Rattle.listing_statements.specs.declared.TileListed.{TileListed}
-use Rattle.listing_runs.specs.Run.{HeldList, HeldAll, heldWith, RowCall, listsPast, CallStep, RowCalls}
+use Rattle.listing_runs.specs.Run.{HeldList, HeldAll, heldWith, RowCall, listsPast, CallStep, RowCalls, listsPastAll}
 use Rattle.listing_runs.specs.Claim.{RightOtherListing, RightCall, pastCall, AllCallsRight, ListingClaim}
 use Rattle.listing_runs.specs.InnerHolding.{HoldsAll}
 use Rattle.listing_runs.proofs.Lists.{found}
@@ -54,10 +54,6 @@ run c lent back s es h w g r =
     (facts opened-row, calls-right opened-row (record { row = held-first c lent back s w a; lists = tt }) r)
 
 -- ---- a run of works and paintings is a run of calls: what is proved of it stays
-
-abbrev pub listsPastAll : List Event → List HeldList → List HeldList
-listsPastAll [] ls = ls
-listsPastAll (e ∷ es) ls = listsPastAll es (listsPast e ls)
 
 pub as-calls : {o : OpenRow} {h h′ : Held} (es : List Event) (ls : List HeldList) → Run o h es h′ → RowCalls o (heldWith h ls) (map RowCall.row es) (heldWith h′ (listsPastAll es ls))
 as-calls es ls Run.none = RowCalls.none

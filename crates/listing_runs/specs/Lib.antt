@@ -4,4 +4,5 @@ pub mod Due
 pub mod Run
 pub mod Claim
 pub mod Example
+pub mod Marked
 pub mod InnerHolding

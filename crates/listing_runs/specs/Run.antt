@@ -114,3 +114,7 @@ pub data CallStep (o : OpenRow) : HeldAll → RowCall → HeldAll → Type 0 whe
 pub data RowCalls (o : OpenRow) : HeldAll → List RowCall → HeldAll → Type 0 where
   none : {h : HeldAll} → RowCalls o h [] h
   next : {h h′ h″ : HeldAll} {e : RowCall} {es : List RowCall} → CallStep o h e h′ → RowCalls o h′ es h″ → RowCalls o h (e ∷ es) h″
+
+abbrev pub listsPastAll : List Event → List HeldList → List HeldList
+listsPastAll [] ls = ls
+listsPastAll (e ∷ es) ls = listsPastAll es (listsPast e ls)

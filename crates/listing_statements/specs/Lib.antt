@@ -6,3 +6,4 @@ pub mod Succession
 pub mod InnerLists
 pub mod InnerListing
 pub mod InnerDeciding
+pub mod Edges

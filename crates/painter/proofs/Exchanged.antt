@@ -15,17 +15,13 @@ use Rattle.styling.specs.declared.Layer.{Layer}
 use Rattle.styling.specs.declared.Style.{Style}
 use Rattle.cover_statements.specs.Cover.{coverAt}
 use Rattle.cover_statements.specs.Mark.{markOf, markByColumns}
-use Rattle.cover_statements.specs.Plane.{pixelOf, byColumns, exchange, exchangeBack}
+use Rattle.cover_statements.specs.Plane.{pixelOf, exchange, exchangeBack}
 use Rattle.cover_statements.proofs.Marks.{mark-exchanged}
 use Rattle.cover_statements.proofs.Planes.{exchanged, exchanged-back}
 use Rattle.queue_statements.specs.Queue.{Carry, heldIn}
 use Rattle.painter.specs.Clip.{aliveAt, lacksClip}
-use Rattle.painter.specs.Painting.{needsIn, markFor, planeIn, Paints}
+use Rattle.painter.specs.Painting.{needsIn, markFor, planeIn, Paints, planeByColumns}
 use Rattle.painter.specs.declared.painting.Painting as painting
-
--- the coverages of the layer in the tile, at column × 16 + row
-abbrev pub planeByColumns : List Carry → List ℕ → ℕ → Layer → List Float
-planeByColumns queue part id layer = byColumns 16 (pixelOf cpu (layer .props .«fill_rule») (coverAt (heldIn queue id)) (layerPart id part))
 
 mark-drawn : {style : Style} (func : Func) (needs : Bool) (alive : Option ℕ) (plane : List Float) → func ≡ Draw style → markFor func needs alive plane ≡ cond (lacksClip needs alive) 0 (markOf plane)
 mark-drawn func needs alive plane e = rw e

@@ -5,25 +5,23 @@ use mathlib.Core.Path.{_≡_}
 use mathlib.Core.Bool.{Bool, cond}
 use mathlib.Core.List.{List, map}
 use mathlib.Core.Option.{Option}
-use Prim.Native.Nat.{ℕ, _≤_}
+use Prim.Native.Nat.{ℕ}
 use lib.Ieee.{Float}
-use lib.IntN.{ℤ}
-use lib.ListN.{length}
 use Rattle.laws.specs.Answer.{isGiven}
 use Rattle.laws.specs.Lists.{over, filter}
 use Rattle.pixel_segment.specs.Field.{cpu}
 use Rattle.segment_rows.specs.Search.{layerPart}
 use Rattle.layer_table.specs.Lookup.{lookup}
-use Rattle.layer_table.specs.Table.{Table}
 use Rattle.styling.specs.declared.Func.{Func}
 use Rattle.styling.specs.declared.Func.the-variants.{Draw, Clip}
 use Rattle.styling.specs.declared.Layer.{Layer}
 use Rattle.cover_statements.specs.Carry.{isLight}
+use Rattle.cover_statements.specs.Cover.{coverAt}
 use Rattle.cover_statements.specs.Mark.{markOf}
 use Rattle.cover_statements.specs.Paint.{partPlane}
-use Rattle.queue_statements.specs.Queue.{Carry, heldIn, Queued}
+use Rattle.cover_statements.specs.Plane.{pixelOf, byColumns}
+use Rattle.queue_statements.specs.Queue.{Carry, heldIn}
 use Rattle.tile_layers.specs.Listing.{Listed, layersIn}
-use Rattle.tile_layers.specs.InnerWalk.{Walks}
 use Rattle.pass_statements.specs.Item.{itemsOf}
 use Rattle.pass_statements.specs.Rules.{needsClip}
 use Rattle.pass_statements.specs.declared.item.Item.{Item}
@@ -67,9 +65,6 @@ pub record Paints (table : List Layer) (queue : List Carry) (part : List ℕ) (i
   pub mark-is : r .mark ≡ markIn table queue part id layer clip
   pub plane-is : plane ≡ over (planeIn queue part id layer) old
 
--- what painting asks: a judged queue of n carries, a part that ascends by layer, a judged table, and a plane of 256 numbers
-pub record Ready (n : ℕ) (ids : List ℕ) (covers : List ℤ) (part : List ℕ) (words : List ℕ) (floats : List Float) (count : ℕ) (plane : List Float) : Type 0 where
-  pub queued : Queued n ids covers
-  pub walks : Walks n ids part
-  pub table : Table words floats count
-  pub room : 256 ≤ length plane
+-- the coverages of the layer in the tile, at column × 16 + row
+abbrev pub planeByColumns : List Carry → List ℕ → ℕ → Layer → List Float
+planeByColumns queue part id layer = byColumns 16 (pixelOf cpu (layer .props .«fill_rule») (coverAt (heldIn queue id)) (layerPart id part))

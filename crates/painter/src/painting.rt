@@ -19,7 +19,8 @@ ghost use Rattle.layer_table.specs.Table.{tableOf};
 ghost use Rattle.queue_statements.specs.Queue.{queueOf};
 ghost use Rattle.painter.specs.Clip.{clipIn};
 ghost use Rattle.painter.specs.InnerOwn.{PaintsOwn};
-ghost use Rattle.painter.specs.Painting.{MarkGiven, isLightIn, Ready, Paints};
+ghost use Rattle.painter.specs.Painting.{MarkGiven, isLightIn, Paints};
+ghost use Rattle.painter.specs.InnerReady.{Ready};
 
 // What painting gives: the painter's clip after it, and the mark.
 pub struct Painting {

@@ -14,8 +14,8 @@ use Rattle.pixel_segment.specs.Field.{sum, widthOf, shiftOf, fieldOf, co
 use Rattle.pixel_segment.specs.Pack.{wordOf, withCover}
 use Rattle.pixel_segment.specs.Order.{orderKey}
 use Rattle.pixel_segment.proofs.Widths.{sum-step, sum-drop-mono, sum-drop-le, sum-past}
-use Rattle.pixel_segment.proofs.Ranges.{Layout}
 use Rattle.pixel_segment.proofs.ReadBack.{cover-back}
+use Rattle.pixel_segment.specs.Layout.{Layout}
 
 -- the cover stands below every other field
 cover-below : (ws : List ℕ) → Layout ws → (k : ℕ) → k < 6 → widthOf ws 6 ≤ shiftOf ws k

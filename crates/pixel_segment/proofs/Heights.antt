@@ -1,20 +1,13 @@
 -- Tables of widths over the tile height. What order compares is the same at every height: a key of tile y, tile x and layer id; only the bits
 -- below the key, 16 + k in tiles 2^k high, differ. Laws of order take a table with such keys, and stand for tiles 16 and 4 high. Assumes nothing.
 use mathlib.Core.Path.{_≡_, refl, sym, ap, _∙_}
-use mathlib.Core.List.{List}
-use Prim.Native.Nat.{ℕ, _+_, _-_, _*_, _/_, _%_, _^_, _≤_, _<_}
+use Prim.Native.Nat.{ℕ, _+_, _-_, _/_, _%_, _^_, _≤_, _<_}
 use native.Mathlib.Omega.{arith}
 use lib.Dec.{lit≤}
 use lib.Pow.{shr-shr, shr-mod, shr-lt}
-use Rattle.pixel_segment.specs.Field.{cpu, gpu, widthsAt, shiftOf, widthOf, sum, tileXOf, tileYOf, layerIdOf}
+use Rattle.pixel_segment.specs.Field.{cpu, gpu, widthsAt, shiftOf}
 use Rattle.pixel_segment.specs.Order.{orderKey}
-
--- the fields of a word, by its key
-pub record Keyed (ws : List ℕ) : Type 0 where
-  pub layer-id : (w : ℕ) → layerIdOf ws w ≡ orderKey ws w % 2 ^ 21
-  pub tile-x : (w : ℕ) → tileXOf ws w ≡ orderKey ws w / 2 ^ 21 % 2 ^ 12
-  pub tile-y : (w : ℕ) → w < 2 ^ 64 → tileYOf ws w ≡ orderKey ws w / 2 ^ 33
-  pub sixty-four : sum ws ≡ 64
+use Rattle.pixel_segment.specs.Layout.{Keyed}
 
 -- the bits below the key, in tiles 2^k high
 pub below-key : (k : ℕ) → shiftOf (widthsAt k) 2 ≡ 16 + k

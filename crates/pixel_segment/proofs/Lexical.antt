@@ -18,9 +18,10 @@ use Rattle.laws.proofs.Parts.{difference, equal}
 use Rattle.pixel_segment.specs.Field.{cpu, gpu, widthOf, tileOf, tileXOf, tileYOf, layerIdOf}
 use Rattle.pixel_segment.specs.Pack.{storedOf, packOf}
 use Rattle.pixel_segment.specs.Order.{orderKey, compareOf, compareℤ, thenBy}
-use Rattle.pixel_segment.proofs.Heights.{Keyed, cpu-keyed, gpu-keyed}
-use Rattle.pixel_segment.proofs.Ranges.{Layout, cpu-layout, gpu-layout}
+use Rattle.pixel_segment.proofs.Heights.{cpu-keyed, gpu-keyed}
+use Rattle.pixel_segment.proofs.Ranges.{cpu-layout, gpu-layout}
 use Rattle.pixel_segment.proofs.ReadBack.{join-lt, given-word, given-back}
+use Rattle.pixel_segment.specs.Layout.{Layout, Keyed, Compared}
 
 pub compare-less : (a b : ℕ) → a < b → compareOf a b ≡ 0
 compare-less a b h = rw (lt-ltb a b h)
@@ -112,12 +113,6 @@ compare-tiles zero zero = rw tile-of-none refl
 compare-tiles zero (suc n) = rw (tile-of-none, tile-of-suc n) (sym (compare-less 0 (suc n) (omega arith)))
 compare-tiles (suc m) zero = rw (tile-of-none, tile-of-suc m) (sym (compare-greater (suc m) 0 (omega arith)))
 compare-tiles (suc m) (suc n) = rw (tile-of-suc m, tile-of-suc n) (compare-suc m n)
-
--- that they compare as tile y, then tile x, then layer do
-abbrev pub Compared : List ℕ → Type 0
-Compared ws = (layer tx ty x y m c layer′ tx′ ty′ x′ y′ m′ c′ : ℤ) (v w : ℕ)
-    → packOf ws layer tx ty x y m c ≡ given v → packOf ws layer′ tx′ ty′ x′ y′ m′ c′ ≡ given w
-    → compareOf (orderKey ws v) (orderKey ws w) ≡ thenBy (compareℤ ty ty′) (thenBy (compareℤ tx tx′) (compareℤ layer layer′))
 
 module _ (ws : List ℕ) (layout : Layout ws) (t : Keyed ws) where
   word-lt : (layer tx ty x y m c : ℤ) {w : ℕ} → packOf ws layer tx ty x y m c ≡ given w → w < 2 ^ 64

@@ -22,9 +22,10 @@ use Rattle.pixel_segment.specs.Field.{cpu, gpu, sum, widthOf, shiftOf, f
 use Rattle.pixel_segment.specs.Pack.{wordOf, withCover}
 use Rattle.pixel_segment.specs.Opposite.{oppositeOf, Mild}
 use Rattle.pixel_segment.specs.Order.{orderKey}
-use Rattle.pixel_segment.proofs.Ranges.{Layout, cpu-layout, gpu-layout, halves}
+use Rattle.pixel_segment.proofs.Ranges.{cpu-layout, gpu-layout, halves}
 use Rattle.pixel_segment.proofs.ReadBack.{cover-back, kept}
 use Rattle.pixel_segment.proofs.Covers.{cover-lowest, with-lt, with-field, with-order, with-cover, with-packed}
+use Rattle.pixel_segment.specs.Layout.{Layout}
 
 -- a signed field's number has the field for its remainder
 signed-mod : (k n : ℕ) → 1 ≤ k → n < 2 ^ k → modℤ (2 ^ k) (signedOf k n) ≡ n

@@ -8,18 +8,13 @@ use native.Mathlib.Nat.{pow-succ'}
 use native.Mathlib.Omega.{arith}
 use lib.IntN.{ℤ, pos, _+ℤ_}
 use lib.Signed.{leZ, ltZ}
-use lib.ListN.{length}
 use lib.Pow.{pow-pos}
 use Rattle.laws.specs.Integer.{plus, minus}
 use Rattle.laws.proofs.Bools.{both, left, right}
 use Rattle.laws.proofs.Parts.{whole, added, plus-neg, minus-neg, le-true, true-le, lt-true, true-lt}
 use Rattle.pixel_segment.specs.Field.{cpu, gpu, widthOf}
 use Rattle.pixel_segment.specs.Pack.{storedOf, isHeld, lowestTile, lowestSigned, isPackable, FieldsInRange}
-
--- a table of seven widths, whose last is a signed field's
-pub record Layout (ws : List ℕ) : Type 0 where
-  pub seven : length ws ≡ 7
-  pub signed : 1 ≤ widthOf ws 6
+use Rattle.pixel_segment.specs.Layout.{Layout}
 
 pub cpu-layout : Layout cpu
 cpu-layout = record { seven = refl; signed = omega arith }

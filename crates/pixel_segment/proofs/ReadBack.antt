@@ -15,10 +15,11 @@ use Rattle.laws.specs.Answer.{Answer, given, refused}
 use Rattle.laws.specs.Integer.{plus, minus, modℤ}
 use Rattle.laws.proofs.Parts.{difference, added, equal}
 use Rattle.pixel_segment.specs.Field.{sum, widthOf, fieldOf, tileXOf, tileYOf, layerIdOf, localXOf, localYOf, multiplierOf, tileOf, signedOf, coverOf}
-use Rattle.pixel_segment.specs.Pack.{join, storedOf, wordOf, isPackable, FieldsInRange, packedAnswer, packOf, ReadsBack, PacksTo, Packs}
+use Rattle.pixel_segment.specs.Pack.{join, storedOf, wordOf, isPackable, FieldsInRange, packedAnswer, packOf, ReadsBack, PacksTo, Packs, Same}
 use Rattle.pixel_segment.specs.declared.Packed.{Packed}
 use Rattle.pixel_segment.proofs.Widths.{sum-step, sum-drop-le}
-use Rattle.pixel_segment.proofs.Ranges.{Layout, halves, in-range}
+use Rattle.pixel_segment.proofs.Ranges.{halves, in-range}
+use Rattle.pixel_segment.specs.Layout.{Layout}
 
 -- what the word held stands above the fields
 join-above : (ws xs : List ℕ) (word : ℕ) → length ws ≤ length xs → join ws xs word ≡ word * 2 ^ sum ws + join ws xs 0
@@ -163,16 +164,6 @@ module _ (ws : List ℕ) (layout : Layout ws) (layer tx ty x y m c : ℤ) where
   packs r e = packs-to (packedAnswer r) e
 
 -- ---- two packings
-
--- seven numbers that are the same in both
-pub record Same (layer tx ty x y m c layer′ tx′ ty′ x′ y′ m′ c′ : ℤ) : Type 0 where
-  pub layer-id : layer ≡ layer′
-  pub tile-x : tx ≡ tx′
-  pub tile-y : ty ≡ ty′
-  pub local-x : x ≡ x′
-  pub local-y : y ≡ y′
-  pub multiplier : m ≡ m′
-  pub cover : c ≡ c′
 
 -- two packings that are accepted and give one word have the same seven numbers
 pub packs-apart : (ws : List ℕ) → Layout ws → (layer tx ty x y m c layer′ tx′ ty′ x′ y′ m′ c′ : ℤ) {w : ℕ}

@@ -3,3 +3,5 @@ pub mod Field
 pub mod Pack
 pub mod Opposite
 pub mod Order
+pub mod Layout
+pub mod Edges

@@ -95,3 +95,13 @@ pub record PacksTo (ws : List ℕ) (layer tx ty x y m c : ℤ) (a : Answer ℕ) 
 
 abbrev pub Packs : List ℕ → ℤ → ℤ → ℤ → ℤ → ℤ → ℤ → ℤ → Packed → Type 0
 Packs ws layer tx ty x y m c r = PacksTo ws layer tx ty x y m c (packedAnswer r)
+
+-- seven numbers that are the same in both
+pub record Same (layer tx ty x y m c layer′ tx′ ty′ x′ y′ m′ c′ : ℤ) : Type 0 where
+  pub layer-id : layer ≡ layer′
+  pub tile-x : tx ≡ tx′
+  pub tile-y : ty ≡ ty′
+  pub local-x : x ≡ x′
+  pub local-y : y ≡ y′
+  pub multiplier : m ≡ m′
+  pub cover : c ≡ c′

@@ -1,7 +1,7 @@
 // The bit fields of a packed word (consts.rs): a table of widths, from which every shift is summed.
 ghost use mathlib.Core.Path.{_≡_};
 ghost use Prim.Native.Nat.{_+_, _-_, _*_, _%_, _^_, _<_};
-ghost use Rattle.pixel_segment.specs.Field.{cpu, indexOf, shiftOf, widthOf, fieldOf};
+ghost use Rattle.pixel_segment.specs.Field.{cpu, indexOf, shiftOf, widthOf, fieldOf, coverOf};
 
 // Highest first: tile y, tile x, layer id, local x, local y, double area multiplier, cover.
 const WIDTHS: [u32; 7] = [11, 12, 21, 4, 4, 6, 6];
@@ -49,6 +49,14 @@ pub fn size(field: BitField) -> u64
     ensures { λ r. ⌜ r ≡ 2 ^ widthOf cpu (indexOf field) ⌝ }
 {
     1u64 << WIDTHS[index(field)]
+}
+
+// The cover of a word at 16 bits, with its field's size as a constant, so that what is worked out of it stays in
+// registers. The last width is 6 in both layouts; the contract ties the constants to the table.
+pub fn cover_of(word: u64) -> i16
+    ensures { λ r. ⌜ r ≡ coverOf cpu word ⌝ }
+{
+    ((word % 64 + 32) % 64) as i16 - 32
 }
 
 // A field of a word, as an unsigned number.

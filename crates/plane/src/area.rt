@@ -2,6 +2,7 @@
 use cover::Cover;
 use cover::carry;
 use pixel_segment::PixelSegment;
+use pixel_segment::consts;
 ghost use mathlib.Core.Path.{_≡_};
 ghost use mathlib.Core.Bool.{true};
 ghost use Prim.Native.Nat.{ℕ, _+_, _*_, _≤_, _<_};
@@ -20,11 +21,11 @@ pub fn cell(segment: PixelSegment) -> usize
     segment.local_x() as usize * 16 + segment.local_y() as usize
 }
 
-// The cover of a segment, at 16 bits, with its field's size as a constant: what is worked out of it stays in registers.
+// The cover of a segment, at 16 bits.
 pub fn cover_of(segment: PixelSegment) -> i16
     ensures { λ r. ⌜ r ≡ coverOf cpu (segment .0) ⌝ }
 {
-    ((segment.0 % 64 + 32) % 64) as i16 - 32
+    consts::cover_of(segment.0)
 }
 
 // The double area of a segment with this cover.

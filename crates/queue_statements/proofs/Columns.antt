@@ -17,8 +17,8 @@ use Rattle.styling.specs.Ascending.{strictlyAscends}
 use Rattle.cover_statements.specs.Cover.{coverAt}
 use Rattle.cover_statements.specs.Entry.{coverEntry}
 use Rattle.cover_statements.proofs.Entries.{entry-at}
-use Rattle.queue_statements.specs.Queue.{Carry, carryAt, queueOf, idsIn, coversIn, isQueue}
-use Rattle.queue_statements.proofs.Queues.{noCarry, length-ids, getD-ids}
+use Rattle.queue_statements.specs.Queue.{Carry, carryAt, queueOf, idsIn, coversIn, isQueue, noCarry}
+use Rattle.queue_statements.proofs.Queues.{length-ids, getD-ids}
 
 -- every cover has a number for each of 16 pixel rows
 abbrev pub isWide : Carry → Bool

@@ -17,12 +17,12 @@ use Rattle.styling.specs.Ascending.{strictlyAscends}
 use Rattle.styling.proofs.Ascents.{ascends-lt}
 use Rattle.pixel_segment.specs.Field.{cpu, layerIdOf, localYOf}
 use Rattle.cover_statements.specs.Carry.{inRow}
-use Rattle.queue_statements.specs.Queue.{idsIn}
+use Rattle.queue_statements.specs.Queue.{idsIn, hasId}
 use Rattle.queue_statements.specs.Opening.{openQueue, ofLayer}
 use Rattle.queue_statements.specs.Rank.{rankOf}
 use Rattle.queue_statements.specs.InnerSums.{keyIn}
 use Rattle.queue_statements.proofs.Ranks.{Held, rank-is}
-use Rattle.queue_statements.proofs.Inserting.{hasId, has-at, Somewhere, at, has-place}
+use Rattle.queue_statements.proofs.Inserting.{has-at, Somewhere, at, has-place}
 use Rattle.queue_statements.proofs.Openings.{opening-ascends, opening-has}
 
 -- ---- an id of an ascending list stands at its rank

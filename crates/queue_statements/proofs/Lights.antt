@@ -17,11 +17,11 @@ use Rattle.cover_statements.specs.Cover.{coverAt}
 use Rattle.cover_statements.proofs.Carries.{light}
 use Rattle.cover_statements.proofs.Filled.{getD-default}
 use Rattle.cover_statements.proofs.Tables.{keyed, weighed}
-use Rattle.queue_statements.specs.Queue.{idsIn, coversIn, zeros}
+use Rattle.queue_statements.specs.Queue.{idsIn, coversIn, zeros, noCarry}
 use Rattle.queue_statements.specs.Opening.{openQueue, ofLayer, isLightOpening}
 use Rattle.queue_statements.specs.Rank.{rankOf}
 use Rattle.queue_statements.specs.InnerSums.{keyIn}
-use Rattle.queue_statements.proofs.Queues.{noCarry, length-ids, getD-ids, held-at}
+use Rattle.queue_statements.proofs.Queues.{length-ids, getD-ids, held-at}
 use Rattle.queue_statements.proofs.Columns.{length-covers, covers-at}
 use Rattle.queue_statements.proofs.Openings.{opening-ascends, opening-wide, opening-at}
 use Rattle.queue_statements.proofs.Keys.{sum-at, opening-all, opening-there}

@@ -23,10 +23,10 @@ use Rattle.pixel_segment.specs.Field.{cpu, layerIdOf, localYOf, coverOf}
 use Rattle.cover_statements.specs.Carry.{inRow, coverIn}
 use Rattle.cover_statements.specs.Cover.{coverAt}
 use Rattle.cover_statements.proofs.Filled.{getD-default}
-use Rattle.queue_statements.specs.Queue.{Carry, idsIn, zeros, heldIn}
+use Rattle.queue_statements.specs.Queue.{Carry, idsIn, zeros, heldIn, hasId}
 use Rattle.queue_statements.specs.Opening.{addWord, addTo, addAll, openQueue, ofLayer}
 use Rattle.queue_statements.specs.InnerInsert.{insertId, insertAll}
-use Rattle.queue_statements.proofs.Inserting.{by-order, ascends-insert, ascends-all, hasId, has-all}
+use Rattle.queue_statements.proofs.Inserting.{by-order, ascends-insert, ascends-all, has-all}
 use Rattle.queue_statements.proofs.Queues.{held-here, held-past, held-none, length-ids, getD-ids}
 use Rattle.queue_statements.proofs.Columns.{isWide, areWide}
 

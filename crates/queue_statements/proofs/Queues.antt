@@ -14,13 +14,9 @@ use Rattle.styling.specs.Ascending.{strictlyAscendsFrom}
 use Rattle.styling.proofs.Ascents.{ascends-tail, ascends-low}
 use Rattle.layer_table.proofs.Listed.{map-tabulate}
 use Rattle.cover_statements.specs.Entry.{coverEntry}
-use Rattle.queue_statements.specs.Queue.{Carry, carryAt, queueOf, idsIn, zeros, heldIn, Queued}
+use Rattle.queue_statements.specs.Queue.{Carry, carryAt, queueOf, idsIn, zeros, heldIn, Queued, noCarry}
 use Rattle.queue_statements.specs.Rank.{rankOf, holdsAt}
 use Rattle.queue_statements.proofs.Ranks.{Held, missed}
-
--- a carry where a list has none
-abbrev pub noCarry : Carry
-noCarry = record { id = 0; cover = [] }
 
 pub length-ids : (q : List Carry) → length (idsIn q) ≡ length q
 length-ids q = length-map q (λ c. c .id)

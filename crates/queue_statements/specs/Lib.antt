@@ -6,3 +6,4 @@ pub mod InnerGather
 pub mod InnerInsert
 pub mod InnerSums
 pub mod Opposite
+pub mod Edges

@@ -1,7 +1,7 @@
 -- A queue of carries: the covers that layers hand from tile to tile, ascending by layer id; and how it lies in two lent columns, of which the
 -- first n entries count: layer ids, and 16 signed bytes each. Stands for 'carries' and for refusals 1 and 5 of a queue.
 use mathlib.Core.Path.{_≡_}
-use mathlib.Core.Bool.{Bool, true, cond, _&&_}
+use mathlib.Core.Bool.{Bool, true, false, cond, _&&_, _||_}
 use mathlib.Core.List.{List, [], _∷_, _++_, map}
 use Prim.Native.Nat.{ℕ, _*_, _/_, _≤_, min}
 use lib.Dec.{eqb, leb, ltb}
@@ -62,3 +62,12 @@ pub record Queued (n : ℕ) (ids : List ℕ) (covers : List ℤ) : Type 0 where
   pub ids-long : n ≤ length ids
   pub covers-long : n * 16 ≤ length covers
   pub ascending : strictlyAscends (take n ids) ≡ true
+
+-- an id stands among others
+abbrev pub hasId : ℕ → List ℕ → Bool
+hasId x [] = false
+hasId x (y ∷ ys) = eqb y x || hasId x ys
+
+-- a carry where a list has none
+abbrev pub noCarry : Carry
+noCarry = record { id = 0; cover = [] }

@@ -22,11 +22,11 @@ use Rattle.cover_statements.proofs.Agreement.{agrees-refl}
 use Rattle.cover_statements.proofs.Carries.{carry-length}
 use Rattle.cover_statements.proofs.Filled.{getD-default}
 use Rattle.cover_statements.proofs.FromRow.{carry-from-row, dropped-from-row, plane-from-row}
-use Rattle.queue_statements.specs.Queue.{Carry, idsIn, zeros, heldIn}
+use Rattle.queue_statements.specs.Queue.{Carry, idsIn, zeros, heldIn, noCarry}
 use Rattle.queue_statements.specs.Opening.{openQueue}
 use Rattle.queue_statements.proofs.Columns.{areWide}
 use Rattle.queue_statements.proofs.Openings.{opening-ascends, opening-wide, opening-at}
-use Rattle.queue_statements.proofs.Queues.{noCarry, held-at}
+use Rattle.queue_statements.proofs.Queues.{held-at}
 use Rattle.tile_layers.specs.Listing.{noListed}
 use Rattle.layer_carrying.specs.Carrying.{ruleIn, handedOn}
 use Rattle.layer_carrying.proofs.Handing.{handed-wide}

@@ -25,7 +25,8 @@ use Rattle.layer_table.proofs.Judging as judged
 use Rattle.queue_statements.specs.Queue.{Carry, isQueue}
 use Rattle.queue_statements.proofs.Judging.{queued, ordered}
 use Rattle.row_carries.proofs.Parts.{tile-ordered}
-use Rattle.painter.specs.Painting.{isLightIn, Ready, Paints}
+use Rattle.painter.specs.Painting.{isLightIn, Paints}
+use Rattle.painter.specs.InnerReady.{Ready}
 use Rattle.painter.specs.declared.painting.Painting as painting
 use Rattle.row_statements.specs.Lent.{isQueueShort, isLentShort, isLentTable}
 use Rattle.row_statements.specs.State.{State, stateIn, withClip, isStray, isNotWorked}

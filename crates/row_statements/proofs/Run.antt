@@ -23,7 +23,7 @@ use Rattle.layer_table.proofs.Judging.{table-short}
 use Rattle.queue_statements.specs.Queue.{Carry, idsIn}
 use Rattle.queue_statements.specs.Opening.{openQueue, isLightOpening}
 use Rattle.queue_statements.proofs.Columns.{areWide}
-use Rattle.row_carries.proofs.Carried.{queue-first, queue-ascends, queue-wide, held-from-row}
+use Rattle.row_carries.proofs.Carried.{queue-first, queue-ascends, queue-wide, listed-is, held-from-row}
 use Rattle.row_carries.proofs.Planes.{unlisted-zeros, unknown-zeros}
 use Rattle.row_carries.proofs.Covered.{covered-under}
 use Rattle.row_statements.specs.Lent.{Columns, isLentShort, queueOver}
@@ -51,6 +51,7 @@ facts {o} is-open n =
     let row = is-open .in-order in
     record {
       sums = held-from-row row (tableOn o) (o .from) n;
+      listed = listed-is row (tableOn o) (o .from) n;
       unlisted = unlisted-zeros row (tableOn o) (o .from) n;
       unknown = unknown-zeros row (tableOn o) (o .from) n;
       covered = covered-under row (tableOn o) (o .from) n;

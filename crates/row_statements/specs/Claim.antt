@@ -6,7 +6,7 @@ use mathlib.Core.Bool.{true}
 use mathlib.Core.List.{List, [], _∷_, map}
 use Prim.Native.Nat.{ℕ, suc, _+_, _<_}
 use lib.Ieee.{Float}
-use lib.ListN.{length, take, replicate}
+use lib.ListN.{length, getD, take, replicate}
 use Rattle.laws.specs.Answer.{refused}
 use Rattle.refusals.specs.Refusal.{pass, refuse}
 use Rattle.pixel_segment.specs.Field.{cpu}
@@ -17,12 +17,14 @@ use Rattle.styling.specs.declared.FillRule.{FillRule}
 use Rattle.cover_statements.specs.Coverage.{coverageOf}
 use Rattle.cover_statements.specs.WholeRow.{rowPlane, FromRow}
 use Rattle.queue_statements.specs.Queue.{heldIn}
+use Rattle.tile_layers.specs.Listing.{noListed}
 use Rattle.cached_tile.specs.declared.kept.Kept as kept
 use Rattle.layer_carrying.specs.Carrying.{ruleIn}
 use Rattle.layer_workbench.specs.Work.{entryOf}
 use Rattle.layer_workbench.specs.declared.PreviousClear.{PreviousClear}
 use Rattle.row_carries.specs.Carries.{isUnlisted}
 use Rattle.row_carries.specs.Covering.{CoveredUnder}
+use Rattle.row_carries.specs.Listed.{ListedIs}
 use Rattle.row_statements.specs.Lent.{Columns, carriesIn, entriesIn}
 use Rattle.row_statements.specs.Opening.{OpenCall, openOf, OpensRow}
 use Rattle.row_statements.specs.TileWork.{WorkCall, WorkLent, workVerdict, GivesWork}
@@ -40,6 +42,8 @@ pub record TileFacts (o : OpenRow) (n : ℕ) : Type 0 where
   -- a layer's carry before the tile is the exact sum of its covers so far (NonZero), or agrees with it modulo 32 (EvenOdd); a dropped one counts
   -- as zeros
   pub sums : (id : ℕ) → FromRow cpu 16 (ruleIn (tableOn o) id) (suc (o .from + n)) id (o .row) (heldIn (queueOn o n) id)
+  -- a listed layer has the cover that comes in, and of the row's segments its own of the tile
+  pub listed : (i : ℕ) → i < length (layersOn o n) → ListedIs (tableOn o) (o .row) (o .from) n (getD (layersOn o n) i noListed)
   -- a layer that is not listed has 256 zeros; one outside the table has them by either rule
   pub unlisted : (id : ℕ) → isUnlisted (layersOn o n) id ≡ true → planeOn o n id ≡ replicate 256 (coverageOf 0)
   pub unknown : (id : ℕ) → isUnlisted (layersOn o n) id ≡ true → lookup (tableOn o) id ≡ refused 8 → (rule : FillRule) →

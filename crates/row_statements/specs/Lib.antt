@@ -13,3 +13,5 @@ pub mod Example
 pub mod InnerWork
 pub mod InnerPaint
 pub mod InnerHolding
+pub mod Edges
+pub mod PaintEdges

@@ -34,7 +34,7 @@ withClip s clip = record { tileY = s .tileY; from = s .from; to = s .to; next = 
 
 -- ---- 2
 
--- a state that no opening and no works lead to
+-- a state past its ends: four comparisons of its numbers, all that 2 asks. Whatever else it says is taken at its word
 abbrev pub isStray : State → Bool
 isStray s = ltb 2046 (s .tileY) || ltb 4095 (s .to) || ltb (s .next) (s .from) || ltb (s .to) (s .next)
 

@@ -19,8 +19,8 @@ use Rattle.pixel_segment.specs.Field.{tileOf, tileXOf, tileYOf}
 use Rattle.pixel_segment.specs.Order.{isLt, isEq, compareOf, compareℤ, compareBool, orderKey}
 use Rattle.segment_rows.specs.Rows.{ascends, isRow, Ordered, Words}
 use Rattle.segment_rows.proofs.Ascending.{from-ordered}
-use Rattle.pixel_segment.proofs.Heights.{Keyed}
 use Rattle.pixel_segment.proofs.Lexical.{compare-less, compare-equal, compare-greater}
+use Rattle.pixel_segment.specs.Layout.{Keyed}
 
 -- ---- tile numbers compare as their stored forms do
 

@@ -15,11 +15,12 @@ use Rattle.pixel_segment.specs.Field.{cpu, tileYOf, tileOf}
 use Rattle.pixel_segment.specs.Opposite.{oppositeOf}
 use Rattle.pixel_segment.specs.Order.{orderKey, isGt, compareOf, compareℤ, compareBool}
 use Rattle.pixel_segment.proofs.Opposite.{opposite-field, opposite-order, opposite-lt, areMild, isMild}
-use Rattle.pixel_segment.proofs.Ranges.{Layout, cpu-layout}
+use Rattle.pixel_segment.proofs.Ranges.{cpu-layout}
 use Rattle.segment_rows.specs.Rows.{ascendsFrom, isRow, Words}
 use Rattle.segment_rows.specs.Search.{halved, ended, searchOf, afterOf, between, orderAt, leftPart, tilePart, layerPart}
 use Rattle.segment_rows.specs.declared.search.Key.{Key}
 use Rattle.segment_rows.specs.declared.search.Key.the-variants.{TileY, TileX, LayerId, TileXAtLeast, LayerIdAtLeast, TileYNotNegative}
+use Rattle.pixel_segment.specs.Layout.{Layout}
 
 -- ---- a search by a rank that a map keeps
 

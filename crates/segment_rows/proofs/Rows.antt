@@ -13,9 +13,9 @@ use Rattle.laws.proofs.Bools.{left, right, both, same, not-left}
 use Rattle.laws.proofs.Every.{all-at, all-intro}
 use Rattle.pixel_segment.specs.Field.{tileYOf}
 use Rattle.pixel_segment.specs.Order.{orderKey}
-use Rattle.pixel_segment.proofs.Heights.{Keyed}
 use Rattle.segment_rows.specs.Rows.{ascends, isRow}
 use Rattle.segment_rows.proofs.Ascending.{from-ordered}
+use Rattle.pixel_segment.specs.Layout.{Keyed}
 
 -- tile y leads the order
 pub tile-y-ordered : (ws : List ℕ) → Keyed ws → (v w : ℕ) → v < 2 ^ 64 → w < 2 ^ 64 → orderKey ws v ≤ orderKey ws w → tileYOf ws v ≤ tileYOf ws w

@@ -17,8 +17,9 @@ use Rattle.pixel_segment.specs.Field.{cpu, tileXOf, tileYOf, layerIdOf}
 use Rattle.pixel_segment.specs.Order.{orderKey}
 use Rattle.segment_rows.specs.Rows.{ascendsFrom, ascends, isRow, Ordered, Words}
 use Rattle.segment_rows.proofs.Ascending.{from-ordered}
-use Rattle.pixel_segment.proofs.Heights.{Keyed, cpu-keyed}
+use Rattle.pixel_segment.proofs.Heights.{cpu-keyed}
 use Rattle.pixel_segment.proofs.Lexical.{keyed}
+use Rattle.pixel_segment.specs.Layout.{Keyed}
 
 -- ---- filtered lists
 

@@ -17,12 +17,13 @@ use Rattle.laws.proofs.Orders.{le-or-lt}
 use Rattle.laws.proofs.Filtered.{filter-all, filter-none, filter-append, filter-middle, filter-ext}
 use Rattle.pixel_segment.specs.Field.{cpu, tileOf, tileXOf, layerIdOf}
 use Rattle.pixel_segment.specs.Order.{isLt, isEq, compareOf, compareBool}
-use Rattle.pixel_segment.proofs.Heights.{Keyed, cpu-keyed}
+use Rattle.pixel_segment.proofs.Heights.{cpu-keyed}
 use Rattle.segment_rows.specs.Rows.{isRow, Ordered, Words}
 use Rattle.segment_rows.specs.Search.{searchOf, orderAtIn, lastPlace, afterOf, between, leftPartIn, tilePartIn, layerPartIn, leftPart, tilePart, layerPart}
 use Rattle.segment_rows.specs.declared.search.Key.the-variants.{TileXAtLeast}
 use Rattle.segment_rows.proofs.Sorted.{Split, splits, sorted-search}
 use Rattle.segment_rows.proofs.Keys.{compare-tile, le-tile, is-eq, is-lt, sorted-by, sorted-at-least, tile-x-ordered}
+use Rattle.pixel_segment.specs.Layout.{Keyed}
 
 -- the place after the last element with the key: those below it, and those that have it
 after-last : (a b : ℕ) → afterOf (lastPlace a b) ≡ a + b

@@ -1,132 +1,31 @@
--- Worked cases of a kept set, as theorems over the definitions: layer 5 in tile 2 of row 0, each row of the incoming cover the same. Assumes nothing.
-use mathlib.Core.Path.{_≡_, refl}
-use mathlib.Core.Bool.{true}
-use mathlib.Core.List.{List, [], _∷_, _++_}
-use Prim.Native.Nat.{ℕ}
-use lib.IntN.{ℤ, pos, negsuc, _+ℤ_}
-use lib.ListN.{replicate}
-use Rattle.refusals.specs.Refusal.{pass, refuse}
-use Rattle.pixel_segment.specs.Field.{cpu, tileOf, coverOf, doubleAreaOf}
-use Rattle.segment_set_statements.specs.Effect.{effectOf, areaAfter, carryAfter, wrap}
-use Rattle.segment_set_statements.specs.Set.{SetState, state, beginning, beginVerdict, takeVerdict, letVerdict, heldOf}
+-- The cases of specs/Edges, computed. Assumes nothing.
+use mathlib.Core.Path.{refl}
+use Rattle.pixel_segment.specs.Field.{tileOf, coverOf, doubleAreaOf}
+use Rattle.segment_set_statements.specs.Effect.{effectOf, carryAfter, wrap}
+use Rattle.segment_set_statements.specs.Set.{takeVerdict, letVerdict, heldOf}
+use Rattle.segment_set_statements.specs.Edges.{SetEdges}
 
--- row 0, column 3, cover -16, multiplier 32; the same with multiplier 8; row 0, column 0, multiplier 63, cover -31; row 9, column 15, both 1
-abbrev a : ℕ
-a = 0x0020060000530830
-
-abbrev b : ℕ
-b = 0x0020060000530230
-
-abbrev c : ℕ
-c = 0x0020060000500FE1
-
-abbrev d : ℕ
-d = 0x00200600005F9041
-
--- a in layer 6; row 0, column 3, covers -8, 1 and 0
-abbrev other : ℕ
-other = 0x0020060000630830
-
-abbrev eight : ℕ
-eight = 0x0020060000530038
-
-abbrev one : ℕ
-one = 0x0020060000530001
-
-abbrev none : ℕ
-none = 0x0020060000530000
-
--- a set with a load in each row and some words in its lent slots
-abbrev set-of : ℕ → List ℕ → ℕ → ℕ → SetState
-set-of load slots count numbers =
-    state
-    (record { «layer_id» = 5; «tile_x» = pos 2; «tile_y» = pos 0; carry = record { covers = replicate 16 (pos 16) }; loads = replicate 16 load; count = count })
-    slots
-    (replicate numbers (pos 512))
-
--- ---- what a segment adds: in its own column, right of it, left of it, and in another row
-
-pub own-column : effectOf cpu b 3 0 ≡ negsuc 127
-unfolding effectOf coverOf doubleAreaOf
-own-column = refl
-
-pub past-column : effectOf cpu c 1 0 ≡ negsuc 991
-unfolding effectOf coverOf doubleAreaOf
-past-column = refl
-
-pub left-column : effectOf cpu a 2 0 ≡ pos 0
-unfolding effectOf coverOf doubleAreaOf
-left-column = refl
-
-pub other-row : effectOf cpu a 3 1 ≡ pos 0
-unfolding effectOf coverOf doubleAreaOf
-other-row = refl
-
--- d of a pixel with it, and the carry of its row
-pub area-with : areaAfter _+ℤ_ cpu c 0 0 (pos 512) ≡ negsuc 1440
-unfolding effectOf coverOf doubleAreaOf wrap
-area-with = refl
-
-pub carry-with : carryAfter _+ℤ_ cpu d (replicate 16 (pos 16)) ≡ replicate 9 (pos 16) ++ pos 17 ∷ replicate 6 (pos 16)
-unfolding carryAfter coverOf wrap
-carry-with = refl
-
--- ---- number 13: the last free slot, and none
-
-pub last-slot : takeVerdict (set-of 32 (a ∷ b ∷ []) 1 256) d ≡ pass
-unfolding takeVerdict tileOf coverOf
-last-slot = refl
-
-pub no-slot : takeVerdict (set-of 32 (a ∷ b ∷ []) 2 256) d ≡ refuse 13
-unfolding takeVerdict tileOf coverOf
-no-slot = refl
-
--- ---- number 12: held, let out before, and never held
-
-pub held : letVerdict (set-of 32 (b ∷ a ∷ []) 2 256) a ≡ pass
-unfolding letVerdict heldOf tileOf
-held = refl
-
-pub let-out-before : letVerdict (set-of 32 (b ∷ a ∷ []) 1 256) a ≡ refuse 12
-unfolding letVerdict heldOf tileOf
-let-out-before = refl
-
-pub nothing-held : letVerdict (set-of 16 [] 0 256) a ≡ refuse 12
-unfolding letVerdict heldOf tileOf
-nothing-held = refl
-
--- ---- number 9: 119 and -8, 120 and -8; before 13
-
-pub light : takeVerdict (set-of 119 (0 ∷ []) 0 256) eight ≡ pass
-unfolding takeVerdict tileOf coverOf
-light = refl
-
-pub heavy : takeVerdict (set-of 120 (0 ∷ []) 0 256) eight ≡ refuse 9
-unfolding takeVerdict tileOf coverOf
-heavy = refl
-
-pub heavy-and-full : takeVerdict (set-of 120 [] 0 256) eight ≡ refuse 9
-unfolding takeVerdict tileOf coverOf
-heavy-and-full = refl
-
-pub one-more : takeVerdict (set-of 127 (0 ∷ []) 0 256) one ≡ refuse 9
-unfolding takeVerdict tileOf coverOf
-one-more = refl
-
-pub no-cover : takeVerdict (set-of 127 (0 ∷ []) 0 256) none ≡ pass
-unfolding takeVerdict tileOf coverOf
-no-cover = refl
-
--- ---- number 3, before 12; number 1, before 3
-
-pub foreign-taken : takeVerdict (set-of 16 (0 ∷ []) 0 256) other ≡ refuse 3
-unfolding takeVerdict tileOf coverOf
-foreign-taken = refl
-
-pub foreign-let-out : letVerdict (set-of 16 [] 0 256) other ≡ refuse 3
-unfolding letVerdict heldOf tileOf
-foreign-let-out = refl
-
-pub short : takeVerdict (set-of 16 (0 ∷ []) 0 255) other ≡ refuse 1
-unfolding takeVerdict tileOf coverOf
-short = refl
+pub set-edges : SetEdges
+unfolding carryAfter coverOf doubleAreaOf effectOf heldOf letVerdict takeVerdict tileOf wrap
+set-edges =
+    record {
+      own-column = refl;
+      past-column = refl;
+      left-column = refl;
+      other-row = refl;
+      area-with = refl;
+      carry-with = refl;
+      last-slot = refl;
+      no-slot = refl;
+      held = refl;
+      let-out-before = refl;
+      nothing-held = refl;
+      light = refl;
+      heavy = refl;
+      heavy-and-full = refl;
+      one-more = refl;
+      no-cover = refl;
+      foreign-taken = refl;
+      foreign-let-out = refl;
+      short = refl;
+    }

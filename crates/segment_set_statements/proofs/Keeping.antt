@@ -1,18 +1,18 @@
 -- The sets that were begun and edited are kept. Assumes nothing.
-use mathlib.Core.Path.{_≡_, refl, sym, ap, ap₂, subst, _∙_}
-use mathlib.Core.Bool.{Bool, true, false, cond, not, _&&_}
+use mathlib.Core.Path.{_≡_, refl, sym, ap, _∙_}
+use mathlib.Core.Bool.{Bool, true, false, cond, not}
 use mathlib.Core.List.{List, [], _∷_, _++_}
 use mathlib.Core.Logic.{⊎-elim}
-use Prim.Native.Nat.{ℕ, zero, suc, _+_, _-_, _/_, _%_, _≤_, _<_, min}
+use Prim.Native.Nat.{ℕ, zero, suc, _+_, _-_, _≤_, _<_}
 use native.Mathlib.Numerals.{add-one}
 use native.Mathlib.Omega.{arith}
 use borrow.Author.Tests.{ltb-true, ltb-false, leb-false, not-false}
 use lib.Dec.{eqb, leb, ltb}
-use lib.IntN.{ℤ, pos, natAbs, _+ℤ_, _-ℤ_}
-use lib.ListN.{length, getD, take, drop, set, length-set, length-take}
-use lib.Seq.{take-suc, take-all, take-suc-set, take-set-le, take-set-lt, take-take, getD-take, length-take-le, set-getD}
+use lib.IntN.{ℤ, _+ℤ_, _-ℤ_}
+use lib.ListN.{length, getD, take, set, length-set, length-take}
+use lib.Seq.{take-suc, take-all, take-suc-set, take-set-le, take-set-lt, take-take, getD-take, length-take-le}
 use Rattle.laws.specs.Lists.{over, all}
-use Rattle.laws.specs.Sum.{sumℕ, countBy}
+use Rattle.laws.specs.Sum.{countBy}
 use Rattle.laws.proofs.Bools.{both, right}
 use Rattle.laws.proofs.Orders.{eq-or-ne, le-or-lt}
 use Rattle.laws.proofs.Rows.{length-over}
@@ -21,13 +21,13 @@ use Rattle.refusals.specs.Refusal.{Judgement, pass, refuse, unless}
 use Rattle.refusals.proofs.Judging.{passed}
 use Rattle.pixel_segment.specs.Field.{cpu, localYOf}
 use Rattle.cover_statements.specs.Area.{areasOf}
-use Rattle.cover_statements.specs.Carry.{absCover, isLight, carryOf}
+use Rattle.cover_statements.specs.Carry.{absCover, isLight}
 use Rattle.cover_statements.specs.Cover.{coverAt}
 use Rattle.cover_statements.specs.InnerWeighed.{InRange}
 use Rattle.cover_statements.proofs.Planes.{areas-length, areas-in-range}
 use Rattle.segment_set_statements.specs.Effect.{areasAfter, carryAfter, loadsAfter}
-use Rattle.segment_set_statements.specs.Set.{SetState, state, Beginning, beginVerdict, nothing, freshState, heldOf, isHere, isWordHeld, heldPlace, loadsFrom, takeVerdict, takenIn, letVerdict, letOut, Gives, beginOf, takeOf, letOf, settled}
-use Rattle.segment_set_statements.specs.Kept.{Kept, SameWords, timesOf}
+use Rattle.segment_set_statements.specs.Set.{SetState, state, Beginning, nothing, freshState, heldOf, isHere, isWordHeld, heldPlace, takeVerdict, takenIn, letVerdict, letOut, settled}
+use Rattle.segment_set_statements.specs.Kept.{Kept, SameWords, Holds}
 use Rattle.segment_set_statements.specs.Edits.{Edits, accepted}
 use Rattle.segment_set_statements.specs.Edits.Edits.{begun, taken, let-out}
 use Rattle.segment_set_statements.proofs.Begins.{Begun, begin-passed, take-over, same-snoc}
@@ -210,11 +210,6 @@ module _ (s : SetState) (w : ℕ) (h : isWordHeld w (heldOf s) ≡ true) where
         }
 
 -- ---- any list of edits
-
--- the set is kept, and holds the words taken in less those let out, each as often
-pub record Holds (incoming : List ℤ) (ins outs : List ℕ) (s : SetState) : Type 0 where
-  pub kept : Kept incoming s
-  pub words : (v : ℕ) → timesOf v (heldOf s) + timesOf v outs ≡ timesOf v ins
 
 step-in : {incoming : List ℤ} {ins outs : List ℕ} {s : SetState} (w : ℕ) (j : Judgement) → takeVerdict s w ≡ j → Holds incoming ins outs s → Holds incoming (accepted j w ins) outs (settled j (takenIn s w) s)
 step-in {s = s} w pass e h =

@@ -1,14 +1,14 @@
 -- What an edit leaves alone, and an edit undone. Assumes nothing.
 use mathlib.Core.Path.{_≡_, refl, sym, ap, _∙_}
-use mathlib.Core.Bool.{Bool, true, false, cond, _||_}
+use mathlib.Core.Bool.{Bool, true, false, _||_}
 use mathlib.Core.List.{List, [], _∷_, _++_}
 use mathlib.Core.Logic.{⊎-elim}
-use Prim.Native.Nat.{ℕ, _+_, _*_, _/_, _%_, _≤_, _<_}
+use Prim.Native.Nat.{ℕ, _*_, _/_, _%_, _≤_, _<_}
 use native.Mathlib.Omega.{arith}
 use borrow.Author.Tests.{eq-eqb}
 use lib.Dec.{eqb}
-use lib.IntN.{ℤ, pos, _+ℤ_, _-ℤ_}
-use lib.ListN.{length, getD, take, drop, set, take-append-drop}
+use lib.IntN.{ℤ, pos}
+use lib.ListN.{length, take, drop, take-append-drop}
 use lib.Seq.{getD-set-other, length-take-le}
 use Rattle.laws.specs.Lists.{tabulate, over}
 use Rattle.laws.proofs.Orders.{le-or-lt}
@@ -18,11 +18,11 @@ use Rattle.pixel_segment.specs.Field.{cpu, localYOf}
 use Rattle.cover_statements.specs.Area.{areasOf}
 use Rattle.cover_statements.specs.Cover.{coverAt}
 use Rattle.cover_statements.proofs.Planes.{areas-length}
-use Rattle.segment_set_statements.specs.Effect.{isReached, areaAfter, areasAfter, carryAfter, loadsAfter}
+use Rattle.segment_set_statements.specs.Effect.{isReached, areaAfter, areasAfter, carryAfter}
 use Rattle.segment_set_statements.specs.Set.{SetState, heldOf, isWordHeld, takeVerdict, takenIn, letOut}
-use Rattle.segment_set_statements.specs.Kept.{Kept, SameWords}
+use Rattle.segment_set_statements.specs.Kept.{Kept, SameWords, Undone}
 use Rattle.segment_set_statements.proofs.Begins.{over-over}
-use Rattle.segment_set_statements.proofs.Keeping.{Takes, take-passed, held-taken, same-taken, new-areas, kept-taken, same-let, areas-without, kept-let}
+use Rattle.segment_set_statements.proofs.Keeping.{take-passed, held-taken, same-taken, new-areas, kept-taken, same-let, areas-without, kept-let}
 use Rattle.segment_set_statements.proofs.Lists.{over-front, over-back}
 use Rattle.segment_set_statements.proofs.Sames.{same-areas, same-carry, same-loads}
 
@@ -59,11 +59,6 @@ last-held w (x ∷ xs) = by (eqb x w) (last-held w xs)
 over-own : {A : Type 0} (l : List A) (n : ℕ) → n ≤ length l → over (take n l) l ≡ l
 unfolding over
 over-own {A = A} l n h = ap (λ (m : ℕ). take n l ++ drop m l) (length-take-le n l h) ∙ take-append-drop n l
-
-pub record Undone (s t : SetState) : Type 0 where
-  pub areas-are : t .areas ≡ s .areas
-  pub carry-is : t .set .carry .covers ≡ s .set .carry .covers
-  pub loads-are : t .set .loads ≡ s .set .loads
 
 pub undone : {incoming : List ℤ} {s : SetState} → Kept incoming s → (w : ℕ) → takeVerdict s w ≡ pass → Undone s (letOut (takenIn s w) w)
 undone {incoming} {s} k w e =

@@ -3,7 +3,7 @@
 use mathlib.Core.Path.{_≡_}
 use mathlib.Core.Bool.{true}
 use mathlib.Core.List.{List}
-use Prim.Native.Nat.{ℕ, _≤_}
+use Prim.Native.Nat.{ℕ, _+_, _≤_}
 use lib.Dec.{eqb}
 use lib.IntN.{ℤ}
 use lib.ListN.{length, take}
@@ -30,3 +30,14 @@ timesOf v words = countBy (eqb v) words
 
 pub record SameWords (xs ys : List ℕ) : Type 0 where
   pub at : (v : ℕ) → timesOf v xs ≡ timesOf v ys
+
+-- the set is kept, and holds the words taken in less those let out, each as often
+pub record Holds (incoming : List ℤ) (ins outs : List ℕ) (s : SetState) : Type 0 where
+  pub kept : Kept incoming s
+  pub words : (v : ℕ) → timesOf v (heldOf s) + timesOf v outs ≡ timesOf v ins
+
+-- what a segment that was taken in and let out leaves: d, carry and loads as they were
+pub record Undone (s t : SetState) : Type 0 where
+  pub areas-are : t .areas ≡ s .areas
+  pub carry-is : t .set .carry .covers ≡ s .set .carry .covers
+  pub loads-are : t .set .loads ≡ s .set .loads

@@ -4,3 +4,4 @@ pub mod Set
 pub mod Kept
 pub mod Edits
 pub mod InnerSpread
+pub mod Edges

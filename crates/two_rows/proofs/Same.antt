@@ -1,45 +1,40 @@
 -- Two rows that agree on a layer: its sums, its carries, its entries and its coverages are the same in each tile. Assumes nothing.
-use mathlib.Core.Path.{_≡_, refl, ap, ap₂, sym, subst, _∙_}
-use mathlib.Core.Bool.{Bool, true, false, cond, not, _&&_, _||_, and-true}
+use mathlib.Core.Path.{_≡_, refl, ap, ap₂, sym, _∙_}
+use mathlib.Core.Bool.{Bool, true, cond, not, _&&_, _||_}
 use mathlib.Core.List.{List, [], _∷_, map}
-use mathlib.Core.Option.{Option, some, none}
+use mathlib.Core.Option.{some, none}
 use Prim.Native.Nat.{ℕ, zero, suc, _+_}
 use native.Mathlib.Omega.{arith}
 use lib.Dec.{eqb, ltb}
-use lib.Ieee.{Float}
 use lib.IntN.{ℤ, pos, _+ℤ_, _*ℤ_, +ℤ-idl}
-use Rattle.laws.specs.Lists.{tabulate, filter, any}
-use Rattle.laws.specs.Sum.{sumBy, sumℤ, sumℕ, countBy}
+use Rattle.laws.specs.Lists.{tabulate, filter}
+use Rattle.laws.specs.Sum.{sumℤ, countBy}
 use Rattle.laws.proofs.Sums.{sumℤ-same, sumℕ-same}
-use Rattle.pixel_segment.specs.Field.{cpu, tileXOf, layerIdOf, localXOf, localYOf, coverOf, doubleAreaOf}
+use Rattle.pixel_segment.specs.Field.{cpu, tileXOf, layerIdOf, coverOf, doubleAreaOf}
 use Rattle.segment_rows.specs.Search as search
 use Rattle.segment_rows.specs.Search.{tilePart}
 use Rattle.styling.specs.declared.FillRule.{FillRule}
-use Rattle.styling.specs.declared.Layer.{Layer}
 use Rattle.cover_statements.specs.Area.{isBefore, isOwn, doubledArea}
 use Rattle.cover_statements.specs.Carry.{inRow, coverIn, carryOf}
 use Rattle.cover_statements.specs.Cover.{coverAt, isEmpty}
 use Rattle.cover_statements.specs.Coverage.{areaCoverage}
-use Rattle.cover_statements.specs.Plane.{inPlaces, planeOf}
+use Rattle.cover_statements.specs.Plane.{inPlaces}
 use Rattle.cover_statements.specs.WholeRow as whole
 use Rattle.cover_statements.specs.WholeRow.{partOf, leftCover, rowPlane}
-use Rattle.queue_statements.specs.Queue.{Carry, heldIn, idsIn}
-use Rattle.queue_statements.specs.Opening.{openQueue, ofLayer}
-use Rattle.queue_statements.proofs.Inserting.{hasId}
+use Rattle.queue_statements.specs.Queue.{Carry, heldIn, idsIn, hasId}
+use Rattle.queue_statements.specs.Opening.{openQueue}
 use Rattle.queue_statements.proofs.Openings.{opening-has, opening-held}
-use Rattle.tile_layers.specs.Listing.{isListed, hasCarry, hasSegment, hasAny, layersIn, incomingOf}
+use Rattle.tile_layers.specs.Listing.{isListed, hasCarry, hasSegment, hasAny, incomingOf}
 use Rattle.tile_layers.proofs.Members.{listed-exactly}
 use Rattle.layer_carrying.specs.Carrying.{ruleIn}
-use Rattle.pass_statements.specs.Entry.{Entry}
 use Rattle.layer_workbench.specs.Work.{entryOf}
-use Rattle.row_carries.specs.Carries.{InOrder, queueAfter, layersAt}
 use Rattle.row_carries.proofs.Carried.{queue-first, queue-next, queue-ascends, layers-ascend, held-next}
 use Rattle.row_carries.proofs.Handed.{orDropped}
 use Rattle.row_carries.proofs.Merged.{ownIn, list-held, list-own}
 use Rattle.row_carries.proofs.Parts.{tile-layer, left-layer}
-use Rattle.row_statements.specs.Due.{OpenRow, tableOn, queueOn, layersOn, planeOn}
+use Rattle.row_statements.specs.Due.{OpenRow, tableOn, queueOn, layersOn}
 use Rattle.row_statements.specs.InnerHolding.{IsOpen}
-use Rattle.two_rows.specs.Apart.{belowTileY, layerSegments, AgreeOn, entryIn, carryIn, SameLayer}
+use Rattle.two_rows.specs.Apart.{belowTileY, layerSegments, AgreeOn, entryIn, SameLayer}
 use Rattle.two_rows.proofs.Words.{tile-x-below, local-x-below, local-y-below, cover-below, area-below, layer-sum}
 use Rattle.two_rows.proofs.Layers.{long-same, any-filter, carry-in, entry-in, handed-has}
 

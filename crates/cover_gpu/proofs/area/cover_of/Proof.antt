@@ -1,30 +1,15 @@
--- `area::cover_of` meets its contract: the field plus half its size, modulo its size, is a small number. Assumes nothing.
-use mathlib.Core.Path.{sym, ap, _∙_}
-use Prim.Native.Nat.{ℕ, _+_, _%_}
-use native.Mathlib.Nat.{div-one}
-use native.Mathlib.Omega.{arith}
+-- `cover_gpu::area::cover_of` meets its contract: both layouts have the cover in the lowest six bits. Assumes nothing.
+use mathlib.Core.Path.{_∙_}
 use borrow.Author.Needs.{needs}
-use lib.IntN.{subℕ}
 use mir.Syntax.{w16}
-use mir.Facts.{toZ-pos, toZ-ofZ}
-use Rattle.laws.proofs.Parts.{difference}
-use Rattle.laws.proofs.Machine.{sfits}
+use Rattle.laws.proofs.Machine.{kept}
 use Rattle.pixel_segment.specs.Field.{coverOf}
 use Rattle.cover_gpu.proofs.area.cover_of.Statement.{statement}
 use Rattle.cover_gpu.proofs.area.cover_of.Tie as tie
 
-sub-result : tie.Need-sub-result
-sub-result c =
-    let n = (c .before .args .segment .0 % 64 + 32) % 64 in
-    rw (toZ-pos w16 {n = n} (omega arith))
-    (sfits w16 (subℕ n 32) (omega (arith, difference n 32)))
-
 returns : tie.Need-returns
 unfolding coverOf
-returns c = let w = c .before .args .segment .0 in
-    let n = (w % 64 + 32) % 64 in
-    toZ-ofZ (sub-result c)
-    ∙ rw (toZ-pos w16 {n = n} (omega arith)) (ap (λ (k : ℕ). subℕ ((k % 64 + 32) % 64) 32) (sym (div-one w)))
+returns c = kept w16 (c .cover-of .result) (c .cover-of .ok) ∙ c .cover-of .ensures
 
 pub cover-of-spec : {M : Type 1} → statement M
-cover-of-spec = tie.close (tie.spec (λ c. search needs) (λ c. search needs) sub-result returns)
+cover-of-spec = tie.close (tie.spec (λ c κs. search needs) returns)

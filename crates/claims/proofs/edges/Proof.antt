@@ -1,0 +1,15 @@
+-- `edges` meets its contract: the theorems, cited. Assumes nothing.
+use Rattle.queue_statements.proofs.Examples.{opening-edges}
+use Rattle.row_statements.proofs.RowCases.{row-edges}
+use Rattle.row_statements.proofs.PaintCases.{paint-edges}
+use Rattle.listing_statements.proofs.Cases.{deciding-edges}
+use Rattle.layer_table.proofs.Cases.{table-edges}
+use Rattle.segment_set_statements.proofs.Cases.{set-edges}
+use Rattle.claims.proofs.edges.Statement.{statement}
+use Rattle.claims.proofs.edges.Tie as tie
+
+returns : tie.Need-returns
+returns c = (opening-edges, row-edges, paint-edges, deciding-edges, table-edges, set-edges)
+
+pub edges-spec : {M : Type 1} → statement M
+edges-spec = tie.close (tie.spec returns)

@@ -1,0 +1,130 @@
+// What is proved, as one list: each claim of the statements, held by a function that cites its proof. A claim is a
+// definition in specs/; a proof that goes makes the check of this crate fail. The worked cases P1 to P12 are held by the
+// program `cases`; what each operation promises is held by its own contract.
+ghost use Rattle.cover_statements.specs.Joined.{JoinedCovers};
+ghost use Rattle.queue_statements.specs.Edges.{OpeningEdges};
+ghost use Rattle.layer_table.specs.Edges.{TableEdges};
+ghost use Rattle.segment_set_statements.specs.Edges.{SetEdges};
+ghost use Rattle.row_statements.specs.Claim.{Claim};
+ghost use Rattle.row_statements.specs.Example.{Ran};
+ghost use Rattle.row_statements.specs.Edges.{RowEdges};
+ghost use Rattle.row_statements.specs.PaintEdges.{PaintEdges};
+ghost use Rattle.row_lines.specs.Calls.{TellLines};
+ghost use Rattle.tile_row_records.specs.Steps.{WorkStep, PaintStep};
+ghost use Rattle.listing_statements.specs.Succession.{Succession};
+ghost use Rattle.listing_statements.specs.Edges.{DecidingEdges};
+ghost use Rattle.listing_runs.specs.Claim.{ListingClaim};
+ghost use Rattle.listing_runs.specs.Example.{CallsRan};
+ghost use Rattle.batch_runs.specs.BatchClaim.{BatchClaim};
+ghost use Rattle.ffi_calls.specs.Calls.{CallsClaim};
+ghost use Rattle.ffi_calls.specs.ListingCalls.{ListingCallsClaim};
+ghost use Rattle.ffi_calls.specs.Example.{CallsExist};
+ghost use Rattle.ffi_calls.specs.Batches.{BatchesClaim, BatchesExist};
+ghost use Rattle.curve_text.specs.Examples.{CurveLines};
+ghost use Rattle.two_rows.specs.Backwards.{Backwards, OpensBoth, RunsBoth};
+ghost use Rattle.two_rows.specs.Lowest.{Fails};
+ghost use Rattle.two_rows.specs.Apart.{LayersApart};
+ghost use Rattle.two_rows.specs.Unmoved.{OthersUnmoved};
+ghost use Rattle.two_rows.specs.Example.{Differing};
+ghost use Rattle.layer_row_gpu.specs.LayerRun.{LayerClaim};
+ghost use Rattle.layer_row_gpu.specs.LayerExample.{LayerRan};
+ghost use Rattle.claims.specs.Words.{PackedWords};
+ghost use Rattle.claims.specs.Opposite.{OppositeWords};
+ghost use Rattle.claims.specs.Rows.{RowsCut};
+ghost use Rattle.claims.specs.Layers.{LayerRecords};
+ghost use Rattle.claims.specs.Weights.{Weights};
+ghost use Rattle.claims.specs.Planes.{Planes};
+ghost use Rattle.claims.specs.WholeRow.{FromWholeRow};
+ghost use Rattle.claims.specs.Passes.{PassesInWords};
+ghost use Rattle.claims.specs.Repainting.{ChangedClips};
+ghost use Rattle.claims.specs.Runs.{RunsExist, RunsAlike};
+ghost use Rattle.claims.specs.Texts.{JobTexts};
+ghost use Rattle.claims.specs.Sets.{SegmentSets};
+ghost use Rattle.claims.specs.Bounds.{CoverBounds};
+ghost use Rattle.claims.specs.FourHigh.{RowsApart};
+
+// Demand 3: any accepted opening and any list of calls after it, refused ones included. By works and paintings; with
+// listings and decidings; by numbers, for callers of the exports; in batches.
+pub fn demand_3() -> bool
+    ensures { λ r. ⌜ Claim × ListingClaim × CallsClaim × ListingCallsClaim × BatchClaim × BatchesClaim ⌝ }
+{
+    true
+}
+
+// None of these is empty: runs that meet their premises, with each kind of call; and every list of choices has one.
+pub fn not_empty() -> bool
+    ensures { λ r. ⌜ Ran × CallsRan × CallsExist × BatchesExist × RunsExist ⌝ }
+{
+    true
+}
+
+// A run of works and paintings is one of calls, a work is a listing and a deciding in succession, the driver's lines are
+// those of a run, and so are the calls of a caller that keeps its carries as records.
+pub fn same_runs() -> bool
+    ensures { λ r. ⌜ RunsAlike × Succession × TellLines × WorkStep × PaintStep ⌝ }
+{
+    true
+}
+
+// Document 01, packed words, rows, layer records.
+pub fn words_and_rows() -> bool
+    ensures { λ r. ⌜ PackedWords × RowsCut × LayerRecords ⌝ }
+{
+    true
+}
+
+// Document 01, covers, areas, coverage; W-202, W-205 and W-209.
+pub fn covers_and_planes() -> bool
+    ensures { λ r. ⌜ Weights × Planes × FromWholeRow ⌝ }
+{
+    true
+}
+
+// Document 01, the passes; W-208.
+pub fn passes() -> bool
+    ensures { λ r. ⌜ PassesInWords × ChangedClips ⌝ }
+{
+    true
+}
+
+// Both sides of the edges of refusals: openings, tile works, paintings, decidings, tables, sets.
+pub fn edges() -> bool
+    ensures { λ r. ⌜ OpeningEdges × RowEdges × PaintEdges × DecidingEdges × TableEdges × SetEdges ⌝ }
+{
+    true
+}
+
+// Texts: the job text, and W-201.
+pub fn texts() -> bool
+    ensures { λ r. ⌜ JobTexts × CurveLines ⌝ }
+{
+    true
+}
+
+// W-207, kept sets of segments; W-211, covers within bounds.
+pub fn sets_and_bounds() -> bool
+    ensures { λ r. ⌜ SegmentSets × CoverBounds ⌝ }
+{
+    true
+}
+
+// W-210: outlines run backwards, where it ends, and joined covers.
+pub fn backwards() -> bool
+    ensures { λ r. ⌜ OppositeWords × Backwards × OpensBoth × RunsBoth × Fails × JoinedCovers ⌝ }
+{
+    true
+}
+
+// W-213: one layer's row in tiles four pixels high, by the whole row.
+pub fn four_high() -> bool
+    ensures { λ r. ⌜ LayerClaim × LayerRan × RowsApart ⌝ }
+{
+    true
+}
+
+// W-214: one language leaves another's layers be, and no more than that is said.
+pub fn languages() -> bool
+    ensures { λ r. ⌜ LayersApart × OthersUnmoved × Differing ⌝ }
+{
+    true
+}

@@ -1,0 +1,71 @@
+-- Worked cases of a kept set: layer 5 in tile 2 of row 0, each row of the incoming cover the same. Stands for W-207.
+use mathlib.Core.Path.{_≡_}
+use mathlib.Core.List.{List, [], _∷_, _++_}
+use Prim.Native.Nat.{ℕ}
+use lib.IntN.{pos, negsuc, _+ℤ_}
+use lib.ListN.{replicate}
+use Rattle.refusals.specs.Refusal.{pass, refuse}
+use Rattle.pixel_segment.specs.Field.{cpu}
+use Rattle.segment_set_statements.specs.Effect.{effectOf, areaAfter, carryAfter}
+use Rattle.segment_set_statements.specs.Set.{SetState, state, takeVerdict, letVerdict}
+
+-- row 0, column 3, cover -16, multiplier 32; the same with multiplier 8; row 0, column 0, multiplier 63, cover -31; row 9, column 15, both 1
+abbrev a : ℕ
+a = 0x0020060000530830
+
+abbrev b : ℕ
+b = 0x0020060000530230
+
+abbrev c : ℕ
+c = 0x0020060000500FE1
+
+abbrev d : ℕ
+d = 0x00200600005F9041
+
+-- a in layer 6; row 0, column 3, covers -8, 1 and 0
+abbrev other : ℕ
+other = 0x0020060000630830
+
+abbrev eight : ℕ
+eight = 0x0020060000530038
+
+abbrev one : ℕ
+one = 0x0020060000530001
+
+abbrev none : ℕ
+none = 0x0020060000530000
+
+-- a set with a load in each row and some words in its lent slots
+abbrev set-of : ℕ → List ℕ → ℕ → ℕ → SetState
+set-of load slots count numbers =
+    state
+    (record { «layer_id» = 5; «tile_x» = pos 2; «tile_y» = pos 0; carry = record { covers = replicate 16 (pos 16) }; loads = replicate 16 load; count = count })
+    slots
+    (replicate numbers (pos 512))
+
+pub record SetEdges : Type 0 where
+  -- what a segment adds: in its own column, right of it, left of it, and in another row
+  pub own-column : effectOf cpu b 3 0 ≡ negsuc 127
+  pub past-column : effectOf cpu c 1 0 ≡ negsuc 991
+  pub left-column : effectOf cpu a 2 0 ≡ pos 0
+  pub other-row : effectOf cpu a 3 1 ≡ pos 0
+  -- d of a pixel with it, and the carry of its row
+  pub area-with : areaAfter _+ℤ_ cpu c 0 0 (pos 512) ≡ negsuc 1440
+  pub carry-with : carryAfter _+ℤ_ cpu d (replicate 16 (pos 16)) ≡ replicate 9 (pos 16) ++ pos 17 ∷ replicate 6 (pos 16)
+  -- number 13: the last free slot, and none
+  pub last-slot : takeVerdict (set-of 32 (a ∷ b ∷ []) 1 256) d ≡ pass
+  pub no-slot : takeVerdict (set-of 32 (a ∷ b ∷ []) 2 256) d ≡ refuse 13
+  -- number 12: held, let out before, and never held
+  pub held : letVerdict (set-of 32 (b ∷ a ∷ []) 2 256) a ≡ pass
+  pub let-out-before : letVerdict (set-of 32 (b ∷ a ∷ []) 1 256) a ≡ refuse 12
+  pub nothing-held : letVerdict (set-of 16 [] 0 256) a ≡ refuse 12
+  -- number 9: 119 and -8, 120 and -8; before 13
+  pub light : takeVerdict (set-of 119 (0 ∷ []) 0 256) eight ≡ pass
+  pub heavy : takeVerdict (set-of 120 (0 ∷ []) 0 256) eight ≡ refuse 9
+  pub heavy-and-full : takeVerdict (set-of 120 [] 0 256) eight ≡ refuse 9
+  pub one-more : takeVerdict (set-of 127 (0 ∷ []) 0 256) one ≡ refuse 9
+  pub no-cover : takeVerdict (set-of 127 (0 ∷ []) 0 256) none ≡ pass
+  -- number 3, before 12; number 1, before 3
+  pub foreign-taken : takeVerdict (set-of 16 (0 ∷ []) 0 256) other ≡ refuse 3
+  pub foreign-let-out : letVerdict (set-of 16 [] 0 256) other ≡ refuse 3
+  pub short : takeVerdict (set-of 16 (0 ∷ []) 0 255) other ≡ refuse 1
