@@ -5,8 +5,8 @@ use Rattle.cover_statements.proofs.Marks as marks
 use Rattle.painter.proofs.Exchanged as exchanged
 use Rattle.claims.specs.Planes.{Planes}
 
-pub planes : Planes
-planes =
+pub planes-hold : Planes
+planes-hold =
     record {
       place-lt = planes.place-lt;
       place-column = planes.place-column;

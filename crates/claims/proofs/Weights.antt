@@ -5,8 +5,8 @@ use Rattle.cover_statements.proofs.Coverages as coverages
 use Rattle.curve_text.proofs.Weights as curveWeights
 use Rattle.claims.specs.Weights.{Weights}
 
-pub weights : Weights
-weights =
+pub weights-hold : Weights
+weights-hold =
     record {
       area-bound = areas.area-bound;
       even-odd-shift = weights.even-odd-shift;

@@ -81,7 +81,7 @@ pub fn covers_and_planes() -> bool
 }
 
 // Document 01, the passes; W-208.
-pub fn passes() -> bool
+pub fn passes_in_words() -> bool
     ensures { λ r. ⌜ PassesInWords × ChangedClips ⌝ }
 {
     true
@@ -95,7 +95,7 @@ pub fn edges() -> bool
 }
 
 // Texts: the job text, and W-201.
-pub fn texts() -> bool
+pub fn job_texts() -> bool
     ensures { λ r. ⌜ JobTexts × CurveLines ⌝ }
 {
     true

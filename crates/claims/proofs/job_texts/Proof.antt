@@ -1,0 +1,11 @@
+-- `job_texts` meets its contract: the theorems, cited. Assumes nothing.
+use Rattle.curve_text.proofs.Examples.{curve-lines}
+use Rattle.claims.proofs.Texts.{job-texts}
+use Rattle.claims.proofs.job_texts.Statement.{statement}
+use Rattle.claims.proofs.job_texts.Tie as tie
+
+returns : tie.Need-returns
+returns c = (job-texts, curve-lines)
+
+pub job-texts-spec : {M : Type 1} → statement M
+job-texts-spec = tie.close (tie.spec returns)
