@@ -2,6 +2,7 @@
 pub mod Listed
 pub mod ShownIds
 pub mod LineLaws
+pub mod Cuts
 pub mod Turning
 pub mod Driving
 pub mod Opening

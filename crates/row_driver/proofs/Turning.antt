@@ -2,6 +2,7 @@
 -- what the work gives and what the driver then holds. Assumes nothing.
 use mathlib.Core.Path.{_≡_, refl, ap, sym, subst, _∙_}
 use mathlib.Core.Bool.{Bool, true, false, not}
+use mathlib.Core.List.{List}
 use mathlib.Core.Option.{some, none}
 use Prim.Native.Nat.{ℕ, suc, _+_, _^_, _<_}
 use native.Mathlib.Omega.{arith}
@@ -11,11 +12,7 @@ use lib.ListN.{length}
 use Rattle.laws.specs.Answer.{refused, given}
 use Rattle.refusals.specs.Refusal.{Judgement, pass, refuse, numberOf, andThen}
 use Rattle.refusals.specs.declared.Refusal.{Refusal}
-use Rattle.pixel_segment.specs.Field.{cpu, tileXOf}
-use Rattle.pixel_segment.proofs.Heights.{cpu-keyed}
-use Rattle.segment_rows.specs.Rows.{Ordered}
 use Rattle.segment_rows.specs.Search.{tilePart}
-use Rattle.segment_rows.proofs.Keys.{tile-x-ordered}
 use Rattle.queue_statements.specs.Queue.{isQueue}
 use Rattle.cached_tile.specs.Kept.{noTile}
 use Rattle.layer_workbench.specs.declared.PreviousClear.the-variants.{Absent}
@@ -33,7 +30,7 @@ use Rattle.row_statements.proofs.Works.{args-passed, judged, list-passed}
 use Rattle.row_statements.proofs.WorkSteps.{args-due, layers-due, right-work}
 use Rattle.row_lines.specs.Lines.{clearColor, lineOn}
 use Rattle.row_lines.specs.Driven.{refusalOf}
-use Rattle.row_driver.specs.InnerSteps.{argsOf, side, heldBy, lineAt, Workable, Turns}
+use Rattle.row_driver.specs.InnerSteps.{argsOf, side, heldBy, lineAt, Workable, WorksLine, PartWorkable, Turns}
 use Rattle.row_driver.specs.declared.tile.TileLine.{TileLine}
 use Rattle.row_driver.proofs.LineLaws as line
 
@@ -41,13 +38,9 @@ use Rattle.row_driver.proofs.LineLaws as line
 pub list-kept : (list list′ : ListColumns) → length (list′ .ids) ≡ length (list .ids) → length (list′ .covers) ≡ length (list .covers) → length (list′ .flags) ≡ length (list .flags) → length (list′ .unmasked) ≡ length (list .unmasked) → isListShort list ≡ false → isListShort list′ ≡ false
 list-kept list list′ ei ec es eh h = rw (ei, ec, es, eh) h
 
--- the row is in order by tile
-pub row-ordered : {o : OpenRow} → IsOpen o → Ordered (tileXOf cpu) (o .row)
-row-ordered {o} is-open = tile-x-ordered cpu cpu-keyed (suc (o .tileY)) (o .row) (is-open .in-order .words) (is-open .in-order .is-row)
-
 -- the tile is the state's next, and its number is narrow
 module _ {o : OpenRow} {n : ℕ} {h : Held} (is-open : IsOpen o) (holds : Holds o (record { tiles = n; clip = none }) h) where
-  tile-is : h .state .next ≡ o .from + n
+  pub tile-is : h .state .next ≡ o .from + n
   tile-is = ap (λ (x : State). x .next) (holds .state)
 
   pub narrow : h .state .next < 2 ^ 15
@@ -84,20 +77,28 @@ module _ {o : OpenRow} {n : ℕ} (in-a : Bool) (s : RowState) (a b : Columns) (i
         in-queue = ap (λ (x : State). isQueue (x .left) (side in-a a b .ids)) (holds .state) ∙ holds .queue .ordered;
       }
 
+  pub part-workable : {part : List ℕ} → part ≡ tilePart (pos (s .next)) (o .row) → PartWorkable s part (o .table .words) (o .table .floats) (o .table .count) (side in-a a b) (workLent (side (not in-a) a b) list)
+  part-workable own = record { row = o .row; part-is = own; workable = workable }
+
   layers-are : listedFor (workOn o (heldBy in-a s a b) choice) ≡ layersOn o n
   unfolding choice
   layers-are = layers-due is-open holds choice same due
 
-  module _ {r : TileLine} (a′ b′ : Columns) (list′ : ListColumns) (t : Turns in-a s (o .row) (o .table .words) (o .table .floats) (o .table .count) a b list r a′ b′ list′) where
+  module _ {part : List ℕ} (own : part ≡ tilePart (pos (s .next)) (o .row)) {r : TileLine} (a′ b′ : Columns) (list′ : ListColumns) (t : Turns in-a s part (o .table .words) (o .table .floats) (o .table .count) a b list r a′ b′ list′) where
     back : WorkLent
     back = workLent (side (not in-a) a′ b′) list′
+
+    -- the part is the row's
+    works : WorksLine (argsOf s (o .row) (o .table .words) (o .table .floats) (o .table .count) (side in-a a b)) (workLent (side (not in-a) a b) list) r back
+    unfolding back
+    works = t .works .gives (o .row) own workable
 
     -- the contract of the public operation
     given-work : GivesWork (workOf (workOn o (heldBy in-a s a b) choice) (choice .lent)) (r .worked) back
     unfolding choice back
     given-work =
         let k = workOn o (heldBy in-a s a b) choice in
-        subst (λ (v : Judgement). GivesWork (workOut (andThen v (layersVerdict k)) (saysFor k) (k .state) (k .kept) (choice .lent)) (r .worked) back) (sym passes) (t .works .works)
+        subst (λ (v : Judgement). GivesWork (workOut (andThen v (layersVerdict k)) (saysFor k) (k .state) (k .kept) (choice .lent)) (r .worked) back) (sym passes) (works .works)
 
     -- by the theorem's step
     told : RightWork o past choice (r .worked) back
@@ -125,7 +126,7 @@ module _ {o : OpenRow} {n : ℕ} (in-a : Bool) (s : RowState) (a b : Columns) (i
     unfolding choice lineAt
     line-is e =
         let v = accepted e in
-        t .works .line-is (ap (listVerdict (tableOn o)) layers-are ∙ v)
+        works .line-is (ap (listVerdict (tableOn o)) layers-are ∙ v)
         ∙ line.line-is is-open n (list-passed (tableOn o) (layersOn o n) v .known) layers-are
         (ap (λ (x : State). carriesIn (x .left) (side in-a a b)) (holds .state) ∙ holds .queue .reads) (ap (λ (m : ℕ). tilePart (pos m) (o .row)) (tile-is is-open holds))
 

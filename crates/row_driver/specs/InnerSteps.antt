@@ -60,6 +60,16 @@ pub record WorksLine (a : WorkCall) (lent : WorkLent) (r : TileLine) (back : Wor
   pub works : GivesWork (workedBy a lent) (r .worked) back
   pub line-is : layersVerdict a ≡ pass → r .line ≡ lineAt a
 
+-- what a tile's part asks: a row of which it is the part of the state's next tile, and in which the tile may be worked
+pub record PartWorkable (s : RowState) (part words : List ℕ) (floats : List Float) (count : ℕ) (queue : Columns) (lent : WorkLent) : Type 0 where
+  pub row : List ℕ
+  pub part-is : part ≡ tilePart (pos (s .next)) row
+  pub workable : Workable (argsOf s row words floats count queue) lent
+
+-- what it gives, whichever row that is
+pub record WorksPartLine (s : RowState) (part words : List ℕ) (floats : List Float) (count : ℕ) (queue : Columns) (lent : WorkLent) (r : TileLine) (back : WorkLent) : Type 0 where
+  pub gives : (row : List ℕ) → part ≡ tilePart (pos (s .next)) row → Workable (argsOf s row words floats count queue) lent → WorksLine (argsOf s row words floats count queue) lent r back
+
 -- ---- two queues that take turns
 
 abbrev pub side : Bool → Columns → Columns → Columns
@@ -67,8 +77,8 @@ side true a b = a
 side false a b = b
 
 -- the work on the side whose turn it is, the other side written, and this one kept
-pub record Turns (in-a : Bool) (s : RowState) (row words : List ℕ) (floats : List Float) (count : ℕ) (a b : Columns) (list : ListColumns) (r : TileLine) (a′ b′ : Columns) (list′ : ListColumns) : Type 0 where
-  pub works : WorksLine (argsOf s row words floats count (side in-a a b)) (workLent (side (not in-a) a b) list) r (workLent (side (not in-a) a′ b′) list′)
+pub record Turns (in-a : Bool) (s : RowState) (part words : List ℕ) (floats : List Float) (count : ℕ) (a b : Columns) (list : ListColumns) (r : TileLine) (a′ b′ : Columns) (list′ : ListColumns) : Type 0 where
+  pub works : WorksPartLine s part words floats count (side in-a a b) (workLent (side (not in-a) a b) list) r (workLent (side (not in-a) a′ b′) list′)
   pub kept : side in-a a′ b′ ≡ side in-a a b
 
 -- what a driver holds: the queue of the side whose turn it is

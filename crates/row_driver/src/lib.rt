@@ -52,7 +52,8 @@ fn write_line(lines: &mut [u32], at: usize, line: Line)
     lines[at + 4] = line.carried;
 }
 
-// Drives the first n tiles of an open row. Each tile's segments are looked for where those of the tile before end.
+// Drives the first n tiles of an open row. Each tile's last segment is searched in what is left of the row, from where
+// the tile before ended.
 fn drive_tiles(
     state: RowState,
     n: usize,
@@ -83,17 +84,15 @@ fn drive_tiles(
 {
     let mut at = state;
     let mut in_a = true;
-    let mut hint: usize = 0;
+    let mut start = parts::left_of_tile(row, state.next as i16).len();
     let mut i: usize = 0;
     while i < n {
-        let place = parts::place_of_tile(row, at.next as i16, hint);
-        hint = place.end;
+        let part = parts::up_to_tile(&row[start..], at.next as i16);
+        start += part.len();
         let step = tile::turn(
             in_a,
             at,
-            row,
-            place.start,
-            place.end,
+            part,
             layers,
             colors,
             count,

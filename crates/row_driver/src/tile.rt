@@ -13,13 +13,11 @@ use styling::Color;
 ghost use mathlib.Core.Path.{_≡_};
 ghost use mathlib.Core.Bool.{not};
 ghost use Prim.Native.Nat.{_≤_};
-ghost use lib.IntN.{pos};
-ghost use Rattle.segment_rows.specs.Search.{TileStands};
 ghost use Rattle.pass_statements.specs.Decision.{codeOf, decisionIn};
 ghost use Rattle.row_statements.specs.Lent.{columns, listColumns};
 ghost use Rattle.row_statements.specs.TileWork.{workLent};
 ghost use Rattle.row_lines.specs.Lines.{clearColor, isPaint};
-ghost use Rattle.row_driver.specs.InnerSteps.{argsOf, side, Workable, WorksLine, Turns};
+ghost use Rattle.row_driver.specs.InnerSteps.{side, PartWorkable, WorksPartLine, Turns};
 
 // The work on a tile, and its line; the line of a refused tile says nothing.
 pub struct TileLine {
@@ -78,13 +76,10 @@ fn line_of(done: TileDone, tally: Tally, left: usize) -> Line
     }
 }
 
-// Works the state's next tile, whose segments stand from `start` up to `end`, and paints its shown layers where it is
-// to be painted.
+// Works the state's next tile, whose segments are lent, and paints its shown layers where it is to be painted.
 fn work_line(
     state: RowState,
-    row: &[u64],
-    start: usize,
-    end: usize,
+    part: &[u64],
     layers: &[u32],
     colors: &[f32],
     count: usize,
@@ -98,15 +93,13 @@ fn work_line(
     list_unmasked: &mut [bool],
     sums: &mut [i8; 4096],
 ) -> TileLine
-    requires { ⌜ Workable
-        (argsOf state (now row) (now layers) (now colors) count (columns (now ids) (now covers)))
+    requires { ⌜ PartWorkable state (now part) (now layers) (now colors) count (columns (now ids) (now covers))
         (workLent (columns (now «next_ids») (now «next_covers»))
         (listColumns (now «list_ids») (now «list_covers») (now «list_flags»)
-        (now «list_unmasked»)))
-        × TileStands (pos (state .next)) (now row) start end ⌝ }
-    ensures { λ r. ⌜ WorksLine
-        (argsOf state (now (row .entry)) (now (layers .entry)) (now (colors .entry)) count
-        (columns (now (ids .entry)) (now (covers .entry))))
+        (now «list_unmasked»))) ⌝ }
+    ensures { λ r. ⌜ WorksPartLine state
+        (now (part .entry)) (now (layers .entry)) (now (colors .entry)) count
+        (columns (now (ids .entry)) (now (covers .entry)))
         (workLent (columns (now («next_ids» .entry)) (now («next_covers» .entry)))
         (listColumns (now («list_ids» .entry)) (now («list_covers» .entry)) (now («list_flags» .entry))
         (now («list_unmasked» .entry))))
@@ -115,7 +108,6 @@ fn work_line(
         (listColumns (now («list_ids» .exit)) (now («list_covers» .exit)) (now («list_flags» .exit))
         (now («list_unmasked» .exit)))) ⌝ }
 {
-    let part = &row[start..end];
     let worked = row_working::work_part(
         state,
         part,
@@ -170,9 +162,7 @@ fn work_line(
 pub fn turn(
     in_a: bool,
     state: RowState,
-    row: &[u64],
-    start: usize,
-    end: usize,
+    part: &[u64],
     layers: &[u32],
     colors: &[f32],
     count: usize,
@@ -186,16 +176,14 @@ pub fn turn(
     list_unmasked: &mut [bool],
     sums: &mut [i8; 4096],
 ) -> TileLine
-    requires { ⌜ Workable
-        (argsOf state (now row) (now layers) (now colors) count
-        (side «in_a» (columns (now «a_ids») (now «a_covers»)) (columns (now «b_ids») (now «b_covers»))))
+    requires { ⌜ PartWorkable state (now part) (now layers) (now colors) count
+        (side «in_a» (columns (now «a_ids») (now «a_covers»)) (columns (now «b_ids») (now «b_covers»)))
         (workLent
         (side (not «in_a») (columns (now «a_ids») (now «a_covers»)) (columns (now «b_ids») (now «b_covers»)))
         (listColumns (now «list_ids») (now «list_covers») (now «list_flags»)
-        (now «list_unmasked»)))
-        × TileStands (pos (state .next)) (now row) start end ⌝ }
+        (now «list_unmasked»))) ⌝ }
     ensures { λ r. ⌜ Turns «in_a» state
-        (now (row .entry)) (now (layers .entry)) (now (colors .entry)) count
+        (now (part .entry)) (now (layers .entry)) (now (colors .entry)) count
         (columns (now («a_ids» .entry)) (now («a_covers» .entry)))
         (columns (now («b_ids» .entry)) (now («b_covers» .entry)))
         (listColumns (now («list_ids» .entry)) (now («list_covers» .entry)) (now («list_flags» .entry))
@@ -209,9 +197,7 @@ pub fn turn(
     if in_a {
         work_line(
             state,
-            row,
-            start,
-            end,
+            part,
             layers,
             colors,
             count,
@@ -228,9 +214,7 @@ pub fn turn(
     } else {
         work_line(
             state,
-            row,
-            start,
-            end,
+            part,
             layers,
             colors,
             count,

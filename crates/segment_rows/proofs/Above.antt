@@ -72,7 +72,7 @@ at-least-tile (negsuc m) n = le-leb (storedOf (negsuc m)) n (omega (arith, added
     all (suc n) = rw tile-suc
 
 -- every stored number is above a tile left of -1
-pub left-of-all : (m n : ℕ) → compareℤ (tileOf n) (negsuc (suc m)) ≡ 2
+left-of-all : (m n : ℕ) → compareℤ (tileOf n) (negsuc (suc m)) ≡ 2
 left-of-all m zero = rw (tile-zero, le-ltb (suc m) 0 (omega arith), lt-ltb 0 (suc m) (omega arith))
 left-of-all m (suc n) = rw tile-suc
 

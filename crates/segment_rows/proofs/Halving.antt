@@ -12,7 +12,7 @@ use Rattle.laws.proofs.Orders.{le-or-lt}
 use Rattle.laws.proofs.Bools.{either}
 use Rattle.pixel_segment.specs.Order.{isGt}
 use Rattle.segment_rows.specs.Search.{Place, found, absent, halved, endOf, ended, searchOf, afterOf}
-use Rattle.segment_rows.specs.InnerPlaces.{HalfOf}
+use Rattle.segment_rows.specs.InnerHalving.{HalfOf}
 use Rattle.segment_rows.specs.declared.search.Rest.{Rest}
 
 module _ (isAbove : ℕ → Bool) (l : List ℕ) where
@@ -171,36 +171,6 @@ never-left isAbove l none (suc turns) start len h t =
 
 pub end-last : (isAbove : ℕ → Bool) (l : List ℕ) {last : ℕ} → last + 1 ≡ length l → ((w : ℕ) → isAbove w ≡ false) → last ≡ endOf isAbove l
 end-last isAbove l {last} e none = omega (arith, never-left isAbove l none (length l) 0 (length l) (omega arith) (omega arith))
-
--- ---- in a list whose first element is not above, at one that is not above either, before one that is, in whatever order
-
-pub record LastBelow (isAbove : ℕ → Bool) (l : List ℕ) (s : ℕ) : Type 0 where
-  pub inside : s < length l
-  pub low : isAbove (getD l s 0) ≡ false
-  pub high : s + 1 < length l → isAbove (getD l (s + 1) 0) ≡ true
-
-last-below : (isAbove : ℕ → Bool) (l : List ℕ) (turns start len : ℕ) → 1 ≤ len → len ≤ turns → start + len ≤ length l → isAbove (getD l start 0) ≡ false → (start + len < length l → isAbove (getD l (start + len) 0) ≡ true) → LastBelow isAbove l (halved isAbove l len start len)
-last-below isAbove l zero start len h t w low high = absurd (omega arith)
-last-below isAbove l (suc turns) start len h t w low high =
-    let left = last-below isAbove l turns start (len / 2) in
-    let right = last-below isAbove l turns (start + len / 2) (len - len / 2) in
-    ⊎-elim
-    (λ (one : len ≤ 1).
-    let e : len ≡ 1 = omega arith in
-    rw (halved-end isAbove l len start len one) (record { inside = omega arith; low = low; high = rw e at high }))
-    (λ (many : 1 < len).
-    ⊎-elim
-    (λ (g : isAbove (getD l (start + len / 2) 0) ≡ true).
-    rw (halved-left isAbove l start len many g) (left (omega arith) (omega arith) (omega arith) low (λ p. g)))
-    (λ (g : isAbove (getD l (start + len / 2) 0) ≡ false).
-    let e : start + len / 2 + (len - len / 2) ≡ start + len = omega arith in
-    rw (halved-right isAbove l start len many g) (right (omega arith) (omega arith) (omega arith) g (rw e high)))
-    (either (isAbove (getD l (start + len / 2) 0))))
-    (le-or-lt len 1)
-
-pub end-below : (isAbove : ℕ → Bool) (l : List ℕ) {end : ℕ} → 0 < length l → isAbove (getD l 0 0) ≡ false → end ≡ endOf isAbove l → LastBelow isAbove l end
-end-below isAbove l some first e =
-    rw e (last-below isAbove l (length l) 0 (length l) some (omega arith) (omega arith) first (λ p. absurd (omega arith)))
 
 pub after-le : (at : ℕ → ℕ) (l : List ℕ) → afterOf (searchOf at l) ≤ length l
 after-le at l =

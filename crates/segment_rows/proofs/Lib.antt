@@ -8,5 +8,4 @@ pub mod Above
 pub mod TileParts
 pub mod TileLayers
 pub mod Opposite
-pub mod Ends
-pub mod TilePlaces
+pub mod Cutting

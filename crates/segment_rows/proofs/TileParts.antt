@@ -67,7 +67,7 @@ module _ (at : ℕ → ℕ) (l : List ℕ) (s : Ordered at l) where
 
 -- ---- by a number
 
-count-ext : (p q : ℕ → Bool) (l : List ℕ) → ((w : ℕ) → p w ≡ q w) → countBy p l ≡ countBy q l
+pub count-ext : (p q : ℕ → Bool) (l : List ℕ) → ((w : ℕ) → p w ≡ q w) → countBy p l ≡ countBy q l
 count-ext p q [] h = refl
 count-ext p q (w ∷ ws) h = ap₂ (λ (t : Bool) (n : ℕ). cond t 1 0 + n) (h w) (count-ext p q ws h)
 

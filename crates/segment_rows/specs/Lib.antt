@@ -1,4 +1,4 @@
 -- What is said of rows of segments.
 pub mod Rows
 pub mod Search
-pub mod InnerPlaces
+pub mod InnerHalving

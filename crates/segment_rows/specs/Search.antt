@@ -102,11 +102,9 @@ leftPart t row = leftPartIn cpu t row
 unfoldable pub tilePart : ℤ → List ℕ → List ℕ
 tilePart t row = tilePartIn cpu t row
 
+-- what is left of a row up to the last segment of a tile; where nothing of a lower tile is left, the tile's segments (proofs/Cutting)
+unfoldable pub upToTile : ℤ → List ℕ → List ℕ
+upToTile t rest = between 0 (afterOf (searchOf (orderAt (TileX t)) rest)) rest
+
 unfoldable pub layerPart : ℕ → List ℕ → List ℕ
 layerPart id part = layerPartIn cpu id part
-
--- the place where a tile's segments stand in a row
-pub record TileStands (t : ℤ) (row : List ℕ) (start end : ℕ) : Type 0 where
-  pub ascending : start ≤ end
-  pub within : end ≤ length row
-  pub part : between start end row ≡ tilePart t row

@@ -2,5 +2,4 @@
 // tile or a layer.
 pub mod order;
 pub mod parts;
-pub mod places;
 pub mod search;

@@ -14,7 +14,7 @@ ghost use Rattle.laws.specs.Integer.{plus};
 ghost use Rattle.pixel_segment.specs.Order.{rank, compareOf, compareBool};
 ghost use Rattle.pixel_segment.specs.Pack.{storedOf};
 ghost use Rattle.segment_rows.specs.Search.{placeIn, endOf, searchOf, ended, orderAt};
-ghost use Rattle.segment_rows.specs.InnerPlaces.{HalfOf};
+ghost use Rattle.segment_rows.specs.InnerHalving.{HalfOf};
 
 pub enum Key {
     TileY(i16),

@@ -1,24 +1,21 @@
 -- A batch as the loop over its tiles goes: what is left, from where it stands, gives what the whole batch gives. Assumes nothing.
 use mathlib.Core.Path.{_≡_, refl, ap, ap₂, sym, _∙_}
 use mathlib.Core.Bool.{Bool, true, false, cond, _&&_}
+use mathlib.Core.List.{List}
 use Prim.Native.Nat.{ℕ, suc, _+_, _-_, _^_, _≤_, _<_}
 use native.Mathlib.Omega.{arith}
 use borrow.Author.Tests.{le-ltb, lt-ltb, ltb-false, ltb-true, leb-false, leb-true}
 use lib.Dec.{ltb, leb}
 use lib.IntN.{pos}
 use Rattle.refusals.specs.Refusal.{Judgement, pass, refuse}
-use Rattle.pixel_segment.specs.Field.{cpu, tileXOf}
-use Rattle.pixel_segment.proofs.Heights.{cpu-keyed}
-use Rattle.segment_rows.specs.Rows.{Ordered}
-use Rattle.segment_rows.proofs.Keys.{tile-x-ordered}
-use Rattle.segment_rows.specs.Search.{TileStands}
+use Rattle.segment_rows.specs.Search.{tilePart}
 use Rattle.row_statements.specs.Lent.{ListColumns, isListShort}
 use Rattle.row_statements.specs.State.{State}
 use Rattle.row_statements.proofs.Works.{in-row}
 use Rattle.batch_statements.specs.BatchLent.{BatchLent, sided}
 use Rattle.batch_statements.specs.Batch.{BatchRow, BatchAt, turnOf, nextBy, tilesFrom, GivesBatch}
 use Rattle.batch_statements.specs.declared.Batch.{Batch}
-use Rattle.tile_batch.specs.InnerTurns.{batchIn, BatchStands, Turnable, BatchRoom}
+use Rattle.tile_batch.specs.InnerTurns.{batchIn, BatchStands, inRow, Turnable, BatchRoom}
 use Rattle.tile_batch.proofs.Turning.{SameRoom}
 
 -- memory as it lies, and as it stood
@@ -45,11 +42,8 @@ goes a b x y e = by (ltb a b) (leb x y) refl refl e
     by true false ep eq h = absurd (let z : _≡_ {A = ℕ} 0 1 = cc in omega arith)
     by false q ep eq h = absurd (let z : _≡_ {A = ℕ} 0 1 = cc in omega arith)
 
--- the row is in order by tile, and the next tile's number is narrow
+-- the next tile's number is narrow
 module _ {c : BatchRow} {s : BatchAt} (stands : BatchStands c s) where
-  pub row-ordered : Ordered (tileXOf cpu) (c .row)
-  row-ordered = tile-x-ordered cpu cpu-keyed (suc (s .state .tileY)) (c .row) (stands .words) (stands .ascends)
-
   pub narrow : s .state .next < 2 ^ 15
   narrow = let r = in-row (s .state) (stands .in-state) in omega (arith, r .last, r .within)
 
@@ -66,12 +60,12 @@ module _ (c : BatchRow) (spare tiles : ℕ) (s₀ : BatchAt) where
       record { stands = stands; room = room; within = omega (arith, e); rest = ap (λ (k : ℕ). tilesFrom c (spare + 256) k s₀) all }
 
   module _ (s : BatchAt) (v : Going c (spare + 256) tiles s₀ s) where
-    pub turnable : (list : ListColumns) {start end : ℕ} → isListShort list ≡ false → TileStands (s .tile) (c .row) start end → s .worked < tiles → s .used ≤ spare → Turnable c s list start end
-    turnable list e t p u =
+    pub turnable : (list : ListColumns) {part : List ℕ} → isListShort list ≡ false → part ≡ tilePart (s .tile) (c .row) → s .worked < tiles → s .used ≤ spare → Turnable (inRow part c) s list
+    turnable list e own p u =
         let r = v .room in
         record {
-          stands = v .stands;
-          place = t;
+          row = c .row;
+          of-row = record { stands = v .stands; part-is = own };
           list-long = e;
           notes = record { kept = λ k. let h = r .kept k in omega (arith, h, p); told = omega (arith, r .told, p); bottoms = omega (arith, r .bottoms, p) };
           planes = record { planes-long = omega (arith, r .planes-long, u); painted-long = omega (arith, r .painted-long, u) };
@@ -90,7 +84,7 @@ module _ (c : BatchRow) (spare tiles : ℕ) (s₀ : BatchAt) where
       stopped e = sym (by-turn ∙ ap (λ (j : Judgement). nextBy c j (turnOf c s) (tilesFrom c (spare + 256) (tiles - (s .worked + 1)) (turnOf c s .at))) e) ∙ v .rest
 
       -- past a tile that is accepted
-      pub next : turnOf c s .end ≡ pass → BatchStands c (turnOf c s .at) × SameRoom (s .lent) (turnOf c s .at .lent) × (turnOf c s .at .worked ≡ s .worked + 1) → Going c (spare + 256) tiles s₀ (turnOf c s .at)
+      pub next : turnOf c s .end ≡ pass → BatchStands c (turnOf c s .at) × SameRoom (s .lent) (turnOf c s .at .lent) × (turnOf c s .at .worked ≡ s .worked + 1) × (turnOf c s .at .state .next ≡ s .state .next + 1) → Going c (spare + 256) tiles s₀ (turnOf c s .at)
       next e h =
           let r = v .room in
           let stands = h .0 in

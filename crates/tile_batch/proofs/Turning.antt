@@ -257,10 +257,11 @@ module _ (c : BatchRow) (s : BatchAt) (stands : BatchStands c s) where
             painted = ap (λ (p : PlanesAt). length (p .painted)) planes-told ∙ painted-here .words-long;
           }
 
-      pub stands-next : BatchStands c (turnOf c s .at) × SameRoom (s .lent) (turnOf c s .at .lent) × (turnOf c s .at .worked ≡ s .worked + 1)
+      pub stands-next : BatchStands c (turnOf c s .at) × SameRoom (s .lent) (turnOf c s .at .lent) × (turnOf c s .at .worked ≡ s .worked + 1) × (turnOf c s .at .state .next ≡ s .state .next + 1)
       unfolding past
       stands-next =
-          subst (λ (g : BatchGiven). BatchStands c (g .at) × SameRoom (s .lent) (g .at .lent) × (g .at .worked ≡ s .worked + 1)) (sym (turn-passed v)) (stands-past, room-past, refl)
+          subst (λ (g : BatchGiven). BatchStands c (g .at) × SameRoom (s .lent) (g .at .lent) × (g .at .worked ≡ s .worked + 1) × (g .at .state .next ≡ s .state .next + 1)) (sym (turn-passed v))
+          (stands-past, room-past, refl, ap (λ (x : State). x .next) state-past)
 
       -- ---- what the code leaves of an accepted tile
 

@@ -11,7 +11,7 @@ use lib.Seq.{sets}
 use Rattle.refusals.specs.Refusal.{pass, unless, judgementIn}
 use Rattle.pixel_segment.specs.Field.{cpu}
 use Rattle.segment_rows.specs.Rows.{Words, isRow}
-use Rattle.segment_rows.specs.Search.{TileStands}
+use Rattle.segment_rows.specs.Search.{tilePart}
 use Rattle.styling.specs.declared.Layer.{Layer}
 use Rattle.queue_statements.specs.Queue.{Carry, isQueue}
 use Rattle.cached_tile.specs.Kept.{tagOutOfRange}
@@ -28,7 +28,7 @@ use Rattle.row_lines.specs.Lines.{isPaint}
 use Rattle.row_lines.specs.Shown.{shownIn}
 use Rattle.shown_layers.specs.Counting.{idsOf}
 use Rattle.batch_statements.specs.BatchLent.{BatchLent, sided, keptAt, keptOver, tileNumbers, bottomsOver}
-use Rattle.batch_statements.specs.Batch.{BatchRow, BatchAt, BatchGiven}
+use Rattle.batch_statements.specs.Batch.{BatchRow, BatchAt, BatchGiven, turnOf, GivesBatch}
 use Rattle.batch_statements.specs.declared.Batch.{Batch}
 use Rattle.batch_painting.specs.InnerShown.{WalkAt, walkAt, walkFrom, PlaneRoom}
 
@@ -76,17 +76,27 @@ pub record BatchStands (c : BatchRow) (s : BatchAt) : Type 0 where
   pub other-room : isQueueShort (s .lent .other) ≡ false
   pub in-queue : isQueue (s .state .left) (s .lent .queue .ids) ≡ true
 
--- what a tile asks, whose segments stand at a place
-pub record Turnable (c : BatchRow) (s : BatchAt) (list : ListColumns) (start end : ℕ) : Type 0 where
-  pub stands : BatchStands c s
-  pub place : TileStands (s .tile) (c .row) start end
+-- ---- a tile whose segments are lent: the part, in the place of the row, whichever row has it
+
+abbrev pub inRow : List ℕ → BatchRow → BatchRow
+inRow row c = record { row = row; table = c .table; keeps = c .keeps; clear = c .clear; previous = c .previous }
+
+-- the part is the next tile's of the row
+pub record PartOf (c : BatchRow) (s : BatchAt) (row : List ℕ) : Type 0 where
+  pub stands : BatchStands (inRow row c) s
+  pub part-is : c .row ≡ tilePart (s .tile) row
+
+-- what it asks
+pub record Turnable (c : BatchRow) (s : BatchAt) (list : ListColumns) : Type 0 where
+  pub row : List ℕ
+  pub of-row : PartOf c s row
   pub list-long : isListShort list ≡ false
   pub notes : NoteRoom (c .keeps) (s .worked) (s .lent)
   pub planes : PlaneRoom (s .used) 256 (s .lent .planes) (s .lent .painted)
 
 -- what the work on it asks, once 2 and 6 don't refuse it
-pub record HereWorkable (c : BatchRow) (s : BatchAt) (list : ListColumns) (start end : ℕ) (held : kept.Kept) : Type 0 where
-  pub turns : Turnable c s list start end
+pub record HereWorkable (c : BatchRow) (s : BatchAt) (list : ListColumns) (held : kept.Kept) : Type 0 where
+  pub turns : Turnable c s list
   pub held-is : held ≡ keptAt (c .keeps) (s .lent .kept) (s .worked)
   pub passes : unless (leb (s .state .to) (s .state .next)) 2 (unless (tagOutOfRange held) 6 pass) ≡ pass
 
@@ -103,6 +113,13 @@ pub record GivesTurn (first : Bool) (g : BatchGiven) (r : Batch) (back : BatchLe
   pub first-is : r .first ≡ g .at .first
   pub end : judgementIn (r .verdict) ≡ g .end
   pub lent-is : back ≡ sided (sameFlag first (g .at .first)) (g .at .lent)
+
+-- for every row that has the part
+pub record GivesPartTurn (first : Bool) (c : BatchRow) (s : BatchAt) (r : Batch) (back : BatchLent) : Type 0 where
+  pub gives : (row : List ℕ) → PartOf c s row → GivesTurn first (turnOf (inRow row c) s) r back
+
+pub record GivesPartBatch (c : BatchRow) (s : BatchAt) (r : Batch) (back : BatchLent) : Type 0 where
+  pub gives : (row : List ℕ) → PartOf c s row → GivesBatch (turnOf (inRow row c) s) r back
 
 -- ---- tiles one after the other
 

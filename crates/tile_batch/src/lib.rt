@@ -72,7 +72,8 @@ fn goes_on(at: Batch, tiles: usize, spare: usize) -> bool
     (at.worked < tiles) & (at.used <= spare)
 }
 
-// Works tile after tile. Each tile's segments are looked for where those of the tile before end.
+// Works tile after tile. Each tile's last segment is searched in what is left of the row, from where the tile before
+// ended.
 fn work_many(
     state: RowState,
     tiles: usize,
@@ -125,16 +126,14 @@ fn work_many(
         first: true,
         verdict: Verdict::Pass,
     };
-    let mut hint: usize = 0;
+    let mut start = parts::left_of_tile(row, state.next as i16).len();
     while goes_on(at, tiles, spare) {
         let stood = at.state;
-        let place = parts::place_of_tile(row, stood.next as i16, hint);
-        hint = place.end;
+        let part = parts::up_to_tile(&row[start..], stood.next as i16);
+        start += part.len();
         at = tile::turn(
             at,
-            row,
-            place.start,
-            place.end,
+            part,
             layers,
             colors,
             count,

@@ -23,10 +23,10 @@ ghost use Rattle.shown_layers.specs.InnerTally.{Walkable};
 ghost use Rattle.row_statements.specs.Lent.{columns, listColumns, lentTable};
 ghost use Rattle.row_statements.specs.State.{stateIn};
 ghost use Rattle.batch_statements.specs.BatchLent.{batchLent, sided};
-ghost use Rattle.batch_statements.specs.Batch.{batchRow, turnOf, GivesBatch};
+ghost use Rattle.batch_statements.specs.Batch.{batchRow};
 ghost use Rattle.batch_painting.specs.InnerShown.{PlaneRoom};
 ghost use Rattle.tile_batch.specs.InnerTurns.{batchIn, walkPast, NotesTile, NoteRoom};
-ghost use Rattle.tile_batch.specs.InnerTurns.{Turnable, HereWorkable, GivesTurn};
+ghost use Rattle.tile_batch.specs.InnerTurns.{Turnable, HereWorkable, GivesPartTurn, GivesPartBatch};
 
 fn refused(at: Batch, refusal: Refusal) -> Batch
     ensures { λ r. ⌜ r ≡ record {
@@ -116,12 +116,10 @@ fn note_tile(
     }
 }
 
-// Works a tile that neither 2 nor 6 refuses, whose segments stand from `start` up to `end`.
+// Works a tile that neither 2 nor 6 refuses.
 fn work_here(
     at: Batch,
-    row: &[u64],
-    start: usize,
-    end: usize,
+    part: &[u64],
     layers: &[u32],
     colors: &[f32],
     count: usize,
@@ -144,24 +142,23 @@ fn work_here(
     painted: &mut [u32],
     sums: &mut [i8; 4096],
 ) -> Batch
-    requires { ⌜ HereWorkable (batchRow (now row) (lentTable (now layers) (now colors) count) keeps clear previous)
+    requires { ⌜ HereWorkable (batchRow (now part) (lentTable (now layers) (now colors) count) keeps clear previous)
         (batchIn at (batchLent (columns (now ids) (now covers)) (columns (now «next_ids») (now «next_covers»))
         (now kept) (now told) (now bottoms) (now planes) (now painted)))
-        (listColumns (now «list_ids») (now «list_covers») (now «list_flags») (now «list_unmasked»)) start end held ⌝ }
-    ensures { λ r. ⌜ GivesTurn (at .first)
-        (turnOf (batchRow (now (row .entry)) (lentTable (now (layers .entry)) (now (colors .entry)) count)
+        (listColumns (now «list_ids») (now «list_covers») (now «list_flags») (now «list_unmasked»)) held ⌝ }
+    ensures { λ r. ⌜ GivesPartTurn (at .first)
+        (batchRow (now (part .entry)) (lentTable (now (layers .entry)) (now (colors .entry)) count)
         keeps clear previous)
         (batchIn at (batchLent (columns (now (ids .entry)) (now (covers .entry)))
         (columns (now («next_ids» .entry)) (now («next_covers» .entry)))
         (now (kept .entry)) (now (told .entry)) (now (bottoms .entry)) (now (planes .entry))
-        (now (painted .entry)))))
+        (now (painted .entry))))
         r
         (batchLent (columns (now (ids .entry)) (now (covers .entry)))
         (columns (now («next_ids» .exit)) (now («next_covers» .exit)))
         (now (kept .exit)) (now (told .exit)) (now (bottoms .exit)) (now (planes .exit)) (now (painted .exit))) ⌝ }
 {
     let state = at.state;
-    let part = &row[start..end];
     let worked = row_working::work_part(
         state,
         part,
@@ -206,12 +203,11 @@ fn work_here(
     }
 }
 
-// Works the next tile, whose carries come in by the first of the two queues and go out by the second.
+// Works the next tile, whose segments are lent. Its carries come in by the first of the two queues and go out by the
+// second.
 fn work_next(
     at: Batch,
-    row: &[u64],
-    start: usize,
-    end: usize,
+    part: &[u64],
     layers: &[u32],
     colors: &[f32],
     count: usize,
@@ -233,17 +229,17 @@ fn work_next(
     painted: &mut [u32],
     sums: &mut [i8; 4096],
 ) -> Batch
-    requires { ⌜ Turnable (batchRow (now row) (lentTable (now layers) (now colors) count) keeps clear previous)
+    requires { ⌜ Turnable (batchRow (now part) (lentTable (now layers) (now colors) count) keeps clear previous)
         (batchIn at (batchLent (columns (now ids) (now covers)) (columns (now «next_ids») (now «next_covers»))
         (now kept) (now told) (now bottoms) (now planes) (now painted)))
-        (listColumns (now «list_ids») (now «list_covers») (now «list_flags») (now «list_unmasked»)) start end ⌝ }
-    ensures { λ r. ⌜ GivesTurn (at .first)
-        (turnOf (batchRow (now (row .entry)) (lentTable (now (layers .entry)) (now (colors .entry)) count)
+        (listColumns (now «list_ids») (now «list_covers») (now «list_flags») (now «list_unmasked»)) ⌝ }
+    ensures { λ r. ⌜ GivesPartTurn (at .first)
+        (batchRow (now (part .entry)) (lentTable (now (layers .entry)) (now (colors .entry)) count)
         keeps clear previous)
         (batchIn at (batchLent (columns (now (ids .entry)) (now (covers .entry)))
         (columns (now («next_ids» .entry)) (now («next_covers» .entry)))
         (now (kept .entry)) (now (told .entry)) (now (bottoms .entry)) (now (planes .entry))
-        (now (painted .entry)))))
+        (now (painted .entry))))
         r
         (batchLent (columns (now (ids .entry)) (now (covers .entry)))
         (columns (now («next_ids» .exit)) (now («next_covers» .exit)))
@@ -255,9 +251,7 @@ fn work_next(
         Verdict::Refuse(refusal) => refused(at, refusal),
         Verdict::Pass => work_here(
             at,
-            row,
-            start,
-            end,
+            part,
             layers,
             colors,
             count,
@@ -286,9 +280,7 @@ fn work_next(
 // Works the next tile from the queue that holds the carries, and writes the other.
 pub fn turn(
     at: Batch,
-    row: &[u64],
-    start: usize,
-    end: usize,
+    part: &[u64],
     layers: &[u32],
     colors: &[f32],
     count: usize,
@@ -310,19 +302,19 @@ pub fn turn(
     painted: &mut [u32],
     sums: &mut [i8; 4096],
 ) -> Batch
-    requires { ⌜ Turnable (batchRow (now row) (lentTable (now layers) (now colors) count) keeps clear previous)
+    requires { ⌜ Turnable (batchRow (now part) (lentTable (now layers) (now colors) count) keeps clear previous)
         (batchIn at (sided (at .first)
         (batchLent (columns (now «a_ids») (now «a_covers»)) (columns (now «b_ids») (now «b_covers»))
         (now kept) (now told) (now bottoms) (now planes) (now painted))))
-        (listColumns (now «list_ids») (now «list_covers») (now «list_flags») (now «list_unmasked»)) start end ⌝ }
-    ensures { λ r. ⌜ GivesBatch
-        (turnOf (batchRow (now (row .entry)) (lentTable (now (layers .entry)) (now (colors .entry)) count)
+        (listColumns (now «list_ids») (now «list_covers») (now «list_flags») (now «list_unmasked»)) ⌝ }
+    ensures { λ r. ⌜ GivesPartBatch
+        (batchRow (now (part .entry)) (lentTable (now (layers .entry)) (now (colors .entry)) count)
         keeps clear previous)
         (batchIn at (sided (at .first)
         (batchLent (columns (now («a_ids» .entry)) (now («a_covers» .entry)))
         (columns (now («b_ids» .entry)) (now («b_covers» .entry)))
         (now (kept .entry)) (now (told .entry)) (now (bottoms .entry)) (now (planes .entry))
-        (now (painted .entry))))))
+        (now (painted .entry)))))
         r
         (batchLent (columns (now («a_ids» .exit)) (now («a_covers» .exit)))
         (columns (now («b_ids» .exit)) (now («b_covers» .exit)))
@@ -331,9 +323,7 @@ pub fn turn(
     if at.first {
         work_next(
             at,
-            row,
-            start,
-            end,
+            part,
             layers,
             colors,
             count,
@@ -358,9 +348,7 @@ pub fn turn(
     } else {
         work_next(
             at,
-            row,
-            start,
-            end,
+            part,
             layers,
             colors,
             count,

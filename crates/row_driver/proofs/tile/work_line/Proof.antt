@@ -1,6 +1,10 @@
 -- `tile::work_line` meets its contract. Assumes nothing.
+use mathlib.Core.Path.{_≡_}
+use mathlib.Core.List.{List}
+use Prim.Native.Nat.{ℕ}
 use borrow.Author.Needs.{needs}
 use lib.IntN.{pos}
+use Rattle.segment_rows.specs.Search.{tilePart}
 use Rattle.cached_tile.specs.Kept.{noTile}
 use Rattle.layer_workbench.specs.declared.PreviousClear.the-variants.{Absent}
 use Rattle.row_statements.specs.Lent.{columns, listColumns, lentTable}
@@ -13,11 +17,11 @@ use Rattle.row_driver.proofs.tile.work_line.Statement.{statement}
 use Rattle.row_driver.proofs.tile.work_line.Tie as tie
 use Rattle.row_driver.proofs.Listed.{painter, accepted, few, walkable, line-done, line-refused}
 
--- what the function is called with, and what it is lent
-called : tie.Start → WorkCall
-called s =
+-- what the function is called with where the part is a row's, and what it is lent
+called : tie.Start → List ℕ → WorkCall
+called s row =
     let a = s .args in
-    argsOf (a .state) (a .row .now) (a .layers .now) (a .colors .now) (a .count) (columns (a .ids .now) (a .covers .now))
+    argsOf (a .state) row (a .layers .now) (a .colors .now) (a .count) (columns (a .ids .now) (a .covers .now))
 
 lentTo : tie.Start → WorkLent
 lentTo s =
@@ -30,40 +34,45 @@ backOf c =
     let l = c .work-part .last in
     workLent (columns (l .1 .1 .1 .1 .1 .1 .1 .1 .1 .1 .0) (l .1 .1 .1 .1 .1 .1 .1 .1 .1 .1 .1 .0)) (listColumns (l .1 .1 .1 .1 .1 .1 .1 .1 .1 .1 .1 .1 .0) (l .1 .1 .1 .1 .1 .1 .1 .1 .1 .1 .1 .1 .1 .0) (l .1 .1 .1 .1 .1 .1 .1 .1 .1 .1 .1 .1 .1 .1 .0) (l .1 .1 .1 .1 .1 .1 .1 .1 .1 .1 .1 .1 .1 .1 .1 .0))
 
--- what it says, once: the slice is the part of the state's next tile
-given-is : (c : tie.After-work-part) → let s = c .before .before .before .before .before .before .before .before .before .before .before .before .before .before .before .before .before .before .before in GivesWork (workedBy (called s) (lentTo s)) (c .work-part .result) (backOf c)
+-- what it says, once
+given-is : (c : tie.After-work-part) (row : List ℕ) → let s = c .before .before .before .before .before .before .before .before .before .before .before .before .before .before .before .before .before .before in s .args .part .now ≡ tilePart (pos (s .args .state .next)) row → GivesWork (workedBy (called s row) (lentTo s)) (c .work-part .result) (backOf c)
 unfolding called lentTo backOf
-given-is c =
-    let s = c .before .before .before .before .before .before .before .before .before .before .before .before .before .before .before .before .before .before .before in
-    rw (c .before .before .before .before .before .before .before .before .before .absent .ensures, c .before .before .before .before .before .before .before .before .clear-color .ensures) at (c .work-part .ensures .gives (pos (s .args .state .next)) (s .args .row .now) (s .pre .1 .part))
+given-is c row own =
+    rw (c .before .before .before .before .before .before .before .before .before .absent .ensures, c .before .before .before .before .before .before .before .before .clear-color .ensures) at (c .work-part .ensures .gives (pos (c .before .before .before .before .before .before .before .before .before .before .before .before .before .before .before .before .before .before .args .state .next)) row own)
 
 work-part-requires : tie.Need-work-part-requires
 work-part-requires c κs =
-    let s = c .before .before .before .before .before .before .before .before .before .before .before .before .before .before .before .before .before .before in
+    let s = c .before .before .before .before .before .before .before .before .before .before .before .before .before .before .before .before .before in
     let a = s .args in
-    part-judged (a .state) (pos (a .state .next)) (a .row .now) (lentTable (a .layers .now) (a .colors .now) (a .count)) noTile clearColor Absent (columns (a .ids .now) (a .covers .now)) (workLent (columns (a .next-ids .now) (a .next-covers .now)) (listColumns (a .list-ids .now) (a .list-covers .now) (a .list-flags .now) (a .list-unmasked .now))) (s .pre .1 .part) (s .pre .0 .judged)
+    part-judged (a .state) (pos (a .state .next)) (s .pre .row) (lentTable (a .layers .now) (a .colors .now) (a .count)) noTile clearColor Absent (columns (a .ids .now) (a .covers .now)) (workLent (columns (a .next-ids .now) (a .next-covers .now)) (listColumns (a .list-ids .now) (a .list-covers .now) (a .list-flags .now) (a .list-unmasked .now))) (s .pre .part-is) (s .pre .workable .judged)
 
 tally-shown-requires : tie.Need-tally-shown-requires
 unfolding called lentTo backOf
 tally-shown-requires c κs =
-    let s = c .before .before .before .before .before .before .before .before .before .before .before .before .before .before .before .before .before .before .before .before .before .before .before .before .before .before .before .before .before .before .before .before .before .before .before .before in
-    let given = given-is (c .before .before .before .before .before .before .before .before .before .before .before .before .before .before .before .before .before) in
-    let t = accepted (called s) (lentTo s) (s .pre .0) (c .before .before .before .before .before .answer .given .1) given in
-    rw (s .pre .1 .part) (painter (called s) (lentTo s) (s .pre .0), walkable (called s) (lentTo s) (s .pre .0) t)
+    let s = c .before .before .before .before .before .before .before .before .before .before .before .before .before .before .before .before .before .before .before .before .before .before .before .before .before .before .before .before .before .before .before .before .before .before .before in
+    let p = s .pre in
+    let a = called s (p .row) in
+    let t = accepted a (lentTo s) (p .workable) (c .before .before .before .before .before .answer .given .1) (given-is (c .before .before .before .before .before .before .before .before .before .before .before .before .before .before .before .before .before) (p .row) (p .part-is)) in
+    rw (p .part-is) (painter a (lentTo s) (p .workable), walkable a (lentTo s) (p .workable) t)
 
 line-of-requires : tie.Need-line-of-requires
 unfolding called lentTo
 line-of-requires c κs =
-    let s = c .before .before .before .before .before .before .before .before .before .before .before .before .before .before .before .before .before .before .before .before .before .before .before .before .before .before .before .before .before .before .before .before .before .before .before .before .before in
-    let given = given-is (c .before .before .before .before .before .before .before .before .before .before .before .before .before .before .before .before .before .before) in
-    few (called s) (lentTo s) (s .pre .0) (accepted (called s) (lentTo s) (s .pre .0) (c .before .before .before .before .before .before .answer .given .1) given)
+    let s = c .before .before .before .before .before .before .before .before .before .before .before .before .before .before .before .before .before .before .before .before .before .before .before .before .before .before .before .before .before .before .before .before .before .before .before .before in
+    let p = s .pre in
+    let a = called s (p .row) in
+    few a (lentTo s) (p .workable) (accepted a (lentTo s) (p .workable) (c .before .before .before .before .before .before .answer .given .1) (given-is (c .before .before .before .before .before .before .before .before .before .before .before .before .before .before .before .before .before .before) (p .row) (p .part-is)))
 
 returns : tie.Need-returns
 unfolding called lentTo backOf
 returns c =
-    let s = c .before .before .before .before .before .before .before .before .before .before .before .before .before .before .before .before .before .before .before .before .before .before .before .before .before .before .before .before .before .before .before .before in
-    let given = given-is (c .before .before .before .before .before .before .before .before .before .before .before .before .before) in
-    record { works = given; line-is = λ e. absurd (line-refused (called s) (lentTo s) (s .pre .0) (c .before .enum-told .given .1) given e) }
+    let s = c .before .before .before .before .before .before .before .before .before .before .before .before .before .before .before .before .before .before .before .before .before .before .before .before .before .before .before .before .before .before .before in
+    record {
+      gives =
+          λ row own workable.
+          let given = given-is (c .before .before .before .before .before .before .before .before .before .before .before .before .before) row own in
+          record { works = given; line-is = λ e. absurd (line-refused (called s row) (lentTo s) workable (c .before .enum-told .given .1) given e) };
+    }
 
 same-length-7 : tie.Need-same-length-7
 same-length-7 c = c .before .before .before .before .before .before .before .before .before .before .before .before .before .before .before .before .before .before .before .work-part .kept .1 .1 .1 .1 .1 .1 .1 .1 .1 .1 .0
@@ -86,17 +95,20 @@ same-length-12 c = c .before .before .before .before .before .before .before .be
 returns-2 : tie.Need-returns-2
 unfolding called lentTo backOf
 returns-2 c =
-    let s = c .before .before .before .before .before .before .before .before .before .before .before .before .before .before .before .before .before .before .before .before .before .before .before .before .before .before .before .before .before .before .before .before .before .before .before .before .before .before in
-    let given = given-is (c .before .before .before .before .before .before .before .before .before .before .before .before .before .before .before .before .before .before .before) in
-    let t = accepted (called s) (lentTo s) (s .pre .0) (c .before .before .before .before .before .before .before .answer .given .1) given in
-    let tallied = rw (s .pre .1 .part, c .before .before .before .is-paint .ensures) at (c .before .tally-shown .ensures) in
-    record { works = given; line-is = λ e. line-done (called s) (lentTo s) (s .pre .0) t (c .before .tally-shown .result) tallied (c .line-of .ensures) }
+    let s = c .before .before .before .before .before .before .before .before .before .before .before .before .before .before .before .before .before .before .before .before .before .before .before .before .before .before .before .before .before .before .before .before .before .before .before .before .before in
+    record {
+      gives =
+          λ row own workable.
+          let given = given-is (c .before .before .before .before .before .before .before .before .before .before .before .before .before .before .before .before .before .before .before) row own in
+          let t = accepted (called s row) (lentTo s) workable (c .before .before .before .before .before .before .before .answer .given .1) given in
+          let tallied = rw (own, c .before .before .before .is-paint .ensures) at (c .before .tally-shown .ensures) in
+          record { works = given; line-is = λ e. line-done (called s row) (lentTo s) workable t (c .before .tally-shown .result) tallied (c .line-of .ensures) };
+    }
 
 pub work-line-spec : {M : Type 1} → statement M
 work-line-spec =
     tie.close
     (tie.spec
-    (λ c. search needs) (λ c. search needs) (λ c. search needs) (λ c. search needs)
     (λ c κs. search needs) (λ c κs. search needs)
     work-part-requires
     (λ c. search needs) (λ c κs. search needs) (λ c. search needs) (λ c κs. search needs)

@@ -1,5 +1,7 @@
 -- `tile::work_here` meets its contract. Assumes nothing.
 use mathlib.Core.Path.{_≡_, refl, subst}
+use mathlib.Core.List.{List}
+use Prim.Native.Nat.{ℕ}
 use borrow.Author.Needs.{needs}
 use lib.Dec.{leb}
 use Rattle.refusals.specs.Refusal.{pass, unless}
@@ -13,14 +15,14 @@ use Rattle.row_working.proofs.PartLaws.{part-judged}
 use Rattle.row_driver.proofs.Listed.{painter, accepted, walkable}
 use Rattle.batch_statements.specs.BatchLent.{batchLent, keptAt}
 use Rattle.batch_statements.specs.Batch.{BatchRow, BatchAt, batchRow, callAt}
-use Rattle.tile_batch.specs.InnerTurns.{batchIn}
+use Rattle.tile_batch.specs.InnerTurns.{batchIn, PartOf}
 use Rattle.tile_batch.proofs.Turning.{ownJudged, workable, turn-done, turn-told-refused, both-pass}
 use Rattle.tile_batch.proofs.tile.work_here.Statement.{statement}
 use Rattle.tile_batch.proofs.tile.work_here.Tie as tie
 
--- what the function is called with, where the batch stands, and the list
-abbrev rowOf : tie.Start → BatchRow
-rowOf s = let a = s .args in batchRow (a .row .now) (lentTable (a .layers .now) (a .colors .now) (a .count)) (a .keeps) (a .clear) (a .previous)
+-- what the function is called with where the part is a row's, where the batch stands, and the list
+abbrev rowOf : tie.Start → List ℕ → BatchRow
+rowOf s row = let a = s .args in batchRow row (lentTable (a .layers .now) (a .colors .now) (a .count)) (a .keeps) (a .clear) (a .previous)
 
 abbrev standOf : tie.Start → BatchAt
 standOf s =
@@ -30,12 +32,16 @@ standOf s =
 abbrev listOf : tie.Start → ListColumns
 listOf s = let a = s .args in listColumns (a .list-ids .now) (a .list-covers .now) (a .list-flags .now) (a .list-unmasked .now)
 
--- neither 2 nor 6 applies
-own : (s : tie.Start) → ownJudged (rowOf s) (standOf s) (s .pre .turns .stands) ≡ pass
-own s = subst (λ (k : kept.Kept). unless (leb (s .args .at .state .to) (s .args .at .state .next)) 2 (unless (tagOutOfRange k) 6 pass) ≡ pass) (s .pre .held-is) (s .pre .passes)
+abbrev Own : tie.Start → List ℕ → Type 0
+Own s row = PartOf (rowOf s (s .args .part .now)) (standOf s) row
 
-ready : (s : tie.Start) → driver.Workable (callAt (rowOf s) (standOf s)) (workLent (standOf s .lent .other) (listOf s))
-ready s = workable (rowOf s) (standOf s) (s .pre .turns .stands) (own s) (listOf s) (s .pre .turns .list-long)
+-- neither 2 nor 6 applies
+own : (s : tie.Start) (row : List ℕ) (p : Own s row) → ownJudged (rowOf s row) (standOf s) (p .stands) ≡ pass
+own s row p =
+    subst (λ (k : kept.Kept). unless (leb (s .args .at .state .to) (s .args .at .state .next)) 2 (unless (tagOutOfRange k) 6 pass) ≡ pass) (s .pre .held-is) (s .pre .passes)
+
+ready : (s : tie.Start) (row : List ℕ) → Own s row → driver.Workable (callAt (rowOf s row) (standOf s)) (workLent (standOf s .lent .other) (listOf s))
+ready s row p = workable (rowOf s row) (standOf s) (p .stands) (own s row p) (listOf s) (s .pre .turns .list-long)
 
 -- what the work leaves in the lent memory
 abbrev backOf : tie.After-work-part → WorkLent
@@ -44,28 +50,18 @@ backOf c =
     workLent (columns (l .1 .1 .1 .1 .1 .1 .1 .1 .1 .1 .0) (l .1 .1 .1 .1 .1 .1 .1 .1 .1 .1 .1 .0)) (listColumns (l .1 .1 .1 .1 .1 .1 .1 .1 .1 .1 .1 .1 .0) (l .1 .1 .1 .1 .1 .1 .1 .1 .1 .1 .1 .1 .1 .0) (l .1 .1 .1 .1 .1 .1 .1 .1 .1 .1 .1 .1 .1 .1 .0) (l .1 .1 .1 .1 .1 .1 .1 .1 .1 .1 .1 .1 .1 .1 .1 .0))
 
 -- what the work says, once
-given-is : (c : tie.After-work-part) → let s = c .before .before .before .before .before .before .before .before .before .before .before .before .before .before .before .before .before .before .before .before .before .before .before in GivesWork (workedBy (callAt (rowOf s) (standOf s)) (workLent (standOf s .lent .other) (listOf s))) (c .work-part .result) (backOf c)
-given-is c =
-    let s = c .before .before .before .before .before .before .before .before .before .before .before .before .before .before .before .before .before .before .before .before .before .before .before in
-    rw (s .pre .held-is) at (c .work-part .ensures .gives (standOf s .tile) (s .args .row .now) (s .pre .turns .place .part))
-
-mul-part : tie.Need-mul-part
-mul-part c = search needs
-
-sub-part : tie.Need-sub-part
-sub-part c = search needs
-
-part-part-start : tie.Need-part-part-start
-part-part-start c = search needs
-
-part-part-end : tie.Need-part-part-end
-part-part-end c = search needs
+given-is : (c : tie.After-work-part) (row : List ℕ) → let s = c .before .before .before .before .before .before .before .before .before .before .before .before .before .before .before .before .before .before .before .before .before .before in Own s row → GivesWork (workedBy (callAt (rowOf s row) (standOf s)) (workLent (standOf s .lent .other) (listOf s))) (c .work-part .result) (backOf c)
+given-is c row p =
+    let s = c .before .before .before .before .before .before .before .before .before .before .before .before .before .before .before .before .before .before .before .before .before .before in
+    rw (s .pre .held-is) at (c .work-part .ensures .gives (standOf s .tile) row (p .part-is))
 
 work-part-requires : tie.Need-work-part-requires
 work-part-requires c κs =
-    let s = c .before .before .before .before .before .before .before .before .before .before .before .before .before .before .before .before .before .before .before .before .before .before in
+    let s = c .before .before .before .before .before .before .before .before .before .before .before .before .before .before .before .before .before .before .before .before .before in
     let a = s .args in
-    part-judged (a .at .state) (standOf s .tile) (a .row .now) (rowOf s .table) (keptAt (a .keeps) (a .kept .now) (a .at .worked)) (a .clear) (a .previous) (standOf s .lent .queue) (workLent (standOf s .lent .other) (listOf s)) (s .pre .turns .place .part) (ready s .judged)
+    let t = s .pre .turns in
+    part-judged (a .at .state) (standOf s .tile) (t .row) (rowOf s (t .row) .table) (keptAt (a .keeps) (a .kept .now) (a .at .worked)) (a .clear) (a .previous) (standOf s .lent .queue)
+    (workLent (standOf s .lent .other) (listOf s)) (t .of-row .part-is) (ready s (t .row) (t .of-row) .judged)
 
 enum-known-answer : tie.Need-enum-known-answer
 enum-known-answer c = search needs
@@ -78,11 +74,15 @@ enum-known-answer-2 c = search needs
 
 note-tile-requires : tie.Need-note-tile-requires
 note-tile-requires c κs =
-    let s = c .before .before .before .before .before .before .before .before .before .before .before .before .before .before .before .before .before .before .before .before .before .before .before .before .before .before .before .before .before .before .before .before .before .before .before .before .before .before .before .before .before .before in
-    let t = accepted (callAt (rowOf s) (standOf s)) (workLent (standOf s .lent .other) (listOf s)) (ready s) (c .before .before .before .before .before .before .before .answer2 .given .1) (given-is (c .before .before .before .before .before .before .before .before .before .before .before .before .before .before .before .before .before .before .before)) in
+    let s = c .before .before .before .before .before .before .before .before .before .before .before .before .before .before .before .before .before .before .before .before .before .before .before .before .before .before .before .before .before .before .before .before .before .before .before .before .before .before .before .before .before in
+    let row = s .pre .turns .row in
+    let p = s .pre .turns .of-row in
+    let call = callAt (rowOf s row) (standOf s) in
+    let lent = workLent (standOf s .lent .other) (listOf s) in
+    let t = accepted call lent (ready s row p) (c .before .before .before .before .before .before .before .answer2 .given .1) (given-is (c .before .before .before .before .before .before .before .before .before .before .before .before .before .before .before .before .before .before .before) row p) in
     let n = s .pre .turns .notes in
-    rw (s .pre .turns .place .part)
-    (painter (callAt (rowOf s) (standOf s)) (workLent (standOf s .lent .other) (listOf s)) (ready s), walkable (callAt (rowOf s) (standOf s)) (workLent (standOf s .lent .other) (listOf s)) (ready s) t, record { kept = n .kept; told = n .told; bottoms = n .bottoms }, s .pre .turns .planes, t .no-clip)
+    rw (p .part-is)
+    (painter call lent (ready s row p), walkable call lent (ready s row p) t, record { kept = n .kept; told = n .told; bottoms = n .bottoms }, s .pre .turns .planes, t .no-clip)
 
 same-length : tie.Need-same-length
 same-length c = search needs
@@ -104,8 +104,13 @@ same-length-6 c = search needs
 
 returns : tie.Need-returns
 returns c =
-    let s = c .before .before .before .before .before .before .before .before .before .before .before .before .before .before .before .before .before .before .before .before .before .before .before .before .before .before .before .before .before .before .before .before .before .before .before .before .before in
-    turn-told-refused (rowOf s) (s .args .at) (standOf s .lent) (s .pre .turns .stands) (own s) (listOf s) (s .pre .turns .list-long) (given-is (c .before .before .before .before .before .before .before .before .before .before .before .before .before .before)) (c .before .before .answer .given .1) (c .refused .ensures)
+    let s = c .before .before .before .before .before .before .before .before .before .before .before .before .before .before .before .before .before .before .before .before .before .before .before .before .before .before .before .before .before .before .before .before .before .before .before .before in
+    record {
+      gives =
+          λ row p.
+          turn-told-refused (rowOf s row) (s .args .at) (standOf s .lent) (p .stands) (own s row p) (listOf s) (s .pre .turns .list-long) (given-is (c .before .before .before .before .before .before .before .before .before .before .before .before .before .before) row p) (c .before .before .answer .given .1)
+          (c .refused .ensures);
+    }
 
 same-length-7 : tie.Need-same-length-7
 same-length-7 c = c .before .before .before .before .before .before .before .before .before .before .before .before .before .before .before .before .before .before .before .before .before .before .before .before .before .before .before .before .before .before .work-part .kept .1 .1 .1 .1 .1 .1 .1 .1 .1 .1 .0
@@ -142,20 +147,22 @@ same-length-17 c = search needs
 
 returns-2 : tie.Need-returns-2
 returns-2 c =
-    let s = c .before .before .before .before .before .before .before .before .before .before .before .before .before .before .before .before .before .before .before .before .before .before .before .before .before .before .before .before .before .before .before .before .before .before .before .before .before .before .before .before .before .before .before .before .before .before .before .before .before .before .before .before .before in
-    let g = given-is (c .before .before .before .before .before .before .before .before .before .before .before .before .before .before .before .before .before .before .before .before .before .before .before .before .before .before .before .before .before .before) in
+    let s = c .before .before .before .before .before .before .before .before .before .before .before .before .before .before .before .before .before .before .before .before .before .before .before .before .before .before .before .before .before .before .before .before .before .before .before .before .before .before .before .before .before .before .before .before .before .before .before .before .before .before .before .before in
+    let t = s .pre .turns in
     let e = c .before .before .before .before .before .before .before .before .before .before .before .before .before .before .before .before .before .before .answer2 .given .1 in
-    let v = both-pass (rowOf s) (s .args .at) (standOf s .lent) (s .pre .turns .stands) (own s) (listOf s) (s .pre .turns .list-long) g e in
-    turn-done (rowOf s) (standOf s) (s .pre .turns .stands) v (s .pre .turns .planes) (s .args .at) (standOf s .lent) refl (listOf s) (s .pre .turns .list-long) g e (rw (s .pre .turns .place .part) at (c .before .before .before .before .before .before .before .before .before .before .note-tile .ensures))
+    record {
+      gives =
+          λ row p.
+          let g = given-is (c .before .before .before .before .before .before .before .before .before .before .before .before .before .before .before .before .before .before .before .before .before .before .before .before .before .before .before .before .before .before) row p in
+          let v = both-pass (rowOf s row) (s .args .at) (standOf s .lent) (p .stands) (own s row p) (listOf s) (t .list-long) g e in
+          turn-done (rowOf s row) (standOf s) (p .stands) v (t .planes) (s .args .at) (standOf s .lent) refl (listOf s) (t .list-long) g e
+          (rw (p .part-is) at (c .before .before .before .before .before .before .before .before .before .before .note-tile .ensures));
+    }
 
 pub work-here-spec : {M : Type 1} → statement M
 work-here-spec =
     tie.close
     (tie.spec
-    mul-part
-    sub-part
-    part-part-start
-    part-part-end
     work-part-requires
     enum-known-answer
     refused-requires

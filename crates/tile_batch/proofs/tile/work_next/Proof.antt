@@ -1,6 +1,7 @@
 -- `tile::work_next` meets its contract. Assumes nothing.
 use mathlib.Core.Path.{refl, ap, sym, _∙_}
-use Prim.Native.Nat.{_<_, _^_}
+use mathlib.Core.List.{List}
+use Prim.Native.Nat.{ℕ, _<_, _^_}
 use native.Mathlib.Omega.{arith}
 use borrow.Author.Needs.{needs}
 use lib.IntN.{pos}
@@ -19,8 +20,8 @@ use Rattle.tile_batch.proofs.Turning.{turn-refused, turn-left}
 use Rattle.tile_batch.proofs.tile.work_next.Statement.{statement}
 use Rattle.tile_batch.proofs.tile.work_next.Tie as tie
 
-abbrev rowOf : tie.Start → BatchRow
-rowOf s = let a = s .args in batchRow (a .row .now) (lentTable (a .layers .now) (a .colors .now) (a .count)) (a .keeps) (a .clear) (a .previous)
+abbrev rowOf : tie.Start → List ℕ → BatchRow
+rowOf s row = let a = s .args in batchRow row (lentTable (a .layers .now) (a .colors .now) (a .count)) (a .keeps) (a .clear) (a .previous)
 
 abbrev standOf : tie.Start → BatchAt
 standOf s =
@@ -58,7 +59,13 @@ returns : tie.Need-returns
 returns c =
     let s = c .before .before .before .before .before .before .before .before .before .before .before .before .before .before .before .before .before .before .before .before .before in
     let told = sym (rw (c .before .before .before .before .before .kept-at .ensures) at (c .before .before .before .before .judge-next .ensures)) ∙ ap judgementIn (c .before .before .refusal .given .1) in
-    turn-left (rowOf s) (standOf s) (s .args .at) _ (standOf s .lent) _ refl (turn-refused (rowOf s) (standOf s) (s .pre .stands) (ap (λ (j : Judgement). andThen j (layersVerdict (callAt (rowOf s) (standOf s)))) told)) (c .refused .ensures)
+    record {
+      gives =
+          λ row p.
+          turn-left (rowOf s row) (standOf s) (s .args .at) _ (standOf s .lent) _ refl
+          (turn-refused (rowOf s row) (standOf s) (p .stands) (ap (λ (j : Judgement). andThen j (layersVerdict (callAt (rowOf s row) (standOf s)))) told))
+          (c .refused .ensures);
+    }
 
 same-length-2 : tie.Need-same-length-2
 same-length-2 c = search needs
