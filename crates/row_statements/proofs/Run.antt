@@ -94,6 +94,15 @@ run-right is-open holds (Run.next s rest) =
     let u = step-right is-open holds s in
     (u .0, run-right is-open (u .1) rest)
 
+-- what the caller then holds is the row's carries, after some calls
+pub record HoldsAfter (o : OpenRow) (h : Held) : Type 0 where
+  pub past : Past
+  pub holds : Holds o past h
+
+pub run-holds : {o : OpenRow} {p : Past} {h h′ : Held} {es : List Event} → IsOpen o → Holds o p h → Run o h es h′ → HoldsAfter o h′
+run-holds {p = p} is-open holds Run.none = record { past = p; holds = holds }
+run-holds is-open holds (Run.next s rest) = run-holds is-open (step-right is-open holds s .1) rest
+
 -- ---- the opening
 
 -- an opening that gives a state is refused by neither 7 nor 9

@@ -16,7 +16,8 @@ use Rattle.queue_records.proofs.Reading.{ids-length}
 use Rattle.row_statements.specs.Lent.{Columns, carriesIn, isQueueShort}
 use Rattle.row_statements.specs.Run.{SameCarries, Step}
 use Rattle.tile_row_columns.specs.Lent.{columnsFor}
-use Rattle.tile_row_records.specs.Steps.{HoldsCarries, WorkStep, PaintStep}
+use Rattle.row_statements.proofs.Run.{accepted, is-open, held-first, HoldsAfter, run-holds}
+use Rattle.tile_row_records.specs.Steps.{HoldsCarries, AfterCalls, WorkStep, PaintStep}
 use Rattle.tile_row_columns.proofs.SameQueue.{records-long, records-read}
 
 pub same-carries : {n : ℕ} {k : Columns} (q : List CarryRecord) → isQueueShort k ≡ false → HoldsCarries n k q → SameCarries n k (columnsFor q)
@@ -28,8 +29,18 @@ same-carries {n} {k} q short holds =
     let ids : take n (recordIds q) ≡ take n (k .ids) = sym (ids-queue n (recordIds q) (recordCovers q) here) ∙ ap idsIn reads ∙ ids-queue n (k .ids) (k .covers) there in
     record { reads = reads; room = records-long q (holds .long) ∙ sym short; order = ap (λ (l : List ℕ). leb n 256 && strictlyAscends l) ids }
 
+-- what the caller holds after calls is long enough for 256 carries
+held-after : AfterCalls HoldsAfter
+held-after c lent back s es h w g run =
+    let a = accepted c lent back s g in
+    run-holds (is-open c lent back s w a) (held-first c lent back s w a) run
+
 pub work-step : WorkStep
-work-step o p h holds c q r back records g = Step.work (same-carries q (holds .queue .long) records) g
+work-step c lent back s es h w g run choice q r left records gives =
+    let holds = held-after c lent back s es h w g run .holds in
+    Step.work (same-carries q (holds .queue .long) records) gives
 
 pub paint-step : PaintStep
-paint-step o p h holds c q r back records g = Step.paint (same-carries q (holds .taken-long) records) g
+paint-step c lent back s es h w g run choice q r left records gives =
+    let holds = held-after c lent back s es h w g run .holds in
+    Step.paint (same-carries q (holds .taken-long) records) gives
