@@ -73,16 +73,19 @@
 //! then decided as [`Decision::None`], and a solid one whose bytes are there already is [`Settled::Keep`].
 //!
 //! That decides as the Rust does, which at times keeps a tile with a wrong picture. A [`TileHistory`] for each tile, in
-//! place of the cached tile, keeps what it takes to keep only what is right. It looks at each tile's list, and so works
-//! tile by tile:
+//! place of the cached tile, remembers what it takes to keep only tiles that would be drawn afresh in the same way. It
+//! looks at each tile's list, and so works tile by tile. Only a solid tile is settled:
 //!
 //! ```
-//! use tile_rows::{Color, Decision, Layer, LayerTable, Refusal, Row, Style, TileHistory};
-//! # fn draw_afresh(_: &Row, _: Decision) -> [u8; 4] { [0; 4] }
+//! use tile_rows::{
+//!     Color, Decision, Layer, LayerTable, Plane, Refusal, Row, Settled, Style, TileHistory,
+//! };
+//! # fn mixed(bottom: Color) -> [u8; 4] { bottom.numbers().map(|number| (number * 255.0) as u8) }
 //!
 //! # fn main() -> Result<(), Refusal> {
 //! let white = Color { r: 1.0, g: 1.0, b: 1.0, a: 1.0 };
 //! let mut tiles = vec![TileHistory::new(); 4];
+//! let mut plane = Plane::new();
 //! for frame in 0..3 {
 //!     // In frame 1 and later, layers that stood in the frame before with the same record and segments are unchanged.
 //!     let mut layer = Layer::draw(1, Style::solid(white));
@@ -91,9 +94,17 @@
 //!     let mut row = Row::open(&[], &table, 0, 0..4)?;
 //!     for (tile, history) in (0..).zip(&mut tiles) {
 //!         let worked = history.work(&mut row, tile, frame, white)?;
-//!         if worked.decision != Decision::None {
-//!             let bytes = draw_afresh(&row, worked.decision);
-//!             history.settle(bytes)?; // of a solid tile: whether the bytes are to be written
+//!         match worked.decision {
+//!             Decision::None => {} // the tile stays as it is
+//!             Decision::Solid { bottom, .. } => {
+//!                 // Mix the colours of the shown layers of `row.listed()` above `bottom`, and make the display bytes.
+//!                 if history.settle(mixed(bottom))? == Settled::Write {
+//!                     // Fill the tile with them.
+//!                 }
+//!             }
+//!             Decision::Paint => row.paint_shown(&mut plane, |_layer, _plane, _mark| {
+//!                 // Blend the layer by its coverages. Nothing is settled.
+//!             })?,
 //!         }
 //!         assert_eq!(worked.decision == Decision::None, frame > 0);
 //!     }

@@ -1,6 +1,6 @@
 //! The layer table: what the painter asks of a layer.
 
-use crate::{exports, Color, Fill, FillRule, Refusal, Style};
+use crate::{exports, Color, Fill, FillRule, Refusal, Style, TileList};
 
 /// What a layer does.
 #[derive(Clone, Copy, Debug, PartialEq)]
@@ -105,17 +105,39 @@ impl LayerTable {
         }
     }
 
-    /// The kinds of listed layers, ascending, of a table that was judged: 0 a draw that is not clipped, 1 a clip, 2 a
-    /// clipped draw.
-    pub(crate) fn put_kinds(&self, ids: &[u32], kinds: &mut [u8]) {
+    /// The records of a list's layers, one for each; the list was made with this table.
+    pub(crate) fn listed<'a>(&'a self, list: &'a TileList) -> impl Iterator<Item = ListedRecord<'a>> {
         let mut records = self.words.chunks_exact(8);
-        for (&id, kind) in ids.iter().zip(kinds) {
-            let record = records.find(|record| record[0] == id).expect("a listed layer has a record");
-            *kind = if record[2] == 1 { 1 } else { 2 * u8::from(record[4] == 1) };
-        }
+        list.ids[..list.count]
+            .iter()
+            .map(move |&id| ListedRecord(records.find(|words| words[0] == id).expect("a listed layer has a record")))
     }
 
     pub(crate) fn lent(&self) -> (&[u32], &[f32], usize) {
         (&self.words, &self.colors, self.count)
+    }
+}
+
+/// The words of a listed layer in a table that was judged.
+pub(crate) struct ListedRecord<'a>(&'a [u32]);
+
+impl ListedRecord<'_> {
+    /// Which windings are inside.
+    pub(crate) fn rule(&self) -> FillRule {
+        if self.0[1] == 1 {
+            FillRule::EvenOdd
+        } else {
+            FillRule::NonZero
+        }
+    }
+
+    /// Of a clip, the last id that it reaches. Id and span have 21 bits each.
+    pub(crate) fn clip_end(&self) -> Option<u32> {
+        (self.0[2] == 1).then(|| self.0[0] + self.0[3])
+    }
+
+    /// Whether it is a clipped draw.
+    pub(crate) fn is_clipped(&self) -> bool {
+        self.0[2] == 0 && self.0[4] == 1
     }
 }

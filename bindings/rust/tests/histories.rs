@@ -1,8 +1,9 @@
-//! Tiles from frame to frame: the histories of docs/DIFFERENCES.md, as the Rust's caller has them and by the protocol.
+//! Tiles from frame to frame: the histories of docs/DIFFERENCES.md, as the Rust's caller has them and by the rule; what
+//! the rule keeps and what it lets go; and the loop of the crate's front page over a small display.
 
 use tile_rows::{
-    CachedTile, Color, Decision, Fields, Frame, Layer, LayerTable, PixelSegment, Refusal, Row, Settled, Style,
-    TileHistory,
+    CachedTile, Color, Decision, Fields, Fill, Frame, Func, Layer, LayerTable, PixelSegment, Plane, Refusal, Row,
+    Settled, Style, TileHistory,
 };
 
 const fn color(r: f32, g: f32, b: f32, a: f32) -> Color {
@@ -58,9 +59,13 @@ fn plain(cached: &mut CachedTile, layers: &[Layer], previous_clear: Option<Color
 
 /// The same by its history, which must list as many layers.
 fn kept(history: &mut TileHistory, layers: &[Layer], frame: u64) -> &'static str {
+    kept_on(history, layers, frame, BLACK)
+}
+
+fn kept_on(history: &mut TileHistory, layers: &[Layer], frame: u64, clear: Color) -> &'static str {
     let (segments, table) = (full(layers), LayerTable::new(layers));
     let mut row = Row::open(&segments, &table, 0, 0..1).unwrap();
-    let worked = history.work(&mut row, 0, frame, BLACK).unwrap();
+    let worked = history.work(&mut row, 0, frame, clear).unwrap();
     assert_eq!((worked.listed, row.listed().len(), row.next_tile()), (layers.len(), layers.len(), 1));
     if let Decision::Solid { bottom, .. } = worked.decision {
         history.settle(bytes(&row, bottom)).unwrap();
@@ -163,6 +168,22 @@ fn g_another_first_tile() {
     assert_eq!(work(&mut history, &left, 1, 2), "none");
 }
 
+/// What is proved is about rows that begin at one tile: another first tile draws afresh, even where nothing changed.
+#[test]
+fn another_first_tile_draws_afresh() {
+    let layers = [unchanged(draw(1, RED))];
+    let (segments, table) = (full(&layers), LayerTable::new(&layers));
+    let mut history = TileHistory::new();
+    let words = [(0, 0), (0, 1), (1, 2), (1, 3)].map(|(from, frame)| {
+        let mut row = Row::open(&segments, &table, 0, from..2).unwrap();
+        if from == 0 {
+            row.work(0, &Frame { clear: BLACK, previous_clear: None }, None).unwrap();
+        }
+        history.work(&mut row, 1, frame, BLACK).unwrap().decision.word()
+    });
+    assert_eq!(words, ["solid", "none", "solid", "none"]);
+}
+
 /// H: a layer that comes back after a frame's absence is changed since the frame before.
 #[test]
 fn h_a_layer_that_comes_back() {
@@ -186,4 +207,159 @@ fn keep_is_said_where_the_count_was_dropped() {
     let mut row = Row::open(&segments, &table, 0, 0..1).unwrap();
     assert_eq!(history.work(&mut row, 0, 1, BLACK).unwrap().decision.word(), "solid");
     assert_eq!(history.settle([255, 0, 0, 255]), Ok(Settled::Keep));
+}
+
+/// Hidden layers may leave and come: the shown ones are alike.
+#[test]
+fn a_hidden_exchange_is_kept() {
+    let mut history = TileHistory::new();
+    assert_eq!(kept(&mut history, &[draw(0, BLUE), draw(2, RED)], 0), "solid");
+    assert_eq!(kept(&mut history, &[draw(1, GREEN), unchanged(draw(2, RED))], 1), "none");
+    assert_eq!(kept(&mut history, &[draw(0, BLUE), draw(1, GREEN), unchanged(draw(2, RED))], 2), "none");
+}
+
+/// A clear colour of other bits, even one that is equal, and even under an opaque layer: the tile is drawn afresh.
+#[test]
+fn another_clear_color_draws_afresh() {
+    let nan = color(f32::NAN, 0.0, 0.0, 1.0);
+    let zeros = [color(0.0, 0.0, 0.0, 1.0), color(-0.0, 0.0, 0.0, 1.0)];
+    for (layers, of_nan) in [([draw(1, RED), draw(2, GREEN)], "none"), ([draw(1, GREEN), draw(2, GREEN)], "solid")] {
+        let (same, mut history) = (layers.map(unchanged), TileHistory::new());
+        let mut on = |clear, frame| kept_on(&mut history, &same, frame, clear);
+        assert_eq!([on(BLUE, 0), on(BLUE, 1)], ["solid", "none"]);
+        assert_eq!([on(zeros[0], 2), on(zeros[0], 3)], ["solid", "none"]);
+        assert_eq!([on(zeros[1], 4), on(zeros[1], 5)], ["solid", "none"]);
+        // A NaN is the same by its bits, but not by ==, which the first pass asks.
+        assert_eq!([on(nan, 6), on(nan, 7)], ["solid", of_nan]);
+        assert_eq!(on(BLUE, 8), "solid");
+    }
+}
+
+/// Two frames of one tile, in the first of which clip 1 has the right half of it, and all else is full. By the Rust, which
+/// keeps the tile, and by the rule.
+fn painted_then(layers: [&[Layer]; 2], by_rule: &str) {
+    let halved = layers[0].iter().flat_map(|layer| edge(layer.id, if layer.id == 1 { 0 } else { -1 }, 8, 16));
+    let mut halved: Vec<PixelSegment> = halved.collect();
+    halved.sort_by(PixelSegment::compare);
+    let (tables, segments) = (layers.map(LayerTable::new), [halved, full(layers[1])]);
+    let (mut cached, mut history) = (CachedTile::default(), TileHistory::new());
+    let words = [0, 1].map(|at| {
+        let row = Row::open(&segments[at], &tables[at], 0, 0..1).unwrap();
+        let frame = Frame { clear: BLACK, previous_clear: (at > 0).then_some(BLACK) };
+        let kept = row.clone().work(0, &frame, Some(&mut cached)).unwrap();
+        let ruled = history.work(&mut row.clone(), 0, at as u64, BLACK).unwrap();
+        [kept.decision.word(), ruled.decision.word()]
+    });
+    assert_eq!(words, [["paint", "paint"], ["none", by_rule]]);
+}
+
+/// Clip 2 is full, and clip 1 is not: the tile is painted. Then two clipped draws without a clip take the place of the
+/// clips. The same is to be seen, but it is drawn in another way.
+#[test]
+fn paint_is_not_kept_for_solid() {
+    let clips = [draw(0, RED), Layer::clip(1, 1), Layer::clip(2, 0)];
+    painted_then([&clips, &[unchanged(draw(0, RED)), clipped(1, GREEN), clipped(2, GREEN)]], "solid");
+}
+
+/// Layer 3 lacks clip 1, which layer 2 covers; then a draw has the place of clip 1, and clip 0, which is full, frees
+/// layer 3. The shown layers are the same by their ids.
+#[test]
+fn whether_a_layer_needs_a_clip_is_remembered() {
+    let lacks = [Layer::clip(0, 3), Layer::clip(1, 3), draw(2, RED), clipped(3, GREEN)];
+    let freed = [unchanged(lacks[0]), draw(1, BLUE), unchanged(lacks[2]), unchanged(lacks[3])];
+    painted_then([&lacks, &freed], "solid");
+}
+
+// ---- the loop of the front page
+
+/// The tile's display, and its history.
+struct Display {
+    history: TileHistory,
+    pixels: [[u8; 4]; 256],
+}
+
+fn over(below: [f32; 4], color: Color, coverage: f32) -> [f32; 4] {
+    let alpha = color.a * coverage;
+    let above = color.numbers();
+    [0, 1, 2, 3].map(|at| if at == 3 { alpha } else { above[at] * alpha } + below[at] * (1.0 - alpha))
+}
+
+fn display_bytes(color: [f32; 4]) -> [u8; 4] {
+    color.map(|number| (number * 255.0).round() as u8)
+}
+
+impl Display {
+    /// A frame of one tile, on black. What is decided, and what settling answered.
+    fn show(
+        &mut self,
+        segments: &[PixelSegment],
+        layers: &[Layer],
+        frame: u64,
+    ) -> Result<(Decision, Option<Settled>), Refusal> {
+        let color_of = |id| match layers.iter().find(|layer| layer.id == id).map(|layer| layer.func) {
+            Some(Func::Draw(Style { fill: Fill::Solid(color), .. })) => color,
+            _ => panic!("only solid draws are shown here"),
+        };
+        let table = LayerTable::new(layers);
+        let mut row = Row::open(segments, &table, 0, 0..1)?;
+        let worked = self.history.work(&mut row, 0, frame, BLACK)?;
+        match worked.decision {
+            Decision::None => {}
+            Decision::Solid { bottom, before } => {
+                let mixed = row.listed().filter(|listed| listed.is_shown()).skip(before);
+                let color = mixed.fold(bottom.numbers(), |below, listed| over(below, color_of(listed.id), 1.0));
+                let settled = self.history.settle(display_bytes(color))?;
+                if settled == Settled::Write {
+                    self.pixels = [display_bytes(color); 256];
+                }
+                return Ok((worked.decision, Some(settled)));
+            }
+            Decision::Paint => {
+                let mut colors = [BLACK.numbers(); 256];
+                row.paint_shown(&mut Plane::new(), |listed, plane, _mark| {
+                    for (color, coverage) in colors.iter_mut().zip(plane.rows().flatten()) {
+                        *color = over(*color, color_of(listed.id), coverage);
+                    }
+                })?;
+                self.pixels = colors.map(display_bytes);
+            }
+        }
+        Ok((worked.decision, None))
+    }
+}
+
+/// Half of the tile is red, and painted; then the row is empty. A tile that was painted is not filled with anything, so
+/// that black is written.
+#[test]
+fn a_painted_tile_is_not_settled() -> Result<(), Refusal> {
+    let (red, black) = ([255, 0, 0, 255], [0, 0, 0, 255]);
+    let mut display = Display { history: TileHistory::new(), pixels: [[7; 4]; 256] };
+    let half = edge(1, 0, 8, 16);
+    assert_eq!(display.show(&half, &[draw(1, RED)], 0)?, (Decision::Paint, None));
+    assert!((0..256).all(|at| display.pixels[at] == if at % 16 < 8 { black } else { red }));
+    assert_eq!(display.show(&half, &[unchanged(draw(1, RED))], 1)?, (Decision::None, None));
+    let (decision, settled) = display.show(&[], &[], 2)?;
+    assert_eq!((decision.word(), settled), ("solid", Some(Settled::Write)));
+    assert_eq!(display.pixels, [black; 256]);
+    let (decision, settled) = display.show(&[], &[draw(1, RED)], 3)?;
+    assert_eq!((decision.word(), settled), ("none", None), "nothing is listed, as before");
+    Ok(())
+}
+
+/// Who settles a painted tile all the same is told to write, and the tile is drawn afresh and written in the next frame.
+#[test]
+fn settling_a_painted_tile_keeps_nothing() -> Result<(), Refusal> {
+    let mut display = Display { history: TileHistory::new(), pixels: [[7; 4]; 256] };
+    let half = edge(1, 0, 8, 16);
+    assert_eq!(display.show(&half, &[draw(1, RED)], 0)?, (Decision::Paint, None));
+    assert_eq!(display.history.cached(), CachedTile([2, 1, 0, 0, 0, 0, 0, 0]));
+    assert_eq!(display.history.settle([0, 0, 0, 255]), Ok(Settled::Write));
+    assert_eq!(display.history.cached(), CachedTile::default());
+    let (decision, settled) = display.show(&[], &[], 1)?;
+    assert_eq!((decision.word(), settled), ("solid", Some(Settled::Write)));
+    // So with a kept tile, which no bytes fill either.
+    assert_eq!(display.show(&[], &[], 2)?.0, Decision::None);
+    assert_eq!(display.history.settle([0, 0, 0, 255]), Ok(Settled::Write));
+    assert_eq!(display.show(&[], &[], 3)?.1, Some(Settled::Write));
+    Ok(())
 }
