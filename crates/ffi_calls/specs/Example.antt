@@ -1,13 +1,18 @@
 -- The claims are not empty: after every opening that tells 0, every list of choices (listing_runs/specs/Example) is that of some calls by numbers, with
--- the verdicts that are due. proofs/Existing has it; specs/Example of listing_runs has an opening that is accepted and choices with each kind of call.
+-- the verdicts that are due. proofs/Existing has it; specs/Example of listing_runs has an opening that is accepted and choices with each kind of call,
+-- those with another row, table, queue and list too.
 use mathlib.Core.Path.{_≡_}
 use mathlib.Core.List.{List, [], _∷_}
 use Rattle.refusals.specs.Refusal.{Judgement}
 use Rattle.segment_rows.specs.Rows.{Words}
 use Rattle.row_statements.specs.Lent.{Columns}
 use Rattle.row_statements.specs.Opening.{OpenCall, openOf}
+use Rattle.row_statements.specs.TileWork.{workVerdict}
+use Rattle.row_statements.specs.Painting.{paintVerdict}
 use Rattle.row_statements.specs.Due.{OpenRow, Past, atFirst, workDueVerdict, paintDueVerdict}
 use Rattle.row_statements.specs.Run.{openRow}
+use Rattle.listing_statements.specs.Listing.{listingVerdict}
+use Rattle.listing_statements.specs.Deciding.{decidingVerdict}
 use Rattle.listing_runs.specs.Due.{listDueVerdict, decideDueVerdict}
 use Rattle.listing_runs.specs.Example.{CallChoice, callChoicesDue}
 use Rattle.ffi_numbers.specs.Rows.{StateNumbers, OpenTold}
@@ -21,10 +26,10 @@ duesTold o p (ListingTold.row (NumbersTold.work c old r new back) ∷ ts) = work
 duesTold o p (ListingTold.row (NumbersTold.paint c old r new back) ∷ ts) = paintDueVerdict o (p .tiles) c ∷ duesTold o (pastListingTold o (ListingTold.row (NumbersTold.paint c old r new back)) p) ts
 duesTold o p (ListingTold.list c old r new back ∷ ts) = listDueVerdict o (p .tiles) c ∷ duesTold o (pastListingTold o (ListingTold.list c old r new back) p) ts
 duesTold o p (ListingTold.decide c old r new back ∷ ts) = decideDueVerdict c ∷ duesTold o p ts
-duesTold o p (ListingTold.otherWork a lent old r new back ∷ ts) = duesTold o p ts
-duesTold o p (ListingTold.otherPaint a plane old r new back ∷ ts) = duesTold o p ts
-duesTold o p (ListingTold.otherList a lent old r new back ∷ ts) = duesTold o p ts
-duesTold o p (ListingTold.otherDecide a unmasked old r new back ∷ ts) = duesTold o p ts
+duesTold o p (ListingTold.otherWork a lent old r new back ∷ ts) = workVerdict a lent ∷ duesTold o p ts
+duesTold o p (ListingTold.otherPaint a plane old r new back ∷ ts) = paintVerdict a plane ∷ duesTold o p ts
+duesTold o p (ListingTold.otherList a lent old r new back ∷ ts) = listingVerdict a lent ∷ duesTold o p ts
+duesTold o p (ListingTold.otherDecide a unmasked old r new back ∷ ts) = decidingVerdict a unmasked ∷ duesTold o p ts
 
 -- calls that these choices make
 pub record CalledSo (o : OpenRow) (p : Past) (k : HeldByNumbers) (cs : List CallChoice) : Type 0 where

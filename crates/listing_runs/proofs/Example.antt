@@ -11,7 +11,7 @@ use Rattle.layer_table.specs.Lookup.{lookup}
 use Rattle.layer_table.specs.Table.{isTableShort, isValid, isTable, layerAt, tableOf}
 use Rattle.cover_statements.specs.Carry.{isLight, carryOf}
 use Rattle.cover_statements.specs.Cover.{isEmpty}
-use Rattle.queue_statements.specs.Queue.{heldIn}
+use Rattle.queue_statements.specs.Queue.{isQueue, heldIn}
 use Rattle.queue_statements.specs.Opening.{addTo, addAll, openQueue, isLightOpening}
 use Rattle.tile_layers.specs.Groups.{groupsOf}
 use Rattle.tile_layers.specs.Listing.{listOf}
@@ -20,7 +20,8 @@ use Rattle.row_carries.specs.Carries.{queueAfter}
 use Rattle.painter.specs.declared.Clip.the-variants.{Absent}
 use Rattle.row_statements.specs.Lent.{Columns, queueOver}
 use Rattle.row_statements.specs.Opening.{leftOf, openVerdict, openCount, openOf, OpensRow}
-use Rattle.row_statements.specs.TileWork.{listVerdict}
+use Rattle.row_statements.specs.TileWork.{argsVerdict, listVerdict}
+use Rattle.row_statements.specs.Painting.{callVerdict}
 use Rattle.row_statements.specs.Due.{atFirst}
 use Rattle.row_statements.specs.Run.{openRow}
 use Rattle.row_statements.specs.Example.{room}
@@ -28,6 +29,8 @@ use Rattle.row_statements.specs.declared.RowState.{RowState}
 use Rattle.row_statements.specs.declared.Opened.the-variants as opened
 use Rattle.row_statements.proofs.Run.{accepted, is-open, held-first}
 use Rattle.row_statements.proofs.Example as row
+use Rattle.listing_statements.specs.Listing.{listCallVerdict}
+use Rattle.listing_statements.specs.Deciding.{linesFor}
 use Rattle.listing_runs.specs.Example.{threeTiles, listingChoices, callChoicesDue, CallsRan}
 use Rattle.listing_runs.proofs.Runs.{exists}
 
@@ -50,8 +53,9 @@ opens = rw counted (record { answer = refl; lent-is = refl })
 -- ---- the calls
 
 due : callChoicesDue (openRow threeTiles) atFirst listingChoices
-    ≡ refuse 2 ∷ refuse 1 ∷ pass ∷ pass ∷ pass ∷ refuse 6 ∷ pass ∷ pass ∷ pass ∷ pass ∷ pass ∷ pass ∷ []
-unfolding callChoicesDue listVerdict listOf groupsOf handedOn queueAfter addTo addAll leftPart tilePart layerPart searchOf halved lookup tableOf layerAt isLight carryOf isEmpty heldIn coverOf tileOf
+    ≡ refuse 2 ∷ refuse 1 ∷ pass ∷ pass ∷ refuse 3 ∷ refuse 4 ∷ refuse 5 ∷ pass ∷ refuse 6 ∷ pass ∷ refuse 4 ∷ refuse 5 ∷ refuse 8 ∷ pass ∷ pass
+    ∷ refuse 3 ∷ refuse 4 ∷ refuse 5 ∷ pass ∷ pass ∷ pass ∷ refuse 3 ∷ refuse 4 ∷ refuse 5 ∷ pass ∷ []
+unfolding callChoicesDue argsVerdict callVerdict listCallVerdict linesFor isTableShort isValid isTable strictlyAscendsFrom ascendsFrom isQueue listVerdict listOf groupsOf handedOn queueAfter addTo addAll leftPart tilePart layerPart searchOf halved lookup tableOf layerAt isLight carryOf isEmpty heldIn coverOf tileOf
 due = refl
 
 pub ran : CallsRan

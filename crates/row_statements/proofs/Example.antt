@@ -20,7 +20,7 @@ use Rattle.layer_table.specs.Lookup.{lookup}
 use Rattle.layer_table.specs.Table.{isTableShort, isValid, isTable, layerAt, tableOf}
 use Rattle.cover_statements.specs.Carry.{isLight, carryOf}
 use Rattle.cover_statements.specs.Cover.{isEmpty, isFull}
-use Rattle.queue_statements.specs.Queue.{idsIn, heldIn}
+use Rattle.queue_statements.specs.Queue.{isQueue, idsIn, heldIn}
 use Rattle.queue_statements.specs.Opening.{addTo, addAll, openQueue, isLightOpening}
 use Rattle.tile_layers.specs.Groups.{groupsOf}
 use Rattle.tile_layers.specs.Listing.{listOf}
@@ -33,7 +33,8 @@ use Rattle.row_carries.specs.Carries.{queueAfter}
 use Rattle.painter.specs.declared.Clip.the-variants.{Absent}
 use Rattle.row_statements.specs.Lent.{Columns, queueOver}
 use Rattle.row_statements.specs.Opening.{leftOf, openVerdict, openCount, openOf, OpensRow}
-use Rattle.row_statements.specs.TileWork.{listVerdict}
+use Rattle.row_statements.specs.TileWork.{argsVerdict, listVerdict}
+use Rattle.row_statements.specs.Painting.{callVerdict}
 use Rattle.row_statements.specs.Due.{atFirst, queueOn}
 use Rattle.row_statements.specs.Run.{openRow}
 use Rattle.row_statements.specs.Example.{row, call, room, choices, choicesDue, Ran}
@@ -70,8 +71,9 @@ opens = rw counted (record { answer = refl; lent-is = refl })
 
 -- ---- the calls
 
-due : choicesDue (openRow call) atFirst choices ≡ refuse 2 ∷ refuse 1 ∷ refuse 6 ∷ pass ∷ refuse 8 ∷ pass ∷ pass ∷ pass ∷ refuse 2 ∷ pass ∷ []
-unfolding choicesDue listVerdict listOf groupsOf handedOn queueAfter addTo addAll leftPart tilePart layerPart searchOf halved lookup tableOf layerAt isLight carryOf isEmpty heldIn coverOf tileOf
+due : choicesDue (openRow call) atFirst choices
+    ≡ refuse 2 ∷ refuse 1 ∷ refuse 6 ∷ pass ∷ refuse 8 ∷ pass ∷ refuse 3 ∷ refuse 4 ∷ refuse 5 ∷ pass ∷ refuse 3 ∷ refuse 4 ∷ refuse 5 ∷ pass ∷ refuse 2 ∷ pass ∷ []
+unfolding choicesDue argsVerdict callVerdict isTableShort isValid isTable strictlyAscendsFrom ascendsFrom isQueue listVerdict listOf groupsOf handedOn queueAfter addTo addAll leftPart tilePart layerPart searchOf halved lookup tableOf layerAt isLight carryOf isEmpty heldIn coverOf tileOf
 due = refl
 
 lost : (idsIn (queueOn (openRow call) 0) ≡ 1 ∷ 2 ∷ 3 ∷ 4 ∷ []) × (idsIn (queueOn (openRow call) 1) ≡ 2 ∷ 3 ∷ 4 ∷ [])

@@ -1,18 +1,22 @@
 -- The claim is not empty: after every accepted opening, every list of choices is the list of some run's calls. Assumes nothing.
-use mathlib.Core.Path.{_≡_, refl, ap, sym, subst}
-use mathlib.Core.Bool.{not, _||_}
+use mathlib.Core.Path.{_≡_, refl, ap, sym, subst, _∙_}
+use mathlib.Core.Bool.{Bool, not, _||_}
 use mathlib.Core.List.{List, [], _∷_}
 use mathlib.Core.Option.{Option, some, none}
-use Prim.Native.Nat.{ℕ, _+_, _-_}
+use Prim.Native.Nat.{ℕ, suc, _+_, _-_}
 use lib.Dec.{ltb}
+use lib.Ieee.{Float}
 use lib.IntN.{pos}
 use lib.ListN.{length}
 use Rattle.laws.specs.Answer.{Answer, refused, given, isGiven}
-use Rattle.refusals.specs.Refusal.{Judgement, pass, refuse, unless}
+use Rattle.refusals.specs.Refusal.{Judgement, pass, refuse, unless, andThen}
 use Rattle.refusals.proofs.Naming.{refusalOf, Named, named}
+use Rattle.pixel_segment.specs.Field.{cpu}
+use Rattle.segment_rows.specs.Rows.{isRow}
 use Rattle.segment_rows.specs.Search.{tilePart}
 use Rattle.layer_table.specs.Lookup.{lookup}
 use Rattle.styling.specs.declared.Layer.{Layer}
+use Rattle.queue_statements.specs.Queue.{Carry, isQueue}
 use Rattle.cached_tile.specs.Kept.{tagOutOfRange}
 use Rattle.tile_layers.specs.Listing.{Listed, isTooMany, areKnown, areLight}
 use Rattle.pass_statements.specs.Decision as decision
@@ -23,13 +27,14 @@ use Rattle.painter.specs.declared.Clip as painter
 use Rattle.painter.specs.declared.Clip.the-variants.{Absent, Until}
 use Rattle.painter.specs.Clip.{clipIn}
 use Rattle.painter.specs.Painting.{isLightIn}
-use Rattle.row_statements.specs.Lent.{Columns, isQueueShort, isListShort}
-use Rattle.row_statements.specs.State.{State, stateIn}
-use Rattle.row_statements.specs.TileWork.{WorkGiven, TileAnswer, listVerdict, workOut, workOf, GivesWork}
-use Rattle.row_statements.specs.Painting.{PaintGiven, paintOut, paintOf, PaintsLayer}
+use Rattle.row_statements.specs.Lent.{Columns, LentTable, isQueueShort, isListShort, layersOf, isLentTable}
+use Rattle.row_statements.specs.State.{State, stateIn, isWrongNext, isWrongWorked}
+use Rattle.row_statements.specs.Conditions.{firstFive}
+use Rattle.row_statements.specs.TileWork.{WorkCall, WorkLent, WorkGiven, TileAnswer, isShortFor, argsVerdict, listVerdict, listedFor, layersVerdict, workVerdict, saysFor, workOut, workOf, GivesWork}
+use Rattle.row_statements.specs.Painting.{PaintCall, PaintGiven, isPaintShort, callVerdict, layerVerdict, takenFor, partFor, ownVerdict, paintVerdict, paintSays, paintOut, paintOf, PaintsLayer}
 use Rattle.row_statements.specs.Due.{OpenRow, Past, tableOn, queueOn, layersOn, WorkChoice, isNotDue, workDueVerdict, saysOn, stateOn, workDue, PaintChoice, isNotLast, paintDueVerdict, paintOn, paintDue}
 use Rattle.row_statements.specs.Run.{Held, SameCarries, workOn, paintOnto, Event, Step, Run}
-use Rattle.row_statements.specs.Example.{Choice, duesOf, choicesDue}
+use Rattle.row_statements.specs.Example.{Choice, workAt, paintAt, ifTurnedDown, duesOf, choicesDue}
 use Rattle.row_statements.specs.InnerHolding.{IsOpen, Holds}
 use Rattle.row_statements.specs.declared.RowState.{RowState}
 use Rattle.row_statements.specs.declared.TileDone.{TileDone}
@@ -41,6 +46,7 @@ use Rattle.row_statements.specs.declared.PaintAnswer.{PaintAnswer}
 use Rattle.row_statements.specs.declared.PaintAnswer.the-variants as painted
 use Rattle.row_statements.proofs.WorkSteps.{work-due, right-work}
 use Rattle.row_statements.proofs.PaintSteps.{paint-due, right-paint}
+use Rattle.row_statements.proofs.Run.{still-holds}
 
 -- ---- an answer of the code for what is due
 
@@ -96,16 +102,48 @@ work-named o n c =
     (named (isNotDue o n (c .tile)) 2 six refl
     (named (tagOutOfRange (c .kept)) 6 seven refl (listed-named (tableOn o) (layersOn o n))))
 
+layer-named : (table : List Layer) (q : List Carry) (part : List ℕ) (id : ℕ) → Named (layerVerdict table q part id)
+layer-named table q part id =
+    named (not (isGiven (lookup table id))) 8 (unless (not (isLightIn q part id)) 9 pass) refl (named (not (isLightIn q part id)) 9 pass refl tt)
+
 pub paint-named : (o : OpenRow) (n : ℕ) (c : PaintChoice) → Named (paintDueVerdict o n c)
 paint-named o n c =
     let q = queueOn o (n - 1) in
     let part = tilePart (pos (o .from + (n - 1))) (o .row) in
-    let nine = unless (not (isLightIn q part (c .layer))) 9 pass in
-    let eight = unless (not (isGiven (lookup (tableOn o) (c .layer)))) 8 nine in
+    let eight = layerVerdict (tableOn o) q part (c .layer) in
     named (ltb (length (c .plane)) 256) 1 (unless (isNotLast o n (c .tile)) 2 eight) refl
-    (named (isNotLast o n (c .tile)) 2 eight refl
-    (named (not (isGiven (lookup (tableOn o) (c .layer)))) 8 nine refl
-    (named (not (isLightIn q part (c .layer))) 9 pass refl tt)))
+    (named (isNotLast o n (c .tile)) 2 eight refl (layer-named (tableOn o) q part (c .layer)))
+
+-- and so is every number that a call with any row, table and queue is turned down by
+pub five-named : (short wrong : Bool) (y : ℕ) (row : List ℕ) (table : LentTable) (n : ℕ) (ids : List ℕ) (below : Judgement) → Named below → Named (firstFive short wrong y row table n ids below)
+five-named short wrong y row table n ids below h =
+    let five = unless (not (isQueue n ids)) 5 below in
+    let four = unless (not (isLentTable table)) 4 five in
+    let three = unless (not (isRow cpu (suc y) row)) 3 four in
+    named short 1 (unless wrong 2 three) refl
+    (named wrong 2 three refl
+    (named (not (isRow cpu (suc y) row)) 3 four refl
+    (named (not (isLentTable table)) 4 five refl
+    (named (not (isQueue n ids)) 5 below refl h))))
+
+pub then-named : (v w : Judgement) → Named v → Named w → Named (andThen v w)
+then-named pass w first second = second
+then-named (refuse n) w first second = first
+
+any-work-named : (a : WorkCall) (lent : WorkLent) → Named (workVerdict a lent)
+unfolding argsVerdict
+any-work-named a lent =
+    then-named (argsVerdict a lent) (layersVerdict a)
+    (five-named (isShortFor a lent) (isWrongNext (a .state) (a .tile)) (a .state .tileY) (a .row) (a .table) (a .state .left) (a .queue .ids) (unless (tagOutOfRange (a .kept)) 6 pass)
+    (named (tagOutOfRange (a .kept)) 6 pass refl tt))
+    (listed-named (layersOf (a .table)) (listedFor a))
+
+any-paint-named : (a : PaintCall) (plane : List Float) → Named (paintVerdict a plane)
+unfolding callVerdict
+any-paint-named a plane =
+    then-named (callVerdict a plane) (ownVerdict a)
+    (five-named (isPaintShort a plane) (isWrongWorked (a .state) (a .tile)) (a .state .tileY) (a .row) (a .table) (a .state .taken) (a .queue .ids) pass tt)
+    (layer-named (layersOf (a .table)) (takenFor a) (partFor a) (a .layer))
 
 -- ---- so there is an answer of the code that gives it
 
@@ -153,6 +191,37 @@ module _ {o : OpenRow} {p : Past} {h : Held} (is-open : IsOpen o) (holds : Holds
       let held = heldPaint h c in
       subst (λ (out : PaintGiven). PaintsLayer out (paintResult (paintDue o p held)) (paintDue o p held .plane)) (sym (paint-due is-open holds held as-held)) (paint-gives (paintDueVerdict o (p .tiles) held) (paint-named o (p .tiles) held) o p held)
 
+-- ---- a call with any row, table and queue, where it is turned down
+
+pub turned : {v : Judgement} {n : ℕ} (vs : List Judgement) → v ≡ refuse n → v ∷ vs ≡ ifTurnedDown v vs
+turned vs e = subst (λ (u : Judgement). u ∷ vs ≡ ifTurnedDown u vs) (sym e) refl
+
+-- the state that it returns is the one that the caller held
+abbrev pub stillHeld : OpenRow → Past → Held → Held
+stillHeld o p h = record { state = stateIn (stateOut (stateOn o p)); queue = h .queue; taken = h .taken }
+
+abbrev pub workTurned : OpenRow → Past → WorkCall → WorkLent → ℕ → TileWorked
+workTurned o p a lent n = workResult (record { answer = refused n; state = stateOn o p; kept = a .kept; lent = lent })
+
+abbrev pub paintTurned : OpenRow → Past → List Float → ℕ → Painted
+paintTurned o p plane n = paintResult (record { answer = refused n; state = stateOn o p; plane = plane })
+
+module _ {o : OpenRow} {p : Past} {h : Held} (holds : Holds o p h) where
+  pub work-turned : (a : WorkCall) (lent : WorkLent) (n : ℕ) → a .state ≡ stateOn o p → workVerdict a lent ≡ refuse n → Step o h (Event.otherWork a lent (workTurned o p a lent n) lent) (stillHeld o p h)
+  unfolding workOut
+  work-turned a lent n s e =
+      Step.otherWork (s ∙ sym (holds .state)) e
+      (subst (λ (v : Judgement). GivesWork (workOut v (saysFor a) (a .state) (a .kept) lent) (workTurned o p a lent n) lent) (sym e)
+      (record { answer = ap refused (subst Named e (any-work-named a lent)); state = state-back (stateOn o p) ∙ sym s; kept = refl; lent-is = refl }))
+
+  pub paint-turned : (a : PaintCall) (plane : List Float) (n : ℕ) → a .state ≡ stateOn o p → paintVerdict a plane ≡ refuse n → Step o h (Event.otherPaint a plane (paintTurned o p plane n) plane) (stillHeld o p h)
+  unfolding paintOut
+  paint-turned a plane n s e =
+      let says = paintSays (layersOf (a .table)) (takenFor a) (partFor a) (a .layer) (a .state .clip) in
+      Step.otherPaint (s ∙ sym (holds .state)) e
+      (subst (λ (v : Judgement). PaintsLayer (paintOut v says (a .state) plane) (paintTurned o p plane n) plane) (sym e)
+      (record { answer = ap refused (subst Named e (any-paint-named a plane)); state = state-back (stateOn o p) ∙ sym s; plane = refl }))
+
 -- ---- for every list of choices there is a run, with the verdicts that are due
 
 module _ {o : OpenRow} (is-open : IsOpen o) where
@@ -161,6 +230,20 @@ module _ {o : OpenRow} (is-open : IsOpen o) where
     pub after : Held
     pub runs : Run o h events after
     pub dues : duesOf o p events ≡ choicesDue o p cs
+
+  -- a call that is turned down, or that is none
+  other-first : {p : Past} {h h′ : Held} (c : Choice) (cs : List Choice) (v w : Judgement) (e : ℕ → Event) → v ≡ w → ((n : ℕ) → v ≡ refuse n → Step o h (e n) h′)
+      → ((n : ℕ) (es : List Event) → duesOf o p (e n ∷ es) ≡ v ∷ duesOf o p es) → choicesDue o p (c ∷ cs) ≡ ifTurnedDown v (choicesDue o p cs)
+      → Goes p h cs → Goes p h′ cs → Goes p h (c ∷ cs)
+  other-first {p} c cs v pass e is step d q rest still =
+      record { events = rest .events; after = rest .after; runs = rest .runs; dues = rest .dues ∙ sym (q ∙ ap (λ (u : Judgement). ifTurnedDown u (choicesDue o p cs)) is) }
+  other-first {p} c cs v (refuse n) e is step d q rest still =
+      record {
+        events = e n ∷ still .events;
+        after = still .after;
+        runs = Run.next (step n is) (still .runs);
+        dues = d n (still .events) ∙ ap (λ (vs : List Judgement). v ∷ vs) (still .dues) ∙ turned (choicesDue o p cs) is ∙ sym q;
+      }
 
   pub exists : {p : Past} {h : Held} → Holds o p h → (cs : List Choice) → Goes p h cs
   unfolding duesOf choicesDue
@@ -171,3 +254,13 @@ module _ {o : OpenRow} (is-open : IsOpen o) where
   exists {p} {h} holds (Choice.paint c ∷ cs) =
       let rest = exists (right-paint is-open holds (heldPaint h c) as-held (paint-goes is-open holds c) .1) cs in
       record { events = _ ∷ rest .events; after = rest .after; runs = Run.next (Step.paint {c = heldPaint h c} as-held (paint-goes is-open holds c)) (rest .runs); dues = ap (λ (vs : List Judgement). paintDueVerdict o (p .tiles) c ∷ vs) (rest .dues) }
+  exists {p} {h} holds (Choice.otherWork row table c ∷ cs) =
+      let a = workAt (stateOn o p) row table c in
+      let v = workVerdict a (c .lent) in
+      other-first (Choice.otherWork row table c) cs v v (λ n. Event.otherWork a (c .lent) (workTurned o p a (c .lent) n) (c .lent)) refl (λ n e. work-turned holds a (c .lent) n refl e)
+      (λ n es. refl) refl (exists holds cs) (exists (still-holds holds (state-back (stateOn o p))) cs)
+  exists {p} {h} holds (Choice.otherPaint row table c ∷ cs) =
+      let a = paintAt (stateOn o p) row table c in
+      let v = paintVerdict a (c .plane) in
+      other-first (Choice.otherPaint row table c) cs v v (λ n. Event.otherPaint a (c .plane) (paintTurned o p (c .plane) n) (c .plane)) refl (λ n e. paint-turned holds a (c .plane) n refl e)
+      (λ n es. refl) refl (exists holds cs) (exists (still-holds holds (state-back (stateOn o p))) cs)
