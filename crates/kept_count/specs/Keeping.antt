@@ -1,7 +1,8 @@
--- Whether the count that a tile keeps may stay, as a public operation: from the list of the tile's last accepted work and today's, each by ids and
+-- Whether whoever is in one list is in another still, as the same kind, as a public operation on the count that a tile keeps: two lists by ids and
 -- kinds. Judged by 1 and 4 to 7, the lowest that applies; a refusal says its number and leaves the cached tile as it was. Else the answer is `stays`
--- of the two lists, and where it is no, the count's tag is dropped and nothing else. Stands for the protocol under which every *none* is right
--- (`kept_frames/specs/Right`); a caller who wants the Rust's behaviour leaves the call out.
+-- of the two lists, and where it is no, the count's tag is dropped and nothing else. Asked twice, of the shown layers of the tile's last accepted work and of
+-- today and then the other way, it is the comparison of the keep rule (`kept_frames/specs/Right`, `TwiceAlike`); asked once, of all that are listed, it is
+-- not enough (`Wrong`, `KeptOtherwise`). A caller who wants the Rust's behaviour leaves the call out.
 use mathlib.Core.Path.{_≡_}
 use mathlib.Core.Bool.{Bool, true, false, cond, not, _&&_, _||_}
 use mathlib.Core.List.{List}

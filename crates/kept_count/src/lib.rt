@@ -1,5 +1,6 @@
 // Whether a tile may keep its count, as a public operation: judged first, then answered; where it may not, the count's
-// tag is dropped. A caller makes it before a work, so that no tile is kept with a wrong picture.
+// tag is dropped. A caller makes it twice before a work, of the shown layers and each time the other way, so that no
+// tile is kept with a wrong picture.
 pub mod judging;
 pub mod walking;
 
@@ -56,8 +57,9 @@ fn keep_or_drop(may: bool, kept: Kept) -> CountKept
     }
 }
 
-// Whether the count of the tile's last accepted work may stay: whoever of its `last` layers was listed then is listed
-// still among the `n` of today, as the same kind of layer (0 a draw that is not clipped, 1 a clip, 2 a clipped draw).
+// Whether each of the `last` layers is still among the `n`, as the same kind (0, 1 or 2). For the keep rule: the shown
+// layers of the tile's last accepted work and of today, of kind 2 where a layer needs a clip and 0 where not; and then
+// the other way.
 pub fn keep_count(
     last_ids: &[u32],
     last_kinds: &[u8],

@@ -6,23 +6,18 @@ use mathlib.Core.Option.{Option, some, none}
 use Prim.Native.Nat.{ℕ, zero, suc}
 use lib.Dec.{leb}
 use lib.ListN.{length, getD, replicate, length-map, List·getD-map}
-use Rattle.styling.specs.Style.{isClipped}
-use Rattle.styling.specs.declared.Color.{Color}
-use Rattle.pass_statements.specs.Clips.{isClip, stepOf, clipsFrom, marksOf}
+use Rattle.pass_statements.specs.Clips.{stepOf, clipsFrom, marksOf}
 use Rattle.pass_statements.specs.Covered.{hides, lookAt, itemAt, coveredFrom, startOf, coveredOf}
-use Rattle.pass_statements.specs.Decide.{Outcome, shownFrom, shownOf, outcomeOf}
-use Rattle.pass_statements.specs.Rules.{needsClip}
-use Rattle.pass_statements.specs.Unchanged.{wereRemoved}
+use Rattle.pass_statements.specs.Decide.{shownFrom, shownOf}
 use Rattle.pass_statements.specs.declared.item.Item.{Item}
 use Rattle.pass_statements.specs.declared.clips.Current.{Current}
 use Rattle.pass_statements.specs.declared.clips.Current.the-variants.{Nothing}
 use Rattle.pass_statements.specs.declared.covered.Covered.{Covered}
 use Rattle.pass_statements.proofs.Covering.{look-past, look-on, look-last}
-use Rattle.pass_statements.proofs.Outcomes.{outcome-passed}
 use Rattle.painter.specs.Clip.{clipAfter}
-use Rattle.kept_frames.specs.Picture.{unflagged, shownAfresh, strokesFrom, pictureOf}
-use Rattle.kept_frames.specs.Right.{DrawnAfresh, FlagsNoPart}
-use Rattle.kept_frames.proofs.Latest.{freed-flags}
+use Rattle.kept_frames.specs.Picture.{unflagged, shownAfresh, maskAfter, strokesFrom, pictureOf}
+use Rattle.kept_frames.specs.Right.{FlagsNoPart}
+use Rattle.kept_frames.proofs.Latest.{needs-flags}
 
 -- ---- how many are skipped
 
@@ -59,12 +54,6 @@ module _ (items items′ : List Item) (unmasked unclipped : List Bool) (same : (
 pub removed-no-part : (items : List Item) (unmasked unclipped : List Bool) (removed : Bool)
     → coveredOf items unmasked unclipped removed .skipped .0 ≡ coveredOf items unmasked unclipped true .skipped .0
 removed-no-part items unmasked unclipped removed = same-skips items items unmasked unclipped (λ i free. refl) (length items) (startOf items removed) (startOf items true) refl
-
-pub drawn-afresh : DrawnAfresh
-drawn-afresh clear clearUnchanged count items k =
-    let o = outcome-passed clear clearUnchanged count items k in
-    ap (λ (x : Outcome). shownOf (x .skipped) items (x .unmasked)) o
-    ∙ ap (λ (n : ℕ). shownOf n items (marksOf items .unmasked)) (removed-no-part items (marksOf items .unmasked) (marksOf items .unclipped) (wereRemoved count (length items)))
 
 -- ---- flags
 
@@ -110,10 +99,7 @@ strokes-flags : (items : List Item) (xs : List Item) (clip mask : Option ℕ) �
 unfolding strokesFrom
 strokes-flags items [] clip mask = refl
 strokes-flags items (x ∷ xs) clip mask =
-    let needs : needsClip (map unflagged items) (x .func) (x .id) ≡ needsClip items (x .func) (x .id) = ap (λ (f : ℕ → Bool). isClipped (x .func) && not (f (x .id))) (freed-flags items) in
-    let r = strokes-flags items xs (clipAfter (x .func) (x .id) clip) (some (x .id)) in
-    let q = strokes-flags items xs (clipAfter (x .func) (x .id) clip) mask in
-    rw (needs, r, q) refl
+    rw (needs-flags items (x .func) (x .id), strokes-flags items xs (clipAfter (x .func) (x .id) clip) (maskAfter (x .func) (x .id) mask)) refl
 
 pub flags-no-part : FlagsNoPart
 flags-no-part items = ap (strokesFrom (map unflagged items) none none) (afresh-flags items) ∙ strokes-flags items (shownAfresh items) none none

@@ -1,108 +1,25 @@
 -- The keep rule matters only where the full-cover pass would keep the tile. Assumes nothing.
-use mathlib.Core.Path.{_≡_, refl, sym, ap, ap₂, _∙_}
-use mathlib.Core.Bool.{Bool, true, false, cond, not, _&&_}
+use mathlib.Core.Path.{_≡_, refl, sym, ap, _∙_}
+use mathlib.Core.Bool.{Bool, true}
 use mathlib.Core.List.{List}
 use mathlib.Core.Logic.{_⊎_, inl, inr}
-use Prim.Native.Nat.{ℕ, zero, suc}
-use lib.ListN.{length, getD}
+use lib.ListN.{length}
 use Rattle.styling.specs.declared.Color.{Color}
-use Rattle.pass_statements.specs.Clips.{marksOf}
-use Rattle.pass_statements.specs.Covered.{hides, lookAt, itemAt, coveredFrom, areClipsUnchanged, startOf, coveredOf}
-use Rattle.pass_statements.specs.Decide.{Outcome, decisionBy, shownOf, passedOf, outcomeOf}
+use Rattle.pass_statements.specs.Decide.{Outcome, passedOf, outcomeOf}
 use Rattle.pass_statements.specs.Decision as decision
-use Rattle.pass_statements.specs.Decision.{TileDecision}
-use Rattle.pass_statements.specs.Unchanged.{isKept, wereRemoved}
+use Rattle.pass_statements.specs.Unchanged.{wereRemoved}
 use Rattle.pass_statements.specs.declared.item.Item.{Item}
-use Rattle.pass_statements.specs.declared.covered.Covered.{Covered}
-use Rattle.pass_statements.specs.declared.covered.InterestingCover.{InterestingCover}
-use Rattle.pass_statements.specs.declared.covered.InterestingCover.the-variants.{Absent, Opaque, Incomplete}
 use Rattle.pass_statements.specs.declared.unchanged.PreviousCount.the-variants as counts
-use Rattle.pass_statements.proofs.Covering.{look-past, look-on, look-last}
 use Rattle.pass_statements.proofs.Outcomes.{outcome-passed}
 use Rattle.kept_frames.specs.Right.{RuleOnlyAtNone}
-use Rattle.kept_frames.proofs.Afresh.{removed-no-part}
-use Rattle.kept_frames.proofs.Kept.{first-pass-right}
-use Rattle.kept_frames.proofs.Plain.{alike-exact}
-
--- the first cover that tells does not rest on what is known of flags and removals
-module _ (items : List Item) (unmasked unclipped : List Bool) where
-  abbrev first : ℕ → Covered → InterestingCover
-  first n f = coveredFrom items unmasked unclipped n f .first
-
-  same-first : (n : ℕ) (f g : Covered) → f .first ≡ g .first → first n f ≡ first n g
-  unfolding coveredFrom
-  same-first zero f g e = e
-  same-first (suc i) f g e =
-      by (getD unmasked i false) refl (hides (itemAt items i) (getD unclipped i false)) refl (same-first i f g e) (λ u v q. same-first i u v q)
-    where
-      by : (a : Bool) → getD unmasked i false ≡ a → (b : Bool) → hides (itemAt items i) (getD unclipped i false) ≡ b
-          → first i f ≡ first i g
-          → ((u v : Covered) → u .first ≡ v .first → first i u ≡ first i v)
-          → first (suc i) f ≡ first (suc i) g
-      by false w b h r on = ap (λ (c : Covered). c .first) (look-past items unmasked unclipped i f w) ∙ r ∙ sym (ap (λ (c : Covered). c .first) (look-past items unmasked unclipped i g w))
-      by true w false h r on =
-          ap (λ (c : Covered). c .first) (look-on items unmasked unclipped i f w h)
-          ∙ on (lookAt (itemAt items i) (getD unclipped i false) i f) (lookAt (itemAt items i) (getD unclipped i false) i g) (rw e refl)
-          ∙ sym (ap (λ (c : Covered). c .first) (look-on items unmasked unclipped i g w h))
-      by true w true h r on =
-          ap (λ (c : Covered). c .first) (look-last items unmasked unclipped i f w h)
-          ∙ (rw e refl)
-          ∙ sym (ap (λ (c : Covered). c .first) (look-last items unmasked unclipped i g w h))
-
--- once something is changed it stays so
-changed-stays : (items : List Item) (unmasked unclipped : List Bool) (n : ℕ) (f : Covered) → f .unchanged ≡ false → coveredFrom items unmasked unclipped n f .unchanged ≡ false
-unfolding coveredFrom
-changed-stays items unmasked unclipped zero f e = e
-changed-stays items unmasked unclipped (suc i) f e =
-    by (getD unmasked i false) refl (hides (itemAt items i) (getD unclipped i false)) refl (changed-stays items unmasked unclipped i f e) (λ g q. changed-stays items unmasked unclipped i g q)
-  where
-    by : (a : Bool) → getD unmasked i false ≡ a → (b : Bool) → hides (itemAt items i) (getD unclipped i false) ≡ b
-        → coveredFrom items unmasked unclipped i f .unchanged ≡ false
-        → ((g : Covered) → g .unchanged ≡ false → coveredFrom items unmasked unclipped i g .unchanged ≡ false)
-        → coveredFrom items unmasked unclipped (suc i) f .unchanged ≡ false
-    by false w b h r on = ap (λ (c : Covered). c .unchanged) (look-past items unmasked unclipped i f w) ∙ r
-    by true w false h r on =
-        ap (λ (c : Covered). c .unchanged) (look-on items unmasked unclipped i f w h) ∙ on (lookAt (itemAt items i) (getD unclipped i false) i f) (ap (λ (b : Bool). b && itemAt items i .unchanged) e)
-    by true w true h r on = ap (λ (c : Covered). c .unchanged) (look-last items unmasked unclipped i f w h) ∙ ap (λ (b : Bool). b && itemAt items i .unchanged) e
-
--- by the first cover: *none*, or the decision of changed layers
-by-cover : (c : InterestingCover) (u : Bool) (clear : Color) (shown : List Item) → (decisionBy c u clear shown ≡ decision.none) ⊎ (decisionBy c u clear shown ≡ decisionBy c false clear shown)
-by-cover Incomplete u clear shown = inr refl
-by-cover Absent u clear shown = inr refl
-by-cover (Opaque color) true clear shown = inl refl
-by-cover (Opaque color) false clear shown = inr refl
-
-passed-by : (clear : Color) (removed : Bool) (items : List Item) → (passedOf clear removed items .decision ≡ decision.none) ⊎ (passedOf clear removed items ≡ passedOf clear true items)
-passed-by clear removed items = by (by-cover (found .first) (found .unchanged) clear (shownOf (found .skipped .0) items us))
-  where
-    us : List Bool
-    us = marksOf items .unmasked
-
-    cs : List Bool
-    cs = marksOf items .unclipped
-
-    found : Covered
-    found = coveredOf items (marksOf items .unmasked) (marksOf items .unclipped) removed
-
-    by : (passedOf clear removed items .decision ≡ decision.none) ⊎ (passedOf clear removed items .decision ≡ decisionBy (coveredOf items (marksOf items .unmasked) (marksOf items .unclipped) removed .first) false clear (shownOf (coveredOf items (marksOf items .unmasked) (marksOf items .unclipped) removed .skipped .0) items (marksOf items .unmasked)))
-        → (passedOf clear removed items .decision ≡ decision.none) ⊎ (passedOf clear removed items ≡ passedOf clear true items)
-    by (inl e) = inl e
-    by (inr e) =
-        let u = marksOf items .unmasked in
-        let c = marksOf items .unclipped in
-        let cover = same-first items u c (length items) (startOf items removed) (startOf items true) refl in
-        let skip = removed-no-part items u c removed in
-        let changed = changed-stays items u c (length items) (startOf items true) refl in
-        let same : passedOf clear removed items .decision ≡ passedOf clear true items .decision =
-        e
-        ∙ ap₂ (λ (x : InterestingCover) (n : ℕ). decisionBy x false clear (shownOf n items u)) cover skip
-        ∙ ap (λ (b : Bool). decisionBy (coveredOf items u c true .first) b clear (shownOf (coveredOf items u c true .skipped .0) items u)) (sym changed) in
-        inr (λ i. record { decision = same i; unmasked = u; skipped = skip i })
+use Rattle.kept_frames.proofs.Changed.{passed-by}
+use Rattle.kept_frames.proofs.Kept.{same-picture, kept-list}
+use Rattle.kept_frames.proofs.Plain.{picture-alike}
 
 pub rule-only-at-none : RuleOnlyAtNone
 rule-only-at-none clear clearUnchanged before now f =
     record {
-      first = λ k. alike-exact before now (first-pass-right clearUnchanged before now f k .1 .picture);
+      first = λ k. picture-alike before now (same-picture before now (kept-list clearUnchanged before now f k .0));
       other = λ k. by (outcome-passed clear clearUnchanged (counts.Kept (length before)) now k) (passed-by clear (wereRemoved (counts.Kept (length before)) (length now)) now);
     }
   where

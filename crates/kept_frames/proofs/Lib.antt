@@ -1,20 +1,16 @@
 -- Laws of a tile from frame to frame.
 pub mod Within
-pub mod Seen
 pub mod Latest
 pub mod Strokes
 pub mod Afresh
+pub mod Changed
+pub mod ByPicture
 pub mod Floor
-pub mod Plain
+pub mod Bits
 pub mod Kept
+pub mod Plain
 pub mod None
 pub mod AtNone
-pub mod SameKinds
-pub mod Parts
-pub mod Top
-pub mod Covered
-pub mod ShownDraws
-pub mod Whole
 pub mod Twice
 pub mod Tags
 pub mod Settled

@@ -1,42 +1,45 @@
--- *None* is right wherever the count was kept by the rule. Assumes nothing.
+-- *None* is right wherever the count was kept by the rule, and no right rule is wider. Assumes nothing.
 use mathlib.Core.Path.{_≡_, refl, sym, ap, _∙_}
 use mathlib.Core.Bool.{Bool, true, false, cond, false≢true}
 use mathlib.Core.List.{List}
 use mathlib.Core.Logic.{⊎-elim}
 use lib.ListN.{length}
-use Rattle.laws.proofs.Bools.{either}
+use Rattle.laws.proofs.Bools.{left, either}
 use Rattle.styling.specs.declared.Color.{Color}
-use Rattle.pass_statements.specs.Decide.{Outcome, passedOf, outcomeOf}
+use Rattle.pass_statements.specs.Decide.{Outcome, outcomeOf}
 use Rattle.pass_statements.specs.Decision as decision
 use Rattle.pass_statements.specs.Unchanged.{isKept, wereRemoved}
 use Rattle.pass_statements.specs.declared.item.Item.{Item}
 use Rattle.pass_statements.specs.declared.unchanged.PreviousCount.the-variants.{Kept, Absent}
 use Rattle.pass_statements.proofs.Outcomes.{outcome-passed}
-use Rattle.kept_frames.specs.Alike.{drawsAlike}
-use Rattle.kept_frames.specs.Right.{Frames, ShowsSame, countBy, NoneRight, UncountedDrawn}
+use Rattle.kept_frames.specs.Alike.{layersAlike, sameBits, mayKeepCount}
+use Rattle.kept_frames.specs.Right.{Frames, ShowsSame, countBy, NoneRight, Widest, UncountedDrawn}
 use Rattle.kept_frames.proofs.Kept.{first-pass-right}
 use Rattle.kept_frames.proofs.Floor.{none-start}
-use Rattle.kept_frames.proofs.Plain.{full-cover-right}
+use Rattle.kept_frames.proofs.Plain.{full-cover-right, alike-exact}
 
 pub uncounted-drawn : UncountedDrawn
 uncounted-drawn clear clearUnchanged now e =
     false≢true (none-start clear true now (sym (ap (λ (o : Outcome). o .decision) (outcome-passed clear clearUnchanged Absent now refl)) ∙ e))
 
--- any rule under which a tile that the full-cover pass keeps has its shown draws alike
-module _ (clear : Color) (clearUnchanged : Bool) (before now : List Item) (f : Frames before now) where
-  abbrev removed : Bool
-  removed = wereRemoved (Kept (length before)) (length now)
-
-  counted : (passedOf clear removed now .decision ≡ decision.none → drawsAlike before now ≡ true) → outcomeOf clear clearUnchanged (Kept (length before)) now .decision ≡ decision.none → ShowsSame clearUnchanged before now
-  counted s e =
-      ⊎-elim (λ k. first-pass-right clearUnchanged before now f k .1)
-      (λ k. let z = sym (ap (λ (o : Outcome). o .decision) (outcome-passed clear clearUnchanged (Kept (length before)) now k)) ∙ e in full-cover-right clear clearUnchanged removed before now f (s z) z .0)
+module _ (clear clear′ : Color) (clearUnchanged : Bool) (before now : List Item) (f : Frames before now) where
+  counted : mayKeepCount clear clear′ before now ≡ true → outcomeOf clear′ clearUnchanged (Kept (length before)) now .decision ≡ decision.none → ShowsSame clear clear′ before now
+  counted may e =
+      ⊎-elim
+      (λ k. first-pass-right clear clear′ clearUnchanged before now f (left (sameBits clear clear′) (layersAlike before now) may) k .1)
+      (λ k. full-cover-right clear clear′ (wereRemoved (Kept (length before)) (length now)) before now f may
+      (sym (ap (λ (o : Outcome). o .decision) (outcome-passed clear′ clearUnchanged (Kept (length before)) now k)) ∙ e))
       (either (isKept clearUnchanged (Kept (length before)) now))
 
-  pub by-rule : (may : Bool) → (may ≡ true → passedOf clear removed now .decision ≡ decision.none → drawsAlike before now ≡ true)
-      → outcomeOf clear clearUnchanged (countBy may before) now .decision ≡ decision.none → ShowsSame clearUnchanged before now
-  by-rule true s h = counted (s refl) h
-  by-rule false s h = absurd (uncounted-drawn clear clearUnchanged now h)
+  by-rule : (may : Bool) → mayKeepCount clear clear′ before now ≡ may → outcomeOf clear′ clearUnchanged (countBy may before) now .decision ≡ decision.none → ShowsSame clear clear′ before now
+  by-rule true s h = counted s h
+  by-rule false s h = absurd (uncounted-drawn clear′ clearUnchanged now h)
 
 pub none-right : NoneRight
-none-right clear clearUnchanged before now f e = by-rule clear clearUnchanged before now f (drawsAlike before now) (λ s z. s) e
+none-right clear clear′ clearUnchanged before now f e = by-rule clear clear′ clearUnchanged before now f (mayKeepCount clear clear′ before now) refl e
+
+pub widest : Widest
+widest rule right clear clear′ clearUnchanged before now f e allowed =
+    alike-exact clear clear′ before now
+    (right clear clear′ clearUnchanged before now f
+    (ap (λ (may : Bool). outcomeOf clear′ clearUnchanged (countBy may before) now .decision) allowed ∙ e) .drawn)

@@ -2,7 +2,7 @@
 use mathlib.Core.Path.{refl}
 use mathlib.Core.Bool.{false≢true}
 use mathlib.Core.Logic.{inl, inr}
-use lib.Ieee.{ofBits, eq}
+use lib.Ieee.{ofBits, eq, odd}
 use Rattle.styling.specs.Ascending.{strictlyAscendsFrom}
 use Rattle.pass_statements.specs.Clips.{clipsFrom, stepOf}
 use Rattle.pass_statements.specs.Covered.{coveredFrom}
@@ -13,7 +13,7 @@ use Rattle.kept_frames.specs.Example.{PaintersClip}
 use Rattle.kept_frames.specs.Wrong.{WronglyKept}
 
 pub wrongly-kept : WronglyKept
-unfolding strictlyAscendsFrom outcomeOf clipsFrom stepOf coveredFrom shownFrom latestClip strokesFrom eq ofBits
+unfolding strictlyAscendsFrom outcomeOf clipsFrom stepOf coveredFrom shownFrom latestClip strokesFrom eq ofBits odd
 wrongly-kept =
     record {
       exchange = record { frames = record { up-before = refl; up-now = refl; told = ((λ e. absurd (false≢true e)), ((λ e. inl refl), tt)) }; kept = refl; shown = refl; fresh = refl };
@@ -31,6 +31,20 @@ wrongly-kept =
             kept = refl;
             shown = refl;
             fresh = refl;
+          };
+      otherwise =
+          record {
+            frames =
+                record {
+                  up-before = refl;
+                  up-now = refl;
+                  told = ((λ e. inl refl), ((λ e. inr (inl refl)), ((λ e. absurd (false≢true e)), ((λ e. inr (inr (inl refl))), tt))));
+                };
+            stays = refl;
+            kept = refl;
+            was = refl;
+            is = refl;
+            rule = refl;
           };
       since-last-frame = record { told = ((λ e. inl refl), ((λ e. inr (inl refl)), tt)); kept = refl; shown = refl; fresh = refl };
     }

@@ -1,22 +1,20 @@
 -- The painter's way through the shown layers, turn by turn, and what holds of each shown layer. Assumes nothing.
-use mathlib.Core.Path.{_≡_, refl, sym, ap, _∙_}
-use mathlib.Core.Bool.{Bool, true, false, cond, _&&_, _||_, false≢true}
+use mathlib.Core.Path.{_≡_, refl, ap, _∙_}
+use mathlib.Core.Bool.{Bool, true, false, cond, _&&_}
 use mathlib.Core.List.{List, [], _∷_, map}
-use mathlib.Core.Option.{Option, some, none}
-use Prim.Native.Nat.{ℕ, zero, suc, _+_, _≤_, _<_}
+use mathlib.Core.Option.{Option}
+use Prim.Native.Nat.{ℕ, suc, _+_, _≤_, _<_}
 use native.Mathlib.Omega.{arith}
-use borrow.Author.Tests.{leb-true, le-leb}
+use borrow.Author.Tests.{leb-true}
 use lib.Dec.{leb}
 use lib.ListN.{length, getD}
-use Rattle.laws.specs.Lists.{any}
-use Rattle.laws.proofs.Bools.{both, left, right}
-use Rattle.pass_statements.specs.Clips.{isClip}
+use Rattle.laws.proofs.Bools.{left, right}
 use Rattle.pass_statements.specs.Covered.{itemAt}
 use Rattle.pass_statements.specs.Decide.{shownFrom}
 use Rattle.pass_statements.specs.Rules.{needsClip}
 use Rattle.pass_statements.specs.declared.item.Item.{Item}
 use Rattle.painter.specs.Clip.{aliveAt, clipAfter, lacksClip}
-use Rattle.kept_frames.specs.Picture.{unflagged, Stroke, maskFor, strokesFrom}
+use Rattle.kept_frames.specs.Picture.{unflagged, Stroke, maskFor, maskAfter, strokesFrom}
 
 -- ---- turns
 
@@ -24,20 +22,34 @@ abbrev pub strokeOf : List Item → Option ℕ → Option ℕ → Item → Strok
 strokeOf items clip mask x =
     let needs = needsClip items (x .func) (x .id) in
     let alive = aliveAt clip (x .id) in
-    record { draw = unflagged x; needs = needs; lacks = lacksClip needs alive; mask = maskFor needs alive mask }
+    record { layer = unflagged x; needs = needs; lacks = lacksClip needs alive; mask = maskFor needs alive mask }
 
 module _ (items : List Item) (clip mask : Option ℕ) where
   pub strokes-end : strokesFrom items clip mask [] ≡ []
   unfolding strokesFrom
   strokes-end = refl
 
-  pub strokes-clip : (x : Item) (xs : List Item) → isClip (x .func) ≡ true → strokesFrom items clip mask (x ∷ xs) ≡ strokesFrom items (clipAfter (x .func) (x .id) clip) (some (x .id)) xs
+  pub strokes-next : (x : Item) (xs : List Item)
+      → strokesFrom items clip mask (x ∷ xs) ≡ strokeOf items clip mask x ∷ strokesFrom items (clipAfter (x .func) (x .id) clip) (maskAfter (x .func) (x .id) mask) xs
   unfolding strokesFrom
-  strokes-clip x xs e = rw e
+  strokes-next x xs = refl
 
-  pub strokes-draw : (x : Item) (xs : List Item) → isClip (x .func) ≡ false → strokesFrom items clip mask (x ∷ xs) ≡ strokeOf items clip mask x ∷ strokesFrom items (clipAfter (x .func) (x .id) clip) mask xs
-  unfolding strokesFrom
-  strokes-draw x xs e = rw e
+-- what rests on a stroke's layer and need alone rests on neither clip nor mask
+pub record Plainly : Type 0 where
+  pub layer : Item
+  pub needs : Bool
+
+abbrev pub plainly : Stroke → Plainly
+plainly s = record { layer = s .layer; needs = s .needs }
+
+abbrev pub plainlyIn : List Item → Item → Plainly
+plainlyIn items x = record { layer = unflagged x; needs = needsClip items (x .func) (x .id) }
+
+pub strokes-plainly : (items xs : List Item) (clip mask : Option ℕ) → map plainly (strokesFrom items clip mask xs) ≡ map (plainlyIn items) xs
+strokes-plainly items [] clip mask = ap (map plainly) (strokes-end items clip mask)
+strokes-plainly items (x ∷ xs) clip mask =
+    ap (map plainly) (strokes-next items clip mask x xs)
+    ∙ ap (λ (l : List Plainly). plainlyIn items x ∷ l) (strokes-plainly items xs (clipAfter (x .func) (x .id) clip) (maskAfter (x .func) (x .id) mask))
 
 -- ---- the shown layers, by their places
 
@@ -63,20 +75,3 @@ module _ (P : Item → Type 0) (skipped : ℕ) where
       → ((i : ℕ) → i < length xs → getD ss i false ≡ true → skipped ≤ i → P (itemAt xs i))
       → Each P (shownFrom 0 skipped xs ss)
   each-shown xs ss h = shown-from xs ss 0 (λ i l m q. h i l m (omega (arith, q)))
-
--- a test that one of them passes
-module _ (p : Item → Bool) (skipped : ℕ) where
-  or-true : (a b : Bool) → b ≡ true → (a || b) ≡ true
-  or-true true b e = refl
-  or-true false b e = e
-
-  pub any-shown : (xs : List Item) (ss : List Bool) (k i : ℕ) → i < length xs → getD ss i false ≡ true → skipped ≤ i + k → p (itemAt xs i) ≡ true → any p (shownFrom k skipped xs ss) ≡ true
-  unfolding shownFrom
-  any-shown [] ss k i l m q e = absurd (omega (arith, l))
-  any-shown (x ∷ xs) [] k i l m q e = absurd (false≢true m)
-  any-shown (x ∷ xs) (s ∷ ss) k zero l m q e = rw (both s (leb skipped k) m (le-leb skipped k (omega (arith, q))), e) refl
-  any-shown (x ∷ xs) (s ∷ ss) k (suc i) l m q e = by (s && leb skipped k) (any-shown xs ss (suc k) i (omega (arith, l)) m (omega (arith, q)) e)
-    where
-      by : (t : Bool) → any p (shownFrom (suc k) skipped xs ss) ≡ true → any p (cond t (x ∷ shownFrom (suc k) skipped xs ss) (shownFrom (suc k) skipped xs ss)) ≡ true
-      by true r = or-true (p x) (any p (shownFrom (suc k) skipped xs ss)) r
-      by false r = r

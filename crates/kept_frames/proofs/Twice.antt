@@ -1,28 +1,28 @@
--- Two askings of the narrower rule, of the shown draws in either order, are the wider one. Assumes nothing.
+-- Two askings of `keep_count`, of the shown layers in either order, are the comparison of the keep rule. Assumes nothing.
 use mathlib.Core.Path.{_≡_, refl, sym, ap, _∙_}
-use mathlib.Core.Bool.{Bool, true, false, cond, not, _&&_, _||_, Bool·beq, false≢true}
+use mathlib.Core.Bool.{Bool, true, false, cond, _&&_, _||_, Bool·beq, false≢true}
 use mathlib.Core.List.{List, [], _∷_, map}
 use mathlib.Core.Logic.{_⊎_, inl, inr, ⊎-elim}
-use mathlib.Core.Option.{none}
+use mathlib.Core.Option.{Option, none}
 use Prim.Native.Nat.{ℕ, suc, _≤_, _<_}
 use native.Mathlib.Omega.{arith}
-use borrow.Author.Tests.{eqb-true, eq-eqb}
-use lib.Dec.{eqb}
-use Rattle.laws.specs.Lists.{filter}
-use Rattle.laws.proofs.Bools.{both, left, right, either}
+use borrow.Author.Tests.{eqb-true, eq-eqb, le-leb}
+use lib.Dec.{eqb, leb}
+use Rattle.laws.proofs.Bools.{both, left, right, same}
 use Rattle.styling.specs.Ascending.{strictlyAscendsFrom}
-use Rattle.styling.proofs.Ascents.{ascends-head, ascends-tail}
+use Rattle.styling.proofs.Ascents.{ascends-head, ascends-tail, ascends-weaken}
+use Rattle.pass_statements.specs.Clips.{marksOf}
+use Rattle.pass_statements.specs.Decide.{shownFrom}
 use Rattle.pass_statements.specs.Rules.{isAscending}
 use Rattle.pass_statements.specs.declared.item.Item.{Item}
-use Rattle.kept_frames.specs.Picture.{unflagged, shownAfresh, pictureOf}
-use Rattle.kept_frames.specs.Alike.{Shown, shownBy, sameShown, allSame, drawsAlike}
+use Rattle.painter.specs.Clip.{clipAfter}
+use Rattle.kept_frames.specs.Picture.{shownAfresh, Stroke, maskAfter, strokesFrom, pictureOf}
+use Rattle.kept_frames.specs.Alike.{Shown, shownBy, sameShown, allSame}
 use Rattle.kept_frames.specs.Stays.{Member, sameMember, isStill, stays}
 use Rattle.kept_frames.specs.Right.{shownMember, TwiceAlike}
 use Rattle.kept_frames.proofs.Within.{idsOf}
-use Rattle.kept_frames.proofs.Parts.{filter-up}
-use Rattle.kept_frames.proofs.Seen.{underIn, freedIn, isDrawn, isSeen, drawsOf, seenOf}
-use Rattle.kept_frames.proofs.ShownDraws.{isDraw, seen-shown}
-use Rattle.kept_frames.proofs.Whole.{shownAs, shown-draws}
+use Rattle.kept_frames.proofs.Strokes.{strokes-end, strokes-next}
+use Rattle.kept_frames.proofs.Bits.{same-bool, bool-self}
 
 abbrev ids : List Shown → List ℕ
 ids xs = map (λ s. s .id) xs
@@ -108,26 +108,89 @@ twice (a ∷ xs) (b ∷ ys) low up up′ s t =
     ascends-down : (a b : Shown) (ys : List Shown) → a .id ≡ b .id → strictlyAscendsFrom (suc (b .id)) (ids ys) ≡ true → strictlyAscendsFrom (suc (a .id)) (ids ys) ≡ true
     ascends-down a b ys e h = ap (λ (n : ℕ). strictlyAscendsFrom (suc n) (ids ys)) e ∙ h
 
--- ---- the shown draws ascend
+-- ---- and the other way
 
-ids-flags : (l : List Item) → idsOf (map unflagged l) ≡ idsOf l
-ids-flags [] = refl
-ids-flags (x ∷ xs) = ap (λ (r : List ℕ). x .id ∷ r) (ids-flags xs)
+still-later : (a b : Shown) (ys : List Shown) → isStill (members ys) (shownMember a) ≡ true → isStill (members (b ∷ ys)) (shownMember a) ≡ true
+still-later a b ys h = or-right (sameMember (shownMember a) (shownMember b)) (isStill (members ys) (shownMember a)) h
+  where
+    or-right : (a b : Bool) → b ≡ true → (a || b) ≡ true
+    or-right true b e = refl
+    or-right false b e = e
 
-ids-shown : (f : ℕ → Bool) (l : List Item) → ids (map (shownAs f) l) ≡ idsOf l
-ids-shown f [] = refl
-ids-shown f (x ∷ xs) = ap (λ (r : List ℕ). x .id ∷ r) (ids-shown f xs)
+stays-later : (b : Shown) (xs ys : List Shown) → stays (members xs) (members ys) ≡ true → stays (members xs) (members (b ∷ ys)) ≡ true
+stays-later b [] ys h = refl
+stays-later b (x ∷ xs) ys h =
+    let here = isStill (members ys) (shownMember x) in
+    let rest = stays (members xs) (members ys) in
+    both (isStill (members (b ∷ ys)) (shownMember x)) (stays (members xs) (members (b ∷ ys))) (still-later x b ys (left here rest h)) (stays-later b xs ys (right here rest h))
 
-seen-up : (items : List Item) → isAscending items ≡ true → strictlyAscendsFrom 0 (idsOf (seenOf items)) ≡ true
-seen-up items up =
-    filter-up (isSeen (freedIn items) (drawsOf items)) (drawsOf items) 0
-    (ap (strictlyAscendsFrom 0) (ids-flags (filter (isDrawn (underIn items)) items)) ∙ filter-up (isDrawn (underIn items)) items 0 up)
+kinds-same : (s t : Bool) → Bool·beq s t ≡ true → eqb (cond s 2 0) (cond t 2 0) ≡ true
+kinds-same true true h = refl
+kinds-same true false h = absurd (false≢true h)
+kinds-same false true h = absurd (false≢true h)
+kinds-same false false h = refl
 
-shown-up : (items : List Item) → isAscending items ≡ true → strictlyAscendsFrom 0 (ids (map shownBy (pictureOf items))) ≡ true
-shown-up items up =
-    ap (λ (l : List Shown). strictlyAscendsFrom 0 (ids l)) (shown-draws items (shownAfresh items) none none)
-    ∙ ap (strictlyAscendsFrom 0) (ids-shown (freedIn items) (map unflagged (filter isDraw (shownAfresh items))) ∙ ap idsOf (seen-shown items up))
-    ∙ seen-up items up
+shown-same : (a b : Shown) → sameShown a b ≡ true → sameMember (shownMember a) (shownMember b) ≡ true
+shown-same a b h =
+    both (eqb (a .id) (b .id)) (eqb (shownMember a .kind) (shownMember b .kind)) (left (eqb (a .id) (b .id)) (Bool·beq (a .needs) (b .needs)) h)
+    (kinds-same (a .needs) (b .needs) (right (eqb (a .id) (b .id)) (Bool·beq (a .needs) (b .needs)) h))
+
+alike-stays : (xs ys : List Shown) → allSame xs ys ≡ true → stays (members xs) (members ys) ≡ true
+alike-stays [] ys h = refl
+alike-stays (a ∷ xs) [] h = h
+alike-stays (a ∷ xs) (b ∷ ys) h =
+    let here = sameShown a b in
+    both (isStill (members (b ∷ ys)) (shownMember a)) (stays (members xs) (members (b ∷ ys)))
+    (or-left (sameMember (shownMember a) (shownMember b)) (isStill (members ys) (shownMember a)) (shown-same a b (left here (allSame xs ys) h)))
+    (stays-later b xs ys (alike-stays xs ys (right here (allSame xs ys) h)))
+  where
+    or-left : (a b : Bool) → a ≡ true → (a || b) ≡ true
+    or-left true b e = refl
+    or-left false b e = absurd (false≢true e)
+
+alike-back : (xs ys : List Shown) → allSame xs ys ≡ true → allSame ys xs ≡ true
+alike-back [] [] h = refl
+alike-back [] (b ∷ ys) h = h
+alike-back (a ∷ xs) [] h = h
+alike-back (a ∷ xs) (b ∷ ys) h =
+    let ids = eqb (a .id) (b .id) in
+    let needs = Bool·beq (a .needs) (b .needs) in
+    let here = left (ids && needs) (allSame xs ys) h in
+    both (sameShown b a) (allSame ys xs)
+    (both (eqb (b .id) (a .id)) (Bool·beq (b .needs) (a .needs)) (eq-eqb (b .id) (a .id) (sym (eqb-true (a .id) (b .id) (left ids needs here)))) (back (a .needs) (b .needs) (right ids needs here)))
+    (alike-back xs ys (right (ids && needs) (allSame xs ys) h))
+  where
+    back : (s t : Bool) → Bool·beq s t ≡ true → Bool·beq t s ≡ true
+    back s t e = rw (same-bool s t e) (bool-self t)
+
+-- ---- the shown layers ascend
+
+shown-up : (k skipped : ℕ) (xs : List Item) (ss : List Bool) (low : ℕ) → strictlyAscendsFrom low (idsOf xs) ≡ true → strictlyAscendsFrom low (idsOf (shownFrom k skipped xs ss)) ≡ true
+unfolding strictlyAscendsFrom shownFrom
+shown-up k skipped [] ss low up = refl
+shown-up k skipped (x ∷ xs) [] low up = refl
+shown-up k skipped (x ∷ xs) (s ∷ ss) low up = by (s && leb skipped k) (shown-up (suc k) skipped xs ss (suc (x .id)) (ascends-tail low (x .id) (idsOf xs) up))
+  where
+    by : (t : Bool) → strictlyAscendsFrom (suc (x .id)) (idsOf (shownFrom (suc k) skipped xs ss)) ≡ true
+        → strictlyAscendsFrom low (idsOf (cond t (x ∷ shownFrom (suc k) skipped xs ss) (shownFrom (suc k) skipped xs ss))) ≡ true
+    by true rest = both (leb low (x .id)) (strictlyAscendsFrom (suc (x .id)) (idsOf (shownFrom (suc k) skipped xs ss))) (le-leb low (x .id) (ascends-head low (x .id) (idsOf xs) up)) rest
+    by false rest = ascends-weaken (suc (x .id)) low (idsOf (shownFrom (suc k) skipped xs ss)) (omega (arith, ascends-head low (x .id) (idsOf xs) up)) rest
+
+ids-shown : (items xs : List Item) (clip mask : Option ℕ) → ids (map shownBy (strokesFrom items clip mask xs)) ≡ idsOf xs
+ids-shown items [] clip mask = ap (λ (l : List Stroke). ids (map shownBy l)) (strokes-end items clip mask)
+ids-shown items (x ∷ xs) clip mask =
+    ap (λ (l : List Stroke). ids (map shownBy l)) (strokes-next items clip mask x xs)
+    ∙ ap (λ (l : List ℕ). x .id ∷ l) (ids-shown items xs (clipAfter (x .func) (x .id) clip) (maskAfter (x .func) (x .id) mask))
+
+picture-up : (items : List Item) → isAscending items ≡ true → strictlyAscendsFrom 0 (ids (map shownBy (pictureOf items))) ≡ true
+picture-up items up = ap (strictlyAscendsFrom 0) (ids-shown items (shownAfresh items) none none) ∙ shown-up 0 _ items (marksOf items .unmasked) 0 up
 
 pub twice-alike : TwiceAlike
-twice-alike before now up up′ s t = twice (map shownBy (pictureOf before)) (map shownBy (pictureOf now)) 0 (shown-up before up) (shown-up now up′) s t
+twice-alike before now up up′ =
+    let a = map shownBy (pictureOf before) in
+    let b = map shownBy (pictureOf now) in
+    let s = stays (members a) (members b) in
+    let t = stays (members b) (members a) in
+    same (s && t) (allSame a b)
+    (λ h. twice a b 0 (picture-up before up) (picture-up now up′) (left s t h) (right s t h))
+    (λ h. both s t (alike-stays a b h) (alike-stays b a (alike-back a b h)))

@@ -1,19 +1,41 @@
--- Lists all of whose layers were listed before: they are no longer, and where they are as long they are the same. Assumes nothing.
+-- Who was listed, by places and flags; and lists all of whose layers were listed before: they are no longer, and where they are as long they are the same.
+-- Assumes nothing.
 use mathlib.Core.Path.{_≡_, refl, sym, ap, ap₂, _∙_}
 use mathlib.Core.Bool.{true}
 use mathlib.Core.List.{List, [], _∷_, map}
 use mathlib.Core.Logic.{inl, inr}
-use Prim.Native.Nat.{ℕ, suc, _≤_, _<_}
+use Prim.Native.Nat.{ℕ, zero, suc, _≤_, _<_}
 use native.Mathlib.Omega.{arith}
 use lib.ListN.{length}
 use Rattle.styling.specs.Ascending.{strictlyAscendsFrom}
 use Rattle.styling.proofs.Ascents.{ascends-head, ascends-tail}
+use Rattle.pass_statements.specs.Covered.{itemAt}
 use Rattle.pass_statements.specs.declared.item.Item.{Item}
 use Rattle.kept_frames.specs.Picture.{unflagged}
-use Rattle.kept_frames.specs.Told.{WasListed}
+use Rattle.kept_frames.specs.Told.{WasListed, Told}
+use Rattle.kept_frames.specs.Right.{ListedUnchanged}
 
 abbrev pub idsOf : List Item → List ℕ
 idsOf xs = map (λ x. x .id) xs
+
+-- ---- places and flags
+
+pub was-at : (xs : List Item) (i : ℕ) → i < length xs → WasListed (itemAt xs i) xs
+was-at [] i h = absurd (omega (arith, h))
+was-at (x ∷ xs) zero h = inl refl
+was-at (x ∷ xs) (suc i) h = inr (was-at xs i (omega (arith, h)))
+
+pub told-at : (before now : List Item) → Told before now → (i : ℕ) → i < length now → itemAt now i .unchanged ≡ true → WasListed (itemAt now i) before
+told-at before [] t i h e = absurd (omega (arith, h))
+told-at before (y ∷ ys) (f, t) zero h e = f e
+told-at before (y ∷ ys) (f, t) (suc i) h e = told-at before ys t i (omega (arith, h)) e
+
+pub listed-at : (now : List Item) (i : ℕ) → i < length now → itemAt now i .unchanged ≡ true → ListedUnchanged now (itemAt now i .id)
+listed-at [] i h e = absurd (omega (arith, h))
+listed-at (x ∷ xs) zero h e = inl (refl, e)
+listed-at (x ∷ xs) (suc i) h e = inr (listed-at xs i (omega (arith, h)) e)
+
+-- ---- lists within another
 
 -- every layer of a list was listed before
 abbrev pub Within : List Item → List Item → Type 0
@@ -81,11 +103,3 @@ unique (z ∷ zs) low b x y e (inr s) (inl q) =
     let is : z .id ≡ y .id = ap (λ (w : Item). w .id) q in
     absurd (omega (arith, e, is, was-above x zs (suc (z .id)) (ascends-tail low (z .id) (idsOf zs) b) s))
 unique (z ∷ zs) low b x y e (inr s) (inr t) = unique zs (suc (z .id)) (ascends-tail low (z .id) (idsOf zs) b) x y e s t
-
-pub later : (y : Item) (ys xs : List Item) → Within ys xs → Within (y ∷ ys) xs
-later y ys [] w = tt
-later y ys (x ∷ xs) (s, w) = (inr s, later y ys xs w)
-
-pub self : (xs : List Item) → Within xs xs
-self [] = tt
-self (x ∷ xs) = (inl refl, later x xs xs (self xs))

@@ -4,7 +4,7 @@
 use mathlib.Core.Path.{_≡_}
 use mathlib.Core.Bool.{true, false}
 use mathlib.Core.List.{List, [], _∷_}
-use mathlib.Core.Option.{some, none}
+use mathlib.Core.Option.{Option, some, none}
 use Prim.Native.Nat.{ℕ}
 use lib.Ieee.{binary32, ofBits}
 use Rattle.styling.specs.declared.BlendMode.the-variants.{Over}
@@ -27,9 +27,18 @@ draw id = record { id = id; full = true; func = Draw (record { «is_clipped» = 
 abbrev floor : Item
 floor = record { id = 3; full = true; func = Draw (record { «is_clipped» = false; fill = Solid red; «blend_mode» = Over }); unchanged = true }
 
+abbrev clipStroke : ℕ → ℕ → Stroke
+clipStroke id span = record { layer = clip id span; needs = false; lacks = false; mask = none }
+
+abbrev cutStroke : ℕ → Option ℕ → Stroke
+cutStroke id mask = record { layer = draw id; needs = true; lacks = false; mask = mask }
+
+abbrev lackingStroke : ℕ → Stroke
+lackingStroke id = record { layer = draw id; needs = true; lacks = true; mask = none }
+
 pub record PaintersClip : Type 0 where
-  pub two-clips : pictureOf (clip 1 1 ∷ clip 2 5 ∷ draw 3 ∷ []) ≡ record { draw = draw 3; needs = true; lacks = true; mask = none } ∷ []
-  pub one-clip : pictureOf (clip 2 5 ∷ draw 3 ∷ []) ≡ record { draw = draw 3; needs = true; lacks = false; mask = some 2 } ∷ []
+  pub two-clips : pictureOf (clip 1 1 ∷ clip 2 5 ∷ draw 3 ∷ []) ≡ clipStroke 1 1 ∷ clipStroke 2 5 ∷ lackingStroke 3 ∷ []
+  pub one-clip : pictureOf (clip 2 5 ∷ draw 3 ∷ []) ≡ clipStroke 2 5 ∷ cutStroke 3 (some 2) ∷ []
   -- a second clip within the first one's life writes the mask
-  pub both-alive : pictureOf (clip 1 5 ∷ clip 2 5 ∷ draw 3 ∷ []) ≡ record { draw = draw 3; needs = true; lacks = false; mask = some 2 } ∷ []
-  pub skipped-clip : pictureOf (clip 1 9 ∷ floor ∷ draw 4 ∷ []) ≡ record { draw = floor; needs = false; lacks = false; mask = none } ∷ record { draw = draw 4; needs = true; lacks = true; mask = none } ∷ []
+  pub both-alive : pictureOf (clip 1 5 ∷ clip 2 5 ∷ draw 3 ∷ []) ≡ clipStroke 1 5 ∷ clipStroke 2 5 ∷ cutStroke 3 (some 2) ∷ []
+  pub skipped-clip : pictureOf (clip 1 9 ∷ floor ∷ draw 4 ∷ []) ≡ record { layer = floor; needs = false; lacks = false; mask = none } ∷ lackingStroke 4 ∷ []

@@ -1,5 +1,5 @@
--- The protocol of a caller who wants no tile kept wrongly: the count that a tile keeps stays only where whoever was listed at the tile's last
--- accepted work is listed still, and as the same kind of layer.
+-- What `keep_count` compares: whoever is in the one list is in the other still, and as the same kind of layer. Asked of the shown layers, and then the other
+-- way, it is the keep rule's comparison (specs/Right, `TwiceAlike`). Asked once, of all that are listed, it is not enough (specs/Wrong, `KeptOtherwise`).
 use mathlib.Core.Bool.{Bool, cond, _&&_}
 use mathlib.Core.List.{List, map}
 use Prim.Native.Nat.{ℕ}

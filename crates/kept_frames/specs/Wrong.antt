@@ -1,6 +1,6 @@
 -- *None* by the full-cover pass is no more right than specs/Right says, here as in the Rust: the smallest histories in which a tile is kept with a wrong
--- picture, flags truthful and no clip changed. In each frame every layer is full. Beside each, the ids of the draws that are seen at the last work,
--- and of those that drawing afresh would show. proofs/Refuted has them computed.
+-- picture, flags truthful and no clip changed. In each frame of A to F every layer is full. Beside each, the ids of the layers that are shown at the last
+-- work, and of those that drawing afresh would show. proofs/Refuted has them computed.
 use mathlib.Core.Path.{_≡_}
 use mathlib.Core.Bool.{Bool, true, false}
 use mathlib.Core.List.{List, [], _∷_, map}
@@ -13,11 +13,13 @@ use Rattle.styling.specs.declared.Fill.the-variants.{Solid}
 use Rattle.styling.specs.declared.Func.{Func}
 use Rattle.styling.specs.declared.Func.the-variants.{Draw, Clip}
 use Rattle.pass_statements.specs.Decide.{outcomeOf}
-use Rattle.pass_statements.specs.Decision.{none}
+use Rattle.pass_statements.specs.Decision.{none, solid, paint}
 use Rattle.pass_statements.specs.declared.item.Item.{Item}
 use Rattle.pass_statements.specs.declared.unchanged.PreviousCount.the-variants.{Kept}
-use Rattle.kept_frames.specs.Picture.{pictureOf}
+use Rattle.kept_frames.specs.Picture.{pictureOf, decisionAfresh}
 use Rattle.kept_frames.specs.Told.{Told}
+use Rattle.kept_frames.specs.Alike.{mayKeepCount}
+use Rattle.kept_frames.specs.Stays.{listStays}
 use Rattle.kept_frames.specs.Right.{Frames}
 
 -- an opaque colour, and one of alpha 0.5: 0x3F800000 is 1, 0x3F000000 is 0.5
@@ -37,9 +39,9 @@ abbrev full : ℕ → Func → Bool → Item
 full id func unchanged = record { id = id; full = true; func = func; unchanged = unchanged }
 
 abbrev pub seenIds : List Item → List ℕ
-seenIds items = map (λ s. s .draw .id) (pictureOf items)
+seenIds items = map (λ s. s .layer .id) (pictureOf items)
 
--- the tile is kept, with the clear colour unchanged, and shows other draws than are due
+-- the tile is kept, with the clear colour unchanged, and shows other layers than are due
 pub record KeptWrongly (before now : List Item) (shows due : List ℕ) : Type 0 where
   pub frames : Frames before now
   pub kept : outcomeOf black true (Kept (length before)) now .decision ≡ none
@@ -84,9 +86,29 @@ pub record SinceLastFrame : Type 0 where
   pub shown : seenIds overRed ≡ 1 ∷ 2 ∷ []
   pub fresh : seenIds nextFrame ≡ 2 ∷ []
 
+-- Who was listed is listed still, as the same kind, and yet the tile would be drawn in another way. Clip 1 does not fill the tile and ends at its own id; it is
+-- shown as long as clip 3 follows it, so the tile was painted. Clipped 2 joins past its end: it is masked off, clip 1 is so too, and the tile would be solid
+abbrev half : Bool → Item
+half unchanged = record { id = 1; full = false; func = Clip 0; unchanged = unchanged }
+
+abbrev pub followedClip : List Item
+followedClip = full 0 (draw red false) false ∷ half false ∷ full 3 (Clip 9) false ∷ []
+
+abbrev pub endedClip : List Item
+endedClip = full 0 (draw red false) true ∷ half true ∷ full 2 (draw green true) false ∷ full 3 (Clip 9) true ∷ []
+
+pub record KeptOtherwise : Type 0 where
+  pub frames : Frames followedClip endedClip
+  pub stays : listStays followedClip endedClip ≡ true
+  pub kept : outcomeOf black true (Kept (length followedClip)) endedClip .decision ≡ none
+  pub was : decisionAfresh black followedClip ≡ paint
+  pub is : decisionAfresh black endedClip ≡ solid red 1
+  pub rule : mayKeepCount black black followedClip endedClip ≡ false
+
 pub record WronglyKept : Type 0 where
   pub exchange : KeptWrongly overRed exchanged (1 ∷ 2 ∷ []) (1 ∷ [])
   pub hidden-change : KeptWrongly overRed hiddenChange (1 ∷ 2 ∷ []) (1 ∷ [])
   pub clip-turned : KeptWrongly underClip clipTurned (1 ∷ 2 ∷ []) (1 ∷ [])
   pub clip-left : KeptWrongly betweenClip clipLeft (1 ∷ 3 ∷ []) (1 ∷ [])
   pub since-last-frame : SinceLastFrame
+  pub otherwise : KeptOtherwise

@@ -1,5 +1,5 @@
 -- The history of specs/Example, by the existence of runs. Assumes nothing.
-use mathlib.Core.Path.{_≡_, refl, sym, ap}
+use mathlib.Core.Path.{_≡_, refl}
 use mathlib.Core.Bool.{Bool, true, false, cond, false≢true}
 use mathlib.Core.List.{List, [], _∷_}
 use Prim.Native.Nat.{ℕ}
@@ -13,7 +13,6 @@ use Rattle.pixel_segment.specs.Field.{coverOf, tileOf}
 use Rattle.segment_rows.specs.Rows.{Words, ascendsFrom}
 use Rattle.segment_rows.specs.Search.{halved, searchOf, leftPart, tilePart, layerPart}
 use Rattle.styling.specs.Ascending.{strictlyAscendsFrom}
-use Rattle.styling.specs.declared.Color.{Color}
 use Rattle.styling.specs.declared.Layer.{Layer}
 use Rattle.layer_table.specs.Lookup.{placeFrom, lookup}
 use Rattle.layer_table.specs.Table.{isTableShort, isValid, isTable, layerAt, tableOf, tableIds}
@@ -39,7 +38,7 @@ use Rattle.painter.specs.declared.Clip.the-variants.{Absent}
 use Rattle.row_statements.specs.Lent.{Columns, queueOver}
 use Rattle.row_statements.specs.Opening.{leftOf, openVerdict, openCount, openOf, OpensRow}
 use Rattle.row_statements.specs.TileWork.{listVerdict, workOut}
-use Rattle.row_statements.specs.Due.{WorkChoice, workDueVerdict}
+use Rattle.row_statements.specs.Due.{OpenRow, WorkChoice, workDueVerdict}
 use Rattle.row_statements.specs.Run.{openRow, heldFirst}
 use Rattle.row_statements.specs.Example.{room, list, black}
 use Rattle.row_statements.specs.declared.RowState.{RowState}
@@ -47,13 +46,12 @@ use Rattle.row_statements.specs.declared.Opened.the-variants as opened
 use Rattle.row_statements.proofs.Example.{small}
 use Rattle.row_statements.proofs.Runs.{heldWork}
 use Rattle.kept_frames.specs.Display.{Display, displayed}
-use Rattle.kept_rows.specs.Along.{propsBy, RowTold}
-use Rattle.kept_rows.specs.Shown.{WorkedTile, itemsFor}
+use Rattle.kept_rows.specs.Along.{propsBy, RowTold, ContentsTold}
+use Rattle.kept_rows.specs.Shown.{WorkedTile}
 use Rattle.kept_frames.specs.Picture.{strokesFrom}
-use Rattle.kept_frames.specs.Alike.{drawsAlike}
-use Rattle.kept_rows.specs.History.{AcceptedWork, workedOf, Drawing, lentTile, Rule, keptIf, Frame, History}
+use Rattle.kept_rows.specs.History.{AcceptedWork, workedOf, Drawing, lentTile, keptIf, mayKeepTile, Frame, History}
 use Rattle.kept_rows.specs.Since.{markedWords, marked}
-use Rattle.kept_rows.specs.Frames.{RowFrame, RowHistory}
+use Rattle.kept_rows.specs.Frames.{workedCount, RowFrame, RowHistory}
 use Rattle.kept_rows.specs.Example.{opaqueDraw, frameCall, KeptTile}
 use Rattle.kept_rows.proofs.Once.{once}
 
@@ -86,7 +84,7 @@ unfolding listVerdict listOf groupsOf handedOn queueAfter addTo addAll leftPart 
 first-passes = refl
 
 abbrev firstWork : AcceptedWork
-firstWork = once (frameCall 0) (room 256) (held 0) begun in-words opens-first (chosen emptyTile previous.Absent) first-passes
+firstWork = once (frameCall 0) (room 256) (held 0) begun in-words opens-first [] (chosen emptyTile previous.Absent) first-passes
 
 -- the tile after the first frame, its four bytes settled
 abbrev bytes : List ℕ
@@ -96,17 +94,17 @@ abbrev settledTile : CachedTile
 settledTile = keepColor (firstWork .done .after .tile) bytes
 
 abbrev second : WorkedTile
-second = record { row = openRow (frameCall 1); place = 0; clear = black }
+second = record { row = openRow (frameCall 1); revisions = []; place = 0; clear = black }
 
 abbrev keptTile : CachedTile
-keptTile = keptIf (drawsAlike (itemsFor (workedOf firstWork)) (itemsFor second)) settledTile
+keptTile = keptIf (mayKeepTile (workedOf firstWork) second) settledTile
 
 second-passes : workDueVerdict (openRow (frameCall 1)) 0 (heldWork (heldFirst begun (held 1)) (chosen keptTile (previous.Given black))) ≡ pass
 unfolding workOut outcomeByEntries outcomeOf clipsFrom stepOf coveredFrom shownFrom latestClip strokesFrom isFull eq ofBits odd listVerdict listOf groupsOf handedOn queueAfter addTo addAll leftPart tilePart layerPart searchOf halved lookup tableOf layerAt isLight carryOf isEmpty heldIn coverOf tileOf
 second-passes = refl
 
 abbrev secondWork : AcceptedWork
-secondWork = once (frameCall 1) (room 256) (held 1) begun in-words opens-second (chosen keptTile (previous.Given black)) second-passes
+secondWork = once (frameCall 1) (room 256) (held 1) begun in-words opens-second [] (chosen keptTile (previous.Given black)) second-passes
 
 -- whatever the id, both tables say the same but for the flag
 told : RowTold (openRow (frameCall 0)) (openRow (frameCall 1))
@@ -124,33 +122,25 @@ told id c = record { agree = record { first = refl; segments = λ v. refl; rule 
     props true = refl
     props false = refl
 
-clearIn : PreviousClear → Color
-clearIn previous.Absent = black
-clearIn (previous.Given c) = c
+-- and every layer holds what it held
+told-contents : ContentsTold (openRow (frameCall 0)) [] (openRow (frameCall 1)) []
+unfolding tableIds
+told-contents id c = refl
 
-told-clear : (c : Color) → previous.Given black ≡ previous.Given c → c ≡ black
-unfolding clearIn
-told-clear c e = sym (ap clearIn e)
+-- the flags as they are worked out; before the first frame stands a row of nothing
+abbrev noRow : OpenRow
+noRow = record { tileY = 0; from = 0; to = 1; row = []; table = record { words = []; floats = []; count = 0 } }
 
-isGivenClear : PreviousClear → Bool
-isGivenClear previous.Absent = false
-isGivenClear (previous.Given c) = true
-
-not-given : {c : Color} → previous.Absent ≡ previous.Given c → ⊥
-unfolding isGivenClear
-not-given e = false≢true (ap isGivenClear e)
-
--- the flags as they are worked out
-marked-first : openRow (frameCall 0) ≡ marked (openRow (frameCall 0)) (openRow (frameCall 0))
-unfolding markedWords
+marked-first : openRow (frameCall 0) ≡ marked noRow [] (openRow (frameCall 0)) []
+unfolding markedWords tableIds placeFrom
 marked-first = refl
 
-marked-second : openRow (frameCall 1) ≡ marked (openRow (frameCall 0)) (openRow (frameCall 1))
+marked-second : openRow (frameCall 1) ≡ marked (openRow (frameCall 0)) [] (openRow (frameCall 1)) []
 unfolding markedWords tableIds placeFrom ofBits odd
 marked-second = refl
 
 pub kept-tile : KeptTile
-unfolding workOut outcomeByEntries outcomeOf clipsFrom stepOf coveredFrom shownFrom latestClip strokesFrom isFull eq ofBits odd listOf groupsOf handedOn queueAfter addTo addAll leftPart tilePart layerPart searchOf halved lookup tableOf layerAt isLight carryOf isEmpty heldIn coverOf tileOf listVerdict
+unfolding workedCount workOut outcomeByEntries outcomeOf clipsFrom stepOf coveredFrom shownFrom latestClip strokesFrom isFull eq ofBits odd listOf groupsOf handedOn queueAfter addTo addAll leftPart tilePart layerPart searchOf halved lookup tableOf layerAt isLight carryOf isEmpty heldIn coverOf tileOf listVerdict
 kept-tile =
     record {
       first = firstWork;
@@ -162,9 +152,10 @@ kept-tile =
       history =
           History.next
           (History.next History.begins (Frame.first {d = Display.other} firstWork refl refl (Drawing.settles bytes)))
-          (Frame.again secondWork refl (record { flags = told; clear = told-clear }) Rule.alike refl Drawing.leaves);
+          (Frame.again secondWork refl (record { flags = told; contents = told-contents }) refl Drawing.leaves);
       in-row =
           RowHistory.next
-          (RowHistory.next (RowHistory.begins {l = record { row = openRow (frameCall 0); clear = black; worked = 0 }} refl) (RowFrame.works {d = Display.other} false (openRow (frameCall 0)) firstWork 1 refl marked-first (λ c e. absurd (not-given e)) (λ e z. absurd (false≢true e)) refl tt (Drawing.settles bytes)))
-          (RowFrame.works true (openRow (frameCall 1)) secondWork 1 refl marked-second told-clear (λ e z. refl) refl refl Drawing.leaves);
+          (RowHistory.next (RowHistory.begins {l = record { row = noRow; revisions = []; clear = black; worked = 0 }})
+          (RowFrame.works {d = Display.other} false (openRow (frameCall 0)) firstWork (true ∷ []) refl marked-first (λ e z. absurd (false≢true e)) refl tt (Drawing.settles bytes)))
+          (RowFrame.works true (openRow (frameCall 1)) secondWork (true ∷ []) refl marked-second (λ e z. refl) refl refl Drawing.leaves);
     }

@@ -8,7 +8,6 @@ use mathlib.Core.Option.{some}
 use Prim.Native.Nat.{ℕ, _+_, _%_, _^_, _≤_}
 use native.Mathlib.Omega.{arith}
 use lib.ListN.{length}
-use Rattle.styling.specs.declared.Color.{Color}
 use Rattle.laws.proofs.Bools.{either}
 use Rattle.cached_tile.specs.Tile.{emptyTile, layerCountOf, keepCount, dropCount, dropColor}
 use Rattle.cached_tile.specs.Kept.{previousCount, counted}
@@ -26,17 +25,16 @@ use Rattle.layer_workbench.specs.Work.{clearUnchanged, countFrom, outcomeByEntr
 use Rattle.row_statements.specs.Due.{layersOn}
 use Rattle.row_statements.specs.InnerHolding.{IsOpen}
 use Rattle.kept_frames.specs.Display.{Display, KeepsShown}
-use Rattle.kept_frames.specs.Right.{Frames, countBy, ShowsSame}
-use Rattle.kept_frames.proofs.Afresh.{drawn-afresh}
+use Rattle.kept_frames.specs.Right.{countBy, ShowsSame}
+use Rattle.kept_frames.proofs.Changed.{worked-afresh}
 use Rattle.kept_frames.proofs.None.{none-right, uncounted-drawn}
-use Rattle.kept_frames.proofs.Whole.{stays-right}
 use Rattle.kept_frames.proofs.Settled.{solid-right, first-shown}
 use Rattle.kept_frames.proofs.Tags.{count-uncolored}
 use Rattle.kept_rows.specs.Shown.{WorkedTile, itemsFor, SameShown}
-use Rattle.kept_rows.specs.History.{AcceptedWork, openOn, workedOf, Standing, Drawing, drawnAt, lentTile, Rule, keptIf, Frame, History, IsRight, FirstDrawn, FramesRight, WorkShows}
+use Rattle.kept_rows.specs.History.{AcceptedWork, openOn, workedOf, Standing, Drawing, drawnAt, lentTile, keptIf, mayKeepTile, Frame, History, IsRight, FirstDrawn, FramesRight, WorkShows}
 use Rattle.kept_rows.proofs.Along.{told-along}
 use Rattle.kept_rows.proofs.Works.{row-open, said, decided-by, items-long}
-use Rattle.kept_rows.proofs.Shown.{self-shown, same-shown}
+use Rattle.kept_rows.proofs.Shown.{same-shown}
 
 -- ---- the cached tile through a work and what the caller draws
 
@@ -106,11 +104,6 @@ kept-count : (may : Bool) (before : List Item) (k : CachedTile) (d : Display) �
 kept-count true before k d s = ap countFrom (s .count)
 kept-count false before k d s = ap countFrom (count-dropped k (s .shows .tag))
 
-rule-right : {before now : List Item} {may : Bool} → Rule before now may → (clear : Color) (same : Bool) → Frames before now
-    → outcomeOf clear same (countBy may before) now .decision ≡ none → ShowsSame same before now
-rule-right {before} {now} Rule.alike clear same f e = none-right clear same before now f e
-rule-right {before} {now} Rule.stays clear same f e = stays-right clear same before now f e
-
 -- ---- through frames
 
 pub record Holding (k : CachedTile) (d : Display) (drawn last : WorkedTile) (t : ℕ) : Type 0 where
@@ -125,25 +118,28 @@ Held t (Standing.worked k d drawn last) = Holding k d drawn last t
 
 by-decision : (c : TileDecision) (drawn now : WorkedTile) → (c ≡ none → SameShown drawn now) → SameShown (drawnAt c drawn now) now
 by-decision none drawn now h = h refl
-by-decision (solid bottom before) drawn now h = self-shown now
-by-decision paint drawn now h = self-shown now
+by-decision (solid bottom before) drawn now h = refl
+by-decision paint drawn now h = refl
 
 frame-held : {t : ℕ} {s s′ : Standing} → Frame t s s′ → Held t s → Held t s′
 frame-held Frame.leaves h = h
+frame-held Frame.forgets h = tt
 frame-held (Frame.first {d = d} a e k g) h =
-    record { row-is = row-open a; tile-is = e; stands = work-stands a emptyTile k (first-shown d) g; same = self-shown (workedOf a) }
-frame-held {t} (Frame.again {k = k} {d = d} {drawn = drawn} {last = last} {may = may} a e told rule q g) h =
+    record { row-is = row-open a; tile-is = e; stands = work-stands a emptyTile k (first-shown d) g; same = refl }
+frame-held {t} (Frame.again {k = k} {d = d} {drawn = drawn} {last = last} a e told q g) h =
     let now = workedOf a in
+    let may = mayKeepTile last now in
     let b = keptIf may k in
     let same = clearUnchanged (a .done .previous) (a .done .clear) in
     let along = told-along (h .row-is) (row-open a) (told .flags) (last .place) (now .place) (h .tile-is ∙ sym e) in
-    let right : a .done .decision ≡ none → ShowsSame same (itemsFor last) (itemsFor now) = λ z. rule-right rule (a .done .clear) same (along .frames)
+    let right : a .done .decision ≡ none → ShowsSame (last .clear) (now .clear) (itemsFor last) (itemsFor now) =
+    λ z. none-right (last .clear) (now .clear) same (itemsFor last) (itemsFor now) (along .frames)
     (ap (λ (n : PreviousCount). outcomeOf (a .done .clear) same n (itemsFor now) .decision) (sym (kept-count may (itemsFor last) k d (h .stands))) ∙ sym (decided a b q) ∙ z) in
     record {
       row-is = row-open a;
       tile-is = e;
       stands = work-stands a b q (kept-shows may k d (h .stands .shows)) g;
-      same = by-decision (a .done .decision) drawn now (λ z. same-shown drawn last now (a .done .previous) (h .same) along (told .clear) (right z));
+      same = by-decision (a .done .decision) drawn now (λ z. same-shown last now along (told .contents) drawn (h .same) (right z));
     }
 frame-held {t} (Frame.anew {k = k} {d = d} {drawn = drawn} {last = last} a e q g) h =
     let now = workedOf a in
@@ -182,8 +178,12 @@ work-shows a drawn =
     let same = clearUnchanged (a .done .previous) (a .done .clear) in
     let count = countFrom (previousCount (a .done .before)) in
     let items = itemsFor (workedOf a) in
-    drawn-afresh (a .done .clear) same count items
+    let afresh = worked-afresh (a .done .clear) same count items
     (⊎-elim
     (λ k. absurd (drawn (decided-by a ∙ ap (λ (o : Outcome). o .decision) (outcome-kept (a .done .clear) same count items k))))
     (λ k. k)
-    (either (isKept same count items)))
+    (either (isKept same count items))) in
+    record {
+      decision = decided-by a ∙ ⊎-elim (λ z. absurd (drawn (decided-by a ∙ z))) (λ z. z) (afresh .decision);
+      shown = afresh .shown;
+    }

@@ -1,6 +1,7 @@
 -- After every accepted opening, every work on its first tile that no condition refuses is an accepted work of some run. Assumes nothing.
 use mathlib.Core.Path.{_≡_, ap, _∙_}
-use mathlib.Core.List.{[], _∷_}
+use mathlib.Core.List.{List, [], _∷_}
+use Prim.Native.Nat.{ℕ}
 use Rattle.laws.specs.Answer.{given}
 use Rattle.refusals.specs.Refusal.{Judgement, pass}
 use Rattle.segment_rows.specs.Rows.{Words}
@@ -32,8 +33,8 @@ module _ (call : OpenCall) (lent back : Columns) (s : RowState) (words : Words (
   unfolding workOut
   told c e = work-gives (workDueVerdict (openRow call) 0 c) (work-named (openRow call) 0 c) (openRow call) atFirst c .answer ∙ ap (λ (v : Judgement). workOut v (saysOn (openRow call) 0 c) (stateOn (openRow call) atFirst) (c .kept) (c .lent) .answer) e
 
-  abbrev pub once : (c : WorkChoice) → workDueVerdict (openRow call) 0 (heldWork held c) ≡ pass → AcceptedWork
-  once c e =
+  abbrev pub once : (revisions : List ℕ) (c : WorkChoice) → workDueVerdict (openRow call) 0 (heldWork held c) ≡ pass → AcceptedWork
+  once revisions c e =
       record {
         call = call;
         lent = lent;
@@ -43,6 +44,7 @@ module _ (call : OpenCall) (lent back : Columns) (s : RowState) (words : Words (
         held = _;
         words = words;
         opens = opens;
+        revisions = revisions;
         run = RowCalls.next (CallStep.row {h = heldWith held []} (Step.work {c = heldWork held c} as-held (work-goes row-open holds c))) RowCalls.none;
         done = _;
         made = DoneIn.work {c = heldWork held c} MadeCall.here (told (heldWork held c) e);

@@ -1,21 +1,19 @@
--- The paintings of a tile's shown layers are the strokes of its picture, with the row's coverages. Assumes nothing.
+-- The paintings of a tile's shown layers are the strokes of its picture, with the row's coverages and revisions. Assumes nothing.
 use mathlib.Core.Path.{_≡_, refl, sym, ap, ap₂, _∙_}
-use mathlib.Core.Bool.{Bool, true, false, cond, not, _&&_, false≢true}
+use mathlib.Core.Bool.{Bool, true, false, cond, not, _&&_}
 use mathlib.Core.List.{List, [], _∷_, map}
-use mathlib.Core.Logic.{⊎-elim}
 use mathlib.Core.Option.{Option, some, none}
 use Prim.Native.Nat.{ℕ, zero, suc, _<_}
 use native.Mathlib.Omega.{arith}
 use lib.Ieee.{Float}
 use lib.ListN.{length}
 use Rattle.laws.specs.Answer.{Answer, refused, given}
-use Rattle.laws.proofs.Bools.{either}
 use Rattle.layer_table.specs.Lookup.{lookup}
 use Rattle.styling.specs.declared.Func.{Func}
 use Rattle.styling.specs.declared.Func.the-variants.{Draw, Clip}
 use Rattle.styling.specs.declared.Layer.{Layer}
 use Rattle.cover_statements.specs.Mark.{markOf}
-use Rattle.pass_statements.specs.Clips.{isClip, marksOf}
+use Rattle.pass_statements.specs.Clips.{marksOf}
 use Rattle.pass_statements.specs.Covered.{itemAt}
 use Rattle.pass_statements.specs.Entry.{Entry}
 use Rattle.pass_statements.specs.Item.{itemFrom, itemOf, itemsOf}
@@ -24,12 +22,12 @@ use Rattle.pass_statements.specs.declared.item.Item.{Item}
 use Rattle.layer_workbench.specs.Work.{entryOf}
 use Rattle.painter.specs.Clip.{aliveAt, clipAfter, hasNoClip, lacksClip}
 use Rattle.painter.specs.Painting.{markFor}
-use Rattle.row_statements.specs.Painting.{layerFrom, layerIn}
+use Rattle.row_statements.specs.Painting.{layerIn}
 use Rattle.row_statements.specs.Due.{OpenRow, tableOn, layersOn, funcOn, planeOn, paintOn}
-use Rattle.kept_frames.specs.Picture.{shownAfresh, Stroke, maskFor, strokesFrom, pictureOf}
-use Rattle.kept_frames.proofs.Strokes.{strokeOf, strokes-end, strokes-clip, strokes-draw, Each, each-shown}
-use Rattle.kept_rows.specs.Along.{itemsOn}
-use Rattle.kept_rows.specs.Shown.{WorkedTile, itemsFor, ShownDraw, paintingsFrom, drawsShown}
+use Rattle.kept_frames.specs.Picture.{shownAfresh, Stroke, maskFor, maskAfter, strokesFrom, pictureOf}
+use Rattle.kept_frames.proofs.Strokes.{strokeOf, strokes-end, strokes-next, Each, each-shown}
+use Rattle.kept_rows.specs.Along.{revisionOn, itemsOn}
+use Rattle.kept_rows.specs.Shown.{WorkedTile, itemsFor, ShownLayer, paintingsFrom, drawnBy}
 
 -- ---- a stroke with coverages
 
@@ -37,13 +35,19 @@ abbrev pub planesOf : (ℕ → List Float) → Option ℕ → Option (List Float
 planesOf planes none = none
 planesOf planes (some id) = some (planes id)
 
-abbrev pub painted : (ℕ → List Float) → Stroke → ShownDraw
-painted planes s =
+-- a clip uses no octet, nor does a draw that lacks its clip
+abbrev markBy : Func → Bool → List Float → ℕ
+markBy (Clip span) lacks plane = 0
+markBy (Draw style) lacks plane = cond lacks 0 (markOf plane)
+
+abbrev pub painted : (ℕ → List Float) → (ℕ → ℕ) → Stroke → ShownLayer
+painted planes revisions s =
     record {
-      id = s .draw .id;
-      func = s .draw .func;
-      plane = planes (s .draw .id);
-      mark = cond (s .lacks) 0 (markOf (planes (s .draw .id)));
+      id = s .layer .id;
+      func = s .layer .func;
+      revision = revisions (s .layer .id);
+      plane = planes (s .layer .id);
+      mark = markBy (s .layer .func) (s .lacks) (planes (s .layer .id));
       cut = planesOf planes (s .mask);
     }
 
@@ -63,60 +67,60 @@ func-at table (e ∷ es) (suc i) h = func-at table es i (omega (arith, h))
 
 -- ---- turns
 
-mark-draw : (f : Func) (needs : Bool) (alive : Option ℕ) (plane : List Float) → isClip f ≡ false → markFor f needs alive plane ≡ cond (lacksClip needs alive) 0 (markOf plane)
-mark-draw (Draw style) needs alive plane e = refl
-mark-draw (Clip span) needs alive plane e = absurd (false≢true (sym e))
+mark-by : (f : Func) (needs : Bool) (alive : Option ℕ) (plane : List Float) → markFor f needs alive plane ≡ markBy f (lacksClip needs alive) plane
+mark-by (Draw style) needs alive plane = refl
+mark-by (Clip span) needs alive plane = refl
 
 mask-planes : (planes : ℕ → List Float) (t : Bool) (mask : Option ℕ) → cond t (planesOf planes mask) none ≡ planesOf planes (cond t mask none)
 mask-planes planes true mask = refl
 mask-planes planes false mask = refl
 
-module _ (o : OpenRow) (n : ℕ) where
+mask-next : (planes : ℕ → List Float) (f : Func) (id : ℕ) (mask : Option ℕ) → maskAfter f (planes id) (planesOf planes mask) ≡ planesOf planes (maskAfter f id mask)
+mask-next planes (Clip span) id mask = refl
+mask-next planes (Draw style) id mask = refl
+
+module _ (o : OpenRow) (revisions : List ℕ) (n : ℕ) where
+  abbrev stroked : Stroke → ShownLayer
+  stroked = painted (planeOn o n) (revisionOn o revisions)
+
   module _ (clip : Option ℕ) (mask : Option (List Float)) where
-    end : paintingsFrom o n clip mask [] ≡ []
+    abbrev paintedAt : Item → ShownLayer
+    paintedAt x =
+        let says = paintOn o n (x .id) clip in
+        let cut = maskFor (needsClip (itemsOn o n) (x .func) (x .id)) (aliveAt clip (x .id)) mask in
+        record { id = x .id; func = x .func; revision = revisionOn o revisions (x .id); plane = says .plane; mark = says .mark; cut = cut }
+
+    end : paintingsFrom o revisions n clip mask [] ≡ []
     unfolding paintingsFrom
     end = refl
 
-    on-clip : (x : Item) (xs : List Item) → isClip (x .func) ≡ true → paintingsFrom o n clip mask (x ∷ xs) ≡ paintingsFrom o n (clipAfter (funcOn o (x .id)) (x .id) clip) (some (planeOn o n (x .id))) xs
+    on : (x : Item) (xs : List Item)
+        → paintingsFrom o revisions n clip mask (x ∷ xs) ≡ paintedAt x ∷ paintingsFrom o revisions n (clipAfter (funcOn o (x .id)) (x .id) clip) (maskAfter (x .func) (planeOn o n (x .id)) mask) xs
     unfolding paintingsFrom
-    on-clip x xs e = rw e
+    on x xs = refl
 
-    abbrev paintedAt : Item → ShownDraw
-    paintedAt x =
-        let says = paintOn o n (x .id) clip in
-        record { id = x .id; func = x .func; plane = says .plane; mark = says .mark; cut = maskFor (needsClip (itemsOn o n) (x .func) (x .id)) (aliveAt clip (x .id)) mask }
-
-    on-draw : (x : Item) (xs : List Item) → isClip (x .func) ≡ false → paintingsFrom o n clip mask (x ∷ xs) ≡ paintedAt x ∷ paintingsFrom o n (clipAfter (funcOn o (x .id)) (x .id) clip) mask xs
-    unfolding paintingsFrom
-    on-draw x xs e = rw e
-
-  one : (clip mask : Option ℕ) (x : Item) → funcOn o (x .id) ≡ x .func → isClip (x .func) ≡ false → paintedAt clip (planesOf (planeOn o n) mask) x ≡ painted (planeOn o n) (strokeOf (itemsOn o n) clip mask x)
-  one clip mask x f k =
+  one : (clip mask : Option ℕ) (x : Item) → funcOn o (x .id) ≡ x .func → paintedAt clip (planesOf (planeOn o n) mask) x ≡ stroked (strokeOf (itemsOn o n) clip mask x)
+  one clip mask x f =
       let needs = needsClip (itemsOn o n) (x .func) (x .id) in
       let alive = aliveAt clip (x .id) in
-      let mark : paintOn o n (x .id) clip .mark ≡ cond (lacksClip needs alive) 0 (markOf (planeOn o n (x .id))) =
-      ap (λ (g : Func). markFor g (needsClip (itemsOn o n) g (x .id)) alive (planeOn o n (x .id))) f ∙ mark-draw (x .func) needs alive (planeOn o n (x .id)) k in
+      let mark : paintOn o n (x .id) clip .mark ≡ markBy (x .func) (lacksClip needs alive) (planeOn o n (x .id)) =
+      ap (λ (g : Func). markFor g (needsClip (itemsOn o n) g (x .id)) alive (planeOn o n (x .id))) f ∙ mark-by (x .func) needs alive (planeOn o n (x .id)) in
       let cut = mask-planes (planeOn o n) (needs && not (hasNoClip alive)) mask in
-      λ i. record { id = x .id; func = x .func; plane = planeOn o n (x .id); mark = mark i; cut = cut i }
+      λ i. record { id = x .id; func = x .func; revision = revisionOn o revisions (x .id); plane = planeOn o n (x .id); mark = mark i; cut = cut i }
 
   pub paintings : (xs : List Item) (clip mask : Option ℕ) → Each (λ x. funcOn o (x .id) ≡ x .func) xs
-      → paintingsFrom o n clip (planesOf (planeOn o n) mask) xs ≡ map (painted (planeOn o n)) (strokesFrom (itemsOn o n) clip mask xs)
-  paintings [] clip mask fs = end clip (planesOf (planeOn o n) mask) ∙ ap (map (painted (planeOn o n))) (sym (strokes-end (itemsOn o n) clip mask))
+      → paintingsFrom o revisions n clip (planesOf (planeOn o n) mask) xs ≡ map stroked (strokesFrom (itemsOn o n) clip mask xs)
+  paintings [] clip mask fs = end clip (planesOf (planeOn o n) mask) ∙ ap (map stroked) (sym (strokes-end (itemsOn o n) clip mask))
   paintings (x ∷ xs) clip mask (f, fs) =
       let after : clipAfter (funcOn o (x .id)) (x .id) clip ≡ clipAfter (x .func) (x .id) clip = ap (λ (g : Func). clipAfter g (x .id) clip) f in
-      ⊎-elim
-      (λ k. on-clip clip (planesOf (planeOn o n) mask) x xs k
-      ∙ ap (λ (c : Option ℕ). paintingsFrom o n c (some (planeOn o n (x .id))) xs) after
-      ∙ paintings xs (clipAfter (x .func) (x .id) clip) (some (x .id)) fs
-      ∙ ap (map (painted (planeOn o n))) (sym (strokes-clip (itemsOn o n) clip mask x xs k)))
-      (λ k. on-draw clip (planesOf (planeOn o n) mask) x xs k
-      ∙ ap₂ (λ (d : ShownDraw) (ds : List ShownDraw). d ∷ ds) (one clip mask x f k)
-      (ap (λ (c : Option ℕ). paintingsFrom o n c (planesOf (planeOn o n) mask) xs) after ∙ paintings xs (clipAfter (x .func) (x .id) clip) mask fs)
-      ∙ ap (map (painted (planeOn o n))) (sym (strokes-draw (itemsOn o n) clip mask x xs k)))
-      (either (isClip (x .func)))
+      on clip (planesOf (planeOn o n) mask) x xs
+      ∙ ap₂ (λ (d : ShownLayer) (ds : List ShownLayer). d ∷ ds) (one clip mask x f)
+      (ap₂ (λ (c : Option ℕ) (m : Option (List Float)). paintingsFrom o revisions n c m xs) after (mask-next (planeOn o n) (x .func) (x .id) mask)
+      ∙ paintings xs (clipAfter (x .func) (x .id) clip) (maskAfter (x .func) (x .id) mask) fs)
+      ∙ ap (map stroked) (sym (strokes-next (itemsOn o n) clip mask x xs))
 
-pub draws-painted : (w : WorkedTile) → drawsShown w ≡ map (painted (planeOn (w .row) (w .place))) (pictureOf (itemsFor w))
-draws-painted w =
-    paintings (w .row) (w .place) (shownAfresh (itemsFor w)) none none
+pub layers-painted : (w : WorkedTile) → drawnBy w .layers ≡ map (painted (planeOn (w .row) (w .place)) (revisionOn (w .row) (w .revisions))) (pictureOf (itemsFor w))
+layers-painted w =
+    paintings (w .row) (w .revisions) (w .place) (shownAfresh (itemsFor w)) none none
     (each-shown (λ x. funcOn (w .row) (x .id) ≡ x .func) _ (itemsFor w) (marksOf (itemsFor w) .unmasked)
     (λ i l m q. func-at (tableOn (w .row)) (map (entryOf (tableOn (w .row))) (layersOn (w .row) (w .place))) i l))

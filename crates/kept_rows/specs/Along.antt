@@ -1,13 +1,15 @@
 -- Flags that are truthful along rows: a layer that today's table calls unchanged has the same record and the same words as in the row of the tile's
 -- last accepted work, and both rows begin at one tile (W-214's agreement). Then it is truthfully unchanged in every tile, and its coverages are the
--- same.
+-- same. What a gradient or a texture holds no record has: a caller numbers it, and a new number is a new content.
 use mathlib.Core.Path.{_≡_}
 use mathlib.Core.Bool.{false}
 use mathlib.Core.List.{List}
 use Prim.Native.Nat.{ℕ, _+_}
+use lib.ListN.{getD}
 use Rattle.laws.specs.Answer.{Answer, refused, given}
 use Rattle.segment_rows.specs.Rows.{Words}
-use Rattle.layer_table.specs.Lookup.{lookup}
+use Rattle.layer_table.specs.Lookup.{lookup, recordPlace}
+use Rattle.layer_table.specs.Table.{tableIds}
 use Rattle.styling.specs.declared.Layer.{Layer}
 use Rattle.styling.specs.declared.Props.{Props}
 use Rattle.tile_layers.specs.Listing.{isChanged}
@@ -34,6 +36,18 @@ pub record SameIn (id : ℕ) (o o′ : OpenRow) : Type 0 where
 -- the flags of o′ are truthful since o
 abbrev pub RowTold : OpenRow → OpenRow → Type 0
 RowTold o o′ = (id : ℕ) → isChanged (tableOn o′) id ≡ false → SameIn id o o′
+
+-- the number of what a layer holds, from a column beside the table with one for each record; of a solid fill and a clip it may be 0
+abbrev pub revisionAt : List ℕ → Answer ℕ → ℕ
+revisionAt revisions (refused n) = 0
+revisionAt revisions (given i) = getD revisions i 0
+
+abbrev pub revisionOn : OpenRow → List ℕ → ℕ → ℕ
+revisionOn o revisions id = revisionAt revisions (recordPlace (tableIds (o .table .words) (o .table .count)) id)
+
+-- whom o′ calls unchanged holds what it held in o
+abbrev pub ContentsTold : OpenRow → List ℕ → OpenRow → List ℕ → Type 0
+ContentsTold o revisions o′ revisions′ = (id : ℕ) → isChanged (tableOn o′) id ≡ false → revisionOn o revisions id ≡ revisionOn o′ revisions′ id
 
 -- what the passes read of tile from + n
 abbrev pub itemsOn : OpenRow → ℕ → List Item

@@ -1,7 +1,7 @@
 -- The theorem over frames: a tile through any list of frames, in each of which its row is opened and run as demand 3 has it, with the cached tile
--- that the last frame left, and in which the caller follows the protocol: flags and previous clear colour are relative to the tile's last accepted work,
--- the count is kept only where whoever was listed then is listed still, and every solid tile is settled and obeyed. Then what stands in the tile is
--- always what drawing it afresh at its last accepted work shows. A frame in which the tile is not worked, or turned down, leaves it as it is.
+-- that the last frame left, and in which the caller follows the protocol: flags and revisions are truthful since the tile's last accepted work, the count is kept
+-- only by the keep rule, and every solid tile is settled and obeyed. Then what stands in the tile is always what drawing it afresh at its last accepted work
+-- draws, by the same decision and the same calls. A frame in which the tile is not worked, or turned down, leaves it as it is; and it may be forgotten.
 use mathlib.Core.Path.{_≡_}
 use mathlib.Core.Bool.{Bool, true, cond}
 use mathlib.Core.List.{List, []}
@@ -15,9 +15,7 @@ use Rattle.cached_tile.specs.declared.CachedTile.{CachedTile}
 use Rattle.cached_tile.specs.declared.kept.Kept as kept
 use Rattle.pass_statements.specs.Decide.{shownOf}
 use Rattle.pass_statements.specs.Decision.{TileDecision, none, solid, paint}
-use Rattle.pass_statements.specs.declared.item.Item.{Item}
 use Rattle.layer_workbench.specs.declared.PreviousClear.{PreviousClear}
-use Rattle.layer_workbench.specs.declared.PreviousClear.the-variants.{Given}
 use Rattle.row_statements.specs.Lent.{Columns}
 use Rattle.row_statements.specs.Opening.{OpenCall, openOf, OpensRow}
 use Rattle.row_statements.specs.TileWork.{WorkLent, TileAnswer, workAnswer}
@@ -35,10 +33,9 @@ use Rattle.listing_runs.specs.Run.{HeldAll, heldWith, RowCall, RowCalls}
 use Rattle.two_rows.specs.Apart.{MadeCall}
 use Rattle.kept_frames.specs.Display.{Display, ShowsBytes, displayed}
 use Rattle.kept_frames.specs.Picture.{shownAfresh}
-use Rattle.kept_frames.specs.Alike.{drawsAlike}
-use Rattle.kept_frames.specs.Stays.{listStays}
-use Rattle.kept_rows.specs.Along.{RowTold}
-use Rattle.kept_rows.specs.Shown.{WorkedTile, itemsFor, SameShown}
+use Rattle.kept_frames.specs.Alike.{mayKeepCount}
+use Rattle.kept_rows.specs.Along.{RowTold, ContentsTold}
+use Rattle.kept_rows.specs.Shown.{WorkedTile, itemsFor, drawnBy, SameShown}
 
 -- ---- an accepted work in a frame: a row that was opened, any list of calls, and one of them
 
@@ -71,6 +68,8 @@ pub record AcceptedWork : Type 0 where
   pub held : HeldAll
   pub words : Words (call .row)
   pub opens : OpensRow (openOf call lent) (opened.Row state) back
+  -- of what each record of the table holds
+  pub revisions : List ℕ
   pub run : RowCalls (openRow call) (heldWith (heldFirst state back) []) calls held
   pub done : TileDone
   pub made : DoneIn (openRow call) calls done
@@ -82,7 +81,7 @@ abbrev pub tileNumber : AcceptedWork → ℕ
 tileNumber a = openOn a .from + a .done .place
 
 abbrev pub workedOf : AcceptedWork → WorkedTile
-workedOf a = record { row = openOn a; place = a .done .place; clear = a .done .clear }
+workedOf a = record { row = openOn a; revisions = a .revisions; place = a .done .place; clear = a .done .clear }
 
 -- ---- what stands of a tile between frames
 
@@ -109,35 +108,35 @@ drawnAt paint drawn now = now
 abbrev pub lentTile : CachedTile → kept.Kept
 lentTile k = record { given = true; tile = k }
 
--- the rules by which a count may stay: the shown draws are alike; or, narrower, whoever was listed is listed still
-pub data Rule (before now : List Item) : Bool → Type 0 where
-  alike : Rule before now (drawsAlike before now)
-  stays : Rule before now (listStays before now)
-
 -- the count is dropped where it may not stay
 abbrev pub keptIf : Bool → CachedTile → CachedTile
 keptIf may k = cond may k (dropCount k)
 
--- flags and previous clear colour are relative to the tile's last accepted work
+-- by the keep rule, of the clear colours and the lists of two works
+abbrev pub mayKeepTile : WorkedTile → WorkedTile → Bool
+mayKeepTile last now = mayKeepCount (last .clear) (now .clear) (itemsFor last) (itemsFor now)
+
+-- flags and revisions are truthful since the tile's last accepted work; the previous clear colour that a work is given plays no part
 pub record ToldSince (last : WorkedTile) (a : AcceptedWork) : Type 0 where
   pub flags : RowTold (last .row) (openOn a)
-  pub clear : (color : Color) → a .done .previous ≡ Given color → color ≡ last .clear
+  pub contents : ContentsTold (last .row) (last .revisions) (openOn a) (a .revisions)
 
 -- ---- a frame, and any list of them
 
 pub data Frame (t : ℕ) : Standing → Standing → Type 0 where
   leaves : {s : Standing} → Frame t s s
+  -- its pixels are lost, and its eight bytes set to 0
+  forgets : {s : Standing} → Frame t s Standing.unworked
   first : {k : CachedTile} {d d′ : Display} (a : AcceptedWork) → tileNumber a ≡ t →
       a .done .before ≡ lentTile emptyTile →
       Drawing (a .done .decision) (a .done .after .tile) d k d′ →
       Frame t Standing.unworked (Standing.worked k d′ (workedOf a) (workedOf a))
-  again : {k k′ : CachedTile} {d d′ : Display} {drawn last : WorkedTile} {may : Bool} (a : AcceptedWork) → tileNumber a ≡ t →
+  again : {k k′ : CachedTile} {d d′ : Display} {drawn last : WorkedTile} (a : AcceptedWork) → tileNumber a ≡ t →
       ToldSince last a →
-      Rule (itemsFor last) (itemsFor (workedOf a)) may →
-      a .done .before ≡ lentTile (keptIf may k) →
+      a .done .before ≡ lentTile (keptIf (mayKeepTile last (workedOf a)) k) →
       Drawing (a .done .decision) (a .done .after .tile) d k′ d′ →
       Frame t (Standing.worked k d drawn last) (Standing.worked k′ d′ (drawnAt (a .done .decision) drawn (workedOf a)) (workedOf a))
-  -- the count is dropped, whatever the flags, the previous clear colour and the first tile are
+  -- the count is dropped, whatever the flags, the clear colour and the first tile are
   anew : {k k′ : CachedTile} {d d′ : Display} {drawn last : WorkedTile} (a : AcceptedWork) → tileNumber a ≡ t →
       a .done .before ≡ lentTile (dropCount k) →
       Drawing (a .done .decision) (a .done .after .tile) d k′ d′ →
@@ -155,7 +154,7 @@ pub data History (t : ℕ) : Standing → Type 0 where
 
 -- ---- the claim
 
--- what was last drawn is what drawing afresh at the last accepted work shows, and 'keep' is said only of bytes that the whole tile displays
+-- what was last drawn is what drawing afresh at the last accepted work draws, and 'keep' is said only of bytes that the whole tile displays
 abbrev pub IsRight : Standing → Type 0
 IsRight Standing.unworked = Unit {0}
 IsRight (Standing.worked tile display drawn last) = SameShown drawn last × ((bytes : List ℕ) → keepsSame tile bytes ≡ true → ShowsBytes display bytes)
@@ -167,9 +166,12 @@ FirstDrawn = (a : AcceptedWork) → a .done .before ≡ lentTile emptyTile → a
 abbrev pub FramesRight : Type 0
 FramesRight = (t : ℕ) (s : Standing) → History t s → IsRight s
 
--- a work that is decided *solid* or *paint* shows the layers of the picture
+-- a work that is decided *solid* or *paint* draws the tile so: its decision is that of drawing afresh, and its shown layers are those that are painted
+pub record DrawsSo (a : AcceptedWork) : Type 0 where
+  pub decision : a .done .decision ≡ drawnBy (workedOf a) .decision
+  pub shown :
+      let o = outcomeOn (openOn a) (a .done .place) (a .done .before) (a .done .clear) (a .done .previous) in
+      shownOf (o .skipped) (itemsFor (workedOf a)) (o .unmasked) ≡ shownAfresh (itemsFor (workedOf a))
+
 abbrev pub WorkShows : Type 0
-WorkShows =
-    (a : AcceptedWork) → (a .done .decision ≡ none → ⊥) →
-    let o = outcomeOn (openOn a) (a .done .place) (a .done .before) (a .done .clear) (a .done .previous) in
-    shownOf (o .skipped) (itemsFor (workedOf a)) (o .unmasked) ≡ shownAfresh (itemsFor (workedOf a))
+WorkShows = (a : AcceptedWork) → (a .done .decision ≡ none → ⊥) → DrawsSo a

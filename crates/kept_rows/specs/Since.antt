@@ -1,14 +1,13 @@
--- Flags that are worked out and not told: what `mark_unchanged` writes into today's table from the rows and tables of two frames. A layer counts as
--- unchanged where the caller calls it so (its word on what a gradient or a texture holds, which no record has; else it may always say so), last frame's
--- table has it with the same record, colours bit by bit, and both rows have the same words of it, in the same order. Every other flag becomes 0. So the flags
--- are truthful along the two rows, whatever the caller said (`MarkedTold`).
+-- Flags that are worked out and not told: what `mark_unchanged` writes into today's table from the rows, tables and revision columns of two frames. A layer
+-- counts as unchanged where last frame's table has it with the same record, colours bit by bit, and with the same revision of what it holds, and both rows have
+-- the same words of it, in the same order. Every other flag becomes 0, and the caller's own plays no part. So the flags are truthful along the two rows
+-- (`MarkedTold`).
 use mathlib.Core.Path.{_≡_}
-use mathlib.Core.Bool.{Bool, true, false, cond, _&&_, Bool·beq}
+use mathlib.Core.Bool.{Bool, true, false, cond, not, _&&_, _||_}
 use mathlib.Core.List.{List, [], _∷_}
 use Prim.Native.Nat.{ℕ, _+_, _*_, _/_, _%_}
 use lib.Dec.{eqb, ltb}
 use lib.Ieee.{Float, nan, inf, fin}
-use lib.IntN.{ℤ, pos, negsuc}
 use lib.ListN.{length, getD}
 use Rattle.laws.specs.Answer.{Answer, refused, given}
 use Rattle.laws.specs.Lists.{tabulate, filter}
@@ -19,40 +18,41 @@ use Rattle.layer_table.specs.Table.{idAt, wordsAt, colorAt, tableIds}
 use Rattle.layer_table.specs.Lookup.{recordPlace}
 use Rattle.row_statements.specs.Lent.{LentTable, isLentTable}
 use Rattle.row_statements.specs.Due.{OpenRow}
-use Rattle.kept_rows.specs.Along.{RowTold}
+use Rattle.kept_frames.specs.Alike.{sameFloat}
+use Rattle.kept_rows.specs.Along.{RowTold, ContentsTold}
 
 -- ---- records, but for their flags
 
 -- the same bits; a NaN is the same as nothing, as where colours are compared by ==
-abbrev pub sameInt : ℤ → ℤ → Bool
-sameInt (pos m) (pos n) = eqb m n
-sameInt (pos m) (negsuc n) = false
-sameInt (negsuc m) (pos n) = false
-sameInt (negsuc m) (negsuc n) = eqb m n
+abbrev pub isNan : Float → Bool
+isNan nan = true
+isNan (inf s) = false
+isNan (fin s m e) = false
 
-abbrev pub sameFloat : Float → Float → Bool
-sameFloat nan y = false
-sameFloat (inf s) nan = false
-sameFloat (inf s) (inf t) = Bool·beq s t
-sameFloat (inf s) (fin t n f) = false
-sameFloat (fin s m e) nan = false
-sameFloat (fin s m e) (inf t) = false
-sameFloat (fin s m e) (fin t n f) = Bool·beq s t && (eqb m n && sameInt e f)
+abbrev pub sameNumber : Float → Float → Bool
+sameNumber x y = not (isNan x) && sameFloat x y
 
-abbrev pub sameBits : Color → Color → Bool
-sameBits c d = sameFloat (c .r) (d .r) && (sameFloat (c .g) (d .g) && (sameFloat (c .b) (d .b) && sameFloat (c .a) (d .a)))
+abbrev pub sameNumbers : Color → Color → Bool
+sameNumbers c d = sameNumber (c .r) (d .r) && (sameNumber (c .g) (d .g) && (sameNumber (c .b) (d .b) && sameNumber (c .a) (d .a)))
 
 abbrev pub sameWords : Words → Words → Bool
 sameWords v w =
     eqb (v .rule) (w .rule) && (eqb (v .func) (w .func) && (eqb (v .span) (w .span) && (eqb (v .clipped) (w .clipped) && (eqb (v .fill) (w .fill) && eqb (v .mode) (w .mode)))))
 
+-- a draw with a solid fill reads its colour, and no other record does
+abbrev pub readsColor : Words → Bool
+readsColor w = eqb (w .func) 0 && eqb (w .fill) 0
+
 -- record j of a table is record i of another
 abbrev pub sameRecord : LentTable → ℕ → LentTable → ℕ → Bool
-sameRecord t j t′ i = sameWords (wordsAt (t .words) j) (wordsAt (t′ .words) i) && sameBits (colorAt (t .floats) j) (colorAt (t′ .floats) i)
+sameRecord t j t′ i =
+    sameWords (wordsAt (t .words) j) (wordsAt (t′ .words) i)
+    && (not (readsColor (wordsAt (t′ .words) i)) || sameNumbers (colorAt (t .floats) j) (colorAt (t′ .floats) i))
 
-abbrev pub sameAt : LentTable → Answer ℕ → LentTable → ℕ → Bool
-sameAt t (refused n) t′ i = false
-sameAt t (given j) t′ i = sameRecord t j t′ i
+-- and it holds the same
+abbrev pub sameAt : LentTable → List ℕ → Answer ℕ → LentTable → List ℕ → ℕ → Bool
+sameAt t revisions (refused n) t′ revisions′ i = false
+sameAt t revisions (given j) t′ revisions′ i = sameRecord t j t′ i && eqb (getD revisions j 0) (getD revisions′ i 0)
 
 -- ---- words
 
@@ -66,37 +66,39 @@ sameList [] (y ∷ ys) = false
 sameList (x ∷ xs) [] = false
 sameList (x ∷ xs) (y ∷ ys) = eqb x y && sameList xs ys
 
--- ---- the flag of record i of today's table
+-- ---- the flag of record i of today's table, of two rows with their revisions
 
-abbrev pub isSince : OpenRow → OpenRow → ℕ → Bool
-isSince o o′ i =
+abbrev pub isSince : OpenRow → List ℕ → OpenRow → List ℕ → ℕ → Bool
+isSince o revisions o′ revisions′ i =
     let id = idAt (o′ .table .words) i in
-    eqb (wordsAt (o′ .table .words) i .unchanged) 1
-    && (sameAt (o .table) (recordPlace (tableIds (o .table .words) (o .table .count)) id) (o′ .table) i && sameList (layerWords id (o .row)) (layerWords id (o′ .row)))
+    sameAt (o .table) revisions (recordPlace (tableIds (o .table .words) (o .table .count)) id) (o′ .table) revisions′ i
+    && sameList (layerWords id (o .row)) (layerWords id (o′ .row))
 
 -- today's table as it is left: the last word of each record is its flag, and every other word stays
-unfoldable pub markedWords : OpenRow → OpenRow → List ℕ
-markedWords o o′ =
+unfoldable pub markedWords : OpenRow → List ℕ → OpenRow → List ℕ → List ℕ
+markedWords o revisions o′ revisions′ =
     tabulate (length (o′ .table .words))
-    (λ k. cond (eqb (k % 8) 7 && ltb (k / 8) (o′ .table .count)) (cond (isSince o o′ (k / 8)) 1 0) (getD (o′ .table .words) k 0))
+    (λ k. cond (eqb (k % 8) 7 && ltb (k / 8) (o′ .table .count)) (cond (isSince o revisions o′ revisions′ (k / 8)) 1 0) (getD (o′ .table .words) k 0))
 
-abbrev pub marked : OpenRow → OpenRow → OpenRow
-marked o o′ =
+abbrev pub marked : OpenRow → List ℕ → OpenRow → List ℕ → OpenRow
+marked o revisions o′ revisions′ =
     record {
       tileY = o′ .tileY;
       from = o′ .from;
       to = o′ .to;
       row = o′ .row;
-      table = record { words = markedWords o o′; floats = o′ .table .floats; count = o′ .table .count };
+      table = record { words = markedWords o revisions o′ revisions′; floats = o′ .table .floats; count = o′ .table .count };
     }
 
 -- ---- the laws
 
--- the flags are truthful, of rows that begin at one tile, whatever row and table were lent as last frame's
+-- the flags are truthful, of rows that begin at one tile, whatever row, table and revisions were lent as last frame's
 abbrev pub MarkedTold : Type 0
 MarkedTold =
-    (o o′ : OpenRow) → isLentTable (o .table) ≡ true → isLentTable (marked o o′ .table) ≡ true → o .from ≡ o′ .from → RowTold o (marked o o′)
+    (o o′ : OpenRow) (revisions revisions′ : List ℕ) →
+    isLentTable (o .table) ≡ true → isLentTable (marked o revisions o′ revisions′ .table) ≡ true → o .from ≡ o′ .from →
+    RowTold o (marked o revisions o′ revisions′) × ContentsTold o revisions (marked o revisions o′ revisions′) revisions′
 
 -- and the table is none that 1 or 4 turns down
 abbrev pub MarkedTable : Type 0
-MarkedTable = (o o′ : OpenRow) → isLentTable (o′ .table) ≡ true → isLentTable (marked o o′ .table) ≡ true
+MarkedTable = (o o′ : OpenRow) (revisions revisions′ : List ℕ) → isLentTable (o′ .table) ≡ true → isLentTable (marked o revisions o′ revisions′ .table) ≡ true

@@ -9,6 +9,7 @@ use lib.Bits.{bitAnd}
 use lib.Dec.{eqb, leb, ltb}
 use lib.ListN.{length, getD, take, drop}
 use lib.Seq.{getD-take, getD-drop}
+use Rattle.laws.specs.Lists.{every}
 use Rattle.laws.proofs.Bools.{both, left, right}
 use Rattle.laws.proofs.Rows.{getD-tabulate}
 use Rattle.refusals.specs.Refusal.{Judgement, pass, refuse, unless}
@@ -18,13 +19,14 @@ use Rattle.segment_rows.specs.Rows.{isRow}
 use Rattle.cached_tile.specs.Tile.{dropCount}
 use Rattle.cached_tile.specs.declared.CachedTile.{CachedTile}
 use Rattle.row_statements.specs.Lent.{isLentShort, isLentTable}
-use Rattle.row_statements.specs.Due.{OpenRow}
+use Rattle.row_statements.specs.TileWork.{listVerdict}
+use Rattle.row_statements.specs.Due.{OpenRow, tableOn, layersOn}
 use Rattle.ffi_numbers.specs.Cached.{tileFrom}
-use Rattle.kept_frames.specs.Alike.{drawsAlike}
+use Rattle.kept_frames.specs.Alike.{mayKeepCount}
 use Rattle.kept_rows.specs.Along.{itemsOn}
 use Rattle.kept_rows.specs.History.{AcceptedWork, openOn, tileNumber, keptIf}
 use Rattle.kept_rows.specs.Frames.{LastRow, isWithin, mayStay}
-use Rattle.kept_tiles.specs.Tiles.{KeepCall, areListed, mayKeep, areTagged, tilesVerdict, ruledBytes, bytesBy, tileAt, TilesRuled, RuleStays}
+use Rattle.kept_tiles.specs.Tiles.{KeepCall, isPass, isOpened, areListed, mayKeep, areTagged, tilesVerdict, ruledBytes, bytesBy, tileAt, TilesRuled, RuleStays, KeptOpened}
 
 -- the call has the bytes of its tiles
 long : (c : KeepCall) (bytes : List ℕ) → tilesVerdict c bytes ≡ pass → 8 * c .tiles ≤ length bytes
@@ -47,7 +49,7 @@ long c bytes e =
 
 module _ (c : KeepCall) (bytes : List ℕ) (i : ℕ) (n : 8 * c .tiles ≤ length bytes) (h : i < c .tiles) where
   abbrev may : Bool
-  may = mayKeep (c .last) (c .today) i
+  may = mayKeep (c .last) (c .today) (c .clear) i
 
   -- byte j of tile i
   byte : (j : ℕ) (l : List ℕ) → j < 8 → getD (take 8 (drop (i * 8) l)) j 0 ≡ getD l (i * 8 + j) 0
@@ -94,12 +96,24 @@ pub rule-stays : RuleStays
 unfolding mayKeep
 rule-stays l a e =
     let n = a .done .place in
+    let clear = a .done .clear in
     let from = eqb (l .row .from) (openOn a .from) in
     let here = from && isWithin l (openOn a .from + n) in
     let lists = areListed (l .row) n && areListed (openOn a) n in
-    let alike = drawsAlike (itemsOn (l .row) n) (itemsOn (openOn a) n) in
+    let alike = mayKeepCount (l .clear) clear (itemsOn (l .row) n) (itemsOn (openOn a) n) in
     let stood = left here (lists && alike) e in
     let first = eqb-true (l .row .from) (openOn a .from) (left from (isWithin l (openOn a .from + n)) stood) in
     let place : (openOn a .from + n) - l .row .from ≡ n = omega (arith, first) in
-    both here (drawsAlike (itemsOn (l .row) ((openOn a .from + n) - l .row .from)) (itemsOn (openOn a) n)) stood
-    (ap (λ (m : ℕ). drawsAlike (itemsOn (l .row) m) (itemsOn (openOn a) n)) place ∙ right lists alike (right here (lists && alike) e))
+    both here (mayKeepCount (l .clear) clear (itemsOn (l .row) ((openOn a .from + n) - l .row .from)) (itemsOn (openOn a) n)) stood
+    (ap (λ (m : ℕ). mayKeepCount (l .clear) clear (itemsOn (l .row) m) (itemsOn (openOn a) n)) place ∙ right lists alike (right here (lists && alike) e))
+
+pub kept-opened : KeptOpened
+unfolding mayKeep
+kept-opened l o clear i e =
+    let here = eqb (l .row .from) (o .from) && isWithin l (o .from + i) in
+    let alike = mayKeepCount (l .clear) clear (itemsOn (l .row) i) (itemsOn o i) in
+    let lists = left (areListed (l .row) i && areListed o i) alike (right here ((areListed (l .row) i && areListed o i) && alike) e) in
+    (left (isOpened (l .row)) (passing (l .row)) (left (areListed (l .row) i) (areListed o i) lists), left (isOpened o) (passing o) (right (areListed (l .row) i) (areListed o i) lists))
+  where
+    passing : OpenRow → Bool
+    passing p = every (suc i) (λ n. isPass (listVerdict (tableOn p) (layersOn p n)))
