@@ -14,15 +14,26 @@ fn the_files_are_what_the_sources_make() {
     }
 }
 
-#[test]
-fn a_c_program_packs_a_segment_and_opens_a_row() {
+/// What a C program of this folder prints; it compiles without a warning.
+fn printed(name: &str) -> String {
     let here = PathBuf::from(env!("CARGO_MANIFEST_DIR"));
-    let program = PathBuf::from(env!("CARGO_TARGET_TMPDIR")).join("header");
+    let program = PathBuf::from(env!("CARGO_TARGET_TMPDIR")).join(name);
     let library = PathBuf::from(env!("TILE_ROWS_LIB_FOLDER")).join("libffi.a");
     let mut gcc = Command::new("gcc");
     gcc.args(["-std=c99", "-Wall", "-Wextra", "-Werror", "-pedantic", "-I"]).arg(here.join("../c"));
-    gcc.arg(here.join("tests/header.c")).arg(library).arg("-o").arg(&program);
+    gcc.arg(here.join("tests").join(name).with_extension("c")).arg(library).arg("-o").arg(&program);
     assert!(gcc.status().expect("gcc is on the path").success(), "the header compiles and links");
     let output = Command::new(program).output().unwrap();
-    assert_eq!(String::from_utf8_lossy(&output.stdout), "word 0020060000534810\nopening 0, carries 0\nplane 1\n");
+    assert!(output.status.success(), "no call is refused");
+    String::from_utf8_lossy(&output.stdout).into_owned()
+}
+
+#[test]
+fn a_c_program_packs_a_segment_and_opens_a_row() {
+    assert_eq!(printed("header"), "word 0020060000534810\nopening 0, carries 0\nplane 1\n");
+}
+
+#[test]
+fn a_c_program_keeps_a_tile_by_the_rule() {
+    assert_eq!(printed("kept_tile"), "solid\nsolid\nnone\nsolid\nnone\nsolid\n");
 }
