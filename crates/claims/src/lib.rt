@@ -20,6 +20,20 @@ ghost use Rattle.ffi_calls.specs.Calls.{CallsClaim};
 ghost use Rattle.ffi_calls.specs.ListingCalls.{ListingCallsClaim};
 ghost use Rattle.ffi_calls.specs.Example.{CallsExist};
 ghost use Rattle.ffi_calls.specs.Batches.{BatchesClaim, BatchesExist};
+ghost use Rattle.kept_frames.specs.Display.{SolidRight, FirstShown};
+ghost use Rattle.kept_frames.specs.Example.{PaintersClip};
+ghost use Rattle.kept_frames.specs.Right.{WorkedAfresh, FlagsNoPart, DecisionByPicture, FirstPassRight, FullCoverRight};
+ghost use Rattle.kept_frames.specs.Right.{NoneRight, AlikeExact, Widest, UncountedDrawn, RuleOnlyAtNone, TwiceAlike};
+ghost use Rattle.kept_frames.specs.Wrong.{WronglyKept};
+ghost use Rattle.kept_rows.specs.Along.{RowsTold};
+ghost use Rattle.kept_rows.specs.Example.{KeptTile};
+ghost use Rattle.kept_rows.specs.Frames.{RowFramesRight};
+ghost use Rattle.kept_rows.specs.History.{FirstDrawn, FramesRight, WorkShows};
+ghost use Rattle.kept_rows.specs.Painted.{PaintingsRead};
+ghost use Rattle.kept_rows.specs.Protocol.{OperationAllows};
+ghost use Rattle.kept_rows.specs.Since.{MarkedTold, MarkedTable};
+ghost use Rattle.kept_rows.specs.Walk.{WalkSound, WalkExact};
+ghost use Rattle.kept_tiles.specs.Tiles.{TilesRuled, RuleStays, KeptOpened};
 ghost use Rattle.curve_text.specs.Examples.{CurveLines};
 ghost use Rattle.two_rows.specs.Backwards.{Backwards, OpensBoth, RunsBoth};
 ghost use Rattle.two_rows.specs.Lowest.{Fails};
@@ -125,6 +139,48 @@ pub fn four_high() -> bool
 // W-214: one language leaves another's layers be, and no more than that is said.
 pub fn languages() -> bool
     ensures { λ r. ⌜ LayersApart × OthersUnmoved × Differing ⌝ }
+{
+    true
+}
+
+// Kept tiles: how a tile is drawn afresh, by its list alone; and the histories in which a count alone is wrong.
+pub fn drawn_afresh() -> bool
+    ensures { λ r. ⌜ WorkedAfresh × FlagsNoPart × DecisionByPicture × PaintersClip × WronglyKept ⌝ }
+{
+    true
+}
+
+// What is kept would be drawn afresh by the same decision and the same calls, under a clear colour of the same bits.
+pub fn kept_alike() -> bool
+    ensures { λ r. ⌜ FirstPassRight × FullCoverRight × NoneRight × UncountedDrawn × SolidRight × FirstShown ⌝ }
+{
+    true
+}
+
+// The rule is the widest, and need be looked at only where the full-cover pass would keep a tile.
+pub fn kept_exactly() -> bool
+    ensures { λ r. ⌜ AlikeExact × Widest × RuleOnlyAtNone × TwiceAlike ⌝ }
+{
+    true
+}
+
+// Flags that are truthful along two rows, told or worked out.
+pub fn flags_along_rows() -> bool
+    ensures { λ r. ⌜ RowsTold × MarkedTold × MarkedTable × WalkSound × WalkExact ⌝ }
+{
+    true
+}
+
+// A tile through any list of frames, with flags told or worked out; and that there is such a history.
+pub fn kept_over_frames() -> bool
+    ensures { λ r. ⌜ FramesRight × FirstDrawn × WorkShows × PaintingsRead × OperationAllows × RowFramesRight × KeptTile ⌝ }
+{
+    true
+}
+
+// The keep rule over the tiles of a row leaves what the theorem over frames asks for.
+pub fn kept_in_a_row() -> bool
+    ensures { λ r. ⌜ TilesRuled × RuleStays × KeptOpened ⌝ }
 {
     true
 }
