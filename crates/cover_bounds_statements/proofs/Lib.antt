@@ -6,4 +6,5 @@ pub mod Choosing
 pub mod Bounds
 pub mod Loops
 pub mod Calls
+pub mod Verdicts
 pub mod Promises

@@ -2,6 +2,7 @@
 pub mod Interval
 pub mod Chosen
 pub mod Within
+pub mod Verdicts
 pub mod Sound
 pub mod Part
 pub mod InnerEnds
