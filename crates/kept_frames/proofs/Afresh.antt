@@ -40,10 +40,12 @@ module _ (items items′ : List Item) (unmasked unclipped : List Bool) (same : (
           → ((u v : Covered) → u .skipped ≡ v .skipped → skips items unmasked unclipped i u ≡ skips items′ unmasked unclipped i v)
           → skips items unmasked unclipped (suc i) f ≡ skips items′ unmasked unclipped (suc i) g
       by false w b h r on =
-          ap (λ (c : Covered). c .skipped .0) (look-past items unmasked unclipped i f w) ∙ r ∙ sym (ap (λ (c : Covered). c .skipped .0) (look-past items′ unmasked unclipped i g w))
+          ap (λ (c : Covered). c .skipped .0) (look-past items unmasked unclipped i f w) ∙ r ∙ sym
+          (ap (λ (c : Covered). c .skipped .0) (look-past items′ unmasked unclipped i g w))
       by true w false h r on =
           ap (λ (c : Covered). c .skipped .0) (look-on items unmasked unclipped i f w h)
-          ∙ on (lookAt (itemAt items i) (getD unclipped i false) i f) (lookAt (itemAt items′ i) (getD unclipped i false) i g) (rw (h, sym (same i (getD unclipped i false)) ∙ h) e)
+          ∙ on (lookAt (itemAt items i) (getD unclipped i false) i f) (lookAt (itemAt items′ i) (getD unclipped i false) i g)
+          (rw (h, sym (same i (getD unclipped i false)) ∙ h) e)
           ∙ sym (ap (λ (c : Covered). c .skipped .0) (look-on items′ unmasked unclipped i g w (sym (same i (getD unclipped i false)) ∙ h)))
       by true w true h r on =
           ap (λ (c : Covered). c .skipped .0) (look-last items unmasked unclipped i f w h)
@@ -53,7 +55,8 @@ module _ (items items′ : List Item) (unmasked unclipped : List Bool) (same : (
 -- whether layers were removed plays no part
 pub removed-no-part : (items : List Item) (unmasked unclipped : List Bool) (removed : Bool)
     → coveredOf items unmasked unclipped removed .skipped .0 ≡ coveredOf items unmasked unclipped true .skipped .0
-removed-no-part items unmasked unclipped removed = same-skips items items unmasked unclipped (λ i free. refl) (length items) (startOf items removed) (startOf items true) refl
+removed-no-part items unmasked unclipped removed =
+    same-skips items items unmasked unclipped (λ i free. refl) (length items) (startOf items removed) (startOf items true) refl
 
 -- ---- flags
 
@@ -95,7 +98,8 @@ afresh-flags items =
     ∙ skip (length items) (startOf (map unflagged items) true) (startOf items true) refl)
     ∙ shown-flags 0 (coveredOf items us cs true .skipped .0) items us
 
-strokes-flags : (items : List Item) (xs : List Item) (clip mask : Option ℕ) → strokesFrom (map unflagged items) clip mask (map unflagged xs) ≡ strokesFrom items clip mask xs
+strokes-flags : (items : List Item) (xs : List Item) (clip mask : Option ℕ)
+    → strokesFrom (map unflagged items) clip mask (map unflagged xs) ≡ strokesFrom items clip mask xs
 unfolding strokesFrom
 strokes-flags items [] clip mask = refl
 strokes-flags items (x ∷ xs) clip mask =

@@ -77,14 +77,16 @@ up-shown t skipped k [] ss n = refl
 up-shown t skipped k (x ∷ xs) [] n = absurd (omega (arith, n))
 up-shown t skipped k (x ∷ xs) (s ∷ ss) n =
     up-front (placed t skipped k (x ∷ xs) (s ∷ ss)) (length xs)
-    ∙ ap₂ firstOf (same-up (length xs) (λ i. placed t skipped k (x ∷ xs) (s ∷ ss) (suc i)) (placed t skipped (suc k) xs ss) (λ i l. moved i) ∙ up-shown t skipped (suc k) xs ss (omega (arith, n)))
+    ∙ ap₂ firstOf (same-up (length xs) (λ i. placed t skipped k (x ∷ xs) (s ∷ ss) (suc i)) (placed t skipped (suc k) xs ss) (λ i l. moved i)
+    ∙ up-shown t skipped (suc k) xs ss (omega (arith, n)))
     (let z : 0 + k ≡ k = omega arith in ap (λ (m : ℕ). cond (s && leb skipped m) (t x) Absent) z)
     ∙ by (s && leb skipped k)
   where
     moved : (i : ℕ) → placed t skipped k (x ∷ xs) (s ∷ ss) (suc i) ≡ placed t skipped (suc k) xs ss i
     moved i = let z : suc i + k ≡ i + suc k = omega arith in ap (λ (m : ℕ). cond (getD ss i false && leb skipped m) (t (itemAt xs i)) Absent) z
 
-    by : (b : Bool) → firstOf (firstIn t (shownFrom (suc k) skipped xs ss)) (cond b (t x) Absent) ≡ firstIn t (cond b (x ∷ shownFrom (suc k) skipped xs ss) (shownFrom (suc k) skipped xs ss))
+    by : (b : Bool)
+        → firstOf (firstIn t (shownFrom (suc k) skipped xs ss)) (cond b (t x) Absent) ≡ firstIn t (cond b (x ∷ shownFrom (suc k) skipped xs ss) (shownFrom (suc k) skipped xs ss))
     by true = refl
     by false = first-end (firstIn t (shownFrom (suc k) skipped xs ss))
 
@@ -105,7 +107,8 @@ module _ (items : List Item) (us cs : List Bool) where
   unfolding upTo
   none-below skipped zero h = refl
   none-below skipped (suc n) h =
-      ap₂ firstOf (ap (λ (b : Bool). cond b (tells (itemAt items n) (getD cs n false)) Absent) (hidden (getD us n false) (leb skipped n) (lt-leb skipped n (omega (arith, h))))) (none-below skipped n (omega (arith, h)))
+      ap₂ firstOf (ap (λ (b : Bool). cond b (tells (itemAt items n) (getD cs n false)) Absent)
+      (hidden (getD us n false) (leb skipped n) (lt-leb skipped n (omega (arith, h))))) (none-below skipped n (omega (arith, h)))
     where
       hidden : (a b : Bool) → b ≡ false → (a && b) ≡ false
       hidden true b e = e
@@ -118,7 +121,8 @@ module _ (items : List Item) (us cs : List Bool) where
   found-first : (n : ℕ) (found : Covered) → found .skipped .0 ≡ 0 → FoundFirst n (found .first) (go n found)
   unfolding coveredFrom upTo
   found-first zero found z = sym (first-end (found .first))
-  found-first (suc i) found z = by (getD us i false) refl (hides (itemAt items i) (getD cs i false)) refl (found-first i found z) (λ e. found-first i (look i found) e)
+  found-first (suc i) found z =
+      by (getD us i false) refl (hides (itemAt items i) (getD cs i false)) refl (found-first i found z) (λ e. found-first i (look i found) e)
     where
       last : hides (itemAt items i) (getD cs i false) ≡ true → look i found .skipped .0 ≡ i
       last h = rw h refl
@@ -130,7 +134,8 @@ module _ (items : List Item) (us cs : List Bool) where
       by false e b h r q =
           let here = tells (itemAt items i) (getD cs i false) in
           subst (FoundFirst (suc i) (found .first)) (sym (look-past items us cs i found e))
-          (r ∙ ap (λ (t : Bool). firstOf (found .first) (firstOf (cond (t && leb (go i found .skipped .0) i) here Absent) (upTo (told (go i found .skipped .0)) i))) (sym e))
+          (r ∙ ap (λ (t : Bool). firstOf (found .first)
+          (firstOf (cond (t && leb (go i found .skipped .0) i) here Absent) (upTo (told (go i found .skipped .0)) i))) (sym e))
       by true e true h r q =
           let here = tells (itemAt items i) (getD cs i false) in
           let mine : here ≡ told i i = rw (e, le-leb i i (omega arith)) refl in
@@ -145,7 +150,8 @@ module _ (items : List Item) (us cs : List Bool) where
           let low : k ≤ i = ⊎-elim (λ p. omega (arith, p, zeroed)) (λ p. omega (arith, p .listed)) (skipped-by items us cs i seen) in
           let mine : here ≡ told k i = rw (e, le-leb k i low) refl in
           subst (FoundFirst (suc i) (found .first)) (sym (look-on items us cs i found e h))
-          (q zeroed ∙ sym (first-assoc (found .first) here (upTo (told k) i)) ∙ ap (λ (t : InterestingCover). firstOf (found .first) (firstOf t (upTo (told k) i))) mine)
+          (q zeroed ∙ sym (first-assoc (found .first) here (upTo (told k) i)) ∙ ap
+          (λ (t : InterestingCover). firstOf (found .first) (firstOf t (upTo (told k) i))) mine)
 
 -- ---- what a layer tells, by its record and whether it needs a clip
 
@@ -157,11 +163,13 @@ clip-uncut (Draw style) e = absurd (false≢true e)
 clip-uncut (Clip span) e = refl
 
 module _ (items : List Item) (up : isAscending items ≡ true) where
-  pub needs-at : (i : ℕ) → i < length items → (isClipped (itemAt items i .func) && not (isFree items i)) ≡ needsClip items (itemAt items i .func) (itemAt items i .id)
+  pub needs-at : (i : ℕ) → i < length items
+      → (isClipped (itemAt items i .func) && not (isFree items i)) ≡ needsClip items (itemAt items i .func) (itemAt items i .id)
   needs-at i l =
       ⊎-elim
       (λ k. rw (clip-uncut (itemAt items i .func) k) refl)
-      (λ k. ap (λ (b : Bool). isClipped (itemAt items i .func) && not b) (ruled-at items up (record { listed = l; draws = k }) .unclipped-is) ∙ freed (isClipped (itemAt items i .func)) _)
+      (λ k. ap (λ (b : Bool). isClipped (itemAt items i .func) && not b) (ruled-at items up (record { listed = l; draws = k }) .unclipped-is) ∙ freed
+      (isClipped (itemAt items i .func)) _)
       (either (isClip (itemAt items i .func)))
     where
       freed : (c f : Bool) → (c && not (c && f)) ≡ (c && not f)
@@ -180,7 +188,8 @@ module _ (items : List Item) (up : isAscending items ≡ true) where
       ∙ same-up (length items) (told items us cs skipped) (placed says skipped 0 items us) each
       ∙ up-shown says skipped 0 items us (unmasked-long items)
     where
-      each : (i : ℕ) → i < length items → told items (marksOf items .unmasked) (marksOf items .unclipped) (coveredOf items (marksOf items .unmasked) (marksOf items .unclipped) true .skipped .0) i
+      each : (i : ℕ) → i < length items
+          → told items (marksOf items .unmasked) (marksOf items .unclipped) (coveredOf items (marksOf items .unmasked) (marksOf items .unclipped) true .skipped .0) i
           ≡ placed says (coveredOf items (marksOf items .unmasked) (marksOf items .unclipped) true .skipped .0) 0 items (marksOf items .unmasked) i
       each i l =
           let us = marksOf items .unmasked in
@@ -188,7 +197,8 @@ module _ (items : List Item) (up : isAscending items ≡ true) where
           let x = itemAt items i in
           let z : i ≡ i + 0 = omega arith in
           ap (λ (m : ℕ). cond (getD us i false && leb skipped m) (tells x (isFree items i)) Absent) z
-          ∙ ap (λ (b : Bool). cond (getD us i false && leb skipped (i + 0)) (cond (b || not (x .full)) Incomplete (cond (isOpaque (x .func)) (opaqueOf (solidColor (x .func))) Absent)) Absent) (needs-at i l)
+          ∙ ap (λ (b : Bool). cond (getD us i false && leb skipped (i + 0))
+          (cond (b || not (x .full)) Incomplete (cond (isOpaque (x .func)) (opaqueOf (solidColor (x .func))) Absent)) Absent) (needs-at i l)
 
 -- ---- the decision, by records and needs
 

@@ -3,7 +3,7 @@
 use mathlib.Core.Path.{_≡_, refl, sym, ap, ap₂, _∙_}
 use mathlib.Core.Bool.{Bool, true, false, cond, not, _&&_}
 use mathlib.Core.List.{List}
-use mathlib.Core.Logic.{_⊎_, inl, inr}
+use mathlib.Core.Logic.{_⊎_, inl, inr, ⊎-elim}
 use Prim.Native.Nat.{ℕ, zero, suc}
 use lib.ListN.{length, getD}
 use Rattle.styling.specs.declared.Color.{Color}
@@ -39,7 +39,9 @@ module _ (items : List Item) (unmasked unclipped : List Bool) where
           → first i f ≡ first i g
           → ((u v : Covered) → u .first ≡ v .first → first i u ≡ first i v)
           → first (suc i) f ≡ first (suc i) g
-      by false w b h r on = ap (λ (c : Covered). c .first) (look-past items unmasked unclipped i f w) ∙ r ∙ sym (ap (λ (c : Covered). c .first) (look-past items unmasked unclipped i g w))
+      by false w b h r on =
+          ap (λ (c : Covered). c .first) (look-past items unmasked unclipped i f w) ∙ r ∙ sym
+          (ap (λ (c : Covered). c .first) (look-past items unmasked unclipped i g w))
       by true w false h r on =
           ap (λ (c : Covered). c .first) (look-on items unmasked unclipped i f w h)
           ∙ on (lookAt (itemAt items i) (getD unclipped i false) i f) (lookAt (itemAt items i) (getD unclipped i false) i g) (rw e refl)
@@ -50,11 +52,13 @@ module _ (items : List Item) (unmasked unclipped : List Bool) where
           ∙ sym (ap (λ (c : Covered). c .first) (look-last items unmasked unclipped i g w h))
 
 -- once something is changed it stays so
-pub changed-stays : (items : List Item) (unmasked unclipped : List Bool) (n : ℕ) (f : Covered) → f .unchanged ≡ false → coveredFrom items unmasked unclipped n f .unchanged ≡ false
+pub changed-stays : (items : List Item) (unmasked unclipped : List Bool) (n : ℕ) (f : Covered) → f .unchanged ≡ false
+    → coveredFrom items unmasked unclipped n f .unchanged ≡ false
 unfolding coveredFrom
 changed-stays items unmasked unclipped zero f e = e
 changed-stays items unmasked unclipped (suc i) f e =
-    by (getD unmasked i false) refl (hides (itemAt items i) (getD unclipped i false)) refl (changed-stays items unmasked unclipped i f e) (λ g q. changed-stays items unmasked unclipped i g q)
+    by (getD unmasked i false) refl (hides (itemAt items i) (getD unclipped i false)) refl (changed-stays items unmasked unclipped i f e)
+    (λ g q. changed-stays items unmasked unclipped i g q)
   where
     by : (a : Bool) → getD unmasked i false ≡ a → (b : Bool) → hides (itemAt items i) (getD unclipped i false) ≡ b
         → coveredFrom items unmasked unclipped i f .unchanged ≡ false
@@ -62,36 +66,37 @@ changed-stays items unmasked unclipped (suc i) f e =
         → coveredFrom items unmasked unclipped (suc i) f .unchanged ≡ false
     by false w b h r on = ap (λ (c : Covered). c .unchanged) (look-past items unmasked unclipped i f w) ∙ r
     by true w false h r on =
-        ap (λ (c : Covered). c .unchanged) (look-on items unmasked unclipped i f w h) ∙ on (lookAt (itemAt items i) (getD unclipped i false) i f) (ap (λ (b : Bool). b && itemAt items i .unchanged) e)
-    by true w true h r on = ap (λ (c : Covered). c .unchanged) (look-last items unmasked unclipped i f w h) ∙ ap (λ (b : Bool). b && itemAt items i .unchanged) e
+        ap (λ (c : Covered). c .unchanged) (look-on items unmasked unclipped i f w h) ∙ on (lookAt (itemAt items i) (getD unclipped i false) i f)
+        (ap (λ (b : Bool). b && itemAt items i .unchanged) e)
+    by true w true h r on =
+        ap (λ (c : Covered). c .unchanged) (look-last items unmasked unclipped i f w h) ∙ ap (λ (b : Bool). b && itemAt items i .unchanged) e
 
 -- by the first cover: *none*, or the decision of changed layers
-by-cover : (c : InterestingCover) (u : Bool) (clear : Color) (shown : List Item) → (decisionBy c u clear shown ≡ decision.none) ⊎ (decisionBy c u clear shown ≡ decisionBy c false clear shown)
+by-cover : (c : InterestingCover) (u : Bool) (clear : Color) (shown : List Item)
+    → (decisionBy c u clear shown ≡ decision.none) ⊎ (decisionBy c u clear shown ≡ decisionBy c false clear shown)
 by-cover Incomplete u clear shown = inr refl
 by-cover Absent u clear shown = inr refl
 by-cover (Opaque color) true clear shown = inl refl
 by-cover (Opaque color) false clear shown = inr refl
 
-pub passed-by : (clear : Color) (removed : Bool) (items : List Item) → (passedOf clear removed items .decision ≡ decision.none) ⊎ (passedOf clear removed items ≡ passedOf clear true items)
-passed-by clear removed items = by (by-cover (found .first) (found .unchanged) clear (shownOf (found .skipped .0) items (marksOf items .unmasked)))
-  where
-    found : Covered
-    found = coveredOf items (marksOf items .unmasked) (marksOf items .unclipped) removed
-
-    by : (passedOf clear removed items .decision ≡ decision.none) ⊎ (passedOf clear removed items .decision ≡ decisionBy (coveredOf items (marksOf items .unmasked) (marksOf items .unclipped) removed .first) false clear (shownOf (coveredOf items (marksOf items .unmasked) (marksOf items .unclipped) removed .skipped .0) items (marksOf items .unmasked)))
-        → (passedOf clear removed items .decision ≡ decision.none) ⊎ (passedOf clear removed items ≡ passedOf clear true items)
-    by (inl e) = inl e
-    by (inr e) =
-        let u = marksOf items .unmasked in
-        let c = marksOf items .unclipped in
-        let cover = same-first items u c (length items) (startOf items removed) (startOf items true) refl in
-        let skip = removed-no-part items u c removed in
-        let changed = changed-stays items u c (length items) (startOf items true) refl in
-        let same : passedOf clear removed items .decision ≡ passedOf clear true items .decision =
-        e
-        ∙ ap₂ (λ (x : InterestingCover) (n : ℕ). decisionBy x false clear (shownOf n items u)) cover skip
-        ∙ ap (λ (b : Bool). decisionBy (coveredOf items u c true .first) b clear (shownOf (coveredOf items u c true .skipped .0) items u)) (sym changed) in
-        inr (λ i. record { decision = same i; unmasked = u; skipped = skip i })
+pub passed-by : (clear : Color) (removed : Bool) (items : List Item)
+    → (passedOf clear removed items .decision ≡ decision.none) ⊎ (passedOf clear removed items ≡ passedOf clear true items)
+passed-by clear removed items =
+    let us = marksOf items .unmasked in
+    let cs = marksOf items .unclipped in
+    let found = coveredOf items us cs removed in
+    let cover = same-first items us cs (length items) (startOf items removed) (startOf items true) refl in
+    let skip = removed-no-part items us cs removed in
+    let changed = changed-stays items us cs (length items) (startOf items true) refl in
+    ⊎-elim
+    (λ e. inl e)
+    (λ e.
+    let same : passedOf clear removed items .decision ≡ passedOf clear true items .decision =
+    e
+    ∙ ap₂ (λ (x : InterestingCover) (n : ℕ). decisionBy x false clear (shownOf n items us)) cover skip
+    ∙ ap (λ (b : Bool). decisionBy (coveredOf items us cs true .first) b clear (shownOf (coveredOf items us cs true .skipped .0) items us)) (sym changed) in
+    inr (λ i. record { decision = same i; unmasked = us; skipped = skip i }))
+    (by-cover (found .first) (found .unchanged) clear (shownOf (found .skipped .0) items us))
 
 -- the decision without a count
 pub afresh-passed : (clear : Color) (items : List Item) → decisionAfresh clear items ≡ passedOf clear true items .decision

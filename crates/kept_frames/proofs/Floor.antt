@@ -38,7 +38,8 @@ not-solid : (t : Bool) (c : Color) (n : ℕ) → cond t (solid c n) paint ≡ de
 not-solid true c n e = false≢true (ap isNone e)
 not-solid false c n e = false≢true (ap isNone e)
 
-pub none-by : (first : InterestingCover) (unchanged : Bool) (clear : Color) (shown : List Item) → decisionBy first unchanged clear shown ≡ decision.none → NoneBy first unchanged
+pub none-by : (first : InterestingCover) (unchanged : Bool) (clear : Color) (shown : List Item) → decisionBy first unchanged clear shown ≡ decision.none
+    → NoneBy first unchanged
 none-by Incomplete u clear shown e = absurd (false≢true (ap isNone e))
 none-by (Opaque c) true clear shown e = record { color = c; is-opaque = refl; is-unchanged = refl }
 none-by (Opaque c) false clear shown e = absurd (not-solid (areSolid 1 shown) c 1 e)
@@ -80,7 +81,8 @@ module _ (items : List Item) (unmasked unclipped : List Bool) where
   still zero found h = sym (ap seenBy (go-end found)) ∙ h
   still (suc i) found h = by (getD unmasked i false) refl (hides (itemAt items i) (getD unclipped i false)) refl (still i found) (still i (look i found))
     where
-      by : (s : Bool) → getD unmasked i false ≡ s → (t : Bool) → hides (itemAt items i) (getD unclipped i false) ≡ t → (seenBy (go i found) ≡ true → seenBy found ≡ true) → (seenBy (go i (look i found)) ≡ true → seenBy (look i found) ≡ true) → seenBy found ≡ true
+      by : (s : Bool) → getD unmasked i false ≡ s → (t : Bool) → hides (itemAt items i) (getD unclipped i false) ≡ t
+          → (seenBy (go i found) ≡ true → seenBy found ≡ true) → (seenBy (go i (look i found)) ≡ true → seenBy (look i found) ≡ true) → seenBy found ≡ true
       by false e t d r q = r (sym (ap seenBy (look-past items unmasked unclipped i found e)) ∙ h)
       by true e true d r q = left (seenBy found) (itemAt items i .unchanged) (sym (ap seenBy (look-last items unmasked unclipped i found e d)) ∙ h)
       by true e false d r q = left (seenBy found) (itemAt items i .unchanged) (q (sym (ap seenBy (look-on items unmasked unclipped i found e d)) ∙ h))
@@ -92,12 +94,14 @@ module _ (items : List Item) (unmasked unclipped : List Bool) where
       first : firstBy (look i found) ≡ Incomplete
       first = ap (λ (c : InterestingCover). firstOf c (tells (itemAt items i) (getD unclipped i false))) e
 
-      by : (s : Bool) → getD unmasked i false ≡ s → (t : Bool) → hides (itemAt items i) (getD unclipped i false) ≡ t → firstBy (go i found) ≡ Incomplete → firstBy (go i (look i found)) ≡ Incomplete → firstBy (go (suc i) found) ≡ Incomplete
+      by : (s : Bool) → getD unmasked i false ≡ s → (t : Bool) → hides (itemAt items i) (getD unclipped i false) ≡ t → firstBy (go i found) ≡ Incomplete
+          → firstBy (go i (look i found)) ≡ Incomplete → firstBy (go (suc i) found) ≡ Incomplete
       by false w t d r q = ap firstBy (look-past items unmasked unclipped i found w) ∙ r
       by true w true d r q = ap firstBy (look-last items unmasked unclipped i found w d) ∙ first
       by true w false d r q = ap firstBy (look-on items unmasked unclipped i found w d) ∙ q
 
-  more : (n : ℕ) → Floor items unmasked unclipped n → (getD unmasked n false ≡ true → itemAt items n .unchanged ≡ true) → (getD unmasked n false ≡ true → isPartial (itemAt items n) (getD unclipped n false) ≡ false) → Floor items unmasked unclipped (suc n)
+  more : (n : ℕ) → Floor items unmasked unclipped n → (getD unmasked n false ≡ true → itemAt items n .unchanged ≡ true)
+      → (getD unmasked n false ≡ true → isPartial (itemAt items n) (getD unclipped n false) ≡ false) → Floor items unmasked unclipped (suc n)
   more n f h w =
       record {
         place = f .place;
@@ -121,12 +125,14 @@ module _ (items : List Item) (unmasked unclipped : List Bool) where
   tells-by : (x : Item) (free : Bool) → hides x free ≡ false → (tells x free ≡ Incomplete) ⊎ ((tells x free ≡ Absent) × (isPartial x free ≡ false))
   tells-by x free d = by (isPartial x free) (isOpaque (x .func)) d
     where
-      by : (a o : Bool) → (not a && o) ≡ false → (cond a Incomplete (cond o (opaqueOf (solidColor (x .func))) Absent) ≡ Incomplete) ⊎ ((cond a Incomplete (cond o (opaqueOf (solidColor (x .func))) Absent) ≡ Absent) × (a ≡ false))
+      by : (a o : Bool) → (not a && o) ≡ false
+          → (cond a Incomplete (cond o (opaqueOf (solidColor (x .func))) Absent) ≡ Incomplete) ⊎ ((cond a Incomplete (cond o (opaqueOf (solidColor (x .func))) Absent) ≡ Absent) × (a ≡ false))
       by true o e = inl refl
       by false true e = absurd (false≢true (sym e))
       by false false e = inr (refl, refl)
 
-  pub floor : (n : ℕ) (found : Covered) (c : Color) → firstBy found ≡ Absent → firstBy (go n found) ≡ Opaque c → seenBy (go n found) ≡ true → Floor items unmasked unclipped n
+  pub floor : (n : ℕ) (found : Covered) (c : Color) → firstBy found ≡ Absent → firstBy (go n found) ≡ Opaque c → seenBy (go n found) ≡ true
+      → Floor items unmasked unclipped n
   floor zero found c a o u = absurd (false≢true (sym (ap isTold (ap firstBy (go-end found) ∙ a)) ∙ ap isTold o))
   floor (suc i) found c a o u = by (getD unmasked i false) refl (hides (itemAt items i) (getD unclipped i false)) refl (floor i found c a) (λ q. floor i (look i found) c q)
     where
@@ -136,14 +142,16 @@ module _ (items : List Item) (unmasked unclipped : List Bool) where
       first : firstBy (look i found) ≡ tells (itemAt items i) (getD unclipped i false)
       first = ap (λ (k : InterestingCover). firstOf k (tells (itemAt items i) (getD unclipped i false))) a
 
-      on : getD unmasked i false ≡ true → hides (itemAt items i) (getD unclipped i false) ≡ false → (firstBy (look i found) ≡ Absent → firstBy (go i (look i found)) ≡ Opaque c → seenBy (go i (look i found)) ≡ true → Floor items unmasked unclipped i) → (firstBy (go i (look i found)) ≡ Opaque c) × (seenBy (go i (look i found)) ≡ true) → Floor items unmasked unclipped (suc i)
+      on : getD unmasked i false ≡ true → hides (itemAt items i) (getD unclipped i false) ≡ false
+          → (firstBy (look i found) ≡ Absent → firstBy (go i (look i found)) ≡ Opaque c → seenBy (go i (look i found)) ≡ true → Floor items unmasked unclipped i) → (firstBy (go i (look i found)) ≡ Opaque c) × (seenBy (go i (look i found)) ≡ true) → Floor items unmasked unclipped (suc i)
       on w d r (o′, u′) =
           ⊎-elim
           (λ t. absurd (false≢true (sym (ap isTold (stuck i (look i found) (first ∙ t))) ∙ ap isTold o′)))
           (λ (t, v). more i (r (first ∙ t) o′ u′) (λ s. right (seenBy found) (itemAt items i .unchanged) (still i (look i found) u′)) (λ s. v))
           (tells-by (itemAt items i) (getD unclipped i false) d)
 
-      last : getD unmasked i false ≡ true → hides (itemAt items i) (getD unclipped i false) ≡ true → (firstBy (look i found) ≡ Opaque c) × (seenBy (look i found) ≡ true) → Floor items unmasked unclipped (suc i)
+      last : getD unmasked i false ≡ true → hides (itemAt items i) (getD unclipped i false) ≡ true
+          → (firstBy (look i found) ≡ Opaque c) × (seenBy (look i found) ≡ true) → Floor items unmasked unclipped (suc i)
       last w d (o′, u′) =
           record {
             place = i;
@@ -154,10 +162,13 @@ module _ (items : List Item) (unmasked unclipped : List Bool) where
             whole = λ j p q s. let is : i ≡ j = omega (arith, p, q) in subst (λ (k : ℕ). isPartial (itemAt items k) (getD unclipped k false) ≡ false) is (not-true (isPartial (itemAt items i) (getD unclipped i false)) (left (not (isPartial (itemAt items i) (getD unclipped i false))) (isOpaque (itemAt items i .func)) d));
           }
 
-      past : getD unmasked i false ≡ false → (firstBy (go i found) ≡ Opaque c → seenBy (go i found) ≡ true → Floor items unmasked unclipped i) → (firstBy (go i found) ≡ Opaque c) × (seenBy (go i found) ≡ true) → Floor items unmasked unclipped (suc i)
+      past : getD unmasked i false ≡ false → (firstBy (go i found) ≡ Opaque c → seenBy (go i found) ≡ true → Floor items unmasked unclipped i)
+          → (firstBy (go i found) ≡ Opaque c) × (seenBy (go i found) ≡ true) → Floor items unmasked unclipped (suc i)
       past w r (o′, u′) = more i (r o′ u′) (λ s. absurd (false≢true (sym w ∙ s))) (λ s. absurd (false≢true (sym w ∙ s)))
 
-      by : (s : Bool) → getD unmasked i false ≡ s → (t : Bool) → hides (itemAt items i) (getD unclipped i false) ≡ t → (firstBy (go i found) ≡ Opaque c → seenBy (go i found) ≡ true → Floor items unmasked unclipped i) → (firstBy (look i found) ≡ Absent → firstBy (go i (look i found)) ≡ Opaque c → seenBy (go i (look i found)) ≡ true → Floor items unmasked unclipped i) → Floor items unmasked unclipped (suc i)
+      by : (s : Bool) → getD unmasked i false ≡ s → (t : Bool) → hides (itemAt items i) (getD unclipped i false) ≡ t
+          → (firstBy (go i found) ≡ Opaque c → seenBy (go i found) ≡ true → Floor items unmasked unclipped i)
+          → (firstBy (look i found) ≡ Absent → firstBy (go i (look i found)) ≡ Opaque c → seenBy (go i (look i found)) ≡ true → Floor items unmasked unclipped i) → Floor items unmasked unclipped (suc i)
       by false w t d r q = past w r (kept (go i found) (look-past items unmasked unclipped i found w))
       by true w true d r q = last w d (kept (look i found) (look-last items unmasked unclipped i found w d))
       by true w false d r q = on w d q (kept (go i (look i found)) (look-on items unmasked unclipped i found w d))

@@ -42,7 +42,8 @@ mask-next : (now : List Item) (f : Func) (id : ℕ) (mask : Option ℕ) → List
 mask-next now (Clip span) id mask u m = u
 mask-next now (Draw style) id mask u m = m
 
-pub strokes-unchanged : (now xs : List Item) (clip mask : Option ℕ) → Each (λ x. ListedUnchanged now (x .id)) xs → MaskUnchanged now mask → StrokesUnchanged now (strokesFrom now clip mask xs)
+pub strokes-unchanged : (now xs : List Item) (clip mask : Option ℕ) → Each (λ x. ListedUnchanged now (x .id)) xs → MaskUnchanged now mask
+    → StrokesUnchanged now (strokesFrom now clip mask xs)
 strokes-unchanged now [] clip mask u m = rw (strokes-end now clip mask) tt
 strokes-unchanged now (x ∷ xs) clip mask (u, us) m =
     rw (strokes-next now clip mask x xs) (
@@ -53,7 +54,8 @@ strokes-unchanged now (x ∷ xs) clip mask (u, us) m =
 all-unchanged : (now : List Item) → allUnchanged now ≡ true → StrokesUnchanged now (pictureOf now)
 all-unchanged now h =
     strokes-unchanged now (shownAfresh now) none none
-    (each-shown (λ x. ListedUnchanged now (x .id)) _ now (marksOf now .unmasked) (λ i l m q. listed-at now i l (all-at (λ (x : Item). x .unchanged) now h i _ l)))
+    (each-shown (λ x. ListedUnchanged now (x .id)) _ now (marksOf now .unmasked)
+    (λ i l m q. listed-at now i l (all-at (λ (x : Item). x .unchanged) now h i _ l)))
     tt
 
 -- the first pass keeps a tile only with the very list of the last work, whose count was kept
@@ -70,7 +72,8 @@ pub same-picture : (before now : List Item) → map unflagged before ≡ map unf
 same-picture before now e = sym (flags-no-part before) ∙ ap pictureOf e ∙ flags-no-part now
 
 -- where the paintings are the same, so is how the tile is drawn
-pub same-drawn : (clear clear′ : Color) (before now : List Item) → Frames before now → sameBits clear clear′ ≡ true → pictureOf before ≡ pictureOf now → drawnAfresh clear before ≡ drawnAfresh clear′ now
+pub same-drawn : (clear clear′ : Color) (before now : List Item) → Frames before now → sameBits clear clear′ ≡ true → pictureOf before ≡ pictureOf now
+    → drawnAfresh clear before ≡ drawnAfresh clear′ now
 same-drawn clear clear′ before now f b e =
     let colour = same-bits clear clear′ b in
     let decision = decision-by-picture clear before now (f .up-before) (f .up-now) e ∙ ap (λ (c : Color). decisionAfresh c now) colour in

@@ -16,7 +16,8 @@ abbrev unflaggedClip : Option Item → Option Item
 unflaggedClip none = none
 unflaggedClip (some c) = some (unflagged c)
 
-latest-next : (x : Item) (xs : List Item) (id : ℕ) (found : Option Item) → latestClip (x ∷ xs) id found ≡ latestClip xs id (cond (isClip (x .func) && ltb (x .id) id) (some x) found)
+latest-next : (x : Item) (xs : List Item) (id : ℕ) (found : Option Item)
+    → latestClip (x ∷ xs) id found ≡ latestClip xs id (cond (isClip (x .func) && ltb (x .id) id) (some x) found)
 unfolding latestClip
 latest-next x xs id found = refl
 
@@ -28,7 +29,8 @@ pick : (t : Bool) (x : Item) (found : Option Item) → cond t (some (unflagged x
 pick true x found = refl
 pick false x found = refl
 
-latest-flags : (items : List Item) (id : ℕ) (found : Option Item) → latestClip (map unflagged items) id (unflaggedClip found) ≡ unflaggedClip (latestClip items id found)
+latest-flags : (items : List Item) (id : ℕ) (found : Option Item)
+    → latestClip (map unflagged items) id (unflaggedClip found) ≡ unflaggedClip (latestClip items id found)
 latest-flags [] id found = latest-end id (unflaggedClip found) ∙ ap unflaggedClip (sym (latest-end id found))
 latest-flags (x ∷ xs) id found =
     let t = isClip (x .func) && ltb (x .id) id in

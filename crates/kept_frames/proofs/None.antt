@@ -23,7 +23,8 @@ uncounted-drawn clear clearUnchanged now e =
     false≢true (none-start clear true now (sym (ap (λ (o : Outcome). o .decision) (outcome-passed clear clearUnchanged Absent now refl)) ∙ e))
 
 module _ (clear clear′ : Color) (clearUnchanged : Bool) (before now : List Item) (f : Frames before now) where
-  counted : mayKeepCount clear clear′ before now ≡ true → outcomeOf clear′ clearUnchanged (Kept (length before)) now .decision ≡ decision.none → ShowsSame clear clear′ before now
+  counted : mayKeepCount clear clear′ before now ≡ true → outcomeOf clear′ clearUnchanged (Kept (length before)) now .decision ≡ decision.none
+      → ShowsSame clear clear′ before now
   counted may e =
       ⊎-elim
       (λ k. first-pass-right clear clear′ clearUnchanged before now f (left (sameBits clear clear′) (layersAlike before now) may) k .1)
@@ -31,7 +32,8 @@ module _ (clear clear′ : Color) (clearUnchanged : Bool) (before now : List Ite
       (sym (ap (λ (o : Outcome). o .decision) (outcome-passed clear′ clearUnchanged (Kept (length before)) now k)) ∙ e))
       (either (isKept clearUnchanged (Kept (length before)) now))
 
-  by-rule : (may : Bool) → mayKeepCount clear clear′ before now ≡ may → outcomeOf clear′ clearUnchanged (countBy may before) now .decision ≡ decision.none → ShowsSame clear clear′ before now
+  by-rule : (may : Bool) → mayKeepCount clear clear′ before now ≡ may → outcomeOf clear′ clearUnchanged (countBy may before) now .decision ≡ decision.none
+      → ShowsSame clear clear′ before now
   by-rule true s h = counted s h
   by-rule false s h = absurd (uncounted-drawn clear′ clearUnchanged now h)
 

@@ -47,7 +47,8 @@ no-mask needs alive mask e = rw e refl
 no-lack : (needs : Bool) (alive : Option ℕ) → needs ≡ false → lacksClip needs alive ≡ false
 no-lack needs alive e = not-right (hasNoClip alive) needs e
 
-plain-stroke : (items : List Item) (clip mask : Option ℕ) (y x : Item) → needsClip items (y .func) (y .id) ≡ false → unflagged y ≡ unflagged x → strokeOf items clip mask y ≡ plainStroke x
+plain-stroke : (items : List Item) (clip mask : Option ℕ) (y x : Item) → needsClip items (y .func) (y .id) ≡ false → unflagged y ≡ unflagged x
+    → strokeOf items clip mask y ≡ plainStroke x
 plain-stroke items clip mask y x e same =
     let hollow = no-mask (needsClip items (y .func) (y .id)) (aliveAt clip (y .id)) mask e in
     let whole = no-lack (needsClip items (y .func) (y .id)) (aliveAt clip (y .id)) e in
@@ -58,7 +59,8 @@ module _ (before now : List Item) where
   plain-strokes [] clip mask p = strokes-end now clip mask
   plain-strokes (x ∷ xs) clip mask (p, ps) =
       strokes-next now clip mask x xs
-      ∙ ap₂ (λ (s : Stroke) (ss : List Stroke). s ∷ ss) (plain-stroke now clip mask x x (p .free) refl) (plain-strokes xs (clipAfter (x .func) (x .id) clip) (maskAfter (x .func) (x .id) mask) ps)
+      ∙ ap₂ (λ (s : Stroke) (ss : List Stroke). s ∷ ss) (plain-stroke now clip mask x x (p .free) refl)
+      (plain-strokes xs (clipAfter (x .func) (x .id) clip) (maskAfter (x .func) (x .id) mask) ps)
 
   -- ---- the same layers, none of which needs a clip
 
@@ -74,7 +76,8 @@ module _ (before now : List Item) where
       let rest = strokesFrom before (clipAfter (y .func) (y .id) c) (maskAfter (y .func) (y .id) m) ys in
       let s = strokeOf before c m y in
       let here = sameShown (shownBy s) (shownBy (plainStroke x)) in
-      let q : (here && Same rest (map plainStroke xs)) ≡ true = ap (λ (a : List Stroke). Same a (map plainStroke (x ∷ xs))) (sym (strokes-next before c m y ys)) ∙ e in
+      let q : (here && Same rest (map plainStroke xs)) ≡ true =
+      ap (λ (a : List Stroke). Same a (map plainStroke (x ∷ xs))) (sym (strokes-next before c m y ys)) ∙ e in
       let one = left here (Same rest (map plainStroke xs)) q in
       let ids = eqb-true (y .id) (x .id) (left (eqb (y .id) (x .id)) (Bool·beq (s .needs) false) one) in
       let needs = same-bool (s .needs) false (right (eqb (y .id) (x .id)) (Bool·beq (s .needs) false) one) in
@@ -121,7 +124,8 @@ listed-each : (before now xs : List Item) → Each (Plain before now) xs → Eac
 listed-each before now [] p = tt
 listed-each before now (x ∷ xs) (p, ps) = (p .listed, listed-each before now xs ps)
 
-none-floor : (clear : Color) (removed : Bool) (now : List Item) → passedOf clear removed now .decision ≡ decision.none → Floor now (marksOf now .unmasked) (marksOf now .unclipped) (length now)
+none-floor : (clear : Color) (removed : Bool) (now : List Item) → passedOf clear removed now .decision ≡ decision.none
+    → Floor now (marksOf now .unmasked) (marksOf now .unclipped) (length now)
 none-floor clear removed now e =
     let marks = marksOf now in
     let b = none-found clear removed now e in
@@ -153,4 +157,5 @@ picture-alike before now e = ap (λ (s : List Stroke). allSame (map shownBy (pic
 
 pub alike-exact : AlikeExact
 alike-exact clear clear′ before now e =
-    both (sameBits clear clear′) (layersAlike before now) (bits-same clear clear′ (ap (λ (d : Drawn). d .clear) e)) (picture-alike before now (ap (λ (d : Drawn). d .strokes) e))
+    both (sameBits clear clear′) (layersAlike before now) (bits-same clear clear′ (ap (λ (d : Drawn). d .clear) e))
+    (picture-alike before now (ap (λ (d : Drawn). d .strokes) e))

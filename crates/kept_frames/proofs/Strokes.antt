@@ -30,7 +30,8 @@ module _ (items : List Item) (clip mask : Option ℕ) where
   strokes-end = refl
 
   pub strokes-next : (x : Item) (xs : List Item)
-      → strokesFrom items clip mask (x ∷ xs) ≡ strokeOf items clip mask x ∷ strokesFrom items (clipAfter (x .func) (x .id) clip) (maskAfter (x .func) (x .id) mask) xs
+      → strokesFrom items clip mask (x ∷ xs)
+      ≡ strokeOf items clip mask x ∷ strokesFrom items (clipAfter (x .func) (x .id) clip) (maskAfter (x .func) (x .id) mask) xs
   unfolding strokesFrom
   strokes-next x xs = refl
 
@@ -67,7 +68,8 @@ module _ (P : Item → Type 0) (skipped : ℕ) where
   shown-from (x ∷ xs) (s ∷ ss) k h =
       by (s && leb skipped k) refl (shown-from xs ss (suc k) (λ i l m q. h (suc i) (omega (arith, l)) m (omega (arith, q))))
     where
-      by : (t : Bool) → (s && leb skipped k) ≡ t → Each P (shownFrom (suc k) skipped xs ss) → Each P (cond t (x ∷ shownFrom (suc k) skipped xs ss) (shownFrom (suc k) skipped xs ss))
+      by : (t : Bool) → (s && leb skipped k) ≡ t → Each P (shownFrom (suc k) skipped xs ss)
+          → Each P (cond t (x ∷ shownFrom (suc k) skipped xs ss) (shownFrom (suc k) skipped xs ss))
       by true e r = (h 0 (omega arith) (left s (leb skipped k) e) (omega (arith, leb-true skipped k (right s (leb skipped k) e))), r)
       by false e r = r
 

@@ -63,9 +63,11 @@ still-above a (y ∷ ys) low up h =
 -- who lies above the first is among the others
 still-past : (a b : Shown) (ys : List Shown) → b .id < a .id → isStill (members (b ∷ ys)) (shownMember a) ≡ true → isStill (members ys) (shownMember a) ≡ true
 still-past a b ys p h =
-    ⊎-elim (λ e. absurd (omega (arith, p, same-id a b e))) (λ e. e) (or-else (sameMember (shownMember a) (shownMember b)) (isStill (members ys) (shownMember a)) h)
+    ⊎-elim (λ e. absurd (omega (arith, p, same-id a b e))) (λ e. e)
+    (or-else (sameMember (shownMember a) (shownMember b)) (isStill (members ys) (shownMember a)) h)
 
-stays-past : (b : Shown) (xs ys : List Shown) (low : ℕ) → b .id < low → strictlyAscendsFrom low (ids xs) ≡ true → stays (members xs) (members (b ∷ ys)) ≡ true → stays (members xs) (members ys) ≡ true
+stays-past : (b : Shown) (xs ys : List Shown) (low : ℕ) → b .id < low → strictlyAscendsFrom low (ids xs) ≡ true → stays (members xs) (members (b ∷ ys)) ≡ true
+    → stays (members xs) (members ys) ≡ true
 stays-past b [] ys low p up h = refl
 stays-past b (x ∷ xs) ys low p up h =
     let here = isStill (members (b ∷ ys)) (shownMember x) in
@@ -105,7 +107,8 @@ twice (a ∷ xs) (b ∷ ys) low up up′ s t =
     (or-else (sameMember (shownMember b) (shownMember a)) (isStill (members xs) (shownMember b)) t1)))
     (or-else (sameMember (shownMember a) (shownMember b)) (isStill (members ys) (shownMember a)) s1)
   where
-    ascends-down : (a b : Shown) (ys : List Shown) → a .id ≡ b .id → strictlyAscendsFrom (suc (b .id)) (ids ys) ≡ true → strictlyAscendsFrom (suc (a .id)) (ids ys) ≡ true
+    ascends-down : (a b : Shown) (ys : List Shown) → a .id ≡ b .id → strictlyAscendsFrom (suc (b .id)) (ids ys) ≡ true
+        → strictlyAscendsFrom (suc (a .id)) (ids ys) ≡ true
     ascends-down a b ys e h = ap (λ (n : ℕ). strictlyAscendsFrom (suc n) (ids ys)) e ∙ h
 
 -- ---- and the other way
@@ -122,7 +125,8 @@ stays-later b [] ys h = refl
 stays-later b (x ∷ xs) ys h =
     let here = isStill (members ys) (shownMember x) in
     let rest = stays (members xs) (members ys) in
-    both (isStill (members (b ∷ ys)) (shownMember x)) (stays (members xs) (members (b ∷ ys))) (still-later x b ys (left here rest h)) (stays-later b xs ys (right here rest h))
+    both (isStill (members (b ∷ ys)) (shownMember x)) (stays (members xs) (members (b ∷ ys))) (still-later x b ys (left here rest h))
+    (stays-later b xs ys (right here rest h))
 
 kinds-same : (s t : Bool) → Bool·beq s t ≡ true → eqb (cond s 2 0) (cond t 2 0) ≡ true
 kinds-same true true h = refl
@@ -157,7 +161,8 @@ alike-back (a ∷ xs) (b ∷ ys) h =
     let needs = Bool·beq (a .needs) (b .needs) in
     let here = left (ids && needs) (allSame xs ys) h in
     both (sameShown b a) (allSame ys xs)
-    (both (eqb (b .id) (a .id)) (Bool·beq (b .needs) (a .needs)) (eq-eqb (b .id) (a .id) (sym (eqb-true (a .id) (b .id) (left ids needs here)))) (back (a .needs) (b .needs) (right ids needs here)))
+    (both (eqb (b .id) (a .id)) (Bool·beq (b .needs) (a .needs)) (eq-eqb (b .id) (a .id) (sym (eqb-true (a .id) (b .id) (left ids needs here))))
+    (back (a .needs) (b .needs) (right ids needs here)))
     (alike-back xs ys (right (ids && needs) (allSame xs ys) h))
   where
     back : (s t : Bool) → Bool·beq s t ≡ true → Bool·beq t s ≡ true
@@ -165,7 +170,8 @@ alike-back (a ∷ xs) (b ∷ ys) h =
 
 -- ---- the shown layers ascend
 
-shown-up : (k skipped : ℕ) (xs : List Item) (ss : List Bool) (low : ℕ) → strictlyAscendsFrom low (idsOf xs) ≡ true → strictlyAscendsFrom low (idsOf (shownFrom k skipped xs ss)) ≡ true
+shown-up : (k skipped : ℕ) (xs : List Item) (ss : List Bool) (low : ℕ) → strictlyAscendsFrom low (idsOf xs) ≡ true
+    → strictlyAscendsFrom low (idsOf (shownFrom k skipped xs ss)) ≡ true
 unfolding strictlyAscendsFrom shownFrom
 shown-up k skipped [] ss low up = refl
 shown-up k skipped (x ∷ xs) [] low up = refl
@@ -173,7 +179,9 @@ shown-up k skipped (x ∷ xs) (s ∷ ss) low up = by (s && leb skipped k) (shown
   where
     by : (t : Bool) → strictlyAscendsFrom (suc (x .id)) (idsOf (shownFrom (suc k) skipped xs ss)) ≡ true
         → strictlyAscendsFrom low (idsOf (cond t (x ∷ shownFrom (suc k) skipped xs ss) (shownFrom (suc k) skipped xs ss))) ≡ true
-    by true rest = both (leb low (x .id)) (strictlyAscendsFrom (suc (x .id)) (idsOf (shownFrom (suc k) skipped xs ss))) (le-leb low (x .id) (ascends-head low (x .id) (idsOf xs) up)) rest
+    by true rest =
+        both (leb low (x .id)) (strictlyAscendsFrom (suc (x .id)) (idsOf (shownFrom (suc k) skipped xs ss)))
+        (le-leb low (x .id) (ascends-head low (x .id) (idsOf xs) up)) rest
     by false rest = ascends-weaken (suc (x .id)) low (idsOf (shownFrom (suc k) skipped xs ss)) (omega (arith, ascends-head low (x .id) (idsOf xs) up)) rest
 
 ids-shown : (items xs : List Item) (clip mask : Option ℕ) → ids (map shownBy (strokesFrom items clip mask xs)) ≡ idsOf xs

@@ -65,7 +65,8 @@ was-above x (y ∷ ys) low b (inl e) =
 was-above x (y ∷ ys) low b (inr s) = omega (arith, ascends-head low (y .id) (idsOf ys) b, was-above x ys (suc (y .id)) (ascends-tail low (y .id) (idsOf ys) b) s)
 
 -- a list all of whose layers were in another is no longer
-pub shorter : (before now : List Item) (low : ℕ) → strictlyAscendsFrom low (idsOf now) ≡ true → (low′ : ℕ) → strictlyAscendsFrom low′ (idsOf before) ≡ true → Within before now → length now ≤ length before
+pub shorter : (before now : List Item) (low : ℕ) → strictlyAscendsFrom low (idsOf now) ≡ true → (low′ : ℕ) → strictlyAscendsFrom low′ (idsOf before) ≡ true
+    → Within before now → length now ≤ length before
 shorter before [] low a low′ b w = omega arith
 shorter [] (x ∷ xs) low a low′ b (s, w) = absurd s
 shorter (y ∷ ys) (x ∷ xs) low a low′ b (inl e, w) =
@@ -78,7 +79,8 @@ shorter (y ∷ ys) (x ∷ xs) low a low′ b (inr s, w) =
     omega (arith, shorter ys (x ∷ xs) low a (suc (y .id)) (ascends-tail low′ (y .id) (idsOf ys) b) (s, rest))
 
 -- and where it is as long, the two are the same but for the flags
-pub same : (before now : List Item) (low : ℕ) → strictlyAscendsFrom low (idsOf now) ≡ true → (low′ : ℕ) → strictlyAscendsFrom low′ (idsOf before) ≡ true → Within before now → length now ≡ length before → map unflagged before ≡ map unflagged now
+pub same : (before now : List Item) (low : ℕ) → strictlyAscendsFrom low (idsOf now) ≡ true → (low′ : ℕ) → strictlyAscendsFrom low′ (idsOf before) ≡ true
+    → Within before now → length now ≡ length before → map unflagged before ≡ map unflagged now
 same [] [] low a low′ b w n = refl
 same (y ∷ ys) [] low a low′ b w n = absurd (omega (arith, n))
 same [] (x ∷ xs) low a low′ b (s, w) n = absurd s
@@ -93,7 +95,8 @@ same (y ∷ ys) (x ∷ xs) low a low′ b (inr s, w) n =
     absurd (omega (arith, n, shorter ys (x ∷ xs) low a (suc (y .id)) (ascends-tail low′ (y .id) (idsOf ys) b) (s, rest)))
 
 -- in an ascending list one id stands once
-pub unique : (ys : List Item) (low : ℕ) → strictlyAscendsFrom low (idsOf ys) ≡ true → (x y : Item) → x .id ≡ y .id → WasListed x ys → WasListed y ys → unflagged x ≡ unflagged y
+pub unique : (ys : List Item) (low : ℕ) → strictlyAscendsFrom low (idsOf ys) ≡ true → (x y : Item) → x .id ≡ y .id → WasListed x ys → WasListed y ys
+    → unflagged x ≡ unflagged y
 unique [] low b x y e s t = absurd s
 unique (z ∷ zs) low b x y e (inl p) (inl q) = sym p ∙ q
 unique (z ∷ zs) low b x y e (inl p) (inr t) =

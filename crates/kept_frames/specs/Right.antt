@@ -118,7 +118,8 @@ UncountedDrawn = (clear : Color) (clearUnchanged : Bool) (now : List Item) → o
 pub record RuleAtNone (clear : Color) (clearUnchanged : Bool) (before now : List Item) : Type 0 where
   pub first : isKept clearUnchanged (Kept (length before)) now ≡ true → layersAlike before now ≡ true
   pub other : (isKept clearUnchanged (Kept (length before)) now ≡ false) →
-      (outcomeOf clear clearUnchanged (Kept (length before)) now .decision ≡ none) ⊎ (outcomeOf clear clearUnchanged (Kept (length before)) now ≡ outcomeOf clear clearUnchanged Absent now)
+      let counted = outcomeOf clear clearUnchanged (Kept (length before)) now in
+      (counted .decision ≡ none) ⊎ (counted ≡ outcomeOf clear clearUnchanged Absent now)
 
 abbrev pub RuleOnlyAtNone : Type 0
 RuleOnlyAtNone = (clear : Color) (clearUnchanged : Bool) (before now : List Item) → Frames before now → RuleAtNone clear clearUnchanged before now

@@ -19,8 +19,10 @@ use Rattle.kept_frames.specs.Display.{Display}
 use Rattle.kept_rows.specs.Along.{RowTold, ContentsTold}
 use Rattle.kept_rows.specs.Shown.{WorkedTile}
 use Rattle.kept_rows.specs.Since.{marked}
-use Rattle.kept_rows.specs.History.{AcceptedWork, openOn, tileNumber, workedOf, Standing, Drawing, drawnAt, lentTile, keptIf, mayKeepTile, Frame, History}
-use Rattle.kept_rows.specs.Frames.{LastRow, workedCount, isDecided, isWithin, lastTile, mayStay, tileIn, Displays, drawnIn, RowFrame, RowHistory, RowFramesRight}
+use Rattle.kept_rows.specs.History.{AcceptedWork, openOn, tileNumber, workedOf, Standing, Drawing, drawnAt}
+use Rattle.kept_rows.specs.History.{lentTile, keptIf, mayKeepTile, Frame, History}
+use Rattle.kept_rows.specs.Frames.{RowHistory, RowFramesRight}
+use Rattle.kept_rows.specs.Frames.{LastRow, workedCount, isDecided, isWithin, lastTile, mayStay, lastBy, tileIn, Displays, drawnIn, RowFrame}
 use Rattle.kept_rows.proofs.Since.{marked-told}
 use Rattle.kept_rows.proofs.Works.{row-open}
 use Rattle.kept_rows.proofs.History.{Holding, held, frames-right}
@@ -48,7 +50,8 @@ counted-decided (true ∷ ds) zero h = refl
 counted-decided (true ∷ ds) (suc i) h = counted-decided ds i (omega (arith, h))
 counted-decided (false ∷ ds) i h = absurd (omega (arith, h))
 
-undecided-outside : (l : LastRow) (t : ℕ) (decided : List Bool) → l .worked ≡ workedCount decided → isDecided (l .row .from) decided t ≡ false → isWithin l t ≡ false
+undecided-outside : (l : LastRow) (t : ℕ) (decided : List Bool) → l .worked ≡ workedCount decided → isDecided (l .row .from) decided t ≡ false
+    → isWithin l t ≡ false
 undecided-outside l t decided e n =
     not-true (isWithin l t)
     (λ h.
@@ -56,11 +59,12 @@ undecided-outside l t decided e n =
     let past = ltb t (l .row .from + l .worked) in
     let low = leb-true (l .row .from) t (left reached past h) in
     let high = ltb-true t (l .row .from + l .worked) (right reached past h) in
-    clash (both reached (getD decided (t - l .row .from) false) (left reached past h) (counted-decided decided (t - l .row .from) (omega (arith, low, high, e)))) n)
+    clash (both reached (getD decided (t - l .row .from) false) (left reached past h)
+    (counted-decided decided (t - l .row .from) (omega (arith, low, high, e)))) n)
 
 -- the work of today is the last one now
-now-last : (t : ℕ) (a : AcceptedWork) (count : ℕ) → tileNumber a ≡ t → workedOf a ≡ lastTile (record { row = openOn a; revisions = a .revisions; clear = a .done .clear; worked = count }) t
-now-last t a count e =
+now-last : (t : ℕ) (a : AcceptedWork) (decided : List Bool) → tileNumber a ≡ t → workedOf a ≡ lastTile (lastBy a decided) t
+now-last t a decided e =
     let place : a .done .place ≡ t - openOn a .from = omega (arith, e) in
     λ i. record { row = openOn a; revisions = a .revisions; place = place i; clear = a .done .clear }
 
@@ -74,9 +78,11 @@ module _ (t : ℕ) (l : LastRow) (today : OpenRow) (a : AcceptedWork) (e : tileN
   told is h =
       let from = eqb-true (l .row .from) (openOn a .from) (left (eqb (l .row .from) (openOn a .from)) (isWithin l t) h) in
       subst (λ (o : OpenRow). RowTold (l .row) o × ContentsTold (l .row) (l .revisions) o (a .revisions)) (sym row)
-      (marked-told (l .row) today (l .revisions) (a .revisions) (is .in-table) (ap (λ (o : OpenRow). isLentTable (o .table)) (sym row) ∙ row-open a .in-table) (from ∙ ap (λ (o : OpenRow). o .from) row))
+      (marked-told (l .row) today (l .revisions) (a .revisions) (is .in-table) (ap (λ (o : OpenRow). isLentTable (o .table)) (sym row) ∙ row-open a .in-table)
+      (from ∙ ap (λ (o : OpenRow). o .from) row))
 
-  again : {k k′ : CachedTile} {d d′ : Display} {drawn last : WorkedTile} → Holding k d drawn last t → last ≡ lastTile l t → here ≡ true → mayKeepTile (lastTile l t) (workedOf a) ≡ true
+  again : {k k′ : CachedTile} {d d′ : Display} {drawn last : WorkedTile} → Holding k d drawn last t → last ≡ lastTile l t → here ≡ true
+      → mayKeepTile (lastTile l t) (workedOf a) ≡ true
       → a .done .before ≡ lentTile k
       → Drawing (a .done .decision) (a .done .after .tile) d k′ d′
       → Frame t (Standing.worked k d drawn last) (Standing.worked k′ d′ (drawnAt (a .done .decision) drawn (workedOf a)) (workedOf a))
@@ -120,7 +126,8 @@ is-none none = inl refl
 is-none (solid bottom before) = inr (λ e. false≢true (ap noneOf e))
 is-none paint = inr (λ e. false≢true (ap noneOf e))
 
-worked-again : (t : ℕ) (l : LastRow) (today : OpenRow) (a : AcceptedWork) (e : tileNumber a ≡ t) → openOn a ≡ marked (l .row) (l .revisions) today (a .revisions)
+worked-again : (t : ℕ) (l : LastRow) (today : OpenRow) (a : AcceptedWork) (e : tileNumber a ≡ t)
+    → openOn a ≡ marked (l .row) (l .revisions) today (a .revisions)
     → {k k′ : CachedTile} {d d′ : Display} {drawn last : WorkedTile} → Followed t l (Standing.worked k d drawn last)
     → (may : Bool) → (may ≡ true → a .done .decision ≡ none → mayStay l t a ≡ true) → a .done .before ≡ lentTile (keptIf may k)
     → Drawing (a .done .decision) (a .done .after .tile) d k′ d′
@@ -142,13 +149,15 @@ followed t (RowFrame.forgets) f = record { history = History.next (f .history) F
 followed t {l} {l′} {s} (RowFrame.works {k = k} {d = d} {d′ = d′} may today a decided e row rule q shows g) f = by s q shows f
   where
     by : (z : Standing) → a .done .before ≡ lentTile (keptIf may (tileIn z)) → Displays z d → Followed t l z
-        → Followed t (record { row = openOn a; revisions = a .revisions; clear = a .done .clear; worked = workedCount decided }) (Standing.worked k d′ (drawnAt (a .done .decision) (drawnIn z (workedOf a)) (workedOf a)) (workedOf a))
+        → Followed t (lastBy a decided) (Standing.worked k d′ (drawnAt (a .done .decision) (drawnIn z (workedOf a)) (workedOf a)) (workedOf a))
     by Standing.unworked b x f =
-        record { history = History.next (f .history) (first-worked t a e may b g); agrees = λ h. now-last t a (workedCount decided) e }
+        record { history = History.next (f .history) (first-worked t a e may b g); agrees = λ h. now-last t a decided e }
     by (Standing.worked k₀ d₀ drawn last) b x f =
         record {
-          history = History.next (f .history) (worked-again t l today a e row f may rule b (subst (λ (z : Display). Drawing (a .done .decision) (a .done .after .tile) z k d′) (sym x) g));
-          agrees = λ h. now-last t a (workedCount decided) e;
+          history =
+              History.next (f .history)
+              (worked-again t l today a e row f may rule b (subst (λ (z : Display). Drawing (a .done .decision) (a .done .after .tile) z k d′) (sym x) g));
+          agrees = λ h. now-last t a decided e;
         }
 
 all-followed : {t : ℕ} {l : LastRow} {s : Standing} → RowHistory t l s → Followed t l s

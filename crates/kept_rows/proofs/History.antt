@@ -31,7 +31,8 @@ use Rattle.kept_frames.proofs.None.{none-right, uncounted-drawn}
 use Rattle.kept_frames.proofs.Settled.{solid-right, first-shown}
 use Rattle.kept_frames.proofs.Tags.{count-uncolored}
 use Rattle.kept_rows.specs.Shown.{WorkedTile, itemsFor, SameShown}
-use Rattle.kept_rows.specs.History.{AcceptedWork, openOn, workedOf, Standing, Drawing, drawnAt, lentTile, keptIf, mayKeepTile, Frame, History, IsRight, FirstDrawn, FramesRight, WorkShows}
+use Rattle.kept_rows.specs.History.{AcceptedWork, openOn, workedOf, Standing, Drawing, drawnAt, lentTile, keptIf, mayKeepTile, Frame, History, IsRight}
+use Rattle.kept_rows.specs.History.{FirstDrawn, FramesRight, WorkShows}
 use Rattle.kept_rows.proofs.Along.{told-along}
 use Rattle.kept_rows.proofs.Works.{row-open, said, decided-by, items-long}
 use Rattle.kept_rows.proofs.Shown.{same-shown}
@@ -85,10 +86,13 @@ module _ (a : AcceptedWork) (b : CachedTile) (e : a .done .before ≡ lentTile b
   work-stands {k} {d} {d′} s g = after g (keepCount b long) tile-is (counted-stands b d long long-few s)
 
   -- the decision, by the count of the tile
-  decided : a .done .decision ≡ outcomeOf (a .done .clear) (clearUnchanged (a .done .previous) (a .done .clear)) (countFrom (layerCountOf b)) (itemsFor (workedOf a)) .decision
+  abbrev clear-same : Bool
+  clear-same = clearUnchanged (a .done .previous) (a .done .clear)
+
+  decided : a .done .decision ≡ outcomeOf (a .done .clear) clear-same (countFrom (layerCountOf b)) (itemsFor (workedOf a)) .decision
   decided =
       decided-by a
-      ∙ ap (λ (k : kept.Kept). outcomeOf (a .done .clear) (clearUnchanged (a .done .previous) (a .done .clear)) (countFrom (previousCount k)) (itemsFor (workedOf a)) .decision) e
+      ∙ ap (λ (k : kept.Kept). outcomeOf (a .done .clear) clear-same (countFrom (previousCount k)) (itemsFor (workedOf a)) .decision) e
 
 pub first-drawn : FirstDrawn
 first-drawn a e h =
@@ -100,7 +104,8 @@ kept-shows : (may : Bool) (k : CachedTile) (d : Display) → KeepsShown k d → 
 kept-shows true k d s = s
 kept-shows false k d s = solid-right k d s .uncounted
 
-kept-count : (may : Bool) (before : List Item) (k : CachedTile) (d : Display) → Stands k d (length before) → countFrom (layerCountOf (keptIf may k)) ≡ countBy may before
+kept-count : (may : Bool) (before : List Item) (k : CachedTile) (d : Display) → Stands k d (length before)
+    → countFrom (layerCountOf (keptIf may k)) ≡ countBy may before
 kept-count true before k d s = ap countFrom (s .count)
 kept-count false before k d s = ap countFrom (count-dropped k (s .shows .tag))
 
@@ -134,7 +139,8 @@ frame-held {t} (Frame.again {k = k} {d = d} {drawn = drawn} {last = last} a e to
     let along = told-along (h .row-is) (row-open a) (told .flags) (last .place) (now .place) (h .tile-is ∙ sym e) in
     let right : a .done .decision ≡ none → ShowsSame (last .clear) (now .clear) (itemsFor last) (itemsFor now) =
     λ z. none-right (last .clear) (now .clear) same (itemsFor last) (itemsFor now) (along .frames)
-    (ap (λ (n : PreviousCount). outcomeOf (a .done .clear) same n (itemsFor now) .decision) (sym (kept-count may (itemsFor last) k d (h .stands))) ∙ sym (decided a b q) ∙ z) in
+    (ap (λ (n : PreviousCount). outcomeOf (a .done .clear) same n (itemsFor now) .decision) (sym (kept-count may (itemsFor last) k d (h .stands))) ∙ sym
+    (decided a b q) ∙ z) in
     record {
       row-is = row-open a;
       tile-is = e;
@@ -144,7 +150,8 @@ frame-held {t} (Frame.again {k = k} {d = d} {drawn = drawn} {last = last} a e to
 frame-held {t} (Frame.anew {k = k} {d = d} {drawn = drawn} {last = last} a e q g) h =
     let now = workedOf a in
     let drawn-now : a .done .decision ≡ none → ⊥ = λ z. uncounted-drawn (a .done .clear) (clearUnchanged (a .done .previous) (a .done .clear)) (itemsFor now)
-    (ap (λ (n : PreviousCount). outcomeOf (a .done .clear) (clearUnchanged (a .done .previous) (a .done .clear)) n (itemsFor now) .decision) (sym (ap countFrom (count-dropped k (h .stands .shows .tag)))) ∙ sym (decided a (dropCount k) q) ∙ z) in
+    (ap (λ (n : PreviousCount). outcomeOf (a .done .clear) (clearUnchanged (a .done .previous) (a .done .clear)) n (itemsFor now) .decision)
+    (sym (ap countFrom (count-dropped k (h .stands .shows .tag)))) ∙ sym (decided a (dropCount k) q) ∙ z) in
     record {
       row-is = row-open a;
       tile-is = e;

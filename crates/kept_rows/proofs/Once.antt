@@ -29,9 +29,12 @@ module _ (call : OpenCall) (lent back : Columns) (s : RowState) (words : Words (
   pub holds : Holds (openRow call) atFirst held
   holds = held-first call lent back s words (accepted call lent back s opens)
 
-  pub told : (c : WorkChoice) → workDueVerdict (openRow call) 0 c ≡ pass → workAnswer (workResult (workDue (openRow call) atFirst c) .answer) ≡ given (tileAnswer (saysOn (openRow call) 0 c))
+  pub told : (c : WorkChoice) → workDueVerdict (openRow call) 0 c ≡ pass
+      → workAnswer (workResult (workDue (openRow call) atFirst c) .answer) ≡ given (tileAnswer (saysOn (openRow call) 0 c))
   unfolding workOut
-  told c e = work-gives (workDueVerdict (openRow call) 0 c) (work-named (openRow call) 0 c) (openRow call) atFirst c .answer ∙ ap (λ (v : Judgement). workOut v (saysOn (openRow call) 0 c) (stateOn (openRow call) atFirst) (c .kept) (c .lent) .answer) e
+  told c e =
+      work-gives (workDueVerdict (openRow call) 0 c) (work-named (openRow call) 0 c) (openRow call) atFirst c .answer ∙ ap
+      (λ (v : Judgement). workOut v (saysOn (openRow call) 0 c) (stateOn (openRow call) atFirst) (c .kept) (c .lent) .answer) e
 
   abbrev pub once : (revisions : List ℕ) (c : WorkChoice) → workDueVerdict (openRow call) 0 (heldWork held c) ≡ pass → AcceptedWork
   once revisions c e =
@@ -40,7 +43,9 @@ module _ (call : OpenCall) (lent back : Columns) (s : RowState) (words : Words (
         lent = lent;
         back = back;
         state = s;
-        calls = RowCall.row (Event.work (heldWork held c) (workResult (workDue (openRow call) atFirst (heldWork held c))) (workDue (openRow call) atFirst (heldWork held c) .lent)) ∷ [];
+        calls =
+            RowCall.row (Event.work (heldWork held c) (workResult (workDue (openRow call) atFirst (heldWork held c)))
+            (workDue (openRow call) atFirst (heldWork held c) .lent)) ∷ [];
         held = _;
         words = words;
         opens = opens;

@@ -2,7 +2,7 @@
 use mathlib.Core.Path.{_≡_, refl, sym, ap, ap₂, _∙_}
 use mathlib.Core.Bool.{Bool, true, false, cond, not, _&&_}
 use mathlib.Core.List.{List, [], _∷_, map}
-use mathlib.Core.Option.{Option, some, none}
+use mathlib.Core.Option.{Option, none}
 use Prim.Native.Nat.{ℕ, zero, suc, _<_}
 use native.Mathlib.Omega.{arith}
 use lib.Ieee.{Float}
@@ -12,7 +12,6 @@ use Rattle.layer_table.specs.Lookup.{lookup}
 use Rattle.styling.specs.declared.Func.{Func}
 use Rattle.styling.specs.declared.Func.the-variants.{Draw, Clip}
 use Rattle.styling.specs.declared.Layer.{Layer}
-use Rattle.cover_statements.specs.Mark.{markOf}
 use Rattle.pass_statements.specs.Clips.{marksOf}
 use Rattle.pass_statements.specs.Covered.{itemAt}
 use Rattle.pass_statements.specs.Entry.{Entry}
@@ -24,43 +23,23 @@ use Rattle.painter.specs.Clip.{aliveAt, clipAfter, hasNoClip, lacksClip}
 use Rattle.painter.specs.Painting.{markFor}
 use Rattle.row_statements.specs.Painting.{layerIn}
 use Rattle.row_statements.specs.Due.{OpenRow, tableOn, layersOn, funcOn, planeOn, paintOn}
-use Rattle.kept_frames.specs.Picture.{shownAfresh, Stroke, maskFor, maskAfter, strokesFrom, pictureOf}
+use Rattle.kept_frames.specs.Picture.{shownAfresh, Stroke, maskFor, maskAfter, strokesFrom}
 use Rattle.kept_frames.proofs.Strokes.{strokeOf, strokes-end, strokes-next, Each, each-shown}
 use Rattle.kept_rows.specs.Along.{revisionOn, itemsOn}
-use Rattle.kept_rows.specs.Shown.{WorkedTile, itemsFor, ShownLayer, paintingsFrom, drawnBy}
-
--- ---- a stroke with coverages
-
-abbrev pub planesOf : (ℕ → List Float) → Option ℕ → Option (List Float)
-planesOf planes none = none
-planesOf planes (some id) = some (planes id)
-
--- a clip uses no octet, nor does a draw that lacks its clip
-abbrev markBy : Func → Bool → List Float → ℕ
-markBy (Clip span) lacks plane = 0
-markBy (Draw style) lacks plane = cond lacks 0 (markOf plane)
-
-abbrev pub painted : (ℕ → List Float) → (ℕ → ℕ) → Stroke → ShownLayer
-painted planes revisions s =
-    record {
-      id = s .layer .id;
-      func = s .layer .func;
-      revision = revisions (s .layer .id);
-      plane = planes (s .layer .id);
-      mark = markBy (s .layer .func) (s .lacks) (planes (s .layer .id));
-      cut = planesOf planes (s .mask);
-    }
+use Rattle.kept_rows.specs.Shown.{itemsFor, ShownLayer, paintingsFrom, planesOf, markBy, painted, LayersPainted}
 
 -- ---- the record of a listed layer is the table's
 
 func-by : (table : List Layer) (e : Entry) → layerIn table (itemOf table e .id) .props .func ≡ itemOf table e .func
 func-by table e = by (lookup table (e .id)) refl
   where
-    by : (a : Answer Layer) → lookup table (e .id) ≡ a → layerIn table (itemFrom (lookup table (e .id)) e .id) .props .func ≡ itemFrom (lookup table (e .id)) e .func
+    by : (a : Answer Layer) → lookup table (e .id) ≡ a
+        → layerIn table (itemFrom (lookup table (e .id)) e .id) .props .func ≡ itemFrom (lookup table (e .id)) e .func
     by (refused n) q = rw q (rw q refl)
     by (given l) q = rw q (rw q refl)
 
-func-at : (table : List Layer) (es : List Entry) (i : ℕ) → i < length (itemsOf table es) → layerIn table (itemAt (itemsOf table es) i .id) .props .func ≡ itemAt (itemsOf table es) i .func
+func-at : (table : List Layer) (es : List Entry) (i : ℕ) → i < length (itemsOf table es)
+    → layerIn table (itemAt (itemsOf table es) i .id) .props .func ≡ itemAt (itemsOf table es) i .func
 func-at table [] i h = absurd (omega (arith, h))
 func-at table (e ∷ es) zero h = func-by table e
 func-at table (e ∷ es) (suc i) h = func-at table es i (omega (arith, h))
@@ -75,7 +54,8 @@ mask-planes : (planes : ℕ → List Float) (t : Bool) (mask : Option ℕ) → c
 mask-planes planes true mask = refl
 mask-planes planes false mask = refl
 
-mask-next : (planes : ℕ → List Float) (f : Func) (id : ℕ) (mask : Option ℕ) → maskAfter f (planes id) (planesOf planes mask) ≡ planesOf planes (maskAfter f id mask)
+mask-next : (planes : ℕ → List Float) (f : Func) (id : ℕ) (mask : Option ℕ)
+    → maskAfter f (planes id) (planesOf planes mask) ≡ planesOf planes (maskAfter f id mask)
 mask-next planes (Clip span) id mask = refl
 mask-next planes (Draw style) id mask = refl
 
@@ -95,11 +75,13 @@ module _ (o : OpenRow) (revisions : List ℕ) (n : ℕ) where
     end = refl
 
     on : (x : Item) (xs : List Item)
-        → paintingsFrom o revisions n clip mask (x ∷ xs) ≡ paintedAt x ∷ paintingsFrom o revisions n (clipAfter (funcOn o (x .id)) (x .id) clip) (maskAfter (x .func) (planeOn o n (x .id)) mask) xs
+        → paintingsFrom o revisions n clip mask (x ∷ xs)
+        ≡ paintedAt x ∷ paintingsFrom o revisions n (clipAfter (funcOn o (x .id)) (x .id) clip) (maskAfter (x .func) (planeOn o n (x .id)) mask) xs
     unfolding paintingsFrom
     on x xs = refl
 
-  one : (clip mask : Option ℕ) (x : Item) → funcOn o (x .id) ≡ x .func → paintedAt clip (planesOf (planeOn o n) mask) x ≡ stroked (strokeOf (itemsOn o n) clip mask x)
+  one : (clip mask : Option ℕ) (x : Item) → funcOn o (x .id) ≡ x .func
+      → paintedAt clip (planesOf (planeOn o n) mask) x ≡ stroked (strokeOf (itemsOn o n) clip mask x)
   one clip mask x f =
       let needs = needsClip (itemsOn o n) (x .func) (x .id) in
       let alive = aliveAt clip (x .id) in
@@ -119,7 +101,7 @@ module _ (o : OpenRow) (revisions : List ℕ) (n : ℕ) where
       ∙ paintings xs (clipAfter (x .func) (x .id) clip) (maskAfter (x .func) (x .id) mask) fs)
       ∙ ap (map stroked) (sym (strokes-next (itemsOn o n) clip mask x xs))
 
-pub layers-painted : (w : WorkedTile) → drawnBy w .layers ≡ map (painted (planeOn (w .row) (w .place)) (revisionOn (w .row) (w .revisions))) (pictureOf (itemsFor w))
+pub layers-painted : LayersPainted
 layers-painted w =
     paintings (w .row) (w .revisions) (w .place) (shownAfresh (itemsFor w)) none none
     (each-shown (λ x. funcOn (w .row) (x .id) ≡ x .func) _ (itemsFor w) (marksOf (itemsFor w) .unmasked)

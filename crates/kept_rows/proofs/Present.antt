@@ -59,21 +59,25 @@ not-none : {p : Presence} → none ≡ some p → ⊥
 unfolding isSome
 not-none e = false≢true (ap isSome e)
 
-pub was-from : (table : List Layer) (es : List Entry) (id : ℕ) (p : Presence) → entryIn es id ≡ some p → (x : Item) → presentItem (propsBy (lookup table id)) p ≡ unflagged x → WasListed x (itemsOf table es)
+pub was-from : (table : List Layer) (es : List Entry) (id : ℕ) (p : Presence) → entryIn es id ≡ some p → (x : Item)
+    → presentItem (propsBy (lookup table id)) p ≡ unflagged x → WasListed x (itemsOf table es)
 unfolding entryIn
 was-from table [] id p e x h = not-none e
 was-from table (d ∷ es) id p e x h = by (eqb (d .id) id) refl e (λ r. was-from table es id p r x h)
   where
-    by : (t : Bool) → eqb (d .id) id ≡ t → cond t (some (presenceOf d)) (entryIn es id) ≡ some p → (entryIn es id ≡ some p → WasListed x (itemsOf table es)) → WasListed x (itemsOf table (d ∷ es))
+    by : (t : Bool) → eqb (d .id) id ≡ t → cond t (some (presenceOf d)) (entryIn es id) ≡ some p → (entryIn es id ≡ some p → WasListed x (itemsOf table es))
+        → WasListed x (itemsOf table (d ∷ es))
     by true s q r = inl (item-present table d ∙ ap₂ (λ (i : ℕ) (z : Presence). presentItem (propsBy (lookup table i)) z) (eqb-true (d .id) id s) (some-is q) ∙ h)
     by false s q r = inr (r q)
 
-entry-above : (table : List Layer) (ls : List Listed) (low id : ℕ) (p : Presence) → strictlyAscendsFrom low (listedIds ls) ≡ true → entryIn (map (entryOf table) ls) id ≡ some p → low ≤ id
+entry-above : (table : List Layer) (ls : List Listed) (low id : ℕ) (p : Presence) → strictlyAscendsFrom low (listedIds ls) ≡ true
+    → entryIn (map (entryOf table) ls) id ≡ some p → low ≤ id
 unfolding entryIn
 entry-above table [] low id p a e = absurd (not-none e)
 entry-above table (l ∷ ls) low id p a e = by (eqb (l .id) id) refl e (entry-above table ls (suc (l .id)) id p (ascends-tail low (l .id) (listedIds ls) a))
   where
-    by : (t : Bool) → eqb (l .id) id ≡ t → cond t (some (presenceOf (entryOf table l))) (entryIn (map (entryOf table) ls) id) ≡ some p → (entryIn (map (entryOf table) ls) id ≡ some p → suc (l .id) ≤ id) → low ≤ id
+    by : (t : Bool) → eqb (l .id) id ≡ t → cond t (some (presenceOf (entryOf table l))) (entryIn (map (entryOf table) ls) id) ≡ some p
+        → (entryIn (map (entryOf table) ls) id ≡ some p → suc (l .id) ≤ id) → low ≤ id
     by true s q r = omega (arith, eqb-true (l .id) id s, ascends-head low (l .id) (listedIds ls) a)
     by false s q r = omega (arith, r q, ascends-head low (l .id) (listedIds ls) a)
 
@@ -91,7 +95,8 @@ module _ (before : List Item) (table : List Layer) where
       opposite true h = sym h
       opposite false h = refl
 
-  pub told-from : (ls : List Listed) (low : ℕ) → strictlyAscendsFrom low (listedIds ls) ≡ true → Founds ls → Told before (itemsOf table (map (entryOf table) ls))
+  pub told-from : (ls : List Listed) (low : ℕ) → strictlyAscendsFrom low (listedIds ls) ≡ true → Founds ls
+      → Told before (itemsOf table (map (entryOf table) ls))
   unfolding entryIn
   told-from [] low a h = tt
   told-from (l ∷ ls) low a h = (

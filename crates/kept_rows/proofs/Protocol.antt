@@ -26,7 +26,8 @@ kept-by v may k e = rw e (by may)
     by false = refl
 
 -- one accepted call
-asked : (last today : LentMembers) (before now : List Member) (k : CachedTile) (lent : kept.Kept) (r : CountKept) → membersIn last ≡ before → membersIn today ≡ now → lent ≡ lentTile k
+asked : (last today : LentMembers) (before now : List Member) (k : CachedTile) (lent : kept.Kept) (r : CountKept) → membersIn last ≡ before
+    → membersIn today ≡ now → lent ≡ lentTile k
     → keepVerdict last today lent ≡ pass → KeepsCount (keepOf last today lent) r → r .kept ≡ lentTile (keptIf (stays before now) k)
 asked last today before now k lent r b n e v g =
     g .kept

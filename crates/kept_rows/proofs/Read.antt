@@ -21,7 +21,8 @@ says-end : (o : OpenRow) (n : ℕ) (clip : Option ℕ) → saysFrom o n clip [] 
 unfolding saysFrom
 says-end o n clip = refl
 
-says-next : (o : OpenRow) (n : ℕ) (clip : Option ℕ) (x : Item) (xs : List Item) → saysFrom o n clip (x ∷ xs) ≡ paintOn o n (x .id) clip ∷ saysFrom o n (clipAfter (funcOn o (x .id)) (x .id) clip) xs
+says-next : (o : OpenRow) (n : ℕ) (clip : Option ℕ) (x : Item) (xs : List Item)
+    → saysFrom o n clip (x ∷ xs) ≡ paintOn o n (x .id) clip ∷ saysFrom o n (clipAfter (funcOn o (x .id)) (x .id) clip) xs
 unfolding saysFrom
 says-next o n clip x xs = refl
 
@@ -31,7 +32,8 @@ pub record Read (o : OpenRow) (p : Past) (c : PaintChoice) (r : Painted) (back :
   pub mark : paintAnswer (r .answer) ≡ given (paintOn o (p .tiles - 1) (c .layer) (p .clip) .mark)
   pub plane : back ≡ over (paintOn o (p .tiles - 1) (c .layer) (p .clip) .plane) (c .plane)
 
-one : {o : OpenRow} {p : Past} {c : PaintChoice} {r : Painted} {back : List Float} {mark : ℕ} → RightPaint o p c r back → paintAnswer (r .answer) ≡ given mark → Read o p c r back
+one : {o : OpenRow} {p : Past} {c : PaintChoice} {r : Painted} {back : List Float} {mark : ℕ} → RightPaint o p c r back → paintAnswer (r .answer) ≡ given mark
+    → Read o p c r back
 unfolding paintOut
 one {o} {p} {c} {r} {back} {mark} right a = by (paintDueVerdict o (p .tiles) c) refl (right .answer) (right .plane)
   where

@@ -9,9 +9,9 @@ use Rattle.row_statements.specs.Due.{tableOn, layersOn, planeOn}
 use Rattle.kept_frames.specs.Picture.{Stroke, pictureOf, Drawn}
 use Rattle.kept_frames.specs.Right.{MaskUnchanged, StrokesUnchanged, ShowsSame}
 use Rattle.kept_rows.specs.Along.{revisionOn, ContentsTold, ToldAlong}
-use Rattle.kept_rows.specs.Shown.{WorkedTile, itemsFor, ShownLayer, drawnBy, SameShown}
+use Rattle.kept_rows.specs.Shown.{WorkedTile, itemsFor, drawnBy, planesOf, painted, SameShown}
 use Rattle.kept_rows.proofs.Present.{listed-unchanged}
-use Rattle.kept_rows.proofs.Painted.{planesOf, painted, layers-painted}
+use Rattle.kept_rows.proofs.Painted.{layers-painted}
 
 module _ (last now : WorkedTile) (told : ToldAlong (last .row) (now .row) (last .place) (now .place)) (contents : ContentsTold (last .row) (last .revisions) (now .row) (now .revisions)) where
   abbrev old : ℕ → List Float

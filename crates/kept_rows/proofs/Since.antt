@@ -39,7 +39,8 @@ use Rattle.two_rows.specs.Apart.{belowTileY}
 use Rattle.kept_frames.specs.Alike.{sameFloat}
 use Rattle.kept_frames.proofs.Bits.{same-float}
 use Rattle.kept_rows.specs.Along.{propsBy, SameIn, revisionAt, revisionOn}
-use Rattle.kept_rows.specs.Since.{isNan, sameNumber, sameNumbers, sameWords, readsColor, sameRecord, sameAt, layerWords, sameList, isSince, markedWords, marked, MarkedTold, MarkedTable}
+use Rattle.kept_rows.specs.Since.{isNan, sameNumber, sameNumbers, sameWords, readsColor, sameRecord, sameAt, layerWords, sameList, isSince, markedWords}
+use Rattle.kept_rows.specs.Since.{marked, MarkedTold, MarkedTable}
 
 -- ---- what the tests say
 
@@ -78,8 +79,10 @@ same-func w c d h = by (eqb (w .func) 0) (eqb (w .fill) 0) refl h
     by : (draws fills : Bool) → eqb (w .fill) 0 ≡ fills → (not (draws && fills) || sameNumbers c d) ≡ true
         → cond draws (Draw (record { «is_clipped» = eqb (w .clipped) 1; fill = fillOf (w .fill) c; «blend_mode» = modeOf (w .mode) })) (Clip (w .span))
         ≡ cond draws (Draw (record { «is_clipped» = eqb (w .clipped) 1; fill = fillOf (w .fill) d; «blend_mode» = modeOf (w .mode) })) (Clip (w .span))
-    by true true e q = ap (λ (x : Color). Draw (record { «is_clipped» = eqb (w .clipped) 1; fill = fillOf (w .fill) x; «blend_mode» = modeOf (w .mode) })) (same-numbers c d q)
-    by true false e q = ap (λ (f : Fill). Draw (record { «is_clipped» = eqb (w .clipped) 1; fill = f; «blend_mode» = modeOf (w .mode) })) (fill-unread (w .fill) c d e)
+    by true true e q =
+        ap (λ (x : Color). Draw (record { «is_clipped» = eqb (w .clipped) 1; fill = fillOf (w .fill) x; «blend_mode» = modeOf (w .mode) })) (same-numbers c d q)
+    by true false e q =
+        ap (λ (f : Fill). Draw (record { «is_clipped» = eqb (w .clipped) 1; fill = f; «blend_mode» = modeOf (w .mode) })) (fill-unread (w .fill) c d e)
     by false fills e q = refl
 
 -- records that are the same say the same of a layer, but for its flag
@@ -137,7 +140,9 @@ module _ (o : OpenRow) (revs : List ℕ) (o′ : OpenRow) (revs′ : List ℕ) w
 
     ids-kept : tableIds new (o′ .table .count) ≡ tableIds old (o′ .table .count)
     unfolding tableIds
-    ids-kept = is-tabulate (o′ .table .count) (idAt old) 0 (tabulate (o′ .table .count) (idAt new)) (length-tabulate (o′ .table .count) (idAt new)) (λ i c. getD-tabulate (o′ .table .count) (idAt new) 0 i c ∙ id-kept i c)
+    ids-kept =
+        is-tabulate (o′ .table .count) (idAt old) 0 (tabulate (o′ .table .count) (idAt new)) (length-tabulate (o′ .table .count) (idAt new))
+        (λ i c. getD-tabulate (o′ .table .count) (idAt new) 0 i c ∙ id-kept i c)
 
     same-words : (i : ℕ) → i < o′ .table .count → wordsAt new i ≡ record {
       id = idAt old i;
@@ -178,14 +183,16 @@ module _ (o : OpenRow) (revs : List ℕ) (o′ : OpenRow) (revs′ : List ℕ) w
       abbrev Same : ℕ → Type 0
       Same id = SameIn id o (marked o revs o′ revs′) × (revisionOn o revs id ≡ revisionOn (marked o revs o′ revs′) revs′ id)
 
-      same-in : (id i : ℕ) → i < o′ .table .count → idAt old i ≡ id → lookup layers id ≡ given (layerAt new (o′ .table .floats) i) → recordPlace (tableIds new (o′ .table .count)) id ≡ given i
+      same-in : (id i : ℕ) → i < o′ .table .count → idAt old i ≡ id → lookup layers id ≡ given (layerAt new (o′ .table .floats) i)
+          → recordPlace (tableIds new (o′ .table .count)) id ≡ given i
           → isSince o revs o′ revs′ i ≡ true → Same id
       unfolding layerAt
       same-in id i c e looked placed h =
           let found = sameAt (o .table) revs (recordPlace (tableIds (o .table .words) (o .table .count)) (idAt old i)) (o′ .table) revs′ i in
           let lists = sameList (layerWords (idAt old i) (o .row)) (layerWords (idAt old i) (o′ .row)) in
           by (sought 0 (tableIds (o .table .words) (o .table .count)) id)
-          (ap (λ (k : ℕ). sameAt (o .table) revs (recordPlace (tableIds (o .table .words) (o .table .count)) k) (o′ .table) revs′ i) (sym e) ∙ left found lists h)
+          (ap (λ (k : ℕ). sameAt (o .table) revs (recordPlace (tableIds (o .table .words) (o .table .count)) k) (o′ .table) revs′ i) (sym e)
+          ∙ left found lists h)
           (same-list (layerWords id (o .row)) (layerWords id (o′ .row))
           (ap (λ (k : ℕ). sameList (layerWords k (o .row)) (layerWords k (o′ .row))) (sym e) ∙ right found lists h))
         where
@@ -196,7 +203,8 @@ module _ (o : OpenRow) (revs : List ℕ) (o′ : OpenRow) (revs′ : List ℕ) w
           by (missed n g) s w = absurd (false≢true (sym (ap (λ (a : Answer ℕ). sameAt (o .table) revs a (o′ .table) revs′ i) g) ∙ s))
           by (held j p q g) s w =
               let low : j < o .table .count = omega (arith, p, length-ids (o .table .words) (o .table .count)) in
-              let at : Place (o .table .words) (o .table .floats) (o .table .count) id j = place (t₀ .ascending) low (sym (getD-ids (o .table .words) (o .table .count) j low) ∙ q) in
+              let at : Place (o .table .words) (o .table .floats) (o .table .count) id j =
+              place (t₀ .ascending) low (sym (getD-ids (o .table .words) (o .table .count) j low) ∙ q) in
               let zeroed : 0 + j ≡ j = omega arith in
               let there : recordPlace (tableIds (o .table .words) (o .table .count)) id ≡ given j = g ∙ ap given zeroed in
               let record-same = sameRecord (o .table) j (o′ .table) i in
@@ -206,7 +214,8 @@ module _ (o : OpenRow) (revs : List ℕ) (o′ : OpenRow) (revs′ : List ℕ) w
               let colours = not (readsColor (wordsAt old i)) || sameNumbers (colorAt (o .table .floats) j) (colorAt (o′ .table .floats) i) in
               let both-same = left record-same holds-same all-same in
               let props : layerAt (o .table .words) (o .table .floats) j .props ≡ layerAt new (o′ .table .floats) i .props =
-              same-props (wordsAt (o .table .words) j) (wordsAt old i) (colorAt (o .table .floats) j) (colorAt (o′ .table .floats) i) (left wordy colours both-same) (right wordy colours both-same)
+              same-props (wordsAt (o .table .words) j) (wordsAt old i) (colorAt (o .table .floats) j) (colorAt (o′ .table .floats) i)
+              (left wordy colours both-same) (right wordy colours both-same)
               ∙ sym (ap (λ (v : Words). layerOf v (colorAt (o′ .table .floats) i) .props) (same-words i c)) in (
                 record {
                   agree =
@@ -217,7 +226,8 @@ module _ (o : OpenRow) (revs : List ℕ) (o′ : OpenRow) (revs′ : List ℕ) w
                       };
                   props = ap propsBy (at .looked) ∙ ap given props ∙ sym (ap propsBy looked);
                 },
-                ap (revisionAt revs) there ∙ eqb-true (getD revs j 0) (getD revs′ i 0) (right record-same holds-same all-same) ∙ sym (ap (revisionAt revs′) placed),
+                ap (revisionAt revs) there ∙ eqb-true (getD revs j 0) (getD revs′ i 0) (right record-same holds-same all-same) ∙ sym
+                    (ap (revisionAt revs′) placed),
               )
 
       told : (id : ℕ) → isChanged layers id ≡ false → Same id
@@ -225,7 +235,8 @@ module _ (o : OpenRow) (revs : List ℕ) (o′ : OpenRow) (revs′ : List ℕ) w
         where
           by : Sought 0 (tableIds new (o′ .table .count)) id → Same id
           by (missed n g) =
-              let gone : Missing new (o′ .table .floats) (o′ .table .count) id = missing (λ i p q. n i (rw (length-ids new (o′ .table .count)) p) (getD-ids new (o′ .table .count) i p ∙ q)) in
+              let gone : Missing new (o′ .table .floats) (o′ .table .count) id =
+              missing (λ i p q. n i (rw (length-ids new (o′ .table .count)) p) (getD-ids new (o′ .table .count) i p ∙ q)) in
               absurd (false≢true (sym (sym (ap isChangedBy (gone .looked)) ∙ c)))
           by (held i p q g) =
               let low : i < o′ .table .count = omega (arith, p, length-ids new (o′ .table .count)) in
@@ -236,7 +247,8 @@ module _ (o : OpenRow) (revs : List ℕ) (o′ : OpenRow) (revs′ : List ℕ) w
 
 all-tabulate : {A : Type 0} (p : A → Bool) (n : ℕ) (f : ℕ → A) → ((i : ℕ) → i < n → p (f i) ≡ true) → all p (tabulate n f) ≡ true
 all-tabulate p zero f h = refl
-all-tabulate p (suc n) f h = both (p (f 0)) (all p (tabulate n (λ i. f (suc i)))) (h 0 (omega arith)) (all-tabulate p n (λ i. f (suc i)) (λ i c. h (suc i) (omega (arith, c))))
+all-tabulate p (suc n) f h =
+    both (p (f 0)) (all p (tabulate n (λ i. f (suc i)))) (h 0 (omega arith)) (all-tabulate p n (λ i. f (suc i)) (λ i c. h (suc i) (omega (arith, c))))
 
 pub marked-told : MarkedTold
 marked-told o o′ revs revs′ t₀ t first =
@@ -246,10 +258,24 @@ marked-told o o′ revs revs′ t₀ t first =
 
 -- ---- the marked table is none that 1 or 4 turns down
 
-marked-range : (w : Words) (b : Bool) → inRange w ≡ true → inRange (record { id = w .id; rule = w .rule; func = w .func; span = w .span; clipped = w .clipped; fill = w .fill; mode = w .mode; unchanged = cond b 1 0 }) ≡ true
+-- a record with another flag
+abbrev flaggedAs : Words → Bool → Words
+flaggedAs w b =
+    record { id = w .id; rule = w .rule; func = w .func; span = w .span; clipped = w .clipped; fill = w .fill; mode = w .mode; unchanged = cond b 1 0 }
+
+marked-range : (w : Words) (b : Bool) → inRange w ≡ true → inRange (flaggedAs w b) ≡ true
 marked-range w b h =
     let r = in-range w h in
-    rw (le-leb (w .id) 2097151 (r .id-le), le-leb (w .rule) 1 (r .rule-le), le-leb (w .func) 1 (r .func-le), le-leb (w .span) 2097151 (r .span-le), le-leb (w .clipped) 1 (r .clipped-le), le-leb (w .fill) 2 (r .fill-le), le-leb (w .mode) 15 (r .mode-le))
+    rw (
+      le-leb (w .id) 2097151 (r .id-le),
+      le-leb (w .rule) 1 (r .rule-le),
+      le-leb (w .func) 1 (r .func-le),
+      le-leb (w .span) 2097151 (r .span-le),
+      le-leb
+          (w .clipped) 1 (r .clipped-le),
+      le-leb (w .fill) 2 (r .fill-le),
+      le-leb (w .mode) 15 (r .mode-le),
+    )
     (last b)
   where
     last : (t : Bool) → leb (cond t 1 0) 1 ≡ true
@@ -269,5 +295,6 @@ marked-table o o′ revs revs′ t =
     both (not (isTableShort now floats count)) (isValid (tabulate count (wordsAt now)))
     (ap (λ (n : ℕ). not (ltb (min (n / 8) (length floats / 4)) count)) (same-length o revs o′ revs′) ∙ short)
     (both (all inRange (tabulate count (wordsAt now))) (strictlyAscends (map (λ (w : Words). w .id) (tabulate count (wordsAt now))))
-    (all-tabulate inRange count (wordsAt now) (λ i c. ap inRange (same-words o revs o′ revs′ long i c) ∙ marked-range (wordsAt words i) (isSince o revs o′ revs′ i) (judged .in-range i c)))
+    (all-tabulate inRange count (wordsAt now)
+    (λ i c. ap inRange (same-words o revs o′ revs′ long i c) ∙ marked-range (wordsAt words i) (isSince o revs o′ revs′ i) (judged .in-range i c)))
     (ap strictlyAscends (map-tabulate (λ (w : Words). w .id) count (wordsAt now) ∙ ids-kept o revs o′ revs′ long) ∙ judged .ascending))

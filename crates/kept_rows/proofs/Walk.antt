@@ -100,7 +100,8 @@ first-up id k (v ∷ ws) w rest up e =
     (either (eqb id (layer v)))
 
 -- so a word that comes before all of another list is not of a layer that agrees
-ahead : (id x : ℕ) (xs ys : List ℕ) (k : ℕ) → ascendsFrom (orderKey cpu) k ys ≡ true → key x < k → layerWords id (x ∷ xs) ≡ layerWords id ys → eqb id (layer x) ≡ false
+ahead : (id x : ℕ) (xs ys : List ℕ) (k : ℕ) → ascendsFrom (orderKey cpu) k ys ≡ true → key x < k → layerWords id (x ∷ xs) ≡ layerWords id ys
+    → eqb id (layer x) ≡ false
 ahead id x xs ys k up p e =
     ⊎-elim (λ q. absurd (omega (arith, p, first-up id k ys x (layerWords id xs) up (sym e ∙ own id x xs q)))) (λ q. q) (either (eqb id (layer x)))
 
@@ -119,7 +120,8 @@ rest-same id x xs ys e = by (eqb (layer x) id) e
     by true q = ap (λ (l : List ℕ). drop 1 l) q
     by false q = q
 
-exact : (xs ys : List ℕ) (id kx ky : ℕ) → ascendsFrom (orderKey cpu) kx xs ≡ true → ascendsFrom (orderKey cpu) ky ys ≡ true → layerWords id xs ≡ layerWords id ys → isDiffering xs ys id ≡ false
+exact : (xs ys : List ℕ) (id kx ky : ℕ) → ascendsFrom (orderKey cpu) kx xs ≡ true → ascendsFrom (orderKey cpu) ky ys ≡ true
+    → layerWords id xs ≡ layerWords id ys → isDiffering xs ys id ≡ false
 unfolding differing ascendsFrom
 exact [] ys id kx ky ux uy e = none-back id ys (sym e)
 exact (x ∷ xs) [] id kx ky ux uy e = none-back id (x ∷ xs) e

@@ -88,15 +88,19 @@ module _ (o : OpenRow) where
             few = few-listed o (p .tiles) c e;
           }
 
-  few-by-list : {p : Past} {c : ListChoice} {r : TileListed} {back : ListLent} {n : ℕ} → RightListing o p c r back → listAnswer (r .answer) ≡ given n → length (layersOn o (p .tiles)) ≤ 256
+  few-by-list : {p : Past} {c : ListChoice} {r : TileListed} {back : ListLent} {n : ℕ} → RightListing o p c r back → listAnswer (r .answer) ≡ given n
+      → length (layersOn o (p .tiles)) ≤ 256
   unfolding listingOut
   few-by-list {p} {c} {r} {back} {n} right a = by (listDueVerdict o (p .tiles) c) refl (sym a ∙ right .gives .answer)
     where
-      by : (v : Judgement) → listDueVerdict o (p .tiles) c ≡ v → given n ≡ listingOut v (tableOn o) (layersOn o (p .tiles)) (queueOn o (suc (p .tiles))) (stateOn o p) (c .lent) .answer → length (layersOn o (p .tiles)) ≤ 256
+      by : (v : Judgement) → listDueVerdict o (p .tiles) c ≡ v
+          → given n ≡ listingOut v (tableOn o) (layersOn o (p .tiles)) (queueOn o (suc (p .tiles))) (stateOn o p) (c .lent) .answer
+          → length (layersOn o (p .tiles)) ≤ 256
       by (refuse m) e g = absurd (let z : _≡_ {A = ℕ} 0 1 = cc in omega arith)
       by pass e g = few-in-list o (p .tiles) c e
 
-  by-deciding : {m : ℕ} {q : Past} {c : DecideChoice} {s : TileDecided} {masks : List Bool} {t : DecideSays} → RightDeciding o q c s masks → decideAnswer (s .answer) ≡ given t
+  by-deciding : {m : ℕ} {q : Past} {c : DecideChoice} {s : TileDecided} {masks : List Bool} {t : DecideSays} → RightDeciding o q c s masks
+      → decideAnswer (s .answer) ≡ given t
       → nthOn o c ≡ m → length (layersOn o m) ≤ 256
       → SaidOf o (record { place = m; before = c .kept; clear = c .clear; previous = c .previous; after = s .kept; decision = t .decision })
   unfolding decidingOut

@@ -41,4 +41,6 @@ pub record KeptTile : Type 0 where
   pub tile : CachedTile
   pub display : Display
   pub history : History 0 (Standing.worked tile display (workedOf first) (workedOf second))
-  pub in-row : RowHistory 0 (record { row = openRow (frameCall 1); revisions = []; clear = black; worked = 1 }) (Standing.worked tile display (workedOf first) (workedOf second))
+  pub in-row :
+      RowHistory 0 (record { row = openRow (frameCall 1); revisions = []; clear = black; worked = 1 })
+      (Standing.worked tile display (workedOf first) (workedOf second))

@@ -1,7 +1,8 @@
--- Frames of a row of tiles with nothing told. Between frames stand: the row as it was last worked, with its table, revisions and clear colour, and how many of
--- its tiles were decided then; and of each tile its eight cached bytes. In a frame, today's flags are worked out from both rows (specs/Since); the tile is worked
--- with its count where it was decided then, the row begins where that one began, and the keep rule allows it; else the count is dropped. Then the tile is
--- right after every frame: the caller's flags, crops, refusals and frames left out have no part in it. A frame that leaves the whole row out is none of it.
+-- Frames of a row of tiles with no flag told. Between frames stand: the row as it was last worked, with its table, revisions and clear colour, and how
+-- many of its tiles count as worked; and of each tile its eight cached bytes. In a frame, today's flags are worked out from both rows (specs/Since); the
+-- tile is worked with its count where it counts as worked, the row begins where that one began, and the keep rule allows it; else the count is dropped.
+-- Then the tile is right after every frame: the caller's flags, crops, refusals and frames left out have no part in it. A frame that leaves the whole row
+-- out is none of it.
 use mathlib.Core.Path.{_≡_}
 use mathlib.Core.Bool.{Bool, true, false, _&&_}
 use mathlib.Core.List.{List, [], _∷_}
@@ -26,8 +27,8 @@ pub record LastRow : Type 0 where
   pub clear : Color
   pub worked : ℕ
 
--- of each tile of the row, from the first: whether it was decided with its cached tile lent, by an accepted work or an accepted deciding. The tiles that count as
--- worked are those up to the first that was not
+-- of each tile of the row, from the first: whether it was decided with its cached tile lent, by an accepted work or an accepted deciding. The tiles that
+-- count as worked are those up to the first that was not
 unfoldable pub workedCount : List Bool → ℕ
 workedCount [] = 0
 workedCount (true ∷ decided) = suc (workedCount decided)
@@ -65,17 +66,23 @@ drawnIn (Standing.worked tile display drawn last) now = drawn
 
 -- ---- a frame of the row, as tile t goes through it
 
+-- what stands of the row once a tile is worked in it
+abbrev pub lastBy : AcceptedWork → List Bool → LastRow
+lastBy a decided = record { row = openOn a; revisions = a .revisions; clear = a .done .clear; worked = workedCount decided }
+
 pub data RowFrame (t : ℕ) : LastRow → Standing → LastRow → Standing → Type 0 where
   -- the tile is worked, in a row whose flags are worked out
-  works : {l : LastRow} {s : Standing} {k : CachedTile} {d d′ : Display} (may : Bool) (today : OpenRow) (a : AcceptedWork) (decided : List Bool) → tileNumber a ≡ t →
+  works : {l : LastRow} {s : Standing} {k : CachedTile} {d d′ : Display} (may : Bool) (today : OpenRow) (a : AcceptedWork) (decided : List Bool) →
+      tileNumber a ≡ t →
       openOn a ≡ marked (l .row) (l .revisions) today (a .revisions) →
       (may ≡ true → a .done .decision ≡ none → mayStay l t a ≡ true) →
       a .done .before ≡ lentTile (keptIf may (tileIn s)) →
       Displays s d →
       Drawing (a .done .decision) (a .done .after .tile) d k d′ →
-      RowFrame t l s (record { row = openOn a; revisions = a .revisions; clear = a .done .clear; worked = workedCount decided }) (Standing.worked k d′ (drawnAt (a .done .decision) (drawnIn s (workedOf a)) (workedOf a)) (workedOf a))
+      RowFrame t l s (lastBy a decided) (Standing.worked k d′ (drawnAt (a .done .decision) (drawnIn s (workedOf a)) (workedOf a)) (workedOf a))
   -- it is not: left out, turned down, not reached, or listed and not decided
-  passes : {l l′ : LastRow} {s : Standing} (decided : List Bool) → l′ .worked ≡ workedCount decided → isDecided (l′ .row .from) decided t ≡ false → RowFrame t l s l′ s
+  passes : {l l′ : LastRow} {s : Standing} (decided : List Bool) → l′ .worked ≡ workedCount decided → isDecided (l′ .row .from) decided t ≡ false →
+      RowFrame t l s l′ s
   -- its pixels are lost, and its eight bytes set to 0
   forgets : {l : LastRow} {s : Standing} → RowFrame t l s l Standing.unworked
 

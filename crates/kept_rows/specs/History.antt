@@ -1,7 +1,8 @@
 -- The theorem over frames: a tile through any list of frames, in each of which its row is opened and run as demand 3 has it, with the cached tile
--- that the last frame left, and in which the caller follows the protocol: flags and revisions are truthful since the tile's last accepted work, the count is kept
--- only by the keep rule, and every solid tile is settled and obeyed. Then what stands in the tile is always what drawing it afresh at its last accepted work
--- draws, by the same decision and the same calls. A frame in which the tile is not worked, or turned down, leaves it as it is; and it may be forgotten.
+-- that the last frame left, and in which the caller follows the protocol: flags and revisions are truthful since the tile's last accepted work, the count
+-- is kept only by the keep rule, and every solid tile is settled and obeyed. Then what stands in the tile is always what drawing it afresh at its last
+-- accepted work draws, by the same decision and the same calls. A frame in which the tile is not worked, or turned down, leaves it as it is; and it may be
+-- forgotten.
 use mathlib.Core.Path.{_≡_}
 use mathlib.Core.Bool.{Bool, true, cond}
 use mathlib.Core.List.{List, []}

@@ -39,4 +39,5 @@ pub data ReadAs : List Event → List PaintSays → Type 0 where
 
 abbrev pub PaintingsRead : Type 0
 PaintingsRead =
-    (o : OpenRow) (n : ℕ) (p : Past) (xs : List Item) (es : List Event) → p .tiles ≡ suc n → AllRight o p es → Paints o p xs es → ReadAs es (saysFrom o n (p .clip) xs)
+    (o : OpenRow) (n : ℕ) (p : Past) (xs : List Item) (es : List Event) → p .tiles ≡ suc n → AllRight o p es → Paints o p xs es →
+    ReadAs es (saysFrom o n (p .clip) xs)

@@ -3,18 +3,21 @@
 -- mark; and what cuts it: the coverages of the clip that was painted last, where the layer needs a clip and the painter has one. And the clear colour. Here our
 -- equality ends: nothing is blended, and whatever makes pixels of these makes the same of the same.
 use mathlib.Core.Path.{_≡_}
-use mathlib.Core.List.{List, [], _∷_}
-use mathlib.Core.Option.{Option, none}
+use mathlib.Core.Bool.{Bool, cond}
+use mathlib.Core.List.{List, [], _∷_, map}
+use mathlib.Core.Option.{Option, some, none}
 use Prim.Native.Nat.{ℕ}
 use lib.Ieee.{Float}
 use Rattle.styling.specs.declared.Color.{Color}
 use Rattle.styling.specs.declared.Func.{Func}
+use Rattle.styling.specs.declared.Func.the-variants.{Draw, Clip}
+use Rattle.cover_statements.specs.Mark.{markOf}
 use Rattle.pass_statements.specs.Decision.{TileDecision}
 use Rattle.pass_statements.specs.Rules.{needsClip}
 use Rattle.pass_statements.specs.declared.item.Item.{Item}
 use Rattle.painter.specs.Clip.{aliveAt}
-use Rattle.row_statements.specs.Due.{OpenRow, paintOn}
-use Rattle.kept_frames.specs.Picture.{shownAfresh, maskFor, maskAfter, decisionAfresh}
+use Rattle.row_statements.specs.Due.{OpenRow, planeOn, paintOn}
+use Rattle.kept_frames.specs.Picture.{shownAfresh, Stroke, maskFor, maskAfter, pictureOf, decisionAfresh}
 use Rattle.kept_rows.specs.Along.{revisionOn, itemsOn}
 
 -- a work on the tile row .from + place, with the revisions beside its table and its clear colour
@@ -56,6 +59,34 @@ drawnBy w =
       decision = decisionAfresh (w .clear) (itemsFor w);
       layers = paintingsFrom (w .row) (w .revisions) (w .place) none none (shownAfresh (itemsFor w));
     }
+
+-- ---- these are the strokes of the picture (`kept_frames/specs/Picture`), with the row's coverages and revisions
+
+abbrev pub planesOf : (ℕ → List Float) → Option ℕ → Option (List Float)
+planesOf planes none = none
+planesOf planes (some id) = some (planes id)
+
+-- a clip uses no octet, nor does a draw that lacks its clip
+abbrev pub markBy : Func → Bool → List Float → ℕ
+markBy (Clip span) lacks plane = 0
+markBy (Draw style) lacks plane = cond lacks 0 (markOf plane)
+
+abbrev pub painted : (ℕ → List Float) → (ℕ → ℕ) → Stroke → ShownLayer
+painted planes revisions s =
+    record {
+      id = s .layer .id;
+      func = s .layer .func;
+      revision = revisions (s .layer .id);
+      plane = planes (s .layer .id);
+      mark = markBy (s .layer .func) (s .lacks) (planes (s .layer .id));
+      cut = planesOf planes (s .mask);
+    }
+
+abbrev pub LayersPainted : Type 0
+LayersPainted =
+    (w : WorkedTile) → drawnBy w .layers ≡ map (painted (planeOn (w .row) (w .place)) (revisionOn (w .row) (w .revisions))) (pictureOf (itemsFor w))
+
+-- ---- the same
 
 -- what was drawn at one work is what drawing afresh at another draws, by the same decision and the same calls
 abbrev pub SameShown : WorkedTile → WorkedTile → Type 0

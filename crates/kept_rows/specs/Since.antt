@@ -37,7 +37,8 @@ sameNumbers c d = sameNumber (c .r) (d .r) && (sameNumber (c .g) (d .g) && (same
 
 abbrev pub sameWords : Words → Words → Bool
 sameWords v w =
-    eqb (v .rule) (w .rule) && (eqb (v .func) (w .func) && (eqb (v .span) (w .span) && (eqb (v .clipped) (w .clipped) && (eqb (v .fill) (w .fill) && eqb (v .mode) (w .mode)))))
+    eqb (v .rule) (w .rule)
+    && (eqb (v .func) (w .func) && (eqb (v .span) (w .span) && (eqb (v .clipped) (w .clipped) && (eqb (v .fill) (w .fill) && eqb (v .mode) (w .mode)))))
 
 -- a draw with a solid fill reads its colour, and no other record does
 abbrev pub readsColor : Words → Bool

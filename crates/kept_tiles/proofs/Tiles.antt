@@ -26,7 +26,8 @@ use Rattle.kept_frames.specs.Alike.{mayKeepCount}
 use Rattle.kept_rows.specs.Along.{itemsOn}
 use Rattle.kept_rows.specs.History.{AcceptedWork, openOn, tileNumber, keptIf}
 use Rattle.kept_rows.specs.Frames.{LastRow, isWithin, mayStay}
-use Rattle.kept_tiles.specs.Tiles.{KeepCall, isPass, isOpened, areListed, mayKeep, areTagged, tilesVerdict, ruledBytes, bytesBy, tileAt, TilesRuled, RuleStays, KeptOpened}
+use Rattle.kept_tiles.specs.Tiles.{KeepCall, isPass, isOpened, areListed, mayKeep, areTagged, tilesVerdict, ruledBytes, bytesBy, tileAt, TilesRuled}
+use Rattle.kept_tiles.specs.Tiles.{RuleStays, KeptOpened}
 
 -- the call has the bytes of its tiles
 long : (c : KeepCall) (bytes : List ℕ) → tilesVerdict c bytes ≡ pass → 8 * c .tiles ≤ length bytes
@@ -70,7 +71,10 @@ module _ (c : KeepCall) (bytes : List ℕ) (i : ℕ) (n : 8 * c .tiles ≤ lengt
   each : (j : ℕ) → 0 < j → j < 8 → getD (take 8 (drop (i * 8) (ruledBytes c bytes))) j 0 ≡ getD (take 8 (drop (i * 8) bytes)) j 0
   each j q p = byte j (ruledBytes c bytes) p ∙ rest-is j q p ∙ sym (byte j bytes p)
 
-  tag : getD (take 8 (drop (i * 8) (ruledBytes c bytes))) 0 0 ≡ cond (not may) (bitAnd (getD (take 8 (drop (i * 8) bytes)) 0 0) 1) (getD (take 8 (drop (i * 8) bytes)) 0 0)
+  abbrev tagIn : List ℕ → ℕ
+  tagIn l = getD (take 8 (drop (i * 8) l)) 0 0
+
+  tag : tagIn (ruledBytes c bytes) ≡ cond (not may) (bitAnd (tagIn bytes) 1) (tagIn bytes)
   tag = byte 0 (ruledBytes c bytes) (omega arith) ∙ tag-is ∙ ap (λ (b : ℕ). cond (not may) (bitAnd b 1) b) (sym (byte 0 bytes (omega arith)))
 
   ruled-tile : tileAt (ruledBytes c bytes) i ≡ keptIf may (tileAt bytes i)
@@ -85,7 +89,8 @@ module _ (c : KeepCall) (bytes : List ℕ) (i : ℕ) (n : 8 * c .tiles ≤ lengt
       (λ z. record { tags = tag z; «layer_count» = b1 z ∷ b2 z ∷ b3 z ∷ []; «solid_color» = b4 z ∷ b5 z ∷ b6 z ∷ b7 z ∷ [] })
       ∙ by may (tileAt bytes i)
     where
-      by : (t : Bool) (k : CachedTile) → record { tags = cond (not t) (bitAnd (k .tags) 1) (k .tags); «layer_count» = k .«layer_count»; «solid_color» = k .«solid_color» } ≡ keptIf t k
+      by : (t : Bool) (k : CachedTile)
+          → record { tags = cond (not t) (bitAnd (k .tags) 1) (k .tags); «layer_count» = k .«layer_count»; «solid_color» = k .«solid_color» } ≡ keptIf t k
       by true k = refl
       by false k = refl
 
@@ -112,8 +117,11 @@ unfolding mayKeep
 kept-opened l o clear i e =
     let here = eqb (l .row .from) (o .from) && isWithin l (o .from + i) in
     let alike = mayKeepCount (l .clear) clear (itemsOn (l .row) i) (itemsOn o i) in
-    let lists = left (areListed (l .row) i && areListed o i) alike (right here ((areListed (l .row) i && areListed o i) && alike) e) in
-    (left (isOpened (l .row)) (passing (l .row)) (left (areListed (l .row) i) (areListed o i) lists), left (isOpened o) (passing o) (right (areListed (l .row) i) (areListed o i) lists))
+    let lists = left (areListed (l .row) i && areListed o i) alike (right here ((areListed (l .row) i && areListed o i) && alike) e) in (
+      left (isOpened (l .row)) (passing (l .row)) (left (areListed (l .row) i) (areListed o i) lists),
+      left (isOpened o) (passing o)
+          (right (areListed (l .row) i) (areListed o i) lists),
+    )
   where
     passing : OpenRow → Bool
     passing p = every (suc i) (λ n. isPass (listVerdict (tableOn p) (layersOn p n)))

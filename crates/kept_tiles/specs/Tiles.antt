@@ -1,8 +1,8 @@
 -- The keep rule for the tiles of a row, as a public operation (`keep_tiles`), to be called before the row's tiles are worked: lent are the row as it was last
--- worked, with its clear colour; today's, with its clear colour and the flags that `mark_unchanged` left; and the cached bytes of tiles, the first of them the
--- row's first. Judged by 1 to 4 and 6, the lowest that applies; a refusal leaves every byte as it was. Else the tag byte of a tile loses the count's bit where its
--- count may not stay, and no other byte is written. Where either row would be turned down at its opening, or its list of the tile or of one before it, the count
--- may not stay.
+-- worked, with its clear colour; today's, with its clear colour and the flags that `mark_unchanged` left; and the cached bytes of tiles, the first of them
+-- the row's first. Judged by 1 to 4 and 6, the lowest that applies; a refusal leaves every byte as it was. Else the tag byte of a tile loses the count's bit
+-- where its count may not stay, and no other byte is written. Where either row would be turned down at its opening, or its list of the tile or of one before
+-- it, the count may not stay.
 use mathlib.Core.Path.{_≡_}
 use mathlib.Core.Bool.{Bool, true, false, cond, not, _&&_, _||_}
 use mathlib.Core.List.{List}
@@ -80,7 +80,9 @@ tilesVerdict c bytes =
 unfoldable pub ruledBytes : KeepCall → List ℕ → List ℕ
 ruledBytes c bytes =
     tabulate (length bytes)
-    (λ k. cond ((eqb (k % 8) 0 && ltb (k / 8) (c .tiles)) && not (mayKeep (c .last) (c .today) (c .clear) (k / 8))) (bitAnd (getD bytes k 0) 1) (getD bytes k 0))
+    (λ k.
+    cond ((eqb (k % 8) 0 && ltb (k / 8) (c .tiles)) && not (mayKeep (c .last) (c .today) (c .clear) (k / 8)))
+    (bitAnd (getD bytes k 0) 1) (getD bytes k 0))
 
 abbrev pub bytesBy : Judgement → KeepCall → List ℕ → List ℕ
 bytesBy (refuse number) c bytes = bytes
