@@ -3,7 +3,7 @@ use mathlib.Core.Path.{_≡_, refl, ap, ap₂, sym, subst, _∙_}
 use mathlib.Core.Bool.{true, false, not, _&&_, _||_}
 use mathlib.Core.List.{List, [], _++_}
 use mathlib.Core.Option as option
-use Prim.Native.Nat.{ℕ, suc, _+_, _*_, _/_, _≤_, _<_, min}
+use Prim.Native.Nat.{ℕ, zero, suc, _+_, _*_, _/_, _≤_, _<_, min}
 use native.Mathlib.Omega.{arith}
 use borrow.Author.Tests.{eq-eqb, le-ltb, lt-leb}
 use lib.Dec.{ltb}
@@ -17,7 +17,7 @@ use Rattle.segment_rows.specs.Rows.{isRow}
 use Rattle.styling.specs.declared.Color.{Color}
 use Rattle.layer_workbench.specs.declared.PreviousClear.{PreviousClear}
 use Rattle.queue_statements.specs.Queue.{isQueue}
-use Rattle.row_statements.specs.Lent.{isQueueShort, isLentTable}
+use Rattle.row_statements.specs.Lent.{Columns, isQueueShort, isLentTable}
 use Rattle.row_statements.specs.State.{State, isStray, isNotNext}
 use Rattle.row_statements.specs.declared.WorkAnswer.the-variants as worked
 use Rattle.row_statements.specs.Due.{OpenRow, Past}
@@ -29,7 +29,7 @@ use Rattle.row_statements.proofs.Run.{accepted, is-open, held-first, step-right
 use Rattle.row_lines.specs.Driven.{emptyQueue}
 use Rattle.batch_statements.specs.BatchLent.{BatchLent, batchLent, planesIn, isBatchShort}
 use Rattle.batch_statements.specs.Batch.{BatchRow, BatchCall, batchRow, batchCall, batchStart, batchVerdict, batchBy, batchOf, tilesFrom}
-use Rattle.batch_runs.specs.BatchClaim.{CalledIn, IsRun, BatchClaim}
+use Rattle.batch_runs.specs.BatchClaim.{CalledIn, takenBy, IsRun, BatchClaim}
 use Rattle.batch_runs.proofs.BatchTiles.{run-append, DrivenTo, driven}
 
 -- ---- after any calls
@@ -77,7 +77,19 @@ module _ (o : OpenRow) (is-open : IsOpen o) (h : Held) (c : BatchCall) (m : Batc
   pub is-run : IsRun o h c m
   is-run =
       let d = subst (DrivenTo o (c .over) (planesIn m) (c .tiles) h (batchStart c m)) batch-is here in
-      record { events = d .events; after = d .after; runs = d .runs; calls = d .calls; state = d .state; queue = d .queue }
+      record {
+        events = d .events;
+        after = d .after;
+        runs = d .runs;
+        calls = d .calls;
+        state = d .state;
+        queue = d .queue;
+        taken = took (batchOf c m .at .worked) refl (d .taken (λ some. absurd (omega arith))) (d .still);
+      }
+    where
+      took : {after other : Columns} (worked : ℕ) → batchOf c m .at .worked ≡ worked → (0 < batchOf c m .at .worked → after ≡ other) → (batchOf c m .at .worked ≡ 0 → after ≡ h .taken) → after ≡ takenBy worked (h .taken) other
+      took zero e other same = same e
+      took (suc k) e other same = other (omega (arith, e))
 
 pub batch-run : BatchClaim
 batch-run k lent back s es h c m w g r called =

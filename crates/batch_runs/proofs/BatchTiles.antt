@@ -5,7 +5,7 @@ use mathlib.Core.Bool.{Bool, true, false, cond, _||_}
 use mathlib.Core.List.{List, [], _∷_, _++_}
 use mathlib.Core.Option as option
 use mathlib.Core.Option.{Option}
-use Prim.Native.Nat.{ℕ, zero, suc, _+_, _-_, _*_, _≤_}
+use Prim.Native.Nat.{ℕ, zero, suc, _+_, _-_, _*_, _≤_, _<_}
 use native.Mathlib.Omega.{arith}
 use borrow.Author.Tests.{eq-eqb, ne-eqb, le-ltb, ltb-false}
 use lib.Dec.{ltb}
@@ -65,6 +65,9 @@ pub record DrivenTo (o : OpenRow) (c : BatchRow) (planes k : ℕ) (h : Held) (s 
   pub calls : TileCalls c planes k s events g
   pub state : after .state ≡ g .at .state
   pub queue : after .queue ≡ g .at .lent .queue
+  pub more : s .worked ≤ g .at .worked
+  pub taken : (0 < s .worked → h .taken ≡ s .lent .other) → 0 < g .at .worked → after .taken ≡ g .at .lent .other
+  pub still : g .at .worked ≡ s .worked → after .taken ≡ h .taken
 
 module _ (o : OpenRow) (is-open : IsOpen o) (keeps : Bool) (clear : Color) (previous : PreviousClear) where
   abbrev pub over : BatchRow
@@ -106,6 +109,7 @@ module _ (o : OpenRow) (is-open : IsOpen o) (keeps : Bool) (clear : Color) (prev
     pub holds : Holds o (tilesPast (suc n) clip) after
     pub state-is : after .state ≡ paintsFrom over (tileOf n) (h .taken) (planesOf h used planes words) ids .state
     pub queue-is : after .queue ≡ h .queue
+    pub taken-is : after .taken ≡ h .taken
     pub planes-long : length (paintsFrom over (tileOf n) (h .taken) (planesOf h used planes words) ids .planes) ≡ length planes
 
   -- one painting, as it goes and as it is noted
@@ -148,7 +152,7 @@ module _ (o : OpenRow) (is-open : IsOpen o) (keeps : Bool) (clear : Color) (prev
 
   pub paintings : (ids : List ℕ) (n : ℕ) (clip : Option ℕ) (h : Held) (used : ℕ) (planes : List Float) (words : List ℕ) → Holds o (tilesPast (suc n) clip) h → (used + length ids) * 256 ≤ length planes → AllPass (tableOn o) (queueOn o n) (partOf n) ids → Painting n h used planes words ids
   unfolding paintsFrom
-  paintings [] n clip h used planes words holds room all = record { events = []; after = h; clip = clip; runs = Run.none; calls = PaintCalls.none; holds = holds; state-is = refl; queue-is = refl; planes-long = refl }
+  paintings [] n clip h used planes words holds room all = record { events = []; after = h; clip = clip; runs = Run.none; calls = PaintCalls.none; holds = holds; state-is = refl; queue-is = refl; taken-is = refl; planes-long = refl }
   paintings (id ∷ ids) n clip h used planes words holds room all =
       let here : used * 256 + 256 ≤ length planes = omega (arith, room) in
       let w = choice n clip h used planes words id holds here (all .0) in
@@ -169,6 +173,7 @@ module _ (o : OpenRow) (is-open : IsOpen o) (keeps : Bool) (clear : Color) (prev
         holds = rest .holds;
         state-is = rest .state-is ∙ sym (ap (λ (p : PlanesAt). p .state) whole);
         queue-is = rest .queue-is;
+        taken-is = rest .taken-is;
         planes-long = ap (λ (p : PlanesAt). length (p .planes)) whole ∙ rest .planes-long ∙ same;
       }
 
@@ -308,7 +313,7 @@ module _ (o : OpenRow) (is-open : IsOpen o) (keeps : Bool) (clear : Color) (prev
     whole e = ap (λ (x : Bool). cond x (record { at = s; end = pass }) (nextBy over (turnOf over s .end) (turnOf over s) (tilesFrom over planes k (turnOf over s .at)))) e
 
     full : ltb planes (s .used + 256) ≡ true → DrivenTo o over planes (suc k) h s (tilesFrom over planes (suc k) s)
-    full e = subst (DrivenTo o over planes (suc k) h s) (sym (whole e)) (record { events = []; after = h; runs = Run.none; calls = TileCalls.full e; state = sym es; queue = sym eq })
+    full e = subst (DrivenTo o over planes (suc k) h s) (sym (whole e)) (record { events = []; after = h; runs = Run.none; calls = TileCalls.full e; state = sym es; queue = sym eq; more = omega arith; taken = λ took. took; still = λ none. refl })
 
     turned : {g : BatchGiven} → turnOf over s ≡ g → ltb planes (s .used + 256) ≡ false → tilesFrom over planes (suc k) s ≡ nextBy over (g .end) g (tilesFrom over planes k (g .at))
     turned {g} t e = whole e ∙ ap (λ (x : BatchGiven). nextBy over (x .end) x (tilesFrom over planes k (x .at))) t
@@ -327,6 +332,9 @@ module _ (o : OpenRow) (is-open : IsOpen o) (keeps : Bool) (clear : Color) (prev
           calls = TileCalls.turned-down e ea;
           state = ap (λ (x : Held). x .state) held ∙ refused-state n clip h s holds es eq ea;
           queue = ap (λ (x : Held). x .queue) held ∙ sym eq;
+          more = omega arith;
+          taken = λ took some. ap (λ (x : Held). x .taken) held ∙ took some;
+          still = λ none. ap (λ (x : Held). x .taken) held;
         })
     by-answer (given t) ea e =
         let r = told n clip h s holds es eq in
@@ -347,6 +355,9 @@ module _ (o : OpenRow) (is-open : IsOpen o) (keeps : Bool) (clear : Color) (prev
           calls = TileCalls.next e ea (painted .calls) (rest .calls);
           state = rest .state;
           queue = rest .queue;
+          more = omega (arith, rest .more);
+          taken = λ took. rest .taken (λ some. painted .taken-is);
+          still = λ none. absurd (omega (arith, rest .more, none));
         })
 
     by-room : (b : Bool) → ltb planes (s .used + 256) ≡ b → DrivenTo o over planes (suc k) h s (tilesFrom over planes (suc k) s)
@@ -355,7 +366,7 @@ module _ (o : OpenRow) (is-open : IsOpen o) (keeps : Bool) (clear : Color) (prev
 
   pub driven : (planes k : ℕ) → Drives planes k
   unfolding tilesFrom
-  driven planes zero n clip h s holds es eq et long = record { events = []; after = h; runs = Run.none; calls = TileCalls.none; state = sym es; queue = sym eq }
+  driven planes zero n clip h s holds es eq et long = record { events = []; after = h; runs = Run.none; calls = TileCalls.none; state = sym es; queue = sym eq; more = omega arith; taken = λ took. took; still = λ none. refl }
   driven planes (suc k) n clip h s holds es eq et long =
       subst (λ (t : ℤ). DrivenTo o over planes (suc k) h (atTile s t) (tilesFrom over planes (suc k) (atTile s t))) (sym et)
       (by-room planes k (driven planes k) n clip h s holds es eq long (ltb planes (s .used + 256)) refl)

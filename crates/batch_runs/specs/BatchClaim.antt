@@ -3,6 +3,7 @@
 -- gives what is due of it, worked from the whole row. A batch that 1 to 5 refuse leaves everything as it was, and is no call.
 use mathlib.Core.Path.{_≡_}
 use mathlib.Core.List.{List, _++_}
+use Prim.Native.Nat.{ℕ, zero, suc}
 use Rattle.refusals.specs.Refusal.{pass}
 use Rattle.segment_rows.specs.Rows.{Words}
 use Rattle.row_statements.specs.Lent.{Columns}
@@ -24,6 +25,11 @@ pub record CalledIn (o : OpenRow) (h : Held) (c : BatchCall) (m : BatchLent) : T
   pub queue : m .queue ≡ h .queue
   pub passes : batchVerdict c m ≡ pass
 
+-- the queue that the last worked tile took in: the other of the two; where no tile was worked, what was held
+abbrev pub takenBy : ℕ → Columns → Columns → Columns
+takenBy zero held other = held
+takenBy (suc worked) held other = other
+
 -- the calls, and what the caller then holds
 pub record IsRun (o : OpenRow) (h : Held) (c : BatchCall) (m : BatchLent) : Type 0 where
   pub events : List Event
@@ -32,6 +38,7 @@ pub record IsRun (o : OpenRow) (h : Held) (c : BatchCall) (m : BatchLent) : Type
   pub calls : TileCalls (c .over) (planesIn m) (c .tiles) (batchStart c m) events (batchOf c m)
   pub state : after .state ≡ batchOf c m .at .state
   pub queue : after .queue ≡ batchOf c m .at .lent .queue
+  pub taken : after .taken ≡ takenBy (batchOf c m .at .worked) (h .taken) (batchOf c m .at .lent .other)
 
 pub record BatchRight (k : OpenCall) (es : List Event) (h : Held) (c : BatchCall) (m : BatchLent) : Type 0 where
   pub is-run : IsRun (openRow k) h c m

@@ -9,22 +9,28 @@ use lib.Dec.{ltb}
 use lib.ListN.{getD}
 use Rattle.laws.specs.Answer.{Answer, refused, given}
 use Rattle.refusals.specs.Refusal.{Judgement, pass, refuse}
+use Rattle.row_statements.specs.Lent.{Columns}
 use Rattle.row_statements.specs.State.{State}
 use Rattle.row_statements.specs.TileWork.{TileAnswer}
 use Rattle.row_statements.specs.Due.{OpenRow, Past, atFirst}
 use Rattle.row_statements.specs.Run.{openRow, Held, Event, Run}
-use Rattle.row_statements.specs.InnerHolding.{IsOpen, Holds}
-use Rattle.row_statements.proofs.Run.{facts, step-right, run-right}
+use Rattle.row_statements.specs.InnerHolding.{IsOpen}
+use Rattle.row_statements.proofs.Run.{facts, run-right}
 use Rattle.batch_statements.specs.BatchLent.{BatchLent, sided}
 use Rattle.batch_statements.specs.Batch.{BatchRow, BatchAt, BatchGiven, BatchCall, workAt, tilePast, turnBy, turnOf, nextBy, tilesFrom, batchStart, batchVerdict, batchBy, batchOf}
-use Rattle.batch_runs.specs.BatchClaim.{CalledIn, IsRun}
+use Rattle.batch_runs.specs.BatchClaim.{CalledIn, takenBy, IsRun}
 use Rattle.batch_runs.proofs.BatchRun.{is-run, asked, enoughLent, callable}
+use Rattle.listing_runs.specs.Run.{HeldList, heldWith, listsPast, CallStep}
+use Rattle.listing_runs.specs.InnerHolding.{HoldsAll}
+use Rattle.listing_runs.proofs.Run.{call-right}
 use Rattle.ffi_numbers.specs.Numbers.{judgedNumber}
 use Rattle.ffi_numbers.specs.Rows.{stateWords, countsOf, stateFrom}
 use Rattle.ffi_batch.specs.Batches.{BatchNumbers, batchNumbers, queueNumber, doneOf, isTold, numbersBy}
-use Rattle.ffi_calls.specs.Calls.{heldFrom, heldOpened}
-use Rattle.ffi_calls.specs.Batches.{HeldQueue, queueNamed, heldBatch, BatchMade, MadeWith, Batches, pastEvents, StandsFor, RightBatch, AllBatches, BatchesClaim, BatchesExist}
+use Rattle.ffi_calls.specs.Calls.{HeldNumbers, heldFrom, heldOpened}
+use Rattle.ffi_calls.specs.ListingCalls.{heldBoth, listsTold, ListingCall}
+use Rattle.ffi_calls.specs.Batches.{queueNamed, takenNamed, heldBatch, BatchMade, MadeWith, RowTold, Batches, pastEvents, StandsFor, RightBatch, AllBatches, BatchesClaim, BatchesExist}
 use Rattle.ffi_calls.proofs.Numbers.{state-again, opened-held}
+use Rattle.ffi_calls.proofs.ListingCalls.{told-right}
 
 -- ---- a batch that worked no tile stands where it began
 
@@ -61,16 +67,22 @@ queue-named : (first : Bool) (m : BatchLent) → queueNamed (queueNumber first) 
 queue-named true m = refl
 queue-named false m = refl
 
+-- and the one that the last tile took in
+taken-named : (worked : ℕ) (first : Bool) (held : Columns) (m : BatchLent) → takenNamed worked (queueNumber first) held (sided first m) ≡ takenBy worked held (m .other)
+taken-named zero first held m = refl
+taken-named (suc worked) true held m = refl
+taken-named (suc worked) false held m = refl
+
 none-worked : (v : Judgement) (worked : ℕ) → isTold v worked ≡ false → worked ≡ 0
 none-worked pass worked e = absurd (let z : _≡_ {A = ℕ} 0 1 = cc in omega arith)
 none-worked (refuse n) worked e = let few = ltb-false 0 worked e in omega (arith, few)
 
-module _ {o : OpenRow} {k : HeldQueue} (b : BatchMade) (made : MadeWith o k b) where
+module _ {o : OpenRow} {k : HeldNumbers} (b : BatchMade) (made : MadeWith o k b) where
   g : BatchGiven
   g = batchOf (b .call) (b .lent)
 
   abbrev Says : Type 0
-  Says = (stateFrom (b .new .words) (b .new .counts) ≡ g .at .state) × (queueNamed (getD (b .new .done) 2 0) (b .back) ≡ g .at .lent .queue)
+  Says = heldFrom (heldBatch k (b .new) (b .back)) ≡ record { state = g .at .state; queue = g .at .lent .queue; taken = takenBy (g .at .worked) (k .taken) (g .at .lent .other) }
 
   abbrev written : BatchNumbers
   written = record { words = stateWords (g .at .state); counts = countsOf (g .at .state); done = doneOf (g .at .worked) (g .at .used) (g .at .first) }
@@ -78,87 +90,91 @@ module _ {o : OpenRow} {k : HeldQueue} (b : BatchMade) (made : MadeWith o k b) w
   by-told : (w : Bool) → isTold (g .end) (g .at .worked) ≡ w → Says
   unfolding g
   by-told true e =
-      let new-is : b .new ≡ written = made .told .numbers ∙ ap (λ (x : Bool). cond x written (b .old)) e in (
-        ap (λ (n : BatchNumbers). stateFrom (n .words) (n .counts)) new-is ∙ state-again (g .at .state),
-        (λ i. queueNamed (getD (new-is i .done) 2 0) (made .told .lent-is i)) ∙ queue-named (g .at .first) (g .at .lent),
-      )
+      let new-is : b .new ≡ written = made .told .numbers ∙ ap (λ (x : Bool). cond x written (b .old)) e in
+      let state = ap (λ (n : BatchNumbers). stateFrom (n .words) (n .counts)) new-is ∙ state-again (g .at .state) in
+      let queue = (λ i. queueNamed (getD (new-is i .done) 2 0) (made .told .lent-is i)) ∙ queue-named (g .at .first) (g .at .lent) in
+      let taken = (λ i. takenNamed (getD (new-is i .done) 0 0) (getD (new-is i .done) 2 0) (k .taken) (made .told .lent-is i)) ∙ taken-named (g .at .worked) (g .at .first) (k .taken) (g .at .lent) in
+      λ i. record { state = state i; queue = queue i; taken = taken i }
   by-told false e =
       let new-is : b .new ≡ b .old = made .told .numbers ∙ ap (λ (x : Bool). cond x written (b .old)) e in
-      let at-is : g .at ≡ batchStart (b .call) (b .lent) = batch-stays (b .call) (b .lent) .1 (none-worked (g .end) (g .at .worked) e) in
+      let none = none-worked (g .end) (g .at .worked) e in
+      let at-is : g .at ≡ batchStart (b .call) (b .lent) = batch-stays (b .call) (b .lent) .1 none in
       let held = new-is ∙ made .numbers in
-      let lies : b .back ≡ b .lent = made .told .lent-is ∙ ap (λ (s : BatchAt). sided (s .first) (s .lent)) at-is in (
-        ap (λ (n : BatchNumbers). stateFrom (n .words) (n .counts)) held ∙ sym (made .state) ∙ sym (ap (λ (s : BatchAt). s .state) at-is),
-        (λ i. queueNamed (getD (held i .done) 2 0) (lies i)) ∙ sym (ap (λ (s : BatchAt). s .lent .queue) at-is),
-      )
+      let lies : b .back ≡ b .lent = made .told .lent-is ∙ ap (λ (s : BatchAt). sided (s .first) (s .lent)) at-is in
+      let state = ap (λ (n : BatchNumbers). stateFrom (n .words) (n .counts)) held ∙ sym (made .state) ∙ sym (ap (λ (s : BatchAt). s .state) at-is) in
+      let queue = (λ i. queueNamed (getD (held i .done) 2 0) (lies i)) ∙ sym (ap (λ (s : BatchAt). s .lent .queue) at-is) in
+      let taken = (λ i. takenNamed (getD (held i .done) 0 0) (getD (held i .done) 2 0) (k .taken) (lies i)) ∙ sym (ap (λ (n : ℕ). takenBy n (k .taken) (g .at .lent .other)) none) in
+      λ i. record { state = state i; queue = queue i; taken = taken i }
 
-  pub says : (stateFrom (b .new .words) (b .new .counts) ≡ batchOf (b .call) (b .lent) .at .state) × (queueNamed (getD (b .new .done) 2 0) (b .back) ≡ batchOf (b .call) (b .lent) .at .lent .queue)
+  pub says : heldFrom (heldBatch k (b .new) (b .back))
+      ≡ record { state = batchOf (b .call) (b .lent) .at .state; queue = batchOf (b .call) (b .lent) .at .lent .queue; taken = takenBy (batchOf (b .call) (b .lent) .at .worked) (k .taken) (batchOf (b .call) (b .lent) .at .lent .other) }
   unfolding g
   says = by-told (isTold (g .end) (g .at .worked)) refl
 
 -- ---- in a run
 
-run-holds : {o : OpenRow} {p : Past} {h h′ : Held} {es : List Event} → IsOpen o → Holds o p h → Run o h es h′ → Holds o (pastEvents o es p) h′
-run-holds is-open holds Run.none = holds
-run-holds is-open holds (Run.next s rest) = run-holds is-open (step-right is-open holds s .1) rest
+-- beside what the caller holds stand the lists that the calls left, which a batch keeps for itself
+record HoldsSo (o : OpenRow) (p : Past) (h : Held) : Type 0 where
+  lists : List HeldList
+  holds : HoldsAll o p (heldWith h lists)
 
--- what the caller holds by numbers is what it holds in a run
-record HoldsSo (o : OpenRow) (p : Past) (k : HeldQueue) : Type 0 where
-  held : Held
-  holds : Holds o p held
-  state : stateFrom (k .words) (k .counts) ≡ held .state
-  queue : k .queue ≡ held .queue
+run-holds : {o : OpenRow} {p : Past} {h h′ : Held} {es : List Event} → IsOpen o → HoldsSo o p h → Run o h es h′ → HoldsSo o (pastEvents o es p) h′
+run-holds is-open here Run.none = here
+run-holds {h = h} is-open here (Run.next {e = e} s rest) =
+    run-holds is-open (record { lists = listsPast e (here .lists); holds = call-right is-open (here .holds) (CallStep.row {h = heldWith h (here .lists)} s) .1 }) rest
 
-record Goes (o : OpenRow) (p : Past) (b : BatchMade) : Type 0 where
+record Goes (o : OpenRow) (p : Past) (k : HeldNumbers) (b : BatchMade) : Type 0 where
   right : RightBatch o p b
-  after : HoldsSo o (pastEvents o (right .events) p) (heldBatch (b .new) (b .back))
+  after : HoldsSo o (pastEvents o (right .events) p) (heldFrom (heldBatch k (b .new) (b .back)))
 
-module _ {o : OpenRow} (is-open : IsOpen o) (p : Past) (k : HeldQueue) (here : HoldsSo o p k) (b : BatchMade) (made : MadeWith o k b) where
-  by-verdict : (v : Judgement) → batchVerdict (b .call) (b .lent) ≡ v → Goes o p b
+module _ {o : OpenRow} (is-open : IsOpen o) (p : Past) (k : HeldNumbers) (here : HoldsSo o p (heldFrom k)) (b : BatchMade) (made : MadeWith o k b) where
+  by-verdict : (v : Judgement) → batchVerdict (b .call) (b .lent) ≡ v → Goes o p k b
   unfolding batchOf
   by-verdict pass e =
-      let called : CalledIn o (here .held) (b .call) (b .lent) = record { state = made .state ∙ here .state; row = made .row; table = made .table; queue = made .queue ∙ here .queue; passes = e } in
-      let r : IsRun o (here .held) (b .call) (b .lent) = is-run o is-open (here .held) (b .call) (b .lent) (record { past = p; holds = here .holds }) called in
-      let told = says b made in
+      let h = heldFrom k in
+      let called : CalledIn o h (b .call) (b .lent) = record { state = made .state; row = made .row; table = made .table; queue = made .queue; passes = e } in
+      let r : IsRun o h (b .call) (b .lent) = is-run o is-open h (b .call) (b .lent) (record { past = p; holds = here .holds .row }) called in
+      let held : r .after ≡ heldFrom (heldBatch k (b .new) (b .back)) = (λ i. record { state = r .state i; queue = r .queue i; taken = r .taken i }) ∙ sym (says b made) in
       record {
-        right = record { events = r .events; calls = subst (λ (v : Judgement). StandsFor v b (r .events)) (sym e) (r .calls); right = run-right is-open (here .holds) (r .runs) };
-        after = record { held = r .after; holds = run-holds is-open (here .holds) (r .runs); state = told .0 ∙ sym (r .state); queue = told .1 ∙ sym (r .queue) };
+        right = record { events = r .events; calls = subst (λ (v : Judgement). StandsFor v b (r .events)) (sym e) (r .calls); right = run-right is-open (here .holds .row) (r .runs) };
+        after = subst (HoldsSo o (pastEvents o (r .events) p)) held (run-holds is-open here (r .runs));
       }
   by-verdict (refuse n) e =
       let g-is : batchOf (b .call) (b .lent) ≡ batchBy (refuse n) (b .call) (b .lent) = ap (λ (v : Judgement). batchBy v (b .call) (b .lent)) e in
       let number : b .number ≡ n = made .told .number ∙ ap (λ (x : BatchGiven). judgedNumber (x .end)) g-is in
       let new-is : b .new ≡ b .old = made .told .numbers ∙ ap (λ (x : BatchGiven). numbersBy (x .end) (x .at .state) (x .at .worked) (x .at .used) (x .at .first) (b .old)) g-is in
       let lies : b .back ≡ b .lent = made .told .lent-is ∙ ap (λ (x : BatchGiven). sided (x .at .first) (x .at .lent)) g-is in
-      let told = says b made in
+      let held : heldFrom (heldBatch k (b .new) (b .back)) ≡ heldFrom k =
+      says b made
+      ∙ ap (λ (x : BatchGiven). record { state = x .at .state; queue = x .at .lent .queue; taken = takenBy (x .at .worked) (k .taken) (x .at .lent .other) }) g-is
+      ∙ (λ i. record { state = made .state i; queue = made .queue i; taken = k .taken }) in
       record {
         right = record { events = []; calls = subst (λ (v : Judgement). StandsFor v b []) (sym e) (refl, (number, (new-is, lies))); right = tt };
-        after =
-            record {
-              held = here .held;
-              holds = here .holds;
-              state = told .0 ∙ ap (λ (x : BatchGiven). x .at .state) g-is ∙ made .state ∙ here .state;
-              queue = told .1 ∙ ap (λ (x : BatchGiven). x .at .lent .queue) g-is ∙ made .queue ∙ here .queue;
-            };
+        after = subst (HoldsSo o p) (sym held) here;
       }
 
-  goes : Goes o p b
+  goes : Goes o p k b
   goes = by-verdict (batchVerdict (b .call) (b .lent)) refl
 
-all-right : {o : OpenRow} {p : Past} {k k′ : HeldQueue} {bs : List BatchMade} → IsOpen o → HoldsSo o p k → Batches o k bs k′ → AllBatches o p bs
+all-right : {o : OpenRow} {p : Past} {k k′ : HeldNumbers} {ts : List RowTold} → IsOpen o → HoldsSo o p (heldFrom k) → Batches o k ts k′ → AllBatches o p ts
 all-right is-open here Batches.none = AllBatches.none
-all-right {p = p} {k = k} is-open here (Batches.next {b = b} made rest) =
+all-right {p = p} {k = k} is-open here (Batches.batch {b = b} made rest) =
     let u = goes is-open p k here b made in
-    AllBatches.next (u .right) (all-right is-open (u .after) rest)
+    AllBatches.batch (u .right) (all-right is-open (u .after) rest)
+all-right {k = k} is-open here (Batches.call {t = t} c rest) =
+    let u = told-right {k = heldBoth k (here .lists)} is-open (here .holds) (ListingCall.row c) in
+    AllBatches.call (u .0) (all-right is-open (record { lists = listsTold t (here .lists); holds = u .1 }) rest)
 
--- demand 3 by numbers, in batches
+-- demand 3 by numbers, in batches and single calls
 pub batches : BatchesClaim
-batches c lent back old new bs k w t made =
+batches c lent back old new ts k w t made =
     let u = opened-held c lent w t in
-    (facts (u .0), all-right (u .0) (record { held = _; holds = u .1; state = refl; queue = refl }) made)
+    (facts (u .0), all-right (u .0) (record { lists = []; holds = record { row = u .1; lists = tt } }) made)
 
 -- ---- there are such batches
 
 -- what a batch tells is what its definition says
-abbrev madeBy : HeldQueue → BatchCall → BatchLent → BatchMade
+abbrev madeBy : HeldNumbers → BatchCall → BatchLent → BatchMade
 madeBy k c m =
     let g = batchOf c m in
     let old = batchNumbers (k .words) (k .counts) (0 ∷ 0 ∷ 0 ∷ []) in
@@ -177,7 +193,7 @@ exist c lent back old new tiles clear previous w t inside =
     let h = heldFrom (heldOpened new back) in
     let left : openRow c .from + atFirst .tiles < openRow c .to = omega (arith, inside) in
     record {
-      made = madeBy (record { words = new .words; counts = new .counts; queue = back }) (asked (openRow c) atFirst h (u .0) (u .1) left tiles clear previous) (enoughLent (openRow c) atFirst h (u .0) (u .1) left tiles clear previous);
+      made = madeBy (heldOpened new back) (asked (openRow c) atFirst h (u .0) (u .1) left tiles clear previous) (enoughLent (openRow c) atFirst h (u .0) (u .1) left tiles clear previous);
       with-held = record { state = refl; row = refl; table = refl; queue = refl; numbers = refl; told = record { number = refl; numbers = refl; lent-is = refl } };
       asks = refl;
       passes = callable (openRow c) atFirst h (u .0) (u .1) left tiles clear previous .passes;

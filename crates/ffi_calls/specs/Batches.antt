@@ -1,5 +1,6 @@
--- Demand 3 for callers of the batch export: an accepted opening and any list of batches after it, told by numbers and lent slices alone. The premise of
--- each batch is the export's own contract, at the numbers that the one before it left. A batch that 1 to 5 do not refuse stands for works and paintings,
+-- Demand 3 for callers of the batch export: an accepted opening and any list of batches, works and paintings after it, told by numbers and lent slices
+-- alone; so also a batch and then paintings of its last tile by single calls. The premise of each batch is the export's own contract, at the numbers that
+-- the call before it left. A batch that 1 to 5 do not refuse stands for works and paintings,
 -- each of which gives what is due of it (batch_runs/specs/BatchCalls, row_statements/specs/Claim); one that they refuse tells its number, and all is as
 -- it was. A caller that sets the three numbers to 0 before a batch finds by the third which queue holds the carries, however the batch ended.
 -- proofs/Batches proves it.
@@ -21,21 +22,29 @@ use Rattle.batch_statements.specs.Batch.{BatchCall, batchStart, batchVerdict, b
 use Rattle.batch_runs.specs.BatchCalls.{TileCalls}
 use Rattle.ffi_numbers.specs.Rows.{StateNumbers, stateFrom, OpenTold}
 use Rattle.ffi_batch.specs.Batches.{BatchNumbers, batchNumbers, BatchTold}
+use Rattle.ffi_calls.specs.Calls.{HeldNumbers, heldOpened, NumbersTold, Call, RightTold, pastTold}
 
--- ---- what the caller holds between batches: the state's numbers, and the queue that holds the carries
-
-pub record HeldQueue : Type 0 where
-  pub words : List ℕ
-  pub counts : List ℕ
-  pub queue : Columns
+-- ---- what the caller holds after a batch
 
 -- the queue that the third number names
 abbrev pub queueNamed : ℕ → BatchLent → Columns
 queueNamed zero back = back .queue
 queueNamed (suc n) back = back .other
 
-abbrev pub heldBatch : BatchNumbers → BatchLent → HeldQueue
-heldBatch new back = record { words = new .words; counts = new .counts; queue = queueNamed (getD (new .done) 2 0) back }
+-- the queue that the last tile took in, by the first number and the third: the other of the two; where no tile was worked, what was held
+abbrev pub takenNamed : ℕ → ℕ → Columns → BatchLent → Columns
+takenNamed zero n held back = held
+takenNamed (suc worked) zero held back = back .other
+takenNamed (suc worked) (suc n) held back = back .queue
+
+abbrev pub heldBatch : HeldNumbers → BatchNumbers → BatchLent → HeldNumbers
+heldBatch k new back =
+    record {
+      words = new .words;
+      counts = new .counts;
+      queue = queueNamed (getD (new .done) 2 0) back;
+      taken = takenNamed (getD (new .done) 0 0) (getD (new .done) 2 0) (k .taken) back;
+    }
 
 -- ---- batches as they went: what was asked for and lent, the number, and what the lent numbers and the lent memory are then
 
@@ -48,7 +57,7 @@ pub record BatchMade : Type 0 where
   pub back : BatchLent
 
 -- made with the row, the table, the numbers and the queue that the caller holds
-pub record MadeWith (o : OpenRow) (k : HeldQueue) (b : BatchMade) : Type 0 where
+pub record MadeWith (o : OpenRow) (k : HeldNumbers) (b : BatchMade) : Type 0 where
   pub state : b .call .state ≡ stateFrom (k .words) (k .counts)
   pub row : b .call .over .row ≡ o .row
   pub table : b .call .over .table ≡ o .table
@@ -56,9 +65,15 @@ pub record MadeWith (o : OpenRow) (k : HeldQueue) (b : BatchMade) : Type 0 where
   pub numbers : b .old ≡ batchNumbers (k .words) (k .counts) (0 ∷ 0 ∷ 0 ∷ [])
   pub told : BatchTold (batchOf (b .call) (b .lent)) (b .old) (b .number) (b .new) (b .back)
 
-pub data Batches (o : OpenRow) : HeldQueue → List BatchMade → HeldQueue → Type 0 where
-  none : {k : HeldQueue} → Batches o k [] k
-  next : {k k′ : HeldQueue} {b : BatchMade} {bs : List BatchMade} → MadeWith o k b → Batches o (heldBatch (b .new) (b .back)) bs k′ → Batches o k (b ∷ bs) k′
+-- a batch, or a work or a painting by itself (specs/Calls)
+pub data RowTold : Type 0 where
+  batch : (b : BatchMade) → RowTold
+  call : (t : NumbersTold) → RowTold
+
+pub data Batches (o : OpenRow) : HeldNumbers → List RowTold → HeldNumbers → Type 0 where
+  none : {k : HeldNumbers} → Batches o k [] k
+  batch : {k k′ : HeldNumbers} {b : BatchMade} {ts : List RowTold} → MadeWith o k b → Batches o (heldBatch k (b .new) (b .back)) ts k′ → Batches o k (RowTold.batch b ∷ ts) k′
+  call : {k k′ k″ : HeldNumbers} {t : NumbersTold} {ts : List RowTold} → Call o k t k′ → Batches o k′ ts k″ → Batches o k (RowTold.call t ∷ ts) k″
 
 -- ---- what is right of them
 
@@ -77,23 +92,24 @@ pub record RightBatch (o : OpenRow) (p : Past) (b : BatchMade) : Type 0 where
   pub calls : StandsFor (batchVerdict (b .call) (b .lent)) b events
   pub right : AllRight o p events
 
-pub data AllBatches (o : OpenRow) : Past → List BatchMade → Type 0 where
+pub data AllBatches (o : OpenRow) : Past → List RowTold → Type 0 where
   none : {p : Past} → AllBatches o p []
-  next : {p : Past} {b : BatchMade} {bs : List BatchMade} (u : RightBatch o p b) → AllBatches o (pastEvents o (u .events) p) bs → AllBatches o p (b ∷ bs)
+  batch : {p : Past} {b : BatchMade} {ts : List RowTold} (u : RightBatch o p b) → AllBatches o (pastEvents o (u .events) p) ts → AllBatches o p (RowTold.batch b ∷ ts)
+  call : {p : Past} {t : NumbersTold} {ts : List RowTold} → RightTold o p t → AllBatches o (pastTold o t p) ts → AllBatches o p (RowTold.call t ∷ ts)
 
 -- ---- the claim; what the row alone says of every tile stands beside it
 
 abbrev pub BatchesClaim : Type 0
 BatchesClaim =
-    (c : OpenCall) (lent back : Columns) (old new : StateNumbers) (bs : List BatchMade) (k : HeldQueue) →
+    (c : OpenCall) (lent back : Columns) (old new : StateNumbers) (ts : List RowTold) (k : HeldNumbers) →
     Words (c .row) →
     OpenTold (openOf c lent) old 0 new back →
-    Batches (openRow c) (record { words = new .words; counts = new .counts; queue = back }) bs k →
-    ((n : ℕ) → TileFacts (openRow c) n) × AllBatches (openRow c) atFirst bs
+    Batches (openRow c) (heldOpened new back) ts k →
+    ((n : ℕ) → TileFacts (openRow c) n) × AllBatches (openRow c) atFirst ts
 
 -- ---- it is not empty: after an opening that left a tile, any number of tiles can be asked for, and 1 to 5 pass
 
-pub record PassingBatch (o : OpenRow) (k : HeldQueue) (tiles : ℕ) : Type 0 where
+pub record PassingBatch (o : OpenRow) (k : HeldNumbers) (tiles : ℕ) : Type 0 where
   pub made : BatchMade
   pub with-held : MadeWith o k made
   pub asks : made .call .tiles ≡ tiles
@@ -105,4 +121,4 @@ BatchesExist =
     Words (c .row) →
     OpenTold (openOf c lent) old 0 new back →
     openRow c .from < openRow c .to →
-    PassingBatch (openRow c) (record { words = new .words; counts = new .counts; queue = back }) tiles
+    PassingBatch (openRow c) (heldOpened new back) tiles
