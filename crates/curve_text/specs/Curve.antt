@@ -1,8 +1,10 @@
 -- The even-odd curve as text. Stands for 'a line of names, `rest weight`, then 1,024 lines: the remainder of d by 1,024 and its EvenOdd
 -- weight, ascending'. Its form is that of a block of a job text.
+use mathlib.Core.Path.{_≡_}
 use mathlib.Core.List.{List, [], _∷_}
 use Prim.Native.Nat.{ℕ}
 use lib.IntN.{ℤ, pos}
+use lib.ListN.{length}
 use Rattle.laws.specs.Lists.{tabulate}
 use Rattle.styling.specs.declared.FillRule.the-variants.{EvenOdd}
 use Rattle.cover_statements.specs.Weight.{weightOf}
@@ -18,3 +20,10 @@ curveLine rest = pos rest ∷ pos (weightOf EvenOdd (pos rest)) ∷ []
 
 unfoldable pub curveText : List ℕ
 curveText = blockText curveNames (tabulate 1024 curveLine)
+
+-- its length, of which the curve program has a buffer
+abbrev pub curveRoom : ℕ
+curveRoom = 7900
+
+abbrev pub CurveFills : Type 0
+CurveFills = length curveText ≡ curveRoom

@@ -1,11 +1,10 @@
 // The even-odd curve as text: each remainder of d by 1,024 beside its EvenOdd weight.
-use report::Printed;
 use report::fields;
 use styling::FillRule;
 ghost use mathlib.Core.Path.{_≡_};
 ghost use Prim.Native.Nat.{_≤_, _<_};
 ghost use lib.ListN.{length};
-ghost use Rattle.report.specs.Put.{Put, LineWritten};
+ghost use Rattle.report.specs.Put.{LineWritten};
 ghost use Rattle.curve_text.specs.Curve.{curveLine, curveText};
 
 // The line of a remainder: itself and its weight.
@@ -33,11 +32,11 @@ fn write_curve(out: &mut [u8]) -> usize
     end
 }
 
-// Prints the text from place `at` on, where it has room.
-pub fn print_curve(out: &mut [u8], at: usize) -> Printed
-    ensures { λ r. ⌜ Put curveText (now (out .entry)) at r (now (out .exit)) ⌝ }
+// Writes the text at the front of `out`, which it fills, and answers its length.
+pub fn print_curve(out: &mut [u8; 7900]) -> usize
+    ensures { λ r. ⌜ LineWritten curveText (now (out .entry)) r (now (out .exit)) ⌝ }
 {
     let mut text = [0u8; 9252];
     let end = write_curve(&mut text);
-    report::put(out, at, &text[..end])
+    fields::print_bytes(out, 0, &text[..end])
 }

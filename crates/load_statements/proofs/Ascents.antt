@@ -13,7 +13,7 @@ use Rattle.laws.specs.Integer.{plus, modℤ}
 use Rattle.laws.specs.Lists.{tabulate, all}
 use Rattle.laws.proofs.Bools.{both}
 use Rattle.laws.proofs.Rows.{length-tabulate, getD-tabulate}
-use Rattle.pixel_segment.specs.Field.{cpu, tileXOf, tileYOf}
+use Rattle.pixel_segment.specs.Field.{cpu, tileXOf, tileYOf, layerIdOf}
 use Rattle.pixel_segment.specs.Order.{orderKey}
 use Rattle.pixel_segment.specs.Pack.{wordOf}
 use Rattle.segment_rows.specs.Rows.{ascends, isRow}
@@ -23,7 +23,7 @@ use Rattle.job_statements.specs.Row.{segmentWord, rowTile, rowWords}
 use Rattle.load_statements.specs.Draw.{drawAt}
 use Rattle.load_statements.specs.Load.{Asked, slotOf, segmentFrom, loadSegment, loadOf}
 use Rattle.load_statements.specs.Input.{AskedInRange}
-use Rattle.load_statements.specs.Made.{loadRow}
+use Rattle.load_statements.specs.Opened.{loadRow}
 use Rattle.load_statements.proofs.Slots.{slots-ascend}
 use Rattle.load_statements.proofs.Fields.{slot-small}
 use Rattle.load_statements.proofs.Forming.{all-tabulated}
@@ -34,12 +34,13 @@ pub record Ordered (w tile layer : ℕ) : Type 0 where
   pub key : orderKey cpu w ≡ (4097 + tile) * 2097152 + layer
   pub tile-y : tileYOf cpu w ≡ 1
   pub tile-x : tileXOf cpu w ≡ tile + 1
+  pub layer-id : layerIdOf cpu w ≡ layer
   pub small : w < 2 ^ 64
 
 -- the word as one number of its fields
 packed : (layer tile x y m c : ℕ) → tile ≤ 4094 → layer < 2097152
     → Ordered (((((4097 + tile) * 2097152 + layer) * 16 + x % 16) * 16 + y % 16) * 4096 + m % 64 * 64 + c % 64) tile layer
-packed layer tile x y m c h l = record { key = omega arith; tile-y = omega arith; tile-x = omega arith; small = omega arith }
+packed layer tile x y m c h l = record { key = omega arith; tile-y = omega arith; tile-x = omega arith; layer-id = omega arith; small = omega arith }
 
 word-is : (layer tile x y m : ℕ) (c : ℤ) → tile ≤ 4094 → layer < 2097152
     → wordOf cpu layer (pos tile) (pos 0) x y m c ≡ ((((4097 + tile) * 2097152 + layer) * 16 + x % 16) * 16 + y % 16) * 4096 + m % 64 * 64 + modℤ 64 c % 64

@@ -7,5 +7,8 @@ pub mod Forming
 pub mod Accepting
 pub mod Ascents
 pub mod Openings
+pub mod Members
+pub mod Works
+pub mod Lengths
 pub mod Examples
 pub mod Making

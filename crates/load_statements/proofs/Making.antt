@@ -3,22 +3,18 @@
 use mathlib.Core.Path.{_≡_, refl}
 use mathlib.Core.List.{List}
 use mathlib.Core.Option.{Option, some, none}
-use Prim.Native.Nat.{ℕ, _≤_}
-use native.Mathlib.Omega.{arith}
-use lib.ListN.{length}
-use Rattle.report.proofs.Examples.{refusal}
+use Prim.Native.Nat.{ℕ}
 use Rattle.load_statements.specs.Load.{Asked}
 use Rattle.load_statements.specs.Input.{AskedInRange, ask}
-use Rattle.load_statements.specs.Answer.{loadAnswer, loadAnswerText}
 use Rattle.load_statements.specs.Made.{LoadMade, LoadTells}
 use Rattle.load_statements.proofs.Asking.{ask-sound, refused}
-use Rattle.load_statements.proofs.Forming.{text-long}
 use Rattle.load_statements.proofs.Accepting.{accepted}
 use Rattle.load_statements.proofs.Ascents.{ascending}
 use Rattle.load_statements.proofs.Openings.{in-table, opens}
+use Rattle.load_statements.proofs.Works.{works}
 
 pub made : (a : Asked) → AskedInRange a → LoadMade a
-made a h = record { accepted = accepted a h; ascends = ascending a h; table = in-table a; opens = opens a h }
+made a h = record { accepted = accepted a h; ascends = ascending a h; table = in-table a; opens = opens a h; worked = works a h }
 
 pub tells : (text : List ℕ) → LoadTells text (ask text)
 tells text = by (ask text) refl
@@ -26,12 +22,3 @@ tells text = by (ask text) refl
     by : (o : Option Asked) → ask text ≡ o → LoadTells text o
     by none e = refused text e
     by (some a) e = let q = ask-sound text a e in (q, made a (q .range))
-
--- every answer has at most 11,518 bytes
-pub answer-long : (text : List ℕ) → length (loadAnswerText text) ≤ 11518
-unfolding loadAnswerText
-answer-long text = by (ask text) refl
-  where
-    by : (o : Option Asked) → ask text ≡ o → length (loadAnswer o) ≤ 11518
-    by none e = rw refusal (omega arith)
-    by (some a) e = text-long a (ask-sound text a e .range)

@@ -29,7 +29,7 @@ use Rattle.row_statements.specs.Opening.{openVerdict, openState, openOf}
 use Rattle.job_statements.specs.Table.{tableWords, tableColors}
 use Rattle.load_statements.specs.Load.{Asked, loadLayer, loadOf}
 use Rattle.load_statements.specs.Input.{AskedInRange}
-use Rattle.load_statements.specs.Made.{loadRow, loadTable, openingOf}
+use Rattle.load_statements.specs.Opened.{loadRow, loadTable, openingOf}
 use Rattle.load_statements.proofs.Forming.{all-tabulated}
 use Rattle.load_statements.proofs.Ascents.{wordOf-segment, row-is, word-ordered, ascending}
 
@@ -43,7 +43,7 @@ unfolding table.isTableShort tableWords tableColors flatten loadOf
 short a = refl
 
 module _ (a : Asked) (h : AskedInRange a) where
-  words : Words (loadRow a)
+  pub words : Words (loadRow a)
   words = record { small = λ i. rw (row-is a h) (by i) }
     where
       by : (i : ℕ) → getD (tabulate (a .count) (wordOf-segment a h)) i 0 < 2 ^ 64
@@ -54,7 +54,7 @@ module _ (a : Asked) (h : AskedInRange a) where
           (λ (p : i < a .count). rw (getD-tabulate (a .count) (wordOf-segment a h) 0 i p) (word-ordered a h i p .small))
           (le-or-lt (a .count) i)
 
-  none-left : leftPart (pos 0) (loadRow a) ≡ []
+  pub none-left : leftPart (pos 0) (loadRow a) ≡ []
   unfolding tileOf
   none-left =
       left-part 1 1 (loadRow a) words (ascending a h)

@@ -3,4 +3,7 @@ pub mod Draw
 pub mod Load
 pub mod Input
 pub mod Answer
+pub mod Length
+pub mod Opened
+pub mod Worked
 pub mod Made

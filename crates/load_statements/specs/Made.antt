@@ -1,5 +1,5 @@
 -- What holds of every load. Stands for document 02, W-204: 'the job reader is proved to accept every such text, and its rows ascend'. Beyond
--- that, its layers are a table, and so an opening of its job, from tile 0 and with a queue that is long enough, is not refused.
+-- that, its layers are a table, and so an opening of its job, from tile 0 and with a queue that is long enough, is not refused; after it only 9 is.
 use mathlib.Core.Path.{_≡_}
 use mathlib.Core.Bool.{true, false}
 use mathlib.Core.List.{List}
@@ -11,25 +11,15 @@ use lib.ListN.{length}
 use Rattle.laws.specs.Answer.{given}
 use Rattle.pixel_segment.specs.Field.{cpu}
 use Rattle.segment_rows.specs.Rows.{isRow}
-use Rattle.row_statements.specs.Lent.{Columns, LentTable, lentTable, isQueueShort, isLentTable}
-use Rattle.row_statements.specs.Opening.{OpenCall, openCall, openState, openOf}
+use Rattle.row_statements.specs.Lent.{Columns, isQueueShort, isLentTable}
+use Rattle.row_statements.specs.Opening.{openState, openOf}
 use Rattle.job_text_statements.specs.Job.{render}
-use Rattle.job_statements.specs.Table.{tableWords, tableColors}
-use Rattle.job_statements.specs.Row.{rowWords}
 use Rattle.job_statements.specs.Read as reading
 use Rattle.job_statements.specs.Read.{jobOutcome}
 use Rattle.load_statements.specs.Load.{Asked, loadOf}
 use Rattle.load_statements.specs.Input.{Asks}
-
--- the row and the layer table that reading leaves of a load, and its opening
-abbrev pub loadRow : Asked → List ℕ
-loadRow a = rowWords (pos 0) (loadOf a .segments)
-
-abbrev pub loadTable : Asked → LentTable
-loadTable a = lentTable (tableWords (loadOf a .layers)) (tableColors (loadOf a .layers)) 8
-
-abbrev pub openingOf : Asked → OpenCall
-openingOf a = openCall (pos 0) (pos 0) (pos (a .tiles)) (loadRow a) (loadTable a)
+use Rattle.load_statements.specs.Opened.{loadRow, loadTable, openingOf}
+use Rattle.load_statements.specs.Worked.{LoadWorked}
 
 pub record LoadMade (a : Asked) : Type 0 where
   -- lent arrays that hold eight layers and its segments are written, and the answer is the numbers of its job
@@ -41,6 +31,8 @@ pub record LoadMade (a : Asked) : Type 0 where
   -- no segment lies left of tile 0: no carry, and the lent queue as it was
   pub opens : (lent : Columns) → isQueueShort lent ≡ false
       → openOf (openingOf a) lent ≡ record { answer = given (openState (pos 0) (pos 0) (pos (a .tiles)) 0); lent = lent }
+  -- and from there on a tile is refused by 9 or not at all
+  pub worked : LoadWorked a
 
 -- ---- what reading a line tells: the load that it asks for, or that it is no such line
 

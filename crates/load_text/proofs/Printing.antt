@@ -1,4 +1,4 @@
--- The blocks of a load's text, printed: their lines, the text put together, and the answer to a line.
+-- The blocks of a load's text, printed: their lines, the text put together, and the answer to a line and to the front of an input.
 -- Assumes nothing.
 use mathlib.Core.Path.{_≡_, refl, sym, ap, ap₂, subst, _∙_}
 use mathlib.Core.List.{List, [], _∷_, _++_, append-nil}
@@ -6,7 +6,7 @@ use mathlib.Core.Option.{Option, some}
 use Prim.Native.Nat.{ℕ, suc, _+_, _*_, _<_, _≤_}
 use native.Mathlib.Omega.{arith}
 use lib.IntN.{ℤ}
-use lib.ListN.{length}
+use lib.ListN.{length, take}
 use Rattle.laws.specs.Lists.{tabulate}
 use Rattle.decimal.specs.Print.{Printing}
 use Rattle.decimal.proofs.Print.{joined}
@@ -14,18 +14,19 @@ use Rattle.lines.specs.Text.{lineText, linesText, blockText}
 use Rattle.lines.proofs.LinesPrinting.{LinesPrinting, start, next, end-of, block}
 use Rattle.job_text_statements.specs.Text.{blocksText, headNames, layerNames, segmentNames}
 use Rattle.job_text_statements.specs.Job.{headValues, layerValues, segmentValues, render}
-use Rattle.report.specs.Put.{Put, LineWritten}
-use Rattle.report.specs.declared.Printed.{Printed}
+use Rattle.report.specs.Put.{LineWritten}
 use Rattle.report.proofs.Lines.{at-front}
 use Rattle.load_statements.specs.Draw.{stateAfter}
 use Rattle.load_statements.specs.Load.{Asked, loadHead, loadLayer, slotOf, segmentFrom, loadSegment, loadOf}
 use Rattle.load_statements.specs.Input.{AskedInRange, ask}
 use Rattle.load_statements.specs.Answer.{loadAnswer, loadAnswerText}
+use Rattle.load_statements.specs.Length.{inputRoom}
 use Rattle.load_statements.proofs.Asking.{ask-sound}
 use Rattle.load_statements.proofs.Fields.{head-long, segment-long}
 use Rattle.load_statements.proofs.Forming.{segment-lines}
+use Rattle.load_statements.proofs.Lengths.{front-decides}
 use Rattle.load_statements.proofs.Making.{tells}
-use Rattle.load_text.specs.Print.{LoadPrinted, headBlock, layersBlock, segmentsBlock}
+use Rattle.load_text.specs.Print.{LoadAnswered, headBlock, layersBlock, segmentsBlock}
 
 -- ---- block 1
 
@@ -103,9 +104,16 @@ text-printed a {out} {out₃ = out₃} {r = r} p q s h =
 -- ---- the answer
 
 module _ {text : List ℕ} {o : Option Asked} (e : o ≡ ask text) where
-  pub answered : {out : List ℕ} {at : ℕ} {r : Printed} {out′ : List ℕ} → Put (loadAnswer o) out at r out′ → LoadPrinted text out at r out′
+  pub answered : {out out′ : List ℕ} {r : ℕ} → LineWritten (loadAnswer o) out r out′ → LoadAnswered text out r out′
   unfolding loadAnswerText
-  answered {out} {at} {r} {out′} p = record { put = subst (λ (x : Option Asked). Put (loadAnswer x) out at r out′) e p; tells = tells text }
+  answered {out} {out′} {r} w = record { written = subst (λ (x : Option Asked). LineWritten (loadAnswer x) out r out′) e w; tells = tells text }
+
+-- what the first 21 bytes of an input are answered is the answer to all of it
+pub by-front : {part whole out out′ : List ℕ} {r : ℕ} → part ≡ take inputRoom whole → LoadAnswered part out r out′ → LoadAnswered whole out r out′
+by-front {whole = whole} {out = out} {out′ = out′} {r = r} e a = record {
+  written = subst (λ (t : List ℕ). LineWritten t out r out′) (ap loadAnswerText e ∙ front-decides whole) (a .written);
+  tells = tells whole;
+}
 
 -- what a line asks for is in range
 pub in-range : (text : List ℕ) {a : Asked} → some a ≡ ask text → AskedInRange a

@@ -1,2 +1,2 @@
--- What printing a load promises.
+-- What answering the line that asks for a load promises.
 pub mod Print

@@ -1,19 +1,18 @@
--- What printing a load promises: the bytes of the answer, where they have room, and with them what holds of every load.
+-- What answering a line promises: every byte of the answer, at the front of a buffer that has room for it, and with it what holds of every load.
 use mathlib.Core.List.{List, [], _∷_}
 use Prim.Native.Nat.{ℕ}
 use Rattle.laws.specs.Lists.{tabulate}
 use Rattle.lines.specs.Text.{blockText}
 use Rattle.job_text_statements.specs.Text.{headNames, layerNames, segmentNames}
 use Rattle.job_text_statements.specs.Job.{headValues, layerValues, segmentValues}
-use Rattle.report.specs.Put.{Put}
-use Rattle.report.specs.declared.Printed.{Printed}
+use Rattle.report.specs.Put.{LineWritten}
 use Rattle.load_statements.specs.Load.{Asked, loadHead, loadLayer, loadSegment}
 use Rattle.load_statements.specs.Input.{ask}
 use Rattle.load_statements.specs.Answer.{loadAnswerText}
 use Rattle.load_statements.specs.Made.{LoadTells}
 
-pub record LoadPrinted (text out : List ℕ) (at : ℕ) (r : Printed) (out′ : List ℕ) : Type 0 where
-  pub put : Put (loadAnswerText text) out at r out′
+pub record LoadAnswered (text out : List ℕ) (r : ℕ) (out′ : List ℕ) : Type 0 where
+  pub written : LineWritten (loadAnswerText text) out r out′
   pub tells : LoadTells text (ask text)
 
 -- ---- the blocks of a load's text, as the inner writers print them

@@ -13,6 +13,7 @@ use Rattle.decimal.proofs.Steps.{cases}
 use Rattle.report.specs.declared.Printed.{Printed}
 use Rattle.report.specs.declared.Printed.the-variants.{Next, Full}
 use Rattle.report.specs.Put.{hasRoomAt, Put, LineWritten}
+use Rattle.report.proofs.Lines.{at-front}
 
 pub full : {text out : List ℕ} {at : ℕ} → length out < at + length text → Put text out at Full out
 full {text} {out} {at} h = let e = lt-leb (at + length text) (length out) h in record { answer = rw e; printed = rw e }
@@ -37,3 +38,9 @@ front {text} {out} {out′} {r} w =
 pub put-line : {text part buffer buffer′ out out′ : List ℕ} {at i : ℕ} {r : Printed} → LineWritten text buffer i buffer′ → part ≡ take i buffer′
     → Put part out at r out′ → Put text out at r out′
 put-line {out = out} {out′ = out′} {at = at} {r = r} w e p = subst (λ (t : List ℕ). Put t out at r out′) (e ∙ front w) p
+
+-- a text that was written to an array of its own, copied to the front of a buffer that has room for it
+pub copied : {text own own′ part out out′ : List ℕ} {end r : ℕ} → LineWritten text own end own′ → part ≡ take end own′ → Printing part out 0 r out′
+    → length text ≤ length out → LineWritten text out r out′
+copied {out = out} {out′ = out′} {r = r} w e p h =
+    at-front (subst (λ (t : List ℕ). Printing t out 0 r out′) (e ∙ front w) p) (omega (arith, p .answer, ap length (e ∙ front w)))

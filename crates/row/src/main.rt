@@ -2,11 +2,11 @@
 use libc::STDIN_FILENO;
 use libc::STDOUT_FILENO;
 
-// One byte more than a job may have tells a longer text. The buffer has room for every answer.
+// The contract of `answer_front` holds both lengths: what is read decides the answer, and the buffer has room for it.
 fn main() {
     let mut text = [0u8; 65537];
     let n = io::read_full(STDIN_FILENO, &mut text);
     let mut out = [0u8; 249850];
-    let end = row_text::answer(&text[..n], &mut out);
+    let end = row_text::answer_front(&text, n, &mut out);
     io::write_all(STDOUT_FILENO, &out[..end]);
 }

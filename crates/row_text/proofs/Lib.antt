@@ -1,2 +1,3 @@
 -- Laws of the printed answer.
 pub mod Telling
+pub mod Fronts

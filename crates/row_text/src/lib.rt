@@ -1,9 +1,11 @@
 // The answer of the row program to a job text, as the bytes that it prints.
 use job_statements::Reading;
 use job_text_statements::Head;
-ghost use Prim.Native.Nat.{_≤_};
+ghost use mathlib.Core.List.{List};
+ghost use Prim.Native.Nat.{ℕ, _≤_};
 ghost use lib.ListN.{length};
 ghost use Rattle.laws.specs.Integer.{plus};
+ghost use Rattle.input_front.specs.Front.{HoldsFront};
 ghost use Rattle.report.specs.Put.{LineWritten};
 ghost use Rattle.row_answer.specs.Answer.{drivingText, headDriving, answerText, answerRoom};
 
@@ -62,4 +64,12 @@ pub fn answer(text: &[u8], out: &mut [u8; 249850]) -> usize
         Reading::NoRoom => 0,
         Reading::Malformed => row_printing::print_refusal(out, 0, 10),
     }
+}
+
+// The answer to an input of which the first 65,537 bytes were read, n of them being there: they decide it.
+pub fn answer_front(buffer: &[u8; 65537], n: usize, out: &mut [u8; 249850]) -> usize
+    ensures { λ r. ⌜ ((whole : List ℕ) → HoldsFront (now (buffer .entry)) n whole
+        → LineWritten (answerText whole) (now (out .entry)) r (now (out .exit))) ⌝ }
+{
+    answer(input_front::front(buffer, n), out)
 }

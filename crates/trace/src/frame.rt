@@ -152,12 +152,12 @@ fn trace_job(
     }
 }
 
-// Reads a job and traces it as the frame after `before`.
-pub fn trace_frame(text: &[u8], before: Frame) -> Frame {
+// Reads a job from the front of an input, of which n bytes were read, and traces it as the frame after `before`.
+pub fn trace_frame(text: &[u8; 65537], n: usize, before: Frame) -> Frame {
     let mut layers = [0u32; 512];
     let mut colors = [0.0f32; 256];
     let mut row = [0u64; 2048];
-    match job::read_job(text, &mut layers, &mut colors, &mut row) {
+    match job_front::read_front(text, n, &mut layers, &mut colors, &mut row) {
         Reading::Accepted(head, count, segments) => {
             trace_job(head, layers, colors, count, row, segments, before)
         }

@@ -6,11 +6,11 @@ pub mod frame;
 use frame::Frame;
 use libc::STDIN_FILENO;
 
-// One byte more than a job may have tells a longer text.
+// The contract of `read_front` holds the length: what is read decides the job.
 fn trace_text_of(fd: i32, before: Frame) -> Frame {
     let mut text = [0u8; 65537];
     let n = io::read_full(fd, &mut text);
-    frame::trace_frame(&text[..n], before)
+    frame::trace_frame(&text, n, before)
 }
 
 fn trace_file(path: &[u8], before: Frame) -> Frame {

@@ -115,15 +115,26 @@ fn compare_line(kind: &mut Kind, text: &[u8]) {
     });
 }
 
-/// A path below the crate's folder.
+/// A path below crates/.
 fn place(name: &str) -> PathBuf {
-    PathBuf::from(env!("CARGO_MANIFEST_DIR")).join("../../crates/load").join(name)
+    PathBuf::from(env!("CARGO_MANIFEST_DIR")).join("../../crates").join(name)
 }
 
-/// Writes what the program prints for the line that the crate gives it.
+/// What the program `loads` prints: for each of its files the name, and the answer.
+fn answer_files() -> Vec<u8> {
+    let names = fs::read_to_string(place("loads/args")).expect("crates/loads/args");
+    let answered = |name: &str| {
+        let text = fs::read(place("loads/data").join(name)).expect("crates/loads/data");
+        [name.as_bytes(), b"\n", &answer(&text)].concat()
+    };
+    names.lines().flat_map(answered).collect()
+}
+
+/// Writes what the programs print: `load` for the line that its crate gives it, and `loads` for its files.
 pub fn write() {
-    let text = fs::read(place("stdin")).expect("crates/load/stdin");
-    fs::write(place("stdout"), answer(&text)).expect("crates/load/stdout");
+    let text = fs::read(place("load/stdin")).expect("crates/load/stdin");
+    fs::write(place("load/stdout"), answer(&text)).expect("crates/load/stdout");
+    fs::write(place("loads/stdout"), answer_files()).expect("crates/loads/stdout");
 }
 
 /// A tenth as many loads as other cases, each also with a number at an edge and with its line damaged: every case is a
@@ -137,8 +148,9 @@ pub fn compare(tally: &mut Tally) {
             let text = at_an_edge(&mut kind.random, asked);
             compare_line(kind, &text);
         }
-        let stored = ["stdin", "stdout"].map(|name| fs::read(place(name)).expect("crates/load"));
-        kind.case(answer(&stored[0]) == stored[1], || "crates/load/stdout has another text".to_string());
+        let stored = |name: &str| fs::read(place(name)).expect(name);
+        kind.case(answer(&stored("load/stdin")) == stored("load/stdout"), || "crates/load/stdout has another text".to_string());
+        kind.case(answer_files() == stored("loads/stdout"), || "crates/loads/stdout has another text".to_string());
     });
     tally.kind("made loads, damaged lines", |kind| {
         for _ in 0..count {

@@ -1,17 +1,18 @@
--- `main` meets its contract: what is written is the front of the buffer that holds the answer. Assumes nothing.
-use mathlib.Core.Path.{sym}
+-- `main` meets its contract: what is written is the front of the buffer that the answer fills. Assumes nothing.
+use mathlib.Core.Path.{ap, sym}
 use native.Mathlib.Omega.{arith}
 use borrow.Author.Needs.{needs}
-use lib.Seq.{length-take-le}
-use Rattle.report.proofs.Putting.{within}
+use lib.ListN.{length}
+use lib.Seq.{length-sets, length-take-le}
+use Rattle.input_front.proofs.Held.{own}
 use Rattle.load.proofs.main.Statement.{statement}
 use Rattle.load.proofs.main.Tie as tie
 
 array-share-prefix-out : tie.Need-array-share-prefix-out
 array-share-prefix-out c =
-    let e = c .before in
-    let p = e .before .before .before .print-load in
-    omega (arith, p .kept, within (rw (e .end .given .1) at (p .ensures .put)))
+    let a = c .answer-front in
+    let w = a .ensures _ (own _ _) .written in
+    omega (arith, w .answer, w .fits, simp length-sets at (ap length (w .written)))
 
 slice-aggregate-write-all : tie.Need-slice-aggregate-write-all
 slice-aggregate-write-all c = sym (length-take-le _ _ (array-share-prefix-out (c .before)))
@@ -20,8 +21,7 @@ pub main-spec : {M : Type 1} → statement M
 main-spec =
     tie.close
     (tie.spec
-    (λ c. search needs) (λ c κs. search needs) (λ c. search needs) (λ c. search needs) (λ c. search needs)
-    (λ c κs. search needs) (λ c. search needs) (λ c. search needs) (λ c. search needs)
+    (λ c. search needs) (λ c κs. search needs) (λ c κs. search needs)
     array-share-prefix-out
     slice-aggregate-write-all
     (λ c κs. search needs) (λ c. search needs))

@@ -1,0 +1,1 @@
+-- Files that arguments name: no definitions.

@@ -1,0 +1,2 @@
+-- What a program has read of its input.
+pub mod Front

@@ -1,0 +1,26 @@
+-- `answer_file` is safe and ends: what is written is the front of the buffer that the answer fills. Assumes nothing.
+use mathlib.Core.Path.{ap, sym}
+use native.Mathlib.Omega.{arith}
+use borrow.Author.Needs.{needs}
+use lib.ListN.{length}
+use lib.Seq.{length-sets, length-take-le}
+use Rattle.input_front.proofs.Held.{own}
+use Rattle.jobs.proofs.answer_file.Statement.{statement}
+use Rattle.jobs.proofs.answer_file.Tie as tie
+
+array-share-prefix-out : tie.Need-array-share-prefix-out
+array-share-prefix-out c =
+    let w = c .answer-front .ensures _ (own _ _) in
+    omega (arith, w .answer, w .fits, simp length-sets at (ap length (w .written)))
+
+slice-aggregate-write-all : tie.Need-slice-aggregate-write-all
+slice-aggregate-write-all c = sym (length-take-le _ _ (array-share-prefix-out (c .before)))
+
+pub answer-file-spec : {M : Type 1} → statement M
+answer-file-spec =
+    tie.close
+    (tie.spec
+    (λ c. search needs) (λ c κs. search needs) (λ c κs. search needs)
+    array-share-prefix-out
+    slice-aggregate-write-all
+    (λ c κs. search needs) (λ c. search needs))

@@ -1,0 +1,1 @@
+-- The program loads has no definitions of its own.

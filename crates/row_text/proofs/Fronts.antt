@@ -1,0 +1,13 @@
+-- The first 65,537 bytes of an input decide its answer. Assumes nothing.
+use mathlib.Core.Path.{_≡_, sym, ap, _∙_}
+use mathlib.Core.List.{List}
+use Prim.Native.Nat.{ℕ}
+use lib.ListN.{take}
+use Rattle.job_text_statements.specs.Parse.{parse}
+use Rattle.job_front.specs.Front.{inputRoom}
+use Rattle.job_front.proofs.Fronts.{front-decides}
+use Rattle.row_answer.specs.Answer.{answerBy, answerText}
+
+pub same-answer : (part whole : List ℕ) → part ≡ take inputRoom whole → answerText whole ≡ answerText part
+unfolding answerText
+same-answer part whole e = ap answerBy (sym (ap parse e ∙ front-decides whole))
