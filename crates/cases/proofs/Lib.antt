@@ -2,3 +2,4 @@
 pub mod Accepted
 pub mod Table
 pub mod Tile
+pub mod RecordCalls

@@ -76,7 +76,7 @@ module _ {l : Layer} where
   draw-known e = rw e (refl, refl)
 
 -- a plane of 0.5 over one of zeros
-all-half : all isHalf (over halfPlane noPlane) ≡ true
+pub all-half : all isHalf (over halfPlane noPlane) ≡ true
 unfolding over eq ofBits
 all-half = refl
 

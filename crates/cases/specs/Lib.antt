@@ -5,3 +5,4 @@ pub mod Cases
 pub mod Edges
 pub mod Answers
 pub mod Seen
+pub mod RecordCalls

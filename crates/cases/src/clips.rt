@@ -99,7 +99,7 @@ fn paint(layer: Layer, clip: Clip, plane: &mut [f32]) -> Painting
 }
 
 // Whether each number of a plane is 0.5.
-fn is_half(plane: &[f32]) -> bool
+pub fn is_half(plane: &[f32]) -> bool
     ensures { λ r. ⌜ r ≡ all isHalf (now (plane .entry)) ⌝ }
 {
     let mut ok = true;

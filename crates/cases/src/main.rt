@@ -1,8 +1,10 @@
 // The worked cases P1 to P12, run, with both sides of what adding refuses and a cover that one row keeps from being
-// full. What each check requires is proved from the contracts of the functions that it calls; specs/Cases states the
+// full; and P7, P8, P11 and P12 once more by the forms that stay with the caller, a cached tile that is lent and a queue
+// of carry records. What each check requires is proved from the contracts of the functions that it calls; specs/Cases states the
 // same cases about the definitions.
 mod clips;
 mod covers;
+mod records;
 mod tiles;
 mod words;
 
@@ -21,14 +23,18 @@ fn main() {
     check::expect(covers::p6_thrice());
     check::expect(covers::p6_row_of_15());
     check::expect(clips::p7());
+    check::expect(records::p7_painted());
     check::expect(tiles::p8_kept());
     check::expect(tiles::p8_dropped());
+    check::expect(tiles::p8_in_place());
     check::expect(covers::p9());
     check::expect(covers::p10());
     check::expect(covers::p11_low());
     check::expect(covers::p11_high());
     check::expect(covers::p11_refused());
     check::expect(covers::p11_passed());
+    check::expect(records::p11_worked());
     check::expect(tiles::p12());
     check::expect(tiles::p12_without());
+    check::expect(tiles::p12_in_place());
 }

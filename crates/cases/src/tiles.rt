@@ -1,6 +1,7 @@
-// P8 and P12: what a cached tile keeps, and settling.
+// P8 and P12: what a cached tile keeps, and settling; and the two updates of a tile that is lent.
 use cached_tile::CachedTile;
 use cached_tile::LayerCount;
+use cached_tile::SolidColor;
 use cached_tile::kept;
 use cached_tile::kept::Kept;
 use cached_tile::kept::Settlement;
@@ -83,6 +84,17 @@ pub fn p8_dropped() -> bool
     (after.tags == 0) & (bytes[0] == 1) & (bytes[1] == 0) & (bytes[2] == 0)
 }
 
+// The same on a tile that stays with the caller and is lent.
+pub fn p8_in_place() -> bool
+    ensures { λ r. ⌜ r ≡ true ⌝ }
+{
+    let tile = nothing_kept();
+    let updated = cached_tile_lent::count_in_place(tile, LayerCount::Count(16777217));
+    let previous = updated.previous;
+    let after = updated.tile;
+    is_no_count(previous) & (after.tags == 2) & is_count(after.layer_count(), 1)
+}
+
 // The same bytes settled twice: write, then keep.
 pub fn p12() -> bool
     ensures { λ r. ⌜ r ≡ true ⌝ }
@@ -109,4 +121,22 @@ pub fn p12_without() -> bool
     let settled = kept::settle(Kept::absent(), [1, 2, 3, 4]);
     let settlement = settled.settlement;
     is_write(settlement)
+}
+
+// Bytes that differ from those of a tile that is lent: none were kept before, then these are.
+pub fn p12_in_place() -> bool
+    ensures { λ r. ⌜ r ≡ true ⌝ }
+{
+    let tile = nothing_kept();
+    let color = SolidColor {
+        given: true,
+        bytes: [1, 2, 3, 4],
+    };
+    let first = cached_tile_lent::color_in_place(tile, color);
+    let before = first.previous;
+    let left = first.tile;
+    let second = cached_tile_lent::color_in_place(left, color);
+    let after = second.previous;
+    let bytes = after.bytes;
+    !before.given & after.given & (left.tags == 1) & (bytes[0] == 1) & (bytes[3] == 4)
 }
