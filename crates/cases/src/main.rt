@@ -5,10 +5,12 @@
 mod clips;
 mod covers;
 mod records;
+mod stated;
 mod tiles;
 mod words;
 
 fn main() {
+    check::expect(stated::is_proved());
     check::expect(words::p1());
     check::expect(words::p2());
     check::expect(words::p3());

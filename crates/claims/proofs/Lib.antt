@@ -10,5 +10,6 @@ pub mod Passes
 pub mod Repainting
 pub mod Runs
 pub mod Texts
+pub mod Loads
 pub mod Sets
 pub mod Bounds

@@ -10,6 +10,7 @@ pub mod Passes
 pub mod Repainting
 pub mod Runs
 pub mod Texts
+pub mod Loads
 pub mod Sets
 pub mod Bounds
 pub mod FourHigh

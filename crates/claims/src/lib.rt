@@ -5,6 +5,7 @@ ghost use Rattle.cover_statements.specs.Joined.{JoinedCovers};
 ghost use Rattle.queue_statements.specs.Edges.{OpeningEdges};
 ghost use Rattle.layer_table.specs.Edges.{TableEdges};
 ghost use Rattle.segment_set_statements.specs.Edges.{SetEdges};
+ghost use Rattle.cover_bounds_statements.specs.Verdicts.{BoundsCases};
 ghost use Rattle.row_statements.specs.Claim.{Claim};
 ghost use Rattle.row_statements.specs.Example.{Ran};
 ghost use Rattle.row_statements.specs.Edges.{RowEdges};
@@ -34,6 +35,7 @@ ghost use Rattle.kept_rows.specs.Protocol.{OperationAllows};
 ghost use Rattle.kept_rows.specs.Since.{MarkedTold, MarkedTable};
 ghost use Rattle.kept_rows.specs.Walk.{WalkSound, WalkExact};
 ghost use Rattle.kept_tiles.specs.Tiles.{TilesRuled, RuleStays, KeptOpened};
+ghost use Rattle.curve_text.specs.Curve.{CurveFills};
 ghost use Rattle.curve_text.specs.Examples.{CurveLines};
 ghost use Rattle.two_rows.specs.Backwards.{Backwards, OpensBoth, RunsBoth};
 ghost use Rattle.two_rows.specs.Lowest.{Fails};
@@ -53,6 +55,7 @@ ghost use Rattle.claims.specs.Passes.{PassesInWords};
 ghost use Rattle.claims.specs.Repainting.{ChangedClips};
 ghost use Rattle.claims.specs.Runs.{RunsExist, RunsAlike};
 ghost use Rattle.claims.specs.Texts.{JobTexts};
+ghost use Rattle.claims.specs.Loads.{Loads};
 ghost use Rattle.claims.specs.Sets.{SegmentSets};
 ghost use Rattle.claims.specs.Bounds.{CoverBounds};
 ghost use Rattle.claims.specs.FourHigh.{RowsApart};
@@ -101,16 +104,16 @@ pub fn passes_in_words() -> bool
     true
 }
 
-// Both sides of the edges of refusals: openings, tile works, paintings, decidings, tables, sets.
+// Both sides of the edges of refusals: openings, tile works, paintings, decidings, tables, sets, bounds.
 pub fn edges() -> bool
-    ensures { λ r. ⌜ OpeningEdges × RowEdges × PaintEdges × DecidingEdges × TableEdges × SetEdges ⌝ }
+    ensures { λ r. ⌜ OpeningEdges × RowEdges × PaintEdges × DecidingEdges × TableEdges × SetEdges × BoundsCases ⌝ }
 {
     true
 }
 
-// Texts: the job text, and W-201.
+// Texts: the job text; W-201; W-204.
 pub fn job_texts() -> bool
-    ensures { λ r. ⌜ JobTexts × CurveLines ⌝ }
+    ensures { λ r. ⌜ JobTexts × CurveLines × CurveFills × Loads ⌝ }
 {
     true
 }

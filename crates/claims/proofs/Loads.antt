@@ -1,0 +1,25 @@
+-- The claims of specs/Loads, cited. Assumes nothing.
+use Rattle.load_statements.proofs.Examples as examples
+use Rattle.load_statements.proofs.Asking as asking
+use Rattle.load_statements.proofs.Lengths as lengths
+use Rattle.load_statements.proofs.Slots as slots
+use Rattle.load_statements.proofs.Making as making
+use Rattle.job_front.proofs.Fronts as fronts
+use Rattle.claims.specs.Loads.{Loads}
+
+pub loads : Loads
+loads =
+    record {
+      draws = examples.draws;
+      four = examples.four;
+      five = examples.five;
+      greatest-seed = examples.greatest-seed;
+      ask-complete = asking.ask-complete;
+      ask-sound = asking.ask-sound;
+      lines-short = lengths.lines-short;
+      front-decides = lengths.front-decides;
+      answers-fit = lengths.answers-fit;
+      job-front-decides = fronts.front-decides;
+      slots-ascend = slots.slots-ascend;
+      made = making.made;
+    }
