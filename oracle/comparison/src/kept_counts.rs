@@ -1,5 +1,5 @@
-//! Whether a tile may keep its count: the protocol under which no tile is kept wrongly. The Rust has no such call; it is
-//! written here once more, from two lists of ids and kinds.
+//! `keep_count`: whether whoever is in one list is in the other, as the same kind, and what becomes of a tile's bytes. The
+//! Rust has no such call; it is written here once more, from two lists of ids and kinds.
 
 use reference::plain::Cached;
 

@@ -1,5 +1,5 @@
 //! One tile through several frames: the smallest histories in which the Rust keeps it with a wrong picture
-//! (docs/DIFFERENCES.md), and random ones.
+//! (docs/DIFFERENCES.md).
 
 use reference::{
     cpu::RGBA,
@@ -7,7 +7,7 @@ use reference::{
     plain::{Record, Rgba},
 };
 
-use crate::{given::Fields, random::Random, scene::word, scene::Picture};
+use crate::{given::Fields, scene::word, scene::Picture};
 
 pub const RED: Rgba = [1.0, 0.0, 0.0, 1.0];
 pub const GREEN: Rgba = [0.0, 1.0, 0.0, 0.5];
@@ -54,9 +54,12 @@ impl Layer {
         self
     }
 
+    /// Whether it has the same record, but for the flag, and the same words.
     pub fn is_same(&self, other: &Self) -> bool {
-        let (one, other_one) = (Record { unchanged: 0, ..self.record }, Record { unchanged: 0, ..other.record });
-        format!("{one:?}") == format!("{other_one:?}") && self.words == other.words
+        let numbers = |Record { id, rule, func, span, clipped, fill, mode, unchanged: _, color }: Record| {
+            (id, rule, func, span, clipped, fill, mode, color.map(f32::to_bits))
+        };
+        numbers(self.record) == numbers(other.record) && self.words == other.words
     }
 }
 
@@ -69,22 +72,31 @@ pub fn kind_of(record: &Record) -> u8 {
     }
 }
 
-/// A frame of layers, on black.
-pub fn picture(layers: &[Layer], previous_clear: Option<Rgba>) -> Picture {
-    let mut words: Vec<u64> = layers.iter().flat_map(|layer| layer.words.clone()).collect();
-    words.sort_by_key(|word| word >> 20);
-    let records = layers.iter().map(|layer| layer.record).collect();
-    Picture { words, records, frame: Frame { clear: BLACK, previous_clear, channels: RGBA } }
-}
-
-/// A frame: its layers, and the tiles that are worked, from one up to another.
+/// A frame: its layers, the tiles that are worked, from one up to another, and its clear colour.
+#[derive(Clone, Debug)]
 pub struct Shot {
     pub layers: Vec<Layer>,
     pub tiles: (usize, usize),
+    pub clear: Rgba,
+}
+
+impl Shot {
+    /// On black.
+    pub fn new(layers: Vec<Layer>, tiles: (usize, usize)) -> Self {
+        Self { layers, tiles, clear: BLACK }
+    }
+
+    /// The row's words, the table, and the clear colours.
+    pub fn picture(&self, previous_clear: Option<Rgba>) -> Picture {
+        let mut words: Vec<u64> = self.layers.iter().flat_map(|layer| layer.words.clone()).collect();
+        words.sort_by_key(|word| word >> 20);
+        let records = self.layers.iter().map(|layer| layer.record).collect();
+        Picture { words, records, frame: Frame { clear: self.clear, previous_clear, channels: RGBA } }
+    }
 }
 
 fn shot(layers: &[Layer]) -> Shot {
-    Shot { layers: layers.to_vec(), tiles: (0, 1) }
+    Shot::new(layers.to_vec(), (0, 1))
 }
 
 /// Histories A to H, in that order.
@@ -106,15 +118,15 @@ pub fn histories() -> [Vec<Shot>; 8] {
         ],
         // Tile 1 lies outside the crop of the frame in which the layer changes.
         vec![
-            Shot { layers: vec![draw(1, RED)], tiles: (0, 2) },
-            Shot { layers: vec![draw(1, BLUE)], tiles: (0, 1) },
-            Shot { layers: vec![draw(1, BLUE).unchanged()], tiles: (0, 2) },
+            Shot::new(vec![draw(1, RED)], (0, 2)),
+            Shot::new(vec![draw(1, BLUE)], (0, 1)),
+            Shot::new(vec![draw(1, BLUE).unchanged()], (0, 2)),
         ],
         // Layer 3 ends in tile 0. A row that is opened at tile 1 lists it there, with a carry of zero, in the place of
         // layer 2.
         vec![
-            Shot { layers: vec![draw(1, RED), draw(2, GREEN), ended()], tiles: (0, 2) },
-            Shot { layers: vec![draw(1, RED).unchanged(), ended().unchanged()], tiles: (1, 2) },
+            Shot::new(vec![draw(1, RED), draw(2, GREEN), ended()], (0, 2)),
+            Shot::new(vec![draw(1, RED).unchanged(), ended().unchanged()], (1, 2)),
         ],
         vec![
             shot(&over()),
@@ -122,68 +134,4 @@ pub fn histories() -> [Vec<Shot>; 8] {
             shot(&[draw(1, RED).unchanged(), draw(2, GREEN).unchanged()]),
         ],
     ]
-}
-
-// ---- random histories
-
-/// How many tiles a random history has.
-pub const TILES: usize = 4;
-
-/// A layer of a random frame: any kind, from tile -1 or 0 on, or from the middle of tile 0 or 1 on, up to the end or to
-/// tile 2.
-fn any_layer(random: &mut Random, id: u32) -> Layer {
-    let mut layer = if random.once_in(4) {
-        clip(id, random.below(4) as u32)
-    } else {
-        draw(id, random.pick(&[RED, RED, GREEN, BLUE]))
-    };
-    if layer.record.func == 0 && random.once_in(3) {
-        layer.record.clipped = 1;
-    }
-    let (tile, x) = random.pick(&[(-1, 0), (-1, 0), (-1, 0), (0, 8), (1, 8)]);
-    layer.words = column(id, tile, x, 16);
-    if random.once_in(4) {
-        layer.words.extend(column(id, 2, 8, -16));
-    }
-    layer
-}
-
-/// The next frame: some layers go, come or become others; all are called changed.
-fn next_layers(random: &mut Random, last: &[Layer]) -> Vec<Layer> {
-    let mut layers = Vec::new();
-    for id in 0..4 {
-        let stood = last.iter().find(|layer| layer.record.id == id);
-        layers.push(match stood {
-            Some(layer) if !random.once_in(5) => layer.clone(),
-            Some(_) if random.once_in(2) => any_layer(random, id),
-            None if random.once_in(3) => any_layer(random, id),
-            _ => continue,
-        });
-    }
-    layers
-}
-
-/// One to four frames from tile 0 on, some of which leave the last tiles out. A layer is called unchanged only where it
-/// stood the same at the last work of every tile that is worked; at times it is called changed all the same.
-pub fn any_history(random: &mut Random) -> Vec<Shot> {
-    let mut worked: [Vec<Layer>; TILES] = Default::default();
-    let mut last = Vec::new();
-    let mut shots = Vec::new();
-    for _ in 0..1 + random.below(4) {
-        last = next_layers(random, &last);
-        let to = if random.once_in(4) { 1 + random.below(TILES) } else { TILES };
-        let stood = |layer: &Layer| worked[..to].iter().all(|then| then.iter().any(|other| other.is_same(layer)));
-        let flag = |layer: &Layer, random: &mut Random| {
-            let is_unchanged = stood(layer) && !random.once_in(10);
-            if is_unchanged {
-                layer.clone().unchanged()
-            } else {
-                layer.clone()
-            }
-        };
-        let layers: Vec<Layer> = last.iter().map(|layer| flag(layer, random)).collect();
-        worked[..to].fill(last.clone());
-        shots.push(Shot { layers, tiles: (0, to) });
-    }
-    shots
 }

@@ -1,5 +1,6 @@
 //! The same cases on the Rust and on the proved library: one module for each group of kinds.
 
+pub mod any_histories;
 pub mod arrangements;
 pub mod backwards;
 pub mod batch_calls;
@@ -24,8 +25,10 @@ pub mod job_reader;
 pub mod jobs;
 pub mod judge;
 pub mod kept_counts;
+pub mod kept_drawings;
 pub mod kept_frames;
 pub mod kept_histories;
+pub mod kept_rule;
 pub mod layers;
 pub mod library;
 pub mod listing;

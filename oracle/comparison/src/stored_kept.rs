@@ -6,7 +6,7 @@ use reference::plain::{Cached, Worked};
 
 use crate::{
     kept_counts::{any_call, damage, expected, CountCall, Members},
-    kept_histories::{histories, kind_of, picture, Shot, BLACK},
+    kept_histories::{histories, kind_of, Shot, BLACK},
     models::{Models, Tables},
     random::Random,
     scene::{Picture, Scene},
@@ -49,8 +49,8 @@ fn asked(call: &CountCall) -> Line {
     }
 }
 
-/// Each history as a caller has it who leaves the protocol out; and behind them A and D, in which a layer left and one
-/// became another kind, with it: the tile is drawn afresh.
+/// Each history as a caller has it who leaves the answers of `keep_count` out; and behind them A and D, in which a listed
+/// layer left and one became another kind, with them: the tile is drawn afresh.
 pub fn lines(random: &mut Random) -> Vec<String> {
     let histories = histories();
     let plain: Vec<String> = histories.iter().map(|shots| history(random, shots, false)).collect();
@@ -65,17 +65,17 @@ struct Tile {
     last: Option<Vec<(u32, u8)>>,
 }
 
-fn history(random: &mut Random, shots: &[Shot], is_protocol: bool) -> String {
+fn history(random: &mut Random, shots: &[Shot], is_asked: bool) -> String {
     let mut tiles = vec![Tile::default(); shots[0].tiles.1];
     let frames: Vec<String> =
-        shots.iter().enumerate().map(|(at, shot)| frame(random, shot, at > 0, is_protocol, &mut tiles)).collect();
+        shots.iter().enumerate().map(|(at, shot)| frame(random, shot, at > 0, is_asked, &mut tiles)).collect();
     format!("{:x} {}", shots.len(), frames.join(" "))
 }
 
 /// The askings before the works, the row, and its settlings.
-fn frame(random: &mut Random, shot: &Shot, has_last: bool, is_protocol: bool, tiles: &mut [Tile]) -> String {
+fn frame(random: &mut Random, shot: &Shot, has_last: bool, is_asked: bool, tiles: &mut [Tile]) -> String {
     let (from, to) = shot.tiles;
-    let picture = picture(&shot.layers, has_last.then_some(BLACK));
+    let picture = shot.picture(has_last.then_some(BLACK));
     let (mut asks, mut settles) = (Vec::new(), Vec::new());
     let tables = Tables::new(&picture.records);
     let mut models = Models::open(0, from, to, &picture.words, &tables);
@@ -87,7 +87,7 @@ fn frame(random: &mut Random, shot: &Shot, has_last: bool, is_protocol: bool, ti
             let [last, today] = [&last, &today].map(|list| Members::new(list));
             let call = CountCall { last, today, is_kept: true, kept: cached[at] };
             asks.push(asked(&call).text());
-            if is_protocol {
+            if is_asked {
                 cached[at] = expected(&call).2;
             }
         }

@@ -2,7 +2,6 @@
 //! frames, tile after tile and in batches.
 
 use comparison::{
-    kept_histories::{any_history, picture, Shot, TILES},
     models::{Models, Tables},
     random::Random,
     scene::{any_scene, Picture, Scene},
@@ -10,7 +9,7 @@ use comparison::{
 use reference::plain::{self, Cached, Record, Worked};
 use tile_rows::{
     segment, settle, Batch, BatchTile, BlendMode, CachedTile, Color, Cover, Decision, Fill, FillRule, Frame, Func,
-    Layer, LayerTable, Listed, PixelSegment, Plane, Row, Settled, Style, TileHistory,
+    Layer, LayerTable, Listed, PixelSegment, Plane, Row, Settled, Style,
 };
 
 fn layer(record: &Record) -> Layer {
@@ -178,56 +177,4 @@ fn rows_through_the_crate_are_those_of_the_rust() {
     }
     assert!(decisions.iter().all(|&count| count > 1000), "the scenes lack a decision: {decisions:?}");
     println!("tiles compared, by decision none, solid, paint: {decisions:?}, in {} batches", batches.count);
-}
-
-/// A tile by its history, and the pixels that it shows.
-#[derive(Clone, Default)]
-struct Shown {
-    history: TileHistory,
-    pixels: Vec<[u8; 4]>,
-}
-
-/// A frame of a random history: what each worked tile shows is what a fresh painting shows. How many are kept.
-fn frame_by_histories(number: u64, shot: &Shot, tiles: &mut [Shown]) -> usize {
-    let (from, to) = shot.tiles;
-    let picture = picture(&shot.layers, None);
-    let tables = Tables::new(&picture.records);
-    let mut fresh = Models::open(0, from, to, &picture.words, &tables);
-    let table = LayerTable::new(&picture.records.iter().map(layer).collect::<Vec<_>>());
-    let segments = segment::segments_of(&picture.words);
-    let mut row = Row::open(segments, &table, 0, from as i32..to as i32).unwrap();
-    let mut kept = 0;
-    for (tile, shown) in (from..to).zip(&mut tiles[from..to]) {
-        let due = fresh.work(tile, &picture.frame, None).worked;
-        let worked = shown.history.work(&mut row, tile as i32, number, Color::from(picture.frame.clear)).unwrap();
-        let is_drawn = match (worked.decision, due.settled) {
-            (Decision::None, _) => false,
-            (Decision::Solid { .. }, Some((bytes, _))) => shown.history.settle(bytes) == Ok(Settled::Write),
-            (Decision::Paint, None) => true,
-            (decision, settled) => panic!("{decision:?}, and afresh {settled:?}: {:?}", shot.layers),
-        };
-        let pixels = due.settled.map_or_else(|| fresh.pixels(), |(bytes, _)| vec![bytes; 256]);
-        if is_drawn {
-            shown.pixels = pixels.clone();
-        } else {
-            kept += 1;
-        }
-        assert_eq!(shown.pixels, pixels, "tile {tile} of frame {number}: {:?}", shot.layers);
-    }
-    kept
-}
-
-#[test]
-fn histories_keep_no_wrong_tile() {
-    let mut random = Random::new(36);
-    let (mut tiles, mut kept) = (0, 0);
-    for _ in 0..4_000 {
-        let mut shown = vec![Shown::default(); TILES];
-        for (number, shot) in (0..).zip(&any_history(&mut random)) {
-            tiles += shot.tiles.1 - shot.tiles.0;
-            kept += frame_by_histories(number, shot, &mut shown);
-        }
-    }
-    println!("{tiles} tiles, {kept} kept");
-    assert!(kept > tiles / 4);
 }

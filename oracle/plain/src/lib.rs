@@ -59,6 +59,8 @@ pub struct Painted {
     pub mark: u32,
     /// The last layer of the painter's clip, afterwards.
     pub clip: Option<u32>,
+    /// Whether it is painted as one that needs a clip.
+    pub needs_clip: bool,
 }
 
 #[derive(Clone, Debug)]
@@ -99,7 +101,8 @@ impl Decision {
 
 impl Painted {
     pub fn is_same(&self, other: &Self) -> bool {
-        (self.id, self.mark, self.clip) == (other.id, other.mark, other.clip) && self.has_same_plane(other)
+        let told = |one: &Self| (one.id, one.mark, one.clip, one.needs_clip);
+        told(self) == told(other) && self.has_same_plane(other)
     }
 
     pub fn has_same_plane(&self, other: &Self) -> bool {

@@ -41,7 +41,7 @@ impl LayerPainter for Recorder {
         if let (Func::Clip(_), Some((mask, _))) = (&props.func, self.painter.clip) {
             assert_eq!(bits(&exchanged(&mask)), bits(&plane), "a clip layer writes its whole mask");
         }
-        self.painted.push(Painted { id: layer_id, plane, mark, clip });
+        self.painted.push(Painted { id: layer_id, plane, mark, clip, needs_clip: apply_clip });
         cover
     }
 }
