@@ -135,10 +135,12 @@ module _ {o : OpenRow} (is-open : IsOpen o) where
       }
 
   -- it is one of the calls where it is turned down, and else none
-  other-first : {p : Past} {k : HeldByNumbers} (c : CallChoice) (cs : List CallChoice) (v w : Judgement) → v ≡ w → (t : Turned p k v) → callChoicesDue o p (c ∷ cs) ≡ ifTurnedDown v (callChoicesDue o p cs)
+  other-first : {p : Past} {k : HeldByNumbers} (c : CallChoice) (cs : List CallChoice) (v w : Judgement) → v ≡ w → (t : Turned p k v)
+      → callChoicesDue o p (c ∷ cs) ≡ ifTurnedDown v (callChoicesDue o p cs)
       → HoldsAll o p (allFrom k) → CalledSo o p k cs → (HoldsAll o p (allFrom (t .after)) → CalledSo o p (t .after) cs) → CalledSo o p k (c ∷ cs)
   other-first {p} c cs v pass is t q holds rest still =
-      record { told = rest .told; after = rest .after; calls = rest .calls; dues = rest .dues ∙ sym (q ∙ ap (λ (u : Judgement). ifTurnedDown u (callChoicesDue o p cs)) is) }
+      let due = rest .dues ∙ sym (q ∙ ap (λ (u : Judgement). ifTurnedDown u (callChoicesDue o p cs)) is) in
+      record { told = rest .told; after = rest .after; calls = rest .calls; dues = due }
   other-first {p} c cs v (refuse n) is t q holds rest still =
       let call = t .call n is in
       let more = still (subst (λ (r : Past). HoldsAll o r (allFrom (t .after))) (t .past) (told-right is-open holds call .1)) in
@@ -181,9 +183,11 @@ module _ {o : OpenRow} (is-open : IsOpen o) where
       let v = listingVerdict a (c .lent) in
       other-first (CallChoice.otherList row table c) cs v v refl (list-other p k a (c .lent)) refl holds (exists k holds cs) (λ still. exists _ still cs)
   exists {p} k holds (CallChoice.otherDecide a masks ∷ cs) =
-      let call = ListingCall.otherDecide {k = k} {a = a} {unmasked = masks} {old = lentDecide (a .kept)} (record { number = refl; numbers = refl; unmasked-is = refl }) in
+      let call =
+      ListingCall.otherDecide {k = k} {a = a} {unmasked = masks} {old = lentDecide (a .kept)} (record { number = refl; numbers = refl; unmasked-is = refl }) in
       let rest = exists k holds cs in
-      record { told = _ ∷ rest .told; after = rest .after; calls = ListingCalls.next call (rest .calls); dues = ap (λ (vs : List Judgement). decidingVerdict a masks ∷ vs) (rest .dues) }
+      let due = ap (λ (vs : List Judgement). decidingVerdict a masks ∷ vs) (rest .dues) in
+      record { told = _ ∷ rest .told; after = rest .after; calls = ListingCalls.next call (rest .calls); dues = due }
 
 -- the claims' premises can be met
 pub calls-exist : CallsExist

@@ -105,7 +105,8 @@ list-gives (refuse n) named o p c = record { answer = ap refused named; state = 
 list-gives pass named o p c =
     record { answer = refl; state = state-back (listingOut pass (tableOn o) (layersOn o (p .tiles)) (queueOn o (suc (p .tiles))) (stateOn o p) (c .lent) .state); lent-is = refl }
 
-pub decide-gives : (v : Judgement) → Named v → (out : Outcome) (n : ℕ) (k : kept.Kept) (masks : List Bool) → let g = decidingOut v out n k masks in DecidesTile g (decideResult g) (g .unmasked)
+pub decide-gives : (v : Judgement) → Named v → (out : Outcome) (n : ℕ) (k : kept.Kept) (masks : List Bool)
+    → let g = decidingOut v out n k masks in DecidesTile g (decideResult g) (g .unmasked)
 unfolding decidingOut
 decide-gives (refuse number) named out n k masks = record { answer = ap refused named; kept = refl; unmasked-is = refl }
 decide-gives pass named out n k masks =
@@ -175,7 +176,8 @@ module _ {o : OpenRow} {p : Past} {h : HeldAll} (holds : HoldsAll o p h) where
   unfolding callDuesOf
   paint-other a plane s = record { step = λ n e. CallStep.row {h = h} (paint-turned (holds .row) a plane n s e); due = λ n es. refl }
 
-  list-turned : (a : ListCall) (lent : ListLent) (n : ℕ) → a .state ≡ stateOn o p → listingVerdict a lent ≡ refuse n → CallStep o h (listRefused o p a lent n) (allStill o p h)
+  list-turned : (a : ListCall) (lent : ListLent) (n : ℕ) → a .state ≡ stateOn o p → listingVerdict a lent ≡ refuse n
+      → CallStep o h (listRefused o p a lent n) (allStill o p h)
   unfolding listingOut
   list-turned a lent n s e =
       let table = layersOf (a .table) in
@@ -188,7 +190,8 @@ module _ {o : OpenRow} {p : Past} {h : HeldAll} (holds : HoldsAll o p h) where
   unfolding callDuesOf
   list-other a lent s = record { step = λ n e. list-turned a lent n s e; due = λ n es. refl }
 
-pub decide-other : (o : OpenRow) (h : HeldAll) (a : DecideCall) (masks : List Bool) → CallStep o h (RowCall.otherDecide a masks (decideResult (decidingOf a masks)) (decidingOf a masks .unmasked)) h
+pub decide-other : (o : OpenRow) (h : HeldAll) (a : DecideCall) (masks : List Bool)
+    → CallStep o h (RowCall.otherDecide a masks (decideResult (decidingOf a masks)) (decidingOf a masks .unmasked)) h
 decide-other o h a masks =
     CallStep.otherDecide (decide-gives (decidingVerdict a masks) (any-decide-named a masks) (decidedOutcome a) (a .count) (a .kept) masks)
 
@@ -239,10 +242,12 @@ module _ {o : OpenRow} (is-open : IsOpen o) where
       subst (λ (out : ListGiven). ListsTile out (listResult (listDue o p held)) (listDue o p held .lent)) (sym (list-due is-open (holds .row) held as-held)) (list-gives (listDueVerdict o (p .tiles) held) (list-named o (p .tiles) held) o p held)
 
   -- a call that is turned down, or that is none
-  other-first : {p : Past} {h : HeldAll} (c : CallChoice) (cs : List CallChoice) (v w : Judgement) (call : ℕ → RowCall) → v ≡ w → TurnedDown o p h v call → callChoicesDue o p (c ∷ cs) ≡ ifTurnedDown v (callChoicesDue o p cs)
+  other-first : {p : Past} {h : HeldAll} (c : CallChoice) (cs : List CallChoice) (v w : Judgement) (call : ℕ → RowCall) → v ≡ w
+      → TurnedDown o p h v call → callChoicesDue o p (c ∷ cs) ≡ ifTurnedDown v (callChoicesDue o p cs)
       → Goes p h cs → Goes p (allStill o p h) cs → Goes p h (c ∷ cs)
   other-first {p} c cs v pass call is t q rest still =
-      record { events = rest .events; after = rest .after; runs = rest .runs; dues = rest .dues ∙ sym (q ∙ ap (λ (u : Judgement). ifTurnedDown u (callChoicesDue o p cs)) is) }
+      let due = rest .dues ∙ sym (q ∙ ap (λ (u : Judgement). ifTurnedDown u (callChoicesDue o p cs)) is) in
+      record { events = rest .events; after = rest .after; runs = rest .runs; dues = due }
   other-first {p} c cs v (refuse n) call is t q rest still =
       record {
         events = call n ∷ still .events;
@@ -270,15 +275,19 @@ module _ {o : OpenRow} (is-open : IsOpen o) where
   exists {p} {h} holds (CallChoice.otherWork row table c ∷ cs) =
       let a = workAt (stateOn o p) row table c in
       let v = workVerdict a (c .lent) in
-      other-first (CallChoice.otherWork row table c) cs v v (workRefused o p a (c .lent)) refl (work-other holds a (c .lent) refl) refl (exists holds cs) (exists (still-all holds) cs)
+      other-first (CallChoice.otherWork row table c) cs v v (workRefused o p a (c .lent)) refl (work-other holds a (c .lent) refl) refl
+      (exists holds cs) (exists (still-all holds) cs)
   exists {p} {h} holds (CallChoice.otherPaint row table c ∷ cs) =
       let a = paintAt (stateOn o p) row table c in
       let v = paintVerdict a (c .plane) in
-      other-first (CallChoice.otherPaint row table c) cs v v (paintRefused o p a (c .plane)) refl (paint-other holds a (c .plane) refl) refl (exists holds cs) (exists (still-all holds) cs)
+      other-first (CallChoice.otherPaint row table c) cs v v (paintRefused o p a (c .plane)) refl (paint-other holds a (c .plane) refl) refl
+      (exists holds cs) (exists (still-all holds) cs)
   exists {p} {h} holds (CallChoice.otherList row table c ∷ cs) =
       let a = listAt (stateOn o p) row table c in
       let v = listingVerdict a (c .lent) in
-      other-first (CallChoice.otherList row table c) cs v v (listRefused o p a (c .lent)) refl (list-other holds a (c .lent) refl) refl (exists holds cs) (exists (still-all holds) cs)
+      other-first (CallChoice.otherList row table c) cs v v (listRefused o p a (c .lent)) refl (list-other holds a (c .lent) refl) refl
+      (exists holds cs) (exists (still-all holds) cs)
   exists {p} {h} holds (CallChoice.otherDecide a masks ∷ cs) =
       let rest = exists holds cs in
-      record { events = _ ∷ rest .events; after = rest .after; runs = RowCalls.next (decide-other o h a masks) (rest .runs); dues = ap (λ (vs : List Judgement). decidingVerdict a masks ∷ vs) (rest .dues) }
+      let due = ap (λ (vs : List Judgement). decidingVerdict a masks ∷ vs) (rest .dues) in
+      record { events = _ ∷ rest .events; after = rest .after; runs = RowCalls.next (decide-other o h a masks) (rest .runs); dues = due }

@@ -128,21 +128,24 @@ module _ (o : OpenRow) (mild : areMild cpu (o .row) ≡ true) (one : IsOpen o) (
   both p holds holds′ (CallChoice.otherWork row table c ∷ cs) =
       let a = workAt (stateOn o p) row table c in
       let v = workVerdict a (c .lent) in
-      other-both (CallChoice.otherWork row table c) cs v v refl (work-other holds a (c .lent) refl) (work-other holds′ a (c .lent) (sym (state-turned o mild p))) (λ n. AlikeCall.otherWork) refl
+      other-both (CallChoice.otherWork row table c) cs v v refl (work-other holds a (c .lent) refl)
+      (work-other holds′ a (c .lent) (sym (state-turned o mild p))) (λ n. AlikeCall.otherWork) refl
       (both p holds holds′ cs) (both p (still-all holds) (still-all holds′) cs)
   both p holds holds′ (CallChoice.otherPaint row table c ∷ cs) =
       let a = paintAt (stateOn o p) row table c in
       let v = paintVerdict a (c .plane) in
-      other-both (CallChoice.otherPaint row table c) cs v v refl (paint-other holds a (c .plane) refl) (paint-other holds′ a (c .plane) (sym (state-turned o mild p))) (λ n. AlikeCall.otherPaint) refl
+      other-both (CallChoice.otherPaint row table c) cs v v refl (paint-other holds a (c .plane) refl)
+      (paint-other holds′ a (c .plane) (sym (state-turned o mild p))) (λ n. AlikeCall.otherPaint) refl
       (both p holds holds′ cs) (both p (still-all holds) (still-all holds′) cs)
   both p holds holds′ (CallChoice.otherList row table c ∷ cs) =
       let a = listAt (stateOn o p) row table c in
       let v = listingVerdict a (c .lent) in
-      other-both (CallChoice.otherList row table c) cs v v refl (list-other holds a (c .lent) refl) (list-other holds′ a (c .lent) (sym (state-turned o mild p))) (λ n. AlikeCall.otherList) refl
+      other-both (CallChoice.otherList row table c) cs v v refl (list-other holds a (c .lent) refl)
+      (list-other holds′ a (c .lent) (sym (state-turned o mild p))) (λ n. AlikeCall.otherList) refl
       (both p holds holds′ cs) (both p (still-all holds) (still-all holds′) cs)
   both p {h} {h′} holds holds′ (CallChoice.otherDecide a masks ∷ cs) =
-      onward (CallChoice.otherDecide a masks) cs (decidingVerdict a masks) holds holds′ (decide-other o h a masks) (decide-other (oppositeRow o) h′ a masks) AlikeCall.otherDecide
-      (λ es. refl) refl (λ x y. both _ x y cs)
+      onward (CallChoice.otherDecide a masks) cs (decidingVerdict a masks) holds holds′ (decide-other o h a masks)
+      (decide-other (oppositeRow o) h′ a masks) AlikeCall.otherDecide (λ es. refl) refl (λ x y. both _ x y cs)
 
 pub runs-both : RunsBoth
 runs-both c lent lent′ back s cs w m room g =
