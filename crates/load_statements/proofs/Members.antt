@@ -133,7 +133,8 @@ few low (l ∷ ls) a h =
 pub at-most-8 : (ls : List Listed) → strictlyAscendsFrom 0 (listedIds ls) ≡ true → areListedLow ls ≡ true → length ls ≤ 8
 at-most-8 ls a h = omega (arith, few 0 ls a h)
 
-pub all-known : (table : List Layer) → ((id : ℕ) → id < 8 → isGiven (lookup table id) ≡ true) → (ls : List Listed) → areListedLow ls ≡ true → areKnown table ls ≡ true
+pub all-known : (table : List Layer) → ((id : ℕ) → id < 8 → isGiven (lookup table id) ≡ true) → (ls : List Listed) → areListedLow ls ≡ true
+    → areKnown table ls ≡ true
 all-known table k [] h = refl
 all-known table k (l ∷ ls) h =
     let a = isLow (l .id) in

@@ -158,7 +158,12 @@ module _ (a : Asked) (h : AskedInRange a) where
   whole w = record { refusal = ap refusalOf (w .end); lines = w .many; light = λ n l. from-0 n ∙ w .each n l }
 
   ended : Ended (rowOf a) (isLightAt a) judged (a .tiles) 0 drivenLines → EndedBy9 a (drivingOf drivenLines)
-  ended e = record { refusal = ap refusalOf (e .end); before = e .few; light = λ n l. from-0 n ∙ e .each n l; heavy = from-0 (length (drivenLines .lines)) ∙ e .heavy }
+  ended e = record {
+    refusal = ap refusalOf (e .end);
+    before = e .few;
+    light = λ n l. from-0 n ∙ e .each n l;
+    heavy = from-0 (length (drivenLines .lines)) ∙ e .heavy;
+  }
 
   ends : WorkedWhole a (loadDriving a) ⊎ EndedBy9 a (loadDriving a)
   ends = rw driving-is (⊎-elim (λ w. inl (whole w)) (λ e. inr (ended e)) (lines-end (rowOf a) (isLightAt a) judged (a .tiles) 0))
