@@ -368,11 +368,11 @@ uint32_t ffi_let_out(
     uint64_t *slots, size_t slots_len,
     int16_t *areas, size_t areas_len);
 
-/* 0, the standing layers in the lent table and in `standing` how many they are, or the number of the refusal. */
+/* 0, the standing layers in the lent table and in `standing` how many they are, or the number of the refusal. A record
+   is ten words and four floats; what is left over of either plays no part. */
 uint32_t ffi_stand(
     const uint32_t *records, size_t records_len,
     const float *record_colors, size_t record_colors_len,
-    size_t count,
     uint32_t *layers, size_t layers_len,
     float *colors, size_t colors_len,
     size_t *standing);

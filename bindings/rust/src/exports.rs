@@ -359,7 +359,6 @@ mod raw {
             records_len: usize,
             record_colors: *const f32,
             record_colors_len: usize,
-            count: usize,
             layers: *mut u32,
             layers_len: usize,
             colors: *mut f32,
@@ -1283,12 +1282,12 @@ pub fn let_out(
     }
 }
 
-/// 0, the standing layers in the lent table and in `standing` how many they are, or the number of the refusal.
+/// 0, the standing layers in the lent table and in `standing` how many they are, or the number of the refusal. A record
+/// is ten words and four floats; what is left over of either plays no part.
 #[inline]
 pub fn stand(
     records: &[u32],
     record_colors: &[f32],
-    count: usize,
     layers: &mut [u32],
     colors: &mut [f32],
     standing: &mut usize,
@@ -1301,7 +1300,6 @@ pub fn stand(
             records.len(),
             record_colors.as_ptr(),
             record_colors.len(),
-            count,
             layers.as_mut_ptr(),
             layers.len(),
             colors.as_mut_ptr(),

@@ -167,6 +167,7 @@ mod mark;
 pub mod plane;
 pub mod plate;
 mod refusal;
+mod revision;
 mod row;
 pub mod segment;
 mod segment_set;
@@ -186,6 +187,7 @@ pub use crate::{
     plane::Plane,
     plate::Plate,
     refusal::Refusal,
+    revision::{Revision, Revisions, Sent},
     row::{Frame, Row, Worked},
     segment::{Fields, PixelSegment},
     segment_set::SegmentSet,

@@ -39,7 +39,7 @@ impl Layer {
     }
 
     /// Its words in the table: id, rule, func, span, clipped, fill, blend mode, unchanged.
-    fn words(&self) -> [u32; 8] {
+    pub(crate) fn words(&self) -> [u32; 8] {
         let unchanged = u32::from(self.is_unchanged);
         match self.func {
             Func::Draw(Style { is_clipped, fill, blend_mode }) => {
@@ -49,7 +49,7 @@ impl Layer {
         }
     }
 
-    fn color(&self) -> Color {
+    pub(crate) fn color(&self) -> Color {
         match self.func {
             Func::Draw(Style { fill: Fill::Solid(color), .. }) => color,
             _ => Color::default(),

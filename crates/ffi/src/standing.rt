@@ -19,23 +19,23 @@ fn put_standing(answer: Standing, standing: &mut usize) -> u32
     }
 }
 
-// 0, the standing layers in the lent table and in `standing` how many they are, or the number of the refusal.
+// 0, the standing layers in the lent table and in `standing` how many they are, or the number of the refusal. A record
+// is ten words and four floats; what is left over of either plays no part.
 #[no_mangle]
 pub extern "C" fn ffi_stand(
     records: &[u32],
     record_colors: &[f32],
-    count: usize,
     layers: &mut [u32],
     colors: &mut [f32],
     standing: &mut usize,
 ) -> u32
     ensures { λ r. ⌜ StandTold
-        (standVerdict (now (records .entry)) (now («record_colors» .entry)) count (now (layers .entry))
+        (standVerdict (now (records .entry)) (now («record_colors» .entry)) (now (layers .entry))
         (now (colors .entry)))
-        (sentOf (now (records .entry)) (now («record_colors» .entry)) count)
+        (sentOf (now (records .entry)) (now («record_colors» .entry)))
         (now (layers .entry)) (now (colors .entry)) (now (standing .entry)) r (now (layers .exit))
         (now (colors .exit)) (now (standing .exit)) ⌝ }
 {
-    let answer = revisions::stand(records, record_colors, count, layers, colors);
+    let answer = revisions::stand(records, record_colors, layers, colors);
     put_standing(answer, standing)
 }

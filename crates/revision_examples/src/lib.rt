@@ -44,7 +44,11 @@ fn gives(
     let record_colors = [0.5f32; 24];
     let mut layers = [9u32; 24];
     let mut colors = [0.0f32; 12];
-    let got = told(revisions::stand(&records, &record_colors, count, &mut layers, &mut colors));
+    if 6 < count {
+        return false;
+    }
+    let part = &records[..10 * count];
+    let got = told(revisions::stand(part, &record_colors, &mut layers, &mut colors));
     (got == answer) & (layers[0] == first) & (layers[8] == second) & (layers[16] == third)
 }
 
@@ -53,7 +57,11 @@ fn gives_one(records: [u32; 60], count: usize, answer: usize, first: u32) -> boo
     let record_colors = [0.5f32; 24];
     let mut layers = [9u32; 8];
     let mut colors = [0.0f32; 4];
-    let got = told(revisions::stand(&records, &record_colors, count, &mut layers, &mut colors));
+    if 6 < count {
+        return false;
+    }
+    let part = &records[..10 * count];
+    let got = told(revisions::stand(part, &record_colors, &mut layers, &mut colors));
     (got == answer) & (layers[0] == first)
 }
 

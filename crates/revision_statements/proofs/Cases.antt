@@ -6,7 +6,7 @@ use Prim.Native.Nat.{ℕ}
 use lib.Ieee.{Float, nan}
 use Rattle.refusals.specs.Refusal.{pass, refuse}
 use Rattle.layer_table.specs.Table.{isTableShort}
-use Rattle.revision_statements.specs.Sent.{Sent, isGood, sentOf}
+use Rattle.revision_statements.specs.Sent.{Sent, isGood, sentAt, sentRoom, firstSent}
 use Rattle.revision_statements.specs.Standing.{addSent, addSents, standingOf}
 use Rattle.revision_statements.specs.Verdict.{hasTwins, verdictOn, standVerdict}
 
@@ -91,11 +91,11 @@ kind-2 = refl
 
 -- ---- the order: 4, then 15, then 1
 
-pub four-before-fifteen : verdictOn false (props 2097152 1 ∷ props 1 2 ∷ props 1 2 ∷ []) [] [] ≡ refuse 4
+pub four-before-fifteen : verdictOn (props 2097152 1 ∷ props 1 2 ∷ props 1 2 ∷ []) [] [] ≡ refuse 4
 unfolding isGood hasTwins
 four-before-fifteen = refl
 
-pub fifteen-before-one : verdictOn true (props 1 2 ∷ props 1 2 ∷ []) [] [] ≡ refuse 15
+pub fifteen-before-one : verdictOn (props 1 2 ∷ props 1 2 ∷ []) [] [] ≡ refuse 15
 unfolding isGood hasTwins
 fifteen-before-one = refl
 
@@ -106,20 +106,28 @@ words = 0 ∷ 0 ∷ 0 ∷ 0 ∷ 0 ∷ 0 ∷ 0 ∷ 0 ∷ []
 abbrev floats : List Float
 floats = nan ∷ nan ∷ nan ∷ nan ∷ []
 
-pub two-in-one : verdictOn false (props 4 0 ∷ props 9 0 ∷ []) words floats ≡ refuse 1
+pub two-in-one : verdictOn (props 4 0 ∷ props 9 0 ∷ []) words floats ≡ refuse 1
 unfolding isGood hasTwins standingOf addSents addSent isTableShort
 two-in-one = refl
 
 -- a withdrawn layer takes no room
-pub one-in-one : verdictOn false (props 4 0 ∷ props 9 0 ∷ withdraws 9 1 ∷ []) words floats ≡ pass
+pub one-in-one : verdictOn (props 4 0 ∷ props 9 0 ∷ withdraws 9 1 ∷ []) words floats ≡ pass
 unfolding isGood hasTwins standingOf addSents addSent isTableShort
 one-in-one = refl
 
-pub none-in-none : verdictOn false (withdraws 7 0 ∷ []) [] [] ≡ pass
+pub none-in-none : verdictOn (withdraws 7 0 ∷ []) [] [] ≡ pass
 unfolding isGood hasTwins standingOf addSents addSent isTableShort
 none-in-none = refl
 
--- records that are fewer than their count
-pub record-missing : standVerdict [] [] 1 words floats ≡ refuse 1
-unfolding standVerdict sentOf isGood hasTwins standingOf addSents addSent isTableShort
-record-missing = refl
+-- ---- which records the lent memory holds
+
+-- a part of a record plays no part, nor do ten words without a colour
+pub nine-words : sentRoom (7 ∷ 0 ∷ 0 ∷ 0 ∷ 0 ∷ 0 ∷ 0 ∷ 0 ∷ 0 ∷ []) floats ≡ 0
+nine-words = refl
+
+pub no-colour : sentRoom (7 ∷ 0 ∷ 0 ∷ 0 ∷ 0 ∷ 0 ∷ 0 ∷ 0 ∷ 0 ∷ 0 ∷ []) (nan ∷ nan ∷ nan ∷ []) ≡ 0
+no-colour = refl
+
+pub one-record : standVerdict (7 ∷ 0 ∷ 0 ∷ 0 ∷ 0 ∷ 0 ∷ 0 ∷ 0 ∷ 0 ∷ 0 ∷ 9 ∷ []) floats [] [] ≡ refuse 1
+unfolding standVerdict firstSent sentAt isGood hasTwins standingOf addSents addSent isTableShort
+one-record = refl

@@ -4,7 +4,7 @@ use mathlib.Core.Path.{_≡_, refl, sym, ap, _∙_}
 use mathlib.Core.Bool.{Bool, true, false, cond}
 use mathlib.Core.Logic.{inr, ⊎-elim}
 use mathlib.Core.List.{List, [], _∷_, _++_}
-use Prim.Native.Nat.{ℕ, suc, _≤_, _<_, min}
+use Prim.Native.Nat.{ℕ, suc, _≤_, _<_}
 use native.Mathlib.Omega.{arith}
 use borrow.Author.Tests.{le-leb}
 use lib.Dec.{leb}
@@ -15,7 +15,7 @@ use Rattle.laws.proofs.Rows.{length-tabulate, getD-tabulate}
 use Rattle.refusals.proofs.Judging.{or-right}
 use Rattle.styling.specs.Ascending.{strictlyAscendsFrom, strictlyAscends}
 use Rattle.styling.proofs.Ascents.{ascends-head, ascends-tail, ascends-weaken}
-use Rattle.revision_statements.specs.Sent.{Sent, idOf, hasProperties, sentAt, sentRoom, sentOf}
+use Rattle.revision_statements.specs.Sent.{Sent, idOf, hasProperties, sentAt, sentRoom, firstSent, sentOf}
 use Rattle.revision_statements.specs.Standing.{latestIn, standingOf, sentIds}
 use Rattle.revision_statements.specs.Verdict.{isTwin, hasTwins}
 use Rattle.revision_statements.specs.Laws.{Among, Highest, Stood, Reordered}
@@ -43,20 +43,20 @@ ascending ss = filter-ascends hasProperties 0 (latestIn ss) (latest-ascends ss)
 
 -- ---- every entry is one of the records given: which one, by its place
 
-pub data Given (records : List ℕ) (floats : List Float) (count : ℕ) (s : Sent) : Type 0 where
-  sent : (i : ℕ) → i < count → i < sentRoom records floats → sentAt records floats i ≡ s → Given records floats count s
+pub data Given (records : List ℕ) (floats : List Float) (s : Sent) : Type 0 where
+  sent : (i : ℕ) → i < sentRoom records floats → sentAt records floats i ≡ s → Given records floats s
 
-pub given-one : (records : List ℕ) (floats : List Float) (count : ℕ) (s : Sent) → Among s (standingOf (sentOf records floats count)) → Given records floats count s
-unfolding sentOf
-given-one records floats count s a = by (place s (sentOf records floats count) (stood s (sentOf records floats count) a .among))
+pub given-one : (records : List ℕ) (floats : List Float) (s : Sent) → Among s (standingOf (sentOf records floats)) → Given records floats s
+unfolding firstSent
+given-one records floats s a = by (place s (sentOf records floats) (stood s (sentOf records floats) a .among))
   where
     n : ℕ
-    n = min count (sentRoom records floats)
+    n = sentRoom records floats
 
-    by : Place s (sentOf records floats count) → Given records floats count s
+    by : Place s (sentOf records floats) → Given records floats s
     by (at i h e) =
         let within : i < n = omega (arith, length-tabulate n (sentAt records floats)) in
-        sent i (omega arith) (omega arith) (sym (getD-tabulate n (sentAt records floats) s i within) ∙ e)
+        sent i within (sym (getD-tabulate n (sentAt records floats) s i within) ∙ e)
 
 -- ---- of each layer the highest revision stands; a withdrawal that stands leaves the layer out
 

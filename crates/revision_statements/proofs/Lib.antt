@@ -1,11 +1,13 @@
 -- Laws of standing records.
 pub mod Adding
-pub mod Reaching
-pub mod Nearing
+pub mod Stood
+pub mod Repeats
+pub mod Keys
+pub mod Least
+pub mod Left
 pub mod Judging
 pub mod Walking
 pub mod Verdicts
-pub mod Stood
 pub mod Orders
 pub mod Laws
 pub mod Tables

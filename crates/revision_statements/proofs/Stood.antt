@@ -18,7 +18,7 @@ use Rattle.styling.proofs.Ascents.{ascends-head, ascends-tail}
 use Rattle.revision_statements.specs.Sent.{Sent, idOf, hasProperties}
 use Rattle.revision_statements.specs.Standing.{higherOf, addSent, addSents, latestIn, standingOf, sentIds}
 use Rattle.revision_statements.specs.Verdict.{isTwin, hasTwins}
-use Rattle.revision_statements.specs.Laws.{Among, Stood}
+use Rattle.revision_statements.specs.Laws.{Among, Highest, Stood}
 use Rattle.revision_statements.proofs.Adding.{Order, equal, less, more, order, Higher, stays, yields, higher, add-there, add-before, add-after, latest-ascends}
 
 -- ---- a record is one of a list
@@ -128,7 +128,7 @@ unfolding addSents
 sent-topped r (s ∷ ss) ts (inl e) = all-topped r ss (addSent s ts) (rw e (topped-new r ts))
 sent-topped r (s ∷ ss) ts (inr a) = sent-topped r ss (addSent s ts) a
 
-latest-among : (r : Sent) (ss : List Sent) → Among r (latestIn ss) → Among r ss
+pub latest-among : (r : Sent) (ss : List Sent) → Among r (latestIn ss) → Among r ss
 latest-among r ss a = ⊎-elim (λ (w : Among r ss). w) (λ (w : Among r []). absurd w) (all-among r ss [] a)
 
 -- ---- one record for each layer, and one for each layer and revision
@@ -162,25 +162,33 @@ no-twins a b (s ∷ ss) h (inr p) (inl q) e r =
     absurd (clash (is-twin s a (e ∙ sym (ap idOf q)) (r ∙ sym (ap (λ (x : Sent). x .revision) q))) (no-twin s a ss (or-left (any (isTwin s) ss) (hasTwins ss) h) p))
 no-twins a b (s ∷ ss) h (inr p) (inr q) e r = no-twins a b ss (or-right (any (isTwin s) ss) (hasTwins ss) h) p q e r
 
+-- ---- of each layer the highest
+
+pub latest-highest : (s : Sent) (ss : List Sent) → Among s (latestIn ss) → Highest s ss
+latest-highest s ss a t b e = by (sent-topped t ss [] b)
+  where
+    by : Topped t (latestIn ss) → t .revision ≤ s .revision
+    by (top u k p h) =
+        let same : u ≡ s = one-of-layer 0 u s (latestIn ss) (latest-ascends ss) k a (p ∙ e) in
+        omega (arith, h, ap (λ (x : Sent). x .revision) same)
+
+pub latest-has : (s : Sent) (ss : List Sent) → hasTwins ss ≡ false → Among s ss → Highest s ss → Among s (latestIn ss)
+latest-has s ss h a k = by (sent-topped s ss [] a)
+  where
+    by : Topped s (latestIn ss) → Among s (latestIn ss)
+    by (top u b p l) =
+        let given : Among u ss = latest-among u ss b in
+        let same : u ≡ s = no-twins u s ss h given a p (le-antisymm (k u given p) l) in
+        rw (← same) b
+
 -- ---- which stand
 
 pub stood : (s : Sent) (ss : List Sent) → Among s (standingOf ss) → Stood s ss
 unfolding standingOf
 stood s ss a =
     let kept = among-kept hasProperties s (latestIn ss) a in
-    record { among = latest-among s ss (kept .0); highest = λ t b e. above t e (sent-topped t ss [] b) (kept .0); properties = kept .1 }
-  where
-    above : (t : Sent) → idOf t ≡ idOf s → Topped t (latestIn ss) → Among s (latestIn ss) → t .revision ≤ s .revision
-    above t e (top u b p h) k =
-        let same : u ≡ s = one-of-layer 0 u s (latestIn ss) (latest-ascends ss) b k (p ∙ e) in
-        omega (arith, h, ap (λ (x : Sent). x .revision) same)
+    record { among = latest-among s ss (kept .0); highest = latest-highest s ss (kept .0); properties = kept .1 }
 
 pub stands : (s : Sent) (ss : List Sent) → hasTwins ss ≡ false → Stood s ss → Among s (standingOf ss)
 unfolding standingOf
-stands s ss h w = by (sent-topped s ss [] (w .among))
-  where
-    by : Topped s (latestIn ss) → Among s (filter hasProperties (latestIn ss))
-    by (top u b p l) =
-        let given : Among u ss = latest-among u ss b in
-        let same : u ≡ s = no-twins u s ss h given (w .among) p (le-antisymm (w .highest u given p) l) in
-        kept-among hasProperties s (latestIn ss) (rw (← same) b) (w .properties)
+stands s ss h w = kept-among hasProperties s (latestIn ss) (latest-has s ss h (w .among) (w .highest)) (w .properties)

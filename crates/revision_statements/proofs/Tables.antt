@@ -123,10 +123,10 @@ module _ (ss : List Sent) (d : Sent) (oldWords : List ℕ) (oldFloats : List Flo
       (λ i h. List·getD-map sentLayer ss i d ∙ sym (ap₂ layerOf (entry-words ss oldWords oldFloats i d h) (entry-color ss oldWords oldFloats i d h))))
 
 -- what is written holds every entry that stands
-long-enough : {records : List ℕ} {colors : List Float} {count : ℕ} {oldWords : List ℕ} {oldFloats : List Float} → Passed records colors count oldWords oldFloats → let ss = standingOf (sentOf records colors count) in isTableShort (over (wordsIn ss) oldWords) (over (floatsIn ss) oldFloats) (length ss) ≡ false
+long-enough : {records : List ℕ} {colors : List Float} {oldWords : List ℕ} {oldFloats : List Float} → Passed records colors oldWords oldFloats → let ss = standingOf (sentOf records colors) in isTableShort (over (wordsIn ss) oldWords) (over (floatsIn ss) oldFloats) (length ss) ≡ false
 unfolding isTableShort
-long-enough {records} {colors} {count} {oldWords} {oldFloats} p =
-    let ss = standingOf (sentOf records colors count) in
+long-enough {records} {colors} {oldWords} {oldFloats} p =
+    let ss = standingOf (sentOf records colors) in
     let words = over (wordsIn ss) oldWords in
     let floats = over (floatsIn ss) oldFloats in
     let words-same : length words ≡ length oldWords = length-over oldWords (wordsIn ss) (omega (arith, length-words ss, p .room .words-long)) in
@@ -142,19 +142,19 @@ valid ss oldWords oldFloats g =
     (all-map inRange (λ s. s .words) standing ∙ standing-range ss g)
     (ap strictlyAscends (map-map (λ w. w .id) (λ s. s .words) standing) ∙ ascending ss))
 
-pub is-table : (records : List ℕ) (colors : List Float) (count : ℕ) {n : ℕ} {oldWords words : List ℕ} {oldFloats floats : List Float} → Stands (standVerdict records colors count oldWords oldFloats) (sentOf records colors count) oldWords oldFloats (given n) words floats → Begins (sentOf records colors count) n words floats
+pub is-table : (records : List ℕ) (colors : List Float) {n : ℕ} {oldWords words : List ℕ} {oldFloats floats : List Float} → Stands (standVerdict records colors oldWords oldFloats) (sentOf records colors) oldWords oldFloats (given n) words floats → Begins (sentOf records colors) n words floats
 unfolding isTable
-is-table records colors count {n} {oldWords} {words} {oldFloats} {floats} w = by (standVerdict records colors count oldWords oldFloats) refl w
+is-table records colors {n} {oldWords} {words} {oldFloats} {floats} w = by (standVerdict records colors oldWords oldFloats) refl w
   where
     ss : List Sent
-    ss = sentOf records colors count
+    ss = sentOf records colors
 
-    by : (v : Judgement) → standVerdict records colors count oldWords oldFloats ≡ v → Stands v ss oldWords oldFloats (given n) words floats → Begins ss n words floats
+    by : (v : Judgement) → standVerdict records colors oldWords oldFloats ≡ v → Stands v ss oldWords oldFloats (given n) words floats → Begins ss n words floats
     by (refuse k) e u = let q = u .answer in absurd (let z : _≡_ {A = ℕ} 0 1 = cc in omega arith)
     by pass e u =
         let q = u .answer in
         let counted : n ≡ length (standingOf ss) = cc in
-        let p : Passed records colors count oldWords oldFloats = passes e in
+        let p : Passed records colors oldWords oldFloats = passes e in
         let long : isTableShort (over (wordsIn (standingOf ss)) oldWords) (over (floatsIn (standingOf ss)) oldFloats) (length (standingOf ss)) ≡ false = long-enough p in
         record {
           table = rw (u .words-are, u .floats-are, counted, long) (valid ss oldWords oldFloats (p .good));

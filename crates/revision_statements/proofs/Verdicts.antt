@@ -1,62 +1,49 @@
 -- The judge's answers, one after the other, and what holds where it passes. Assumes nothing.
 use mathlib.Core.Path.{_≡_, refl, sym, ap, _∙_}
-use mathlib.Core.Bool.{true, false, not, _||_}
+use mathlib.Core.Bool.{true, false, not}
 use mathlib.Core.List.{List}
-use mathlib.Core.Logic.{⊎-elim}
-use Prim.Native.Nat.{ℕ, _*_, _≤_, _<_, min}
+use Prim.Native.Nat.{ℕ, _*_, _≤_, _<_}
 use native.Mathlib.Omega.{arith}
-use borrow.Author.Tests.{lt-ltb, le-ltb, ltb-false, not-false}
-use lib.Dec.{ltb}
+use borrow.Author.Tests.{not-false}
 use lib.Ieee.{Float}
-use lib.ListN.{length}
+use lib.ListN.{length, getD}
 use Rattle.laws.specs.Answer.{refused, given}
 use Rattle.laws.specs.Lists.{tabulate, all}
 use Rattle.laws.proofs.Every.{all-intro}
-use Rattle.laws.proofs.Orders.{le-or-lt}
 use Rattle.laws.proofs.Rows.{length-tabulate, getD-tabulate}
 use Rattle.refusals.specs.Refusal.{Judgement, pass, refuse}
-use Rattle.refusals.proofs.Judging.{passed, or-left, or-right}
+use Rattle.refusals.proofs.Judging.{passed}
 use Rattle.layer_table.specs.Table.{isTableShort}
 use Rattle.layer_table.proofs.Judging.{Long, long}
-use Rattle.revision_statements.specs.Sent.{Sent, isGood, sentAt, sentRoom, sentOf}
+use Rattle.revision_statements.specs.Sent.{Sent, isGood, sentAt, sentRoom, firstSent, sentOf}
 use Rattle.revision_statements.specs.Standing.{standingOf}
 use Rattle.revision_statements.specs.Verdict.{hasTwins, standVerdict, Stands}
-use Rattle.revision_statements.specs.InnerWalk.{firstSent, RecordsJudged, Room, Written}
-use Rattle.revision_statements.proofs.Judging.{good-at}
+use Rattle.revision_statements.specs.InnerWalk.{RecordsJudged, Room, Written}
+use Rattle.revision_statements.proofs.Keys.{good-at}
 
--- the records that are there
-module _ (records : List ℕ) (colors : List Float) (count n : ℕ) (there : n ≡ min count (sentRoom records colors)) where
-  first-is : firstSent records colors n ≡ sentOf records colors count
-  unfolding firstSent sentOf
-  first-is = rw there refl
+-- ---- the answers
 
-  lacks-is : ltb n count ≡ ltb (sentRoom records colors) count
-  lacks-is =
-      ⊎-elim
-      (λ (h : count ≤ sentRoom records colors). le-ltb n count (omega (arith, there)) ∙ sym (le-ltb (sentRoom records colors) count h))
-      (λ (h : sentRoom records colors < count). lt-ltb n count (omega (arith, there)) ∙ sym (lt-ltb (sentRoom records colors) count h))
-      (le-or-lt count (sentRoom records colors))
+module _ (records : List ℕ) (colors : List Float) (n : ℕ) (there : n ≡ sentRoom records colors) (words : List ℕ) (floats : List Float) where
+  first-is : firstSent records colors n ≡ sentOf records colors
+  first-is = ap (firstSent records colors) there
 
-  -- ---- the answers
+  pub says-4 : all isGood (firstSent records colors n) ≡ false → refuse 4 ≡ standVerdict records colors words floats
+  unfolding standVerdict
+  says-4 g = rw (← first-is, g) refl
 
-  module _ (words : List ℕ) (floats : List Float) where
-    pub says-4 : all isGood (firstSent records colors n) ≡ false → refuse 4 ≡ standVerdict records colors count words floats
+  module _ (good : all isGood (firstSent records colors n) ≡ true) where
+    pub says-15 : hasTwins (firstSent records colors n) ≡ true → refuse 15 ≡ standVerdict records colors words floats
     unfolding standVerdict
-    says-4 g = rw (← first-is, g) refl
+    says-15 t = rw (← first-is, good, t) refl
 
-    module _ (good : all isGood (firstSent records colors n) ≡ true) where
-      pub says-15 : hasTwins (firstSent records colors n) ≡ true → refuse 15 ≡ standVerdict records colors count words floats
+    module _ (single : hasTwins (firstSent records colors n) ≡ false) {k : ℕ} (counted : k ≡ length (standingOf (firstSent records colors n))) where
+      pub says-1 : isTableShort words floats k ≡ true → refuse 1 ≡ standVerdict records colors words floats
       unfolding standVerdict
-      says-15 t = rw (← first-is, good, t) refl
+      says-1 s = rw (← first-is, good, single, ← counted, s) refl
 
-      module _ (single : hasTwins (firstSent records colors n) ≡ false) {k : ℕ} (counted : k ≡ length (standingOf (firstSent records colors n))) where
-        pub says-1 : (ltb n count || isTableShort words floats k) ≡ true → refuse 1 ≡ standVerdict records colors count words floats
-        unfolding standVerdict
-        says-1 s = rw (← first-is, good, single, ← lacks-is, ← counted, s) refl
-
-        pub says-pass : (ltb n count || isTableShort words floats k) ≡ false → pass ≡ standVerdict records colors count words floats
-        unfolding standVerdict
-        says-pass s = rw (← first-is, good, single, ← lacks-is, ← counted, s) refl
+      pub says-pass : isTableShort words floats k ≡ false → pass ≡ standVerdict records colors words floats
+      unfolding standVerdict
+      says-pass s = rw (← first-is, good, single, ← counted, s) refl
 
 -- ---- where it passes
 
@@ -72,47 +59,29 @@ good-always records floats floats′ n h =
     all-intro isGood (tabulate n f) (f 0)
     (λ i l. let p : i < n = omega (arith, length-tabulate n f) in rw (getD-tabulate n f (f 0) i p) (same-good records floats floats′ i (good-at records floats n h i p)))
 
-pub record Passed (records : List ℕ) (colors : List Float) (count : ℕ) (words : List ℕ) (floats : List Float) : Type 0 where
-  pub enough : count ≤ sentRoom records colors
-  pub whole : firstSent records colors count ≡ sentOf records colors count
-  pub good : all isGood (sentOf records colors count) ≡ true
-  pub single : hasTwins (sentOf records colors count) ≡ false
-  pub room : Room (length (standingOf (sentOf records colors count))) words floats
+pub record Passed (records : List ℕ) (colors : List Float) (words : List ℕ) (floats : List Float) : Type 0 where
+  pub good : all isGood (sentOf records colors) ≡ true
+  pub single : hasTwins (sentOf records colors) ≡ false
+  pub room : Room (length (standingOf (sentOf records colors))) words floats
 
-module _ {records : List ℕ} {colors : List Float} {count : ℕ} {words : List ℕ} {floats : List Float} where
-  pub passes : standVerdict records colors count words floats ≡ pass → Passed records colors count words floats
+module _ {records : List ℕ} {colors : List Float} {words : List ℕ} {floats : List Float} where
+  pub passes : standVerdict records colors words floats ≡ pass → Passed records colors words floats
   unfolding standVerdict
   passes e =
-      let ss = sentOf records colors count in
-      let lacking = ltb (sentRoom records colors) count in
-      let short = isTableShort words floats (length (standingOf ss)) in
+      let ss = sentOf records colors in
       let first = passed (not (all isGood ss)) 4 _ e in
       let second = passed (hasTwins ss) 15 _ (first .1) in
-      let third = passed (lacking || short) 1 pass (second .1) in
-      let enough : count ≤ sentRoom records colors = ltb-false (sentRoom records colors) count (or-left lacking short (third .0)) in
-      let fits : Long words floats (length (standingOf ss)) = long (or-right lacking short (third .0)) in
+      let third = passed (isTableShort words floats (length (standingOf ss))) 1 pass (second .1) in
+      let fits : Long words floats (length (standingOf ss)) = long (third .0) in
       record {
-        enough = enough;
-        whole = first-is records colors count count (omega (arith, enough));
         good = not-false (all isGood ss) (first .0);
         single = second .0;
         room = record { words-long = fits .words-long; floats-long = fits .floats-long };
       }
 
-  module _ (p : Passed records colors count words floats) where
-    -- what writing asks
-    pub judged : RecordsJudged records count
-    judged =
-        record {
-          long = omega (arith, p .enough);
-          good = λ fs. good-always records colors fs count (rw (p .whole) (p .good));
-        }
-
-    pub long-colors : 4 * count ≤ length colors
-    long-colors = omega (arith, p .enough)
-
-    pub table-room : Room (length (standingOf (firstSent records colors count))) words floats
-    table-room = rw (p .whole) (p .room)
+  -- what writing asks
+  pub judged : Passed records colors words floats → ((i : ℕ) → getD records i 0 < 4294967296) → RecordsJudged records (sentRoom records colors)
+  judged p w = record { long = omega arith; words = w; good = λ fs. good-always records colors fs (sentRoom records colors) (p .good) }
 
 -- ---- what a call leaves
 

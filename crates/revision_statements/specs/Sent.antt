@@ -55,10 +55,14 @@ sentAt records floats i =
       color = colorAt floats i;
     }
 
--- how many records the lent memory holds
+-- how many records the lent memory holds: each has its ten words and its four floats. What is left over plays no part
 abbrev pub sentRoom : List ℕ → List Float → ℕ
 sentRoom records floats = min (length records / 10) (length floats / 4)
 
--- the records: as many as are counted, or as are there
-unfoldable pub sentOf : List ℕ → List Float → ℕ → List Sent
-sentOf records floats count = tabulate (min count (sentRoom records floats)) (sentAt records floats)
+-- the first n records of the lent memory
+unfoldable pub firstSent : List ℕ → List Float → ℕ → List Sent
+firstSent records floats n = tabulate n (sentAt records floats)
+
+-- all of them
+abbrev pub sentOf : List ℕ → List Float → List Sent
+sentOf records floats = firstSent records floats (sentRoom records floats)

@@ -5,7 +5,7 @@ use mathlib.Core.Path.{_≡_}
 use mathlib.Core.Bool.{Bool, false, not, _&&_, _||_}
 use mathlib.Core.List.{List, [], _∷_}
 use Prim.Native.Nat.{ℕ}
-use lib.Dec.{eqb, ltb}
+use lib.Dec.{eqb}
 use lib.Ieee.{Float}
 use lib.ListN.{length}
 use Rattle.laws.specs.Answer.{Answer, refused, given}
@@ -14,7 +14,7 @@ use Rattle.refusals.specs.Refusal.{Judgement, pass, refuse, unless, numberOf}
 use Rattle.layer_table.specs.Table.{isTableShort}
 use Rattle.revision_statements.specs.declared.Standing.{Standing}
 use Rattle.revision_statements.specs.declared.Standing.the-variants.{Layers, Refused}
-use Rattle.revision_statements.specs.Sent.{Sent, idOf, isGood, sentRoom, sentOf}
+use Rattle.revision_statements.specs.Sent.{Sent, idOf, isGood, sentOf}
 use Rattle.revision_statements.specs.Standing.{standingOf}
 
 -- ---- the judge
@@ -27,13 +27,13 @@ unfoldable pub hasTwins : List Sent → Bool
 hasTwins [] = false
 hasTwins (s ∷ ss) = any (isTwin s) ss || hasTwins ss
 
--- 4 and 15 are judged on the records that are there; 1 is that the table is too short for the standing layers, or the records for their count
-abbrev pub verdictOn : Bool → List Sent → List ℕ → List Float → Judgement
-verdictOn lacking ss words floats =
-    unless (not (all isGood ss)) 4 (unless (hasTwins ss) 15 (unless (lacking || isTableShort words floats (length (standingOf ss))) 1 pass))
+-- 4, then 15, then 1: the table is too short for the standing layers
+abbrev pub verdictOn : List Sent → List ℕ → List Float → Judgement
+verdictOn ss words floats =
+    unless (not (all isGood ss)) 4 (unless (hasTwins ss) 15 (unless (isTableShort words floats (length (standingOf ss))) 1 pass))
 
-unfoldable pub standVerdict : List ℕ → List Float → ℕ → List ℕ → List Float → Judgement
-standVerdict records colors count words floats = verdictOn (ltb (sentRoom records colors) count) (sentOf records colors count) words floats
+unfoldable pub standVerdict : List ℕ → List Float → List ℕ → List Float → Judgement
+standVerdict records colors words floats = verdictOn (sentOf records colors) words floats
 
 -- ---- the answer: how many layers stand
 

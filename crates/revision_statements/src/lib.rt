@@ -8,9 +8,15 @@ pub enum Standing {
     Refused(Refusal),
 }
 
-// The record that a pass has come to: its layer, its revision, and its place among the records.
-pub struct Nearest {
-    pub id: u32,
-    pub revision: u32,
+// The record that a walk has come to: its layer and revision in one number, and its place among the records. The
+// greatest number is past every record, and then the place plays no part.
+pub struct Reached {
+    pub key: u64,
     pub at: usize,
+}
+
+// How many layers and revisions there are, and how many records stand.
+pub struct Counted {
+    pub own: usize,
+    pub standing: usize,
 }

@@ -8,37 +8,38 @@ use refusals::Refusal;
 use refusals::Verdict;
 use revision_statements::Standing;
 ghost use mathlib.Core.Path.{_≡_};
-ghost use Prim.Native.Nat.{min};
 ghost use Rattle.refusals.specs.Refusal.{judgementIn};
 ghost use Rattle.revision_statements.specs.Sent.{sentRoom, sentOf};
 ghost use Rattle.revision_statements.specs.Verdict.{standVerdict, standingAnswer, Stands};
 
-fn lesser(a: usize, b: usize) -> usize
-    ensures { λ r. ⌜ r ≡ min a b ⌝ }
+// How many records the lent memory holds. What is left over plays no part.
+fn sent_room(records: &[u32], record_colors: &[f32]) -> usize
+    ensures { λ r. ⌜ r ≡ sentRoom (now (records .entry)) (now («record_colors» .entry)) ⌝ }
 {
-    if a < b { a } else { b }
+    let words = records.len() / 10;
+    let floats = record_colors.len() / 4;
+    if words < floats { words } else { floats }
 }
 
 // Refusals 4, 15 and 1, the first of them that applies.
 pub fn judge_records(
     records: &[u32],
     record_colors: &[f32],
-    count: usize,
     layers: &[u32],
     colors: &[f32],
 ) -> Verdict
-    ensures { λ r. ⌜ judgementIn r ≡ standVerdict (now (records .entry)) (now («record_colors» .entry)) count
+    ensures { λ r. ⌜ judgementIn r ≡ standVerdict (now (records .entry)) (now («record_colors» .entry))
         (now (layers .entry)) (now (colors .entry)) ⌝ }
 {
-    let n = lesser(count, lesser(records.len() / 10, record_colors.len() / 4));
+    let n = sent_room(records, record_colors);
     if !judging::are_good(records, n) {
         return Verdict::Refuse(Refusal::Table);
     }
-    if judging::has_twins(records, n) {
+    let counted = revision_walk::count(records, n);
+    if counted.own < n {
         return Verdict::Refuse(Refusal::Revisions);
     }
-    let standing = revision_walk::count_standing(records, n);
-    if (n < count) | layer_table::is_short(layers, colors, standing) {
+    if layer_table::is_short(layers, colors, counted.standing) {
         return Verdict::Refuse(Refusal::Room);
     }
     Verdict::Pass
@@ -49,20 +50,23 @@ pub fn judge_records(
 pub fn stand(
     records: &[u32],
     record_colors: &[f32],
-    count: usize,
     layers: &mut [u32],
     colors: &mut [f32],
 ) -> Standing
     ensures { λ r. ⌜ Stands
-        (standVerdict (now (records .entry)) (now («record_colors» .entry)) count (now (layers .entry))
+        (standVerdict (now (records .entry)) (now («record_colors» .entry)) (now (layers .entry))
         (now (colors .entry)))
-        (sentOf (now (records .entry)) (now («record_colors» .entry)) count)
+        (sentOf (now (records .entry)) (now («record_colors» .entry)))
         (now (layers .entry)) (now (colors .entry)) (standingAnswer r) (now (layers .exit)) (now (colors .exit)) ⌝ }
 {
-    match judge_records(records, record_colors, count, layers, colors) {
+    match judge_records(records, record_colors, layers, colors) {
         Verdict::Refuse(refusal) => Standing::Refused(refusal),
-        Verdict::Pass => {
-            Standing::Layers(writing::write_standing(records, record_colors, count, layers, colors))
-        },
+        Verdict::Pass => Standing::Layers(writing::write_standing(
+            records,
+            record_colors,
+            sent_room(records, record_colors),
+            layers,
+            colors,
+        )),
     }
 }

@@ -4,8 +4,8 @@ use std::hint::black_box;
 
 use crate::{
     tally::caught,
-    timed_batches, timed_bounds, timed_crate, timed_four_high, timed_parts, timed_rows, timed_sets, timed_tiles,
-    timed_words,
+    timed_batches, timed_bounds, timed_crate, timed_four_high, timed_parts, timed_revisions, timed_rows, timed_sets,
+    timed_tiles, timed_words,
     timing::{Bench, ROUNDS},
 };
 
@@ -46,4 +46,6 @@ pub fn print(only: String) {
     timed_sets::print(bench);
     bench.titled("Covers within bounds", ["painted four times", "bounded"]);
     timed_bounds::print(bench);
+    bench.titled("Records of which some stand", ["plain Rust", "here"]);
+    timed_revisions::print(bench);
 }

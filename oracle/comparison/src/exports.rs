@@ -225,7 +225,6 @@ extern "C" {
         records_len: usize,
         record_colors: *const f32,
         record_colors_len: usize,
-        count: usize,
         layers: *mut u32,
         layers_len: usize,
         colors: *mut f32,

@@ -57,6 +57,7 @@ pub mod timed_bounds;
 pub mod timed_crate;
 pub mod timed_four_high;
 pub mod timed_parts;
+pub mod timed_revisions;
 pub mod timed_rows;
 pub mod timed_scenes;
 pub mod timed_sets;

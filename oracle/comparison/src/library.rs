@@ -320,14 +320,13 @@ pub fn bound_part(call: &BoundsCall) -> (u32, Bounded) {
 }
 
 /// The number of the refusal; the table holds what the call left, and its count how many layers stand.
-pub fn stand(records: &[u32], record_colors: &[f32], count: usize, table: &mut LentTable) -> u32 {
+pub fn stand(records: &[u32], record_colors: &[f32], table: &mut LentTable) -> u32 {
     unsafe {
         exports::ffi_stand(
             records.as_ptr(),
             records.len(),
             record_colors.as_ptr(),
             record_colors.len(),
-            count,
             table.layers.as_mut_ptr(),
             table.layers.len(),
             table.colors.as_mut_ptr(),

@@ -45,7 +45,6 @@ struct Sent {
 struct Call {
     records: Vec<u32>,
     colors: Vec<f32>,
-    count: usize,
 }
 
 impl Call {
@@ -53,10 +52,10 @@ impl Call {
         let words = |one: &Sent| [vec![one.id, one.revision, one.kind], one.properties.to_vec()].concat();
         let (records, colors) =
             (sent.iter().flat_map(words).collect(), sent.iter().flat_map(|one| one.color).collect());
-        Self { records, colors, count: sent.len() }
+        Self { records, colors }
     }
 
-    /// The records that are there, no more than are counted.
+    /// The records that are there, each with its ten words and its four floats.
     fn sent(&self) -> Vec<Sent> {
         let one = |(words, color): (&[u32], &[f32])| Sent {
             id: words[0],
@@ -65,7 +64,7 @@ impl Call {
             properties: words[3..].try_into().unwrap(),
             color: color.try_into().unwrap(),
         };
-        self.records.chunks_exact(10).zip(self.colors.chunks_exact(4)).take(self.count).map(one).collect()
+        self.records.chunks_exact(10).zip(self.colors.chunks_exact(4)).map(one).collect()
     }
 
     fn is_same(&self, other: &Self) -> bool {
@@ -89,7 +88,7 @@ fn standing(call: &Call, room: usize) -> Result<BTreeMap<u32, Sent>, u32> {
     // Of each layer the last, which has the highest revision.
     let mut highest: BTreeMap<u32, Sent> = ascending.into_iter().map(|one| (one.id, one)).collect();
     highest.retain(|_, one| one.kind == PROPERTIES);
-    if sent.len() < call.count || room < highest.len() {
+    if room < highest.len() {
         return Err(1);
     }
     Ok(highest)
@@ -132,7 +131,7 @@ fn check(kind: &mut Kind, call: &Call, before: &LentTable) -> Option<LentTable> 
         _ => "refused by 15",
     });
     let (lent, mut after) = (call.clone(), before.clone());
-    let number = library::stand(&lent.records, &lent.colors, lent.count, &mut after);
+    let number = library::stand(&lent.records, &lent.colors, &mut after);
     let same = number == expected && bits(&after) == bits(&wanted) && lent.is_same(call);
     kind.case(same, || {
         format!("{call:?}, room {room}: expected {expected}, {wanted:?}, the library {number}, {after:?}")
@@ -216,16 +215,16 @@ fn any_sent(kind: &mut Kind) {
     check(kind, &call, &table);
 }
 
-/// At times fewer records than are counted, more of them, or a part of one.
+/// At times a part of a record behind them, a part less, or more words or colours than belong together.
 fn shorten(random: &mut Random, call: &mut Call) {
     match random.below(24) {
-        0 => call.count += 1,
-        1 => call.count = usize::MAX,
-        2 => call.records.truncate(call.records.len().saturating_sub(1)),
-        3 => call.colors.truncate(call.colors.len().saturating_sub(1)),
-        4 => call.count = random.below(call.count + 1),
-        5 => call.records.extend([u32::MAX; 13]),
-        6 => call.colors.extend([f32::NAN; 7]),
+        0 => call.records.truncate(call.records.len().saturating_sub(1)),
+        1 => call.colors.truncate(call.colors.len().saturating_sub(1)),
+        2 => call.records.extend([u32::MAX; 9]),
+        3 => call.records.extend([u32::MAX; 13]),
+        4 => call.colors.extend([f32::NAN; 7]),
+        5 => call.records.truncate(random.below(call.records.len() + 1)),
+        6 => call.colors.truncate(random.below(call.colors.len() + 1)),
         _ => (),
     }
 }

@@ -1,29 +1,30 @@
 -- `stand` meets its contract: a refusal leaves all as it was, and what passes is written. Assumes nothing.
 use mathlib.Core.Path.{sym, ap, _∙_}
+use native.Mathlib.Omega.{arith}
 use borrow.Author.Needs.{needs}
 use Rattle.refusals.specs.Refusal.{judgementIn}
-use Rattle.revision_statements.proofs.Verdicts.{passes, judged, long-colors, table-room, stands-refused, stands-written}
+use Rattle.revision_statements.proofs.Verdicts.{passes, judged, stands-refused, stands-written}
 use Rattle.revisions.proofs.stand.Statement.{statement}
 use Rattle.revisions.proofs.stand.Tie as tie
 
 write-standing-requires : tie.Need-write-standing-requires
 write-standing-requires c κs =
-    let p = passes (sym (c .before .before .before .before .judge-records .ensures) ∙ ap judgementIn (c .before .before .enum-told .given .1)) in
-    (judged p, long-colors p, table-room p)
+    let p = passes (sym (c .before .before .before .before .before .judge-records .ensures) ∙ ap judgementIn (c .before .before .before .enum-told .given .1)) in
+    rw (c .before .before .sent-room .ensures) (judged p (λ i. c .before .before .before .before .before .before .before .before .before .before .before .shared-slice-known .given i .fits), omega arith, p .single, p .room)
 
 returns : tie.Need-returns
 returns c = stands-refused _ _ _ (sym (ap judgementIn (c .before .refusal .given .1)) ∙ c .before .before .before .judge-records .ensures)
 
 returns-2 : tie.Need-returns-2
 returns-2 c =
-    let v = sym (c .before .before .before .before .before .before .before .before .before .judge-records .ensures) ∙ ap judgementIn (c .before .before .before .before .before .before .before .enum-told .given .1) in
-    stands-written (sym v) (rw (passes v .whole) at (c .before .before .before .before .write-standing .ensures))
+    stands-written (sym (sym (c .before .before .before .before .before .before .before .before .before .before .judge-records .ensures) ∙ ap judgementIn (c .before .before .before .before .before .before .before .before .enum-told .given .1)))
+    (rw (c .before .before .before .before .before .before .before .sent-room .ensures) at (c .before .before .before .before .write-standing .ensures))
 
 pub stand-spec : {M : Type 1} → statement M
 stand-spec =
     tie.close
     (tie.spec
-    (λ c κs. search needs) (λ c. search needs) (λ c. search needs)
+    (λ c κs. search needs) (λ c. search needs) (λ c. search needs) (λ c κs. search needs)
     write-standing-requires
     (λ c. search needs) (λ c. search needs)
     returns
