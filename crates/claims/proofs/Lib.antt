@@ -13,3 +13,4 @@ pub mod Texts
 pub mod Loads
 pub mod Sets
 pub mod Bounds
+pub mod Revisions

@@ -13,4 +13,5 @@ pub mod Texts
 pub mod Loads
 pub mod Sets
 pub mod Bounds
+pub mod Revisions
 pub mod FourHigh

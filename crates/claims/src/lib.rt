@@ -58,6 +58,7 @@ ghost use Rattle.claims.specs.Texts.{JobTexts};
 ghost use Rattle.claims.specs.Loads.{Loads};
 ghost use Rattle.claims.specs.Sets.{SegmentSets};
 ghost use Rattle.claims.specs.Bounds.{CoverBounds};
+ghost use Rattle.claims.specs.Revisions.{Revisions};
 ghost use Rattle.claims.specs.FourHigh.{RowsApart};
 
 // Demand 3: any accepted opening and any list of calls after it, refused ones included. By works and paintings; with
@@ -118,9 +119,9 @@ pub fn job_texts() -> bool
     true
 }
 
-// W-207, kept sets of segments; W-211, covers within bounds.
-pub fn sets_and_bounds() -> bool
-    ensures { λ r. ⌜ SegmentSets × CoverBounds ⌝ }
+// W-207, kept sets of segments; W-211, covers within bounds; W-212, which layer record stands.
+pub fn sets_bounds_records() -> bool
+    ensures { λ r. ⌜ SegmentSets × CoverBounds × Revisions ⌝ }
 {
     true
 }

@@ -18,7 +18,7 @@ use Rattle.styling.proofs.Ascents.{ascends-head, ascends-tail, ascends-weaken}
 use Rattle.revision_statements.specs.Sent.{Sent, idOf, hasProperties, sentAt, sentRoom, firstSent, sentOf}
 use Rattle.revision_statements.specs.Standing.{latestIn, standingOf, sentIds}
 use Rattle.revision_statements.specs.Verdict.{isTwin, hasTwins}
-use Rattle.revision_statements.specs.Laws.{Among, Highest, Stood, Reordered}
+use Rattle.revision_statements.specs.Laws.{Among, Highest, Stood, Reordered, Given}
 use Rattle.revision_statements.proofs.Adding.{latest-ascends}
 use Rattle.revision_statements.proofs.Stood.{Place, at, place, no-twins, stood, stands}
 use Rattle.revision_statements.proofs.Orders.{turned, moved, reordered-among, reordered-twins, same-records}
@@ -43,9 +43,6 @@ ascending ss = filter-ascends hasProperties 0 (latestIn ss) (latest-ascends ss)
 
 -- ---- every entry is one of the records given: which one, by its place
 
-pub data Given (records : List ℕ) (floats : List Float) (s : Sent) : Type 0 where
-  sent : (i : ℕ) → i < sentRoom records floats → sentAt records floats i ≡ s → Given records floats s
-
 pub given-one : (records : List ℕ) (floats : List Float) (s : Sent) → Among s (standingOf (sentOf records floats)) → Given records floats s
 unfolding firstSent
 given-one records floats s a = by (place s (sentOf records floats) (stood s (sentOf records floats) a .among))
@@ -56,7 +53,7 @@ given-one records floats s a = by (place s (sentOf records floats) (stood s (sen
     by : Place s (sentOf records floats) → Given records floats s
     by (at i h e) =
         let within : i < n = omega (arith, length-tabulate n (sentAt records floats)) in
-        sent i within (sym (getD-tabulate n (sentAt records floats) s i within) ∙ e)
+        Given.sent i within (sym (getD-tabulate n (sentAt records floats) s i within) ∙ e)
 
 -- ---- of each layer the highest revision stands; a withdrawal that stands leaves the layer out
 

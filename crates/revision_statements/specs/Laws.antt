@@ -3,18 +3,22 @@ use mathlib.Core.Path.{_≡_}
 use mathlib.Core.Bool.{true}
 use mathlib.Core.Logic.{_⊎_}
 use mathlib.Core.List.{List, [], _∷_, map}
-use Prim.Native.Nat.{ℕ, _≤_}
+use Prim.Native.Nat.{ℕ, _≤_, _<_}
 use lib.Ieee.{Float}
 use Rattle.styling.specs.declared.Layer.{Layer}
 use Rattle.layer_table.specs.Record.{layerOf}
 use Rattle.layer_table.specs.Table.{tableOf, isTable}
-use Rattle.revision_statements.specs.Sent.{Sent, idOf, hasProperties}
+use Rattle.revision_statements.specs.Sent.{Sent, idOf, hasProperties, sentAt, sentRoom}
 use Rattle.revision_statements.specs.Standing.{standingOf}
 
 -- a record is one of a list
 abbrev pub Among : Sent → List Sent → Type 0
 Among s [] = ⊥
 Among s (t ∷ ts) = (t ≡ s) ⊎ Among s ts
+
+-- it is one of those that the lent memory holds, by its place
+pub data Given (records : List ℕ) (floats : List Float) (s : Sent) : Type 0 where
+  sent : (i : ℕ) → i < sentRoom records floats → sentAt records floats i ≡ s → Given records floats s
 
 -- no record of its layer has a higher revision
 abbrev pub Highest : Sent → List Sent → Type 0
