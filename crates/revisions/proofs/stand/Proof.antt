@@ -9,16 +9,19 @@ use Rattle.revisions.proofs.stand.Tie as tie
 
 write-standing-requires : tie.Need-write-standing-requires
 write-standing-requires c κs =
-    let p = passes (sym (c .before .before .before .before .before .judge-records .ensures) ∙ ap judgementIn (c .before .before .before .enum-told .given .1)) in
-    rw (c .before .before .sent-room .ensures) (judged p (λ i. c .before .before .before .before .before .before .before .before .before .before .before .shared-slice-known .given i .fits), omega arith, p .single, p .room)
+    let called = c .before .before .before .before .before in
+    let p = passes (sym (called .judge-records .ensures) ∙ ap judgementIn (c .before .before .before .enum-told .given .1)) in
+    let words = called .before .before .before .before .before .before in
+    rw (c .before .before .sent-room .ensures) (judged p (λ i. words .shared-slice-known .given i .fits), omega arith, p .single, p .room)
 
 returns : tie.Need-returns
 returns c = stands-refused _ _ _ (sym (ap judgementIn (c .before .refusal .given .1)) ∙ c .before .before .before .judge-records .ensures)
 
 returns-2 : tie.Need-returns-2
 returns-2 c =
-    stands-written (sym (sym (c .before .before .before .before .before .before .before .before .before .before .judge-records .ensures) ∙ ap judgementIn (c .before .before .before .before .before .before .before .before .enum-told .given .1)))
-    (rw (c .before .before .before .before .before .before .before .sent-room .ensures) at (c .before .before .before .before .write-standing .ensures))
+    let room = c .before .before .before .before .before .before .before in
+    let v = sym (room .before .before .before .judge-records .ensures) ∙ ap judgementIn (room .before .enum-told .given .1) in
+    stands-written (sym v) (rw (room .sent-room .ensures) at (c .before .before .before .before .write-standing .ensures))
 
 pub stand-spec : {M : Type 1} → statement M
 stand-spec =
