@@ -31,6 +31,18 @@ fn put(records: [u32; 60], i: usize, id: u32, revision: u32, kind: u32, mode: u3
     all
 }
 
+// The first `count` records, or all where there are fewer.
+fn first_records(records: &[u32], count: usize) -> &[u32] {
+    if 6 < count {
+        return records;
+    }
+    let end = 10 * count;
+    if records.len() < end {
+        return records;
+    }
+    &records[..end]
+}
+
 // Whether the first `count` records give an answer and, in a table of three entries, these ids; 9 stands where nothing
 // is written.
 fn gives(
@@ -44,11 +56,8 @@ fn gives(
     let record_colors = [0.5f32; 24];
     let mut layers = [9u32; 24];
     let mut colors = [0.0f32; 12];
-    if 6 < count {
-        return false;
-    }
-    let part = &records[..10 * count];
-    let got = told(revisions::stand(part, &record_colors, &mut layers, &mut colors));
+    let sent = first_records(&records, count);
+    let got = told(revisions::stand(sent, &record_colors, &mut layers, &mut colors));
     (got == answer) & (layers[0] == first) & (layers[8] == second) & (layers[16] == third)
 }
 
@@ -57,11 +66,8 @@ fn gives_one(records: [u32; 60], count: usize, answer: usize, first: u32) -> boo
     let record_colors = [0.5f32; 24];
     let mut layers = [9u32; 8];
     let mut colors = [0.0f32; 4];
-    if 6 < count {
-        return false;
-    }
-    let part = &records[..10 * count];
-    let got = told(revisions::stand(part, &record_colors, &mut layers, &mut colors));
+    let sent = first_records(&records, count);
+    let got = told(revisions::stand(sent, &record_colors, &mut layers, &mut colors));
     (got == answer) & (layers[0] == first)
 }
 
