@@ -234,6 +234,10 @@ fn from_paint_to_solid() {
     let draws = [draw(0, red).unchanged(), draw(1, GREEN).clipped(), draw(2, GREEN).clipped()];
     let mut shots = frames(&clips, &draws);
     is_let_go(&shots);
+    // The same by a layer that comes in and is masked off, while whoever was listed is listed still.
+    let ended = [draw(0, RED), half(clip(1, 0)), clip(3, 0)];
+    let [floor, first, last] = ended.clone().map(Layer::unchanged);
+    is_let_go(&frames(&ended, &[floor, first, draw(2, GREEN).clipped(), last]));
     shots.iter_mut().for_each(|shot| shot.clear = [0.0, 0.0, 0.0, 0.35]);
     is_let_go(&shots);
     let (bytes, cached) = by_the_rust(&shots);
