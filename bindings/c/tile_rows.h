@@ -87,9 +87,10 @@ bool ffi_update_solid_color(uint8_t tile[8], bool given, const uint8_t color[4],
    refusal. The tile's bytes are stored where the call is accepted and a tile is given. */
 uint32_t ffi_settle(bool given, uint8_t tile[8], const uint8_t color[4], bool *is_written);
 
-/* 0 and in `stays` whether the count may stay, or the number of the refusal: whoever of the `last` layers of the tile's
-   last accepted work was listed is listed still among the `n` of today, as the same kind. Where it may not, the count's
-   tag is dropped and nothing else. The tile's bytes are stored where the call is accepted and a tile is given. */
+/* 0 and in `stays` whether each of the `last` layers of one list stands among the `n` of another, as the same kind, or
+   the number of the refusal. Asked each way round about the layers that a tile showed and those that it would show, it
+   tells whether they are alike (docs/statements/kept.md). Where the answer is no, the count's tag is dropped and nothing
+   else. The tile's bytes are stored where the call is accepted and a tile is given. */
 uint32_t ffi_keep_count(
     const uint32_t *last_ids, size_t last_ids_len,
     const uint8_t *last_kinds, size_t last_kinds_len,

@@ -620,9 +620,10 @@ pub fn settle(given: bool, tile: &mut [u8; 8], color: &[u8; 4], is_written: &mut
     unsafe { raw::ffi_settle(given, tile, color, is_written) }
 }
 
-/// 0 and in `stays` whether the count may stay, or the number of the refusal: whoever of the `last` layers of the tile's
-/// last accepted work was listed is listed still among the `n` of today, as the same kind. Where it may not, the count's
-/// tag is dropped and nothing else. The tile's bytes are stored where the call is accepted and a tile is given.
+/// 0 and in `stays` whether each of the `last` layers of one list stands among the `n` of another, as the same kind, or
+/// the number of the refusal. Asked each way round about the layers that a tile showed and those that it would show, it
+/// tells whether they are alike (docs/statements/kept.md). Where the answer is no, the count's tag is dropped and nothing
+/// else. The tile's bytes are stored where the call is accepted and a tile is given.
 #[allow(clippy::too_many_arguments)]
 #[inline]
 pub fn keep_count(

@@ -32,6 +32,7 @@ ghost use Rattle.kept_rows.specs.Frames.{RowFramesRight};
 ghost use Rattle.kept_rows.specs.History.{FirstDrawn, FramesRight, WorkShows};
 ghost use Rattle.kept_rows.specs.Painted.{PaintingsRead};
 ghost use Rattle.kept_rows.specs.Protocol.{OperationAllows};
+ghost use Rattle.kept_rows.specs.Shown.{LayersPainted};
 ghost use Rattle.kept_rows.specs.Since.{MarkedTold, MarkedTable};
 ghost use Rattle.kept_rows.specs.Walk.{WalkSound, WalkExact};
 ghost use Rattle.kept_tiles.specs.Tiles.{TilesRuled, RuleStays, KeptOpened};
@@ -177,7 +178,14 @@ pub fn flags_along_rows() -> bool
 
 // A tile through any list of frames, with flags told or worked out; and that there is such a history.
 pub fn kept_over_frames() -> bool
-    ensures { λ r. ⌜ FramesRight × FirstDrawn × WorkShows × PaintingsRead × OperationAllows × RowFramesRight × KeptTile ⌝ }
+    ensures { λ r. ⌜ FramesRight × FirstDrawn × WorkShows × OperationAllows × RowFramesRight × KeptTile ⌝ }
+{
+    true
+}
+
+// What a work shows is what is painted, layer by layer, as demand 3 has it.
+pub fn shown_as_painted() -> bool
+    ensures { λ r. ⌜ LayersPainted × PaintingsRead ⌝ }
 {
     true
 }

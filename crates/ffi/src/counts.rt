@@ -1,5 +1,5 @@
-// Whether a tile may keep its count: asked before a work, so that no tile is kept with a wrong picture. A layer's kind
-// is 0 for a draw that is not clipped, 1 for a clip, 2 for a clipped draw.
+// Whether the layers of one list stand in another: what is to be asked before a tile is worked with its count. A kind is
+// 0 to 2; of shown layers, 2 where the layer needs a clip and else 0.
 use cached_tile::kept::Kept;
 use ffi_numbers::cached;
 use ffi_numbers::counts;
@@ -7,9 +7,10 @@ ghost use Rattle.kept_count.specs.Keeping.{lentMembers, keepOf};
 ghost use Rattle.ffi_numbers.specs.Cached.{keptOf};
 ghost use Rattle.ffi_numbers.specs.Counts.{countNumbers, CountTold};
 
-// 0 and in `stays` whether the count may stay, or the number of the refusal: whoever of the `last` layers of the tile's
-// last accepted work was listed is listed still among the `n` of today, as the same kind. Where it may not, the count's
-// tag is dropped and nothing else. The tile's bytes are stored where the call is accepted and a tile is given.
+// 0 and in `stays` whether each of the `last` layers of one list stands among the `n` of another, as the same kind, or
+// the number of the refusal. Asked each way round about the layers that a tile showed and those that it would show, it
+// tells whether they are alike (docs/statements/kept.md). Where the answer is no, the count's tag is dropped and nothing
+// else. The tile's bytes are stored where the call is accepted and a tile is given.
 #[no_mangle]
 pub extern "C" fn ffi_keep_count(
     last_ids: &[u32],
