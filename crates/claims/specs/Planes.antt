@@ -31,11 +31,11 @@ pub record Planes : Type 0 where
   pub place-row : (column row : ℕ) → column < 16 → rowOf (placeOf column row) ≡ row
   pub place-back : (place : ℕ) → placeOf (columnOf place) (rowOf place) ≡ place
   -- what a plane holds of a pixel
-  pub pixel-at : {A : Type 0} (n : ℕ) (f : ℕ → ℕ → A) → (d : A) (column row : ℕ) → column < 16 → row < n →
+  pub pixel-at : (n : ℕ) (f : ℕ → ℕ → Float) (d : Float) (column row : ℕ) → column < 16 → row < n →
       getD (inPlaces n f) (placeOf column row) d ≡ f column row
   -- a plane is the plane by columns with its two places exchanged, and back
-  pub exchanged : {A : Type 0} (n : ℕ) (f : ℕ → ℕ → A) (d : A) → inPlaces n f ≡ exchange d n (byColumns n f)
-  pub exchanged-back : {A : Type 0} (n : ℕ) (f : ℕ → ℕ → A) (d : A) → byColumns n f ≡ exchangeBack d n (inPlaces n f)
+  pub exchanged : (n : ℕ) (f : ℕ → ℕ → Float) (d : Float) → inPlaces n f ≡ exchange d n (byColumns n f)
+  pub exchanged-back : (n : ℕ) (f : ℕ → ℕ → Float) (d : Float) → byColumns n f ≡ exchangeBack d n (inPlaces n f)
   pub row-exchanged : (ws : List ℕ) (n : ℕ) (rule : FillRule) (tile layer : ℕ) (row : List ℕ) (d : Float) →
       rowPlane ws n rule tile layer row ≡ exchange d n (byColumns n (pixelOf ws rule (leftCover ws tile layer row) (partOf ws tile layer row)))
   pub row-exchanged-back : (ws : List ℕ) (n : ℕ) (rule : FillRule) (tile layer : ℕ) (row : List ℕ) (d : Float) →
