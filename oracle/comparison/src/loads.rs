@@ -149,7 +149,9 @@ pub fn compare(tally: &mut Tally) {
             compare_line(kind, &text);
         }
         let stored = |name: &str| fs::read(place(name)).expect(name);
-        kind.case(answer(&stored("load/stdin")) == stored("load/stdout"), || "crates/load/stdout has another text".to_string());
+        kind.case(answer(&stored("load/stdin")) == stored("load/stdout"), || {
+            "crates/load/stdout has another text".to_string()
+        });
         kind.case(answer_files() == stored("loads/stdout"), || "crates/loads/stdout has another text".to_string());
     });
     tally.kind("made loads, damaged lines", |kind| {

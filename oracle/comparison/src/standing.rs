@@ -18,6 +18,7 @@ use crate::{
 
 pub fn compare(tally: &mut Tally) {
     tally.random("standing records", any_sent);
+    tally.random("standing records, many", many_sent);
     tally.kind("standing records, every choice of up to four", choices);
     tally.kind("standing records, ends of ranges", ends);
     tally.random("standing records, rows opened with the written table", opened);
@@ -212,6 +213,35 @@ fn any_sent(kind: &mut Kind) {
     let mut room = || if random.once_in(10) { stand.saturating_sub(1) } else { stand + random.below(3) };
     let (words, colors) = (room(), room());
     let table = any_table(random, words, colors);
+    check(kind, &call, &table);
+}
+
+/// More records than a pass for each would do for: around 128 and around the blocks of the walk by keys; in any order,
+/// sorted by layer and revision, and sorted but for two that are exchanged.
+fn many_sent(kind: &mut Kind) {
+    let random = &mut kind.random;
+    let count = random.pick(&[126, 127, 128, 129, 500, 1_023, 1_024, 1_025, 2_048, 2_500]);
+    let layers = random.pick(&[1, 3, 40, 2_000]);
+    let mut sent: Vec<Sent> = (0..count)
+        .map(|red| plain(random.below(layers) as u32, random.word() as u32, u32::from(random.once_in(5)), red))
+        .collect();
+    let (one, other) = (random.below(count), random.below(count));
+    match random.below(3) {
+        0 => sent.sort_by_key(|one| (one.id, one.revision)),
+        1 => {
+            sent.sort_by_key(|one| (one.id, one.revision));
+            sent.swap(one, other);
+        }
+        _ => (),
+    }
+    if random.once_in(6) {
+        let Sent { id, revision, .. } = sent[one];
+        sent[other] = plain(id, revision, 0, 0);
+    }
+    let call = Call::new(&sent);
+    let stand = standing(&call, usize::MAX).map_or(3, |standing| standing.len());
+    let room = if random.once_in(10) { stand.saturating_sub(1) } else { stand };
+    let table = any_table(random, room, room);
     check(kind, &call, &table);
 }
 

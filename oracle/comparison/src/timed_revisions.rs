@@ -69,8 +69,12 @@ pub fn print(bench: &mut Bench) {
                 &format!("{count} records, {name}"),
                 1,
                 (count == 100_000).then_some(aim),
-                || { black_box(plain(black_box(&records), &colors, &mut first)); },
-                || { black_box(library::stand(black_box(&records), &colors, &mut second)); },
+                || {
+                    black_box(plain(black_box(&records), &colors, &mut first));
+                },
+                || {
+                    black_box(library::stand(black_box(&records), &colors, &mut second));
+                },
             );
         }
     }
