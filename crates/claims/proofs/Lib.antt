@@ -14,3 +14,4 @@ pub mod Loads
 pub mod Sets
 pub mod Bounds
 pub mod Revisions
+pub mod RevisionEdges

@@ -1,4 +1,5 @@
 -- The claims of specs/Passes, cited. Assumes nothing.
+use Rattle.row_driver.proofs.ShownIds as shown
 use Rattle.pass_statements.proofs.Words as words
 use Rattle.claims.specs.Passes.{PassesInWords}
 
@@ -16,4 +17,5 @@ passes-in-words =
       empty-recolored = words.empty-recolored;
       free-draw = words.free-draw;
       covered = words.covered;
+      shown-ids = shown.shown-ids;
     }

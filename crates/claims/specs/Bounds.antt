@@ -4,12 +4,13 @@ use mathlib.Core.Path.{_≡_}
 use mathlib.Core.Bool.{true}
 use mathlib.Core.List.{List}
 use Prim.Native.Nat.{ℕ, _≤_, _<_}
-use lib.IntN.{ℤ, natAbs}
+use lib.IntN.{ℤ, pos, negsuc, natAbs}
 use lib.ListN.{length}
 use Rattle.laws.specs.Integer.{AtMost}
 use Rattle.pixel_segment.specs.Field.{widthOf}
 use Rattle.pixel_segment.specs.Layout.{Layout}
 use Rattle.styling.specs.declared.FillRule.{FillRule}
+use Rattle.styling.specs.declared.FillRule.the-variants.{NonZero, EvenOdd}
 use Rattle.cover_statements.specs.Carry.{isLight}
 use Rattle.cover_statements.specs.Cover.{coverAt}
 use Rattle.cover_statements.specs.Weight.{weightOf}
@@ -54,7 +55,30 @@ pub record LightWithin (ws : List ℕ) (n : ℕ) (part : List ℕ) (lows highs :
   pub small : widthOf ws 5 ≡ 6 → (cover : ℕ → ℤ) (carry : List ℤ) → InBounds (length part) lows highs cover →
       InBounds n (coverAt low) (coverAt high) (coverAt carry) → (c y : ℕ) → y < n → natAbs (chosenArea ws (coverAt carry) part cover c y) ≤ 8001
 
+-- the least and the greatest weight of an interval of d, by NonZero and by EvenOdd
+pub record IntervalWeights (a b : ℤ) (n n′ e e′ : ℕ) : Type 0 where
+  pub least-non-zero : leastWeight NonZero a b ≡ n
+  pub greatest-non-zero : greatestWeight NonZero a b ≡ n′
+  pub least-even-odd : leastWeight EvenOdd a b ≡ e
+  pub greatest-even-odd : greatestWeight EvenOdd a b ≡ e′
+
+pub record Intervals : Type 0 where
+  -- 512 lies between
+  pub around-512 : IntervalWeights (pos 500) (pos 600) 500 512 424 512
+  pub around-minus-512 : IntervalWeights (negsuc 599) (negsuc 499) 500 512 424 512
+  pub around-1536 : IntervalWeights (pos 1535) (pos 1537) 512 512 511 512
+  -- 0 lies between, or 1,024
+  pub around-0 : IntervalWeights (negsuc 99) (pos 40) 0 100 0 100
+  pub around-1024 : IntervalWeights (pos 1000) (pos 1100) 512 512 0 76
+  -- one short of such a number at each end
+  pub short-of-both : IntervalWeights (pos 513) (pos 1023) 512 512 1 511
+  pub short-of-512 : IntervalWeights (pos 1) (pos 511) 1 511 1 511
+  -- none between, and one number
+  pub downward : IntervalWeights (negsuc 1499) (negsuc 1099) 512 512 76 476
+  pub one-number : IntervalWeights (pos 700) (pos 700) 512 512 324 324
+
 pub record CoverBounds : Type 0 where
+  pub intervals : Intervals
   pub within : (ws : List ℕ) → Layout ws → (n : ℕ) (part : List ℕ) (lows highs carryLow carryHigh : ℕ → ℤ) → HeldCovers ws (length part) lows →
       HeldCovers ws (length part) highs → Within ws n part lows highs carryLow carryHigh
   pub light-within : (ws : List ℕ) → Layout ws → (n : ℕ) (part : List ℕ) (lows highs : ℕ → ℤ) (low high : List ℤ) → HeldCovers ws (length part) lows →

@@ -14,4 +14,5 @@ pub mod Loads
 pub mod Sets
 pub mod Bounds
 pub mod Revisions
+pub mod RevisionEdges
 pub mod FourHigh

@@ -1,5 +1,5 @@
 -- The passes in document 01's own words, of the definitions that the contracts cite.
-use mathlib.Core.List.{List, []}
+use mathlib.Core.List.{List, [], map}
 use mathlib.Core.Path.{_≡_}
 use mathlib.Core.Bool.{true, not, _||_, Bool, false}
 use Prim.Native.Nat.{ℕ, _<_}
@@ -9,11 +9,17 @@ use Rattle.pass_statements.specs.Covered.{itemAt, coveredOf}
 use Rattle.styling.specs.Style.{isClipped}
 use Rattle.styling.specs.declared.Color.{Color}
 use Rattle.pass_statements.specs.Clips.{marksOf}
-use Rattle.pass_statements.specs.Decide.{passedOf, outcomeOf}
+use Rattle.pass_statements.specs.Decide.{passedOf, outcomeOf, shownOf}
 use Rattle.pass_statements.specs.declared.unchanged.PreviousCount.{PreviousCount}
 use Rattle.pass_statements.specs.Unchanged.{isKept}
 use Rattle.pass_statements.specs.Decision.{solid}
 use Rattle.pass_statements.specs.declared.unchanged.PreviousCount.the-variants.{Absent, Kept}
+use Rattle.styling.specs.declared.Layer.{Layer}
+use Rattle.queue_statements.specs.Queue.{idsIn}
+use Rattle.tile_layers.specs.Listing.{Listed, incomingOf}
+use Rattle.pass_statements.specs.Item.{itemsOf}
+use Rattle.layer_workbench.specs.Work.{entryOf}
+use Rattle.row_lines.specs.Shown.{shownIn}
 
 pub record PassesInWords : Type 0 where
   -- 'A clip followed by another clip before a listed draw past its end is never judged for use; it stays shown unless full': in any list
@@ -40,3 +46,6 @@ pub record PassesInWords : Type 0 where
   pub covered : (items : List Item) (ascending : isAscending items ≡ true) → (clear : Color) (unchanged : Bool) (previous : PreviousCount) (i : ℕ) →
       i < outcomeOf clear unchanged previous items .skipped →
       Over items (outcomeOf clear unchanged previous items .unmasked) i (outcomeOf clear unchanged previous items .skipped)
+  -- the layers of a driven row's line are the shown ones: neither masked off nor skipped
+  pub shown-ids : (table : List Layer) (skipped : ℕ) (shown : List Bool) (ls : List Listed) →
+      shownIn skipped shown (idsIn (incomingOf ls)) ≡ map (λ x. x .id) (shownOf skipped (itemsOf table (map (entryOf table) ls)) shown)

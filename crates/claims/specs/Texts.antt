@@ -2,16 +2,18 @@
 -- W-203.
 use mathlib.Core.Path.{_≡_}
 use mathlib.Core.Option.{some}
-use mathlib.Core.List.{List}
+use mathlib.Core.List.{List, [], _∷_}
 use mathlib.Core.Bool.{true}
 use Prim.Native.Nat.{ℕ, _<_, _≤_}
-use lib.IntN.{ℤ, _+ℤ_, pos}
+use lib.IntN.{ℤ, _+ℤ_, pos, negsuc}
 use lib.ListN.{length, getD}
 use Rattle.job_text_statements.specs.Job.{Job, WellFormed, render, Prints}
 use Rattle.job_text_statements.specs.Parse.{parse}
 use Rattle.job_lines.specs.declared.segment.SegmentLine.{SegmentLine}
 use Rattle.job_lines.specs.Rules.{segmentRule}
 use Rattle.job_statements.specs.Row.{isTileY, segmentWord, rowTile}
+use Rattle.lines.specs.Bytes.{bytes}
+use Rattle.lines.specs.Text.{lineText}
 use Rattle.laws.specs.Integer.{plus, minus}
 use Rattle.pixel_segment.specs.Pack.{ReadsBack}
 use Rattle.pixel_segment.specs.Field.{cpu}
@@ -29,3 +31,5 @@ pub record JobTexts : Type 0 where
       ReadsBack cpu (segmentWord (rowTile (j .head .row)) (getD (j .segments) k d) i) (getD (j .segments) k d .layer)
       (getD (j .segments) k d .«tile_x») (j .head .row) (getD (j .segments) k d .x) (getD (j .segments) k d .y +ℤ pos i)
       (getD (j .segments) k d .mult) (getD (j .segments) k d .cover)
+  -- a line of numbers, printed
+  pub line : lineText (pos 0 ∷ negsuc 15 ∷ pos 4094 ∷ []) ≡ bytes "0 -16 4094\n"

@@ -60,6 +60,7 @@ ghost use Rattle.claims.specs.Loads.{Loads};
 ghost use Rattle.claims.specs.Sets.{SegmentSets};
 ghost use Rattle.claims.specs.Bounds.{CoverBounds};
 ghost use Rattle.claims.specs.Revisions.{Revisions};
+ghost use Rattle.claims.specs.RevisionEdges.{RevisionEdges};
 ghost use Rattle.claims.specs.FourHigh.{RowsApart};
 
 // Demand 3: any accepted opening and any list of calls after it, refused ones included. By works and paintings; with
@@ -106,9 +107,10 @@ pub fn passes_in_words() -> bool
     true
 }
 
-// Both sides of the edges of refusals: openings, tile works, paintings, decidings, tables, sets, bounds.
+// Both sides of the edges of refusals: openings, tile works, paintings, decidings, tables, sets, bounds, records that are
+// sent.
 pub fn edges() -> bool
-    ensures { λ r. ⌜ OpeningEdges × RowEdges × PaintEdges × DecidingEdges × TableEdges × SetEdges × BoundsCases ⌝ }
+    ensures { λ r. ⌜ OpeningEdges × RowEdges × PaintEdges × DecidingEdges × TableEdges × SetEdges × BoundsCases × RevisionEdges ⌝ }
 {
     true
 }
