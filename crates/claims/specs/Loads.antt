@@ -1,10 +1,11 @@
 -- Loads that can be made again. Stands for W-204: the line that asks is read exactly as it prints and has at most 20 bytes, so that the first 21 bytes of an
 -- input decide; every load is read back and its row ascends; and no row of a load is refused but by 9. With the first draws and texts, worked.
 use mathlib.Core.Path.{_≡_}
+use mathlib.Core.Bool.{Bool, true, false, not}
 use mathlib.Core.List.{List, [], _∷_}
 use mathlib.Core.Option.{some, none}
 use Prim.Native.Nat.{ℕ, suc, _≤_, _<_}
-use Rattle.laws.specs.Lists.{tabulate}
+use Rattle.laws.specs.Lists.{tabulate, all}
 use Rattle.lines.specs.Bytes.{bytes}
 use Rattle.lines.specs.Text.{linesText}
 use Rattle.job_text_statements.specs.Job.{segmentValues}
@@ -19,6 +20,38 @@ use Rattle.job_front.specs.Front as job
 abbrev segments : Asked → List ℕ
 segments a = linesText (tabulate (a .count) (λ k. segmentValues (loadSegment a k)))
 
+-- whether a line asks for a load; the lines at the ends of the ranges, and lines that ask for none
+abbrev pub isAsked : List ℕ → Bool
+isAsked s = elim (ask s) [ some a ↦ true | none ↦ false ]
+
+abbrev pub good : List (List ℕ)
+good = bytes "0 1 1\n" ∷ bytes "4294967295 4095 512\n" ∷ []
+
+abbrev pub bad : List (List ℕ)
+bad =
+    []
+    ∷ bytes "\n"
+    ∷ bytes "0 1 1"
+    ∷ bytes "0 1 1\r\n"
+    ∷ bytes "0 1 1\n\n"
+    ∷ bytes "0 1 1\n0 1 1\n"
+    ∷ bytes " 0 1 1\n"
+    ∷ bytes "0  1 1\n"
+    ∷ bytes "0 1 1 \n"
+    ∷ bytes "0 1\n"
+    ∷ bytes "0 1 1 1\n"
+    ∷ bytes "00 1 1\n"
+    ∷ bytes "+1 1 1\n"
+    ∷ bytes "-0 1 1\n"
+    ∷ bytes "-1 1 1\n"
+    ∷ bytes "4294967296 1 1\n"
+    ∷ bytes "10000000000 1 1\n"
+    ∷ bytes "0 0 1\n"
+    ∷ bytes "0 4096 1\n"
+    ∷ bytes "0 1 0\n"
+    ∷ bytes "0 1 513\n"
+    ∷ []
+
 pub record Loads : Type 0 where
   -- the first eight draws of seed 0
   pub draws : tabulate 8 (λ i. drawAt 0 (suc i)) ≡ 15470 ∷ 18256 ∷ 53708 ∷ 43769 ∷ 25170 ∷ 40750 ∷ 22526 ∷ 41945 ∷ []
@@ -28,6 +61,8 @@ pub record Loads : Type 0 where
   -- the line that asks
   pub ask-complete : (text : List ℕ) (a : Asked) → Asks text a → ask text ≡ some a
   pub ask-sound : (text : List ℕ) (a : Asked) → ask text ≡ some a → Asks text a
+  pub passes : all isAsked good ≡ true
+  pub turned-down : all (λ s. not (isAsked s)) bad ≡ true
   pub lines-short : LinesShort
   pub front-decides : FrontDecides
   pub answers-fit : AnswersFit
