@@ -1,7 +1,7 @@
 // The worked cases P1 to P12, run, with both sides of what adding refuses and a cover that one row keeps from being
-// full; and P7, P8, P11 and P12 once more by the forms that stay with the caller, a cached tile that is lent and a queue
-// of carry records. What each check requires is proved from the contracts of the functions that it calls; specs/Cases states the
-// same cases about the definitions.
+// full; and P7, P8, P11 and P12 once more by the forms that stay with the caller, a cached tile that is lent and a
+// queue of carry records. What each check requires is proved from the contracts of the functions that it calls;
+// specs/Cases states the same cases about the definitions, and `stated` holds their proof.
 mod clips;
 mod covers;
 mod records;

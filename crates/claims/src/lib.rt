@@ -1,6 +1,6 @@
 // What is proved, as one list: each claim of the statements, held by a function that cites its proof. A claim is a
-// definition in specs/; a proof that goes makes the check of this crate fail. The worked cases P1 to P12 are held by the
-// program `cases`; what each operation promises is held by its own contract.
+// definition in specs/; a proof that goes makes the check of this crate fail. The worked cases P1 to P12 are held by
+// the program `cases`; what each operation promises is held by its own contract.
 ghost use Rattle.cover_statements.specs.Joined.{JoinedCovers};
 ghost use Rattle.queue_statements.specs.Edges.{OpeningEdges};
 ghost use Rattle.layer_table.specs.Edges.{TableEdges};
@@ -78,8 +78,8 @@ pub fn not_empty() -> bool
     true
 }
 
-// A run of works and paintings is one of calls, a work is a listing and a deciding in succession, the driver's lines are
-// those of a run, and so are the calls of a caller that keeps its carries as records.
+// A run of works and paintings is one of calls, a work is a listing and a deciding in succession, the driver's lines
+// are those of a run, and so are the calls of a caller that keeps its carries as records.
 pub fn same_runs() -> bool
     ensures { λ r. ⌜ RunsAlike × Succession × TellLines × WorkStep × PaintStep ⌝ }
 {
@@ -107,10 +107,11 @@ pub fn passes_in_words() -> bool
     true
 }
 
-// Both sides of the edges of refusals: openings, tile works, paintings, decidings, tables, sets, bounds, records that are
-// sent.
+// Both sides of the edges of refusals: openings, tile works, paintings, decidings, tables, sets, bounds, records that
+// are sent.
 pub fn edges() -> bool
-    ensures { λ r. ⌜ OpeningEdges × RowEdges × PaintEdges × DecidingEdges × TableEdges × SetEdges × BoundsCases × RevisionEdges ⌝ }
+    ensures { λ r. ⌜ OpeningEdges × RowEdges × PaintEdges × DecidingEdges × TableEdges × SetEdges × BoundsCases
+        × RevisionEdges ⌝ }
 {
     true
 }
