@@ -96,7 +96,7 @@ const C_HEAD: &str = "\
    even where the length is 0; an array of fixed length is a pointer. What a call may write must not overlap anything
    else that it is lent. A call that can be refused returns the number of the refusal, or 0, and then leaves what it
    was lent as it was, but for ffi_work_tiles, which may have worked tiles before the refused one. A bool that is lent
-   holds 0 or 1. oracle/README.md, 'The exported names', tells of states and answers.
+   holds 0 or 1. docs/MANUAL.md, sections 2 and 4, tells of refusals, states and answers.
 
    To keep tiles from frame to frame: README.md beside this file, 'Keeping tiles from C'. In short, for each tile: list
    (ffi_list_tile); decide without a cached tile, which tells the shown layers; where these, by id and by whether each
