@@ -2,6 +2,8 @@
 //! what is private there. Asserts that each copy begins with the whole text of its original.
 //! For the crate `double_windings`, the second model, one line of two copies is changed: a NonZero cover is full from 16 on (W-205), and a tile
 //! with a listed clip that is changed counts as changed (W-208).
+//! Where the processor has AVX2 and FMA the Rust takes its lanes from a file that is not at hand: auto.rs is built in its
+//! place, or with the feature `avx_stand_in` avx_stand_in.rs, which is written anew.
 
 use std::{
     env, fs,
@@ -89,8 +91,23 @@ fn main() {
         let change = CHANGES.iter().find(|(file, ..)| is_changed && *file == name);
         copy(&source.join(name), &copies.join(name), reach.as_deref(), change);
     }
+    if has_avx() {
+        let is_stood_in = env::var_os("CARGO_FEATURE_AVX_STAND_IN").is_some();
+        let (lanes, reach) = if is_stood_in {
+            (here.join("avx_stand_in.rs"), "reach/avx_stand_in.rs")
+        } else {
+            (source.join("utils/simd/auto.rs"), "reach/auto.rs")
+        };
+        copy(&lanes, &copies.join("utils/simd/avx.rs"), Some(&here.join(reach)), None);
+    }
     let roots = ROOTS.replace('@', copies.to_str().unwrap());
     fs::write(copies.with_file_name("modules.rs"), roots).unwrap();
+}
+
+/// As utils/simd/mod.rs asks it.
+fn has_avx() -> bool {
+    let features = env::var("CARGO_CFG_TARGET_FEATURE").unwrap_or_default();
+    ["avx", "avx2", "fma"].iter().all(|wanted| features.split(',').any(|feature| feature == *wanted))
 }
 
 fn copy(from: &Path, to: &Path, reach: Option<&Path>, change: Option<&(&str, &str, &str)>) {

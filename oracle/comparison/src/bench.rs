@@ -14,10 +14,9 @@ pub fn print(only: String) {
     if caught(|| black_box(i8::MAX) + black_box(1)).is_none() {
         println!("Overflow checks are on: these times say nothing. The profile `timing` has none.");
     }
-    println!("Nanoseconds: best / median of {ROUNDS} rounds, with both sides in turn.");
-    println!(
-        "Ratio, the second by the first: of the best / median of the rounds' own. README.md has what is comparable."
-    );
+    println!("Nanoseconds: best / median of {ROUNDS} rounds, with all sides in turn.");
+    println!("Beside each build of the Rust: its best, and ours by it, of the best / median of the rounds' own.");
+    println!("Where two sides of ours are timed: the second by the first. README.md has what is comparable.");
     let bench = &mut Bench::new(only);
     bench.title("One layer in one tile, alone");
     timed_parts::print_alone(bench);

@@ -8,6 +8,7 @@ pub mod batch_damages;
 pub mod batches;
 pub mod bench;
 pub mod bounds;
+pub mod builds;
 pub mod cached;
 pub mod calls;
 pub mod changed_clips;

@@ -2,8 +2,6 @@
 
 use std::hint::black_box;
 
-use reference::{painter::timed::TimedRow, Table};
-
 use crate::{
     batch_calls::{work_tiles, Batch},
     given::{Queue, State, Work},
@@ -11,7 +9,7 @@ use crate::{
     library,
     loads::Asked,
     random::Random,
-    timed_rows::{accepted, bits, rust_planes, segments, Ours, CLEAR, FRAME},
+    timed_rows::{accepted, bits, task, Ours, CLEAR},
     timed_scenes::{bands, clips, dense, draws, level, load, Row},
     timing::Bench,
 };
@@ -68,13 +66,13 @@ impl Batched {
     }
 }
 
-/// A painted layer: its plane's bits and its mark.
-type Painted = (Vec<u32>, u32);
+/// A painted layer: its plane and its mark.
+type Painted = (Vec<f32>, u32);
 
 /// Of an unclipped draw the mark says which octets have a coverage; that of a clip is 0.
 fn is_mark_of(row: &Row, id: u32, (plane, mark): &Painted) -> bool {
     let record = row.records.iter().find(|record| record.id == id).unwrap();
-    let octets = (0..256).filter(|&at| f32::from_bits(plane[at]) > 0.0).fold(0, |mark, at| {
+    let octets = (0..256).filter(|&at| plane[at] > 0.0).fold(0, |mark, at| {
         let (row, column) = (at / 16, at % 16);
         mark | 1 << (2 * column + row / 8)
     });
@@ -85,28 +83,27 @@ fn is_mark_of(row: &Row, id: u32, (plane, mark): &Painted) -> bool {
     }
 }
 
-/// The coverages are those of the Rust, in its order, and the marks those of the single calls; how many layers that is.
-fn check(row: &Row, planes: usize) -> usize {
+/// The coverages and the marks are those of the single calls, in their order; the bits of all coverages.
+fn check(row: &Row, planes: usize) -> Vec<u64> {
     let (mut ours, mut single): (Vec<Painted>, Vec<Painted>) = (Vec::new(), Vec::new());
     let mut ids = Vec::new();
     let result = Batched::new(row, planes).run(|batch| {
         for i in 0..batch.done[1] {
             ids.push(batch.painted[2 * i]);
-            ours.push((bits(&batch.planes[256 * i..256 * (i + 1)]), batch.painted[2 * i + 1]));
+            ours.push((batch.planes[256 * i..256 * (i + 1)].to_vec(), batch.painted[2 * i + 1]));
         }
     });
     assert_eq!(result, Ok(()));
-    assert_eq!(Ours::new(row).run(|canvas| single.push((bits(&canvas.plane), canvas.mark))), Ok(()));
-    assert!(rust_planes(row).iter().eq(ours.iter().map(|(plane, _)| plane)));
-    assert!(ours == single && ids.iter().zip(&ours).all(|(&id, painted)| is_mark_of(row, id, painted)));
-    ours.len()
+    assert_eq!(Ours::new(row).run(|canvas| single.push((canvas.plane.clone(), canvas.mark))), Ok(()));
+    assert!(ids.iter().zip(&ours).all(|(&id, painted)| is_mark_of(row, id, painted)));
+    assert!(ours.iter().map(|(_, mark)| mark).eq(single.iter().map(|(_, mark)| mark)));
+    let answers = bits(ours.iter().flat_map(|(plane, _)| plane));
+    assert!(answers == bits(single.iter().flat_map(|(plane, _)| plane)));
+    answers
 }
 
 /// A line for a row; `calls` is what its times are divided by.
-fn line(bench: &mut Bench, name: &str, calls: usize, aim: Option<f64>, row: &Row, planes: usize) {
-    let table = Table::new(&row.records);
-    let mut rust = TimedRow::new(segments(row), &table, FRAME);
-    let rust = || black_box(&mut rust).run(black_box(0), black_box(row.tiles));
+fn line(bench: &mut Bench, name: &str, (calls, aim): (usize, Option<f64>), row: &Row, planes: usize, answers: &[u64]) {
     let mut ours = Batched::new(row, planes);
     let ours = || {
         let result = black_box(&mut ours).run(|batch| {
@@ -114,7 +111,7 @@ fn line(bench: &mut Bench, name: &str, calls: usize, aim: Option<f64>, row: &Row
         });
         assert_eq!(result, Ok(()));
     };
-    bench.line(name, calls, aim, rust, ours);
+    bench.beside(name, calls, aim, task(row), answers, ours);
 }
 
 /// A made load of the first seed that no condition refuses, its layers as given.
@@ -155,8 +152,9 @@ pub fn print(bench: &mut Bench) {
     let rows = rows();
     for planes in [32, 256] {
         for (name, aim, row) in &rows {
-            let painted = check(row, planes);
-            line(bench, &format!("batch {planes}: {name}, {painted} painted"), 1, Some(*aim), row, planes);
+            let answers = check(row, planes);
+            let name = format!("batch {planes}: {name}, {} painted", answers.len() / 256);
+            line(bench, &name, (1, Some(*aim)), row, planes, &answers);
         }
     }
 }
@@ -165,8 +163,9 @@ pub fn print(bench: &mut Bench) {
 pub fn print_doubling(bench: &mut Bench) {
     let mut doubled = |name: String, row: &Row, calls: usize| {
         let planes = row.tiles * row.records.len();
-        assert_eq!(check(row, planes), planes);
-        line(bench, &format!("double {name}"), calls, None, row, planes);
+        let answers = check(row, planes);
+        assert_eq!(answers.len(), 256 * planes);
+        line(bench, &format!("double {name}"), (calls, None), row, planes, &answers);
     };
     for pairs in (0..8).map(|n| 1 << n) {
         let row = level(16, 8, pairs);

@@ -3,11 +3,6 @@
 
 use std::hint::black_box;
 
-use reference::{
-    cpu::RGBA,
-    painter::{row::Frame as RustFrame, timed::TimedRow},
-    Table,
-};
 use tile_rows::{
     exports, four_high, segment, Batch, BatchTile, Color, FillRule, Frame, LayerTable, Plane, Row as OpenRow,
 };
@@ -18,10 +13,9 @@ use crate::{
     library,
     loads::Asked,
     random::Random,
-    timed_rows::{Ours, CLEAR},
+    timed_rows::{bits, task, Ours, CLEAR},
     timed_scenes::{bands, clips, draws, load, Row},
     timing::Bench,
-    words,
 };
 
 /// What the ratio to the exports should be at most: it is to cost nothing that can be measured.
@@ -73,25 +67,14 @@ fn look_at(tile: &BatchTile<'_>) {
     }
 }
 
-/// The batches paint the Rust's coverages in the same order. How many layers that is, and whether a tile mixes colours.
-fn check(row: &Row) -> (usize, bool) {
-    let bits = |plane: &[f32; 256]| plane.map(f32::to_bits);
-    let records = Table::new(&row.records);
-    let mut rust = rust_side(row, &records);
-    rust.painter.planes = Some(Vec::new());
-    rust.run(0, row.tiles);
-    let (mut ours, mut mixes) = (Vec::new(), false);
+/// The bits of all coverages that the batches paint, and whether a tile mixes colours.
+fn answers(row: &Row) -> (Vec<u64>, bool) {
+    let (mut planes, mut mixes) = (Vec::new(), false);
     in_batches(row, &table(row), &mut Batch::new(), |tile| {
-        ours.extend(tile.painted().map(|layer| bits(layer.plane.as_numbers())));
+        tile.painted().for_each(|layer| planes.extend(bits(layer.plane.as_numbers())));
         mixes |= !tile.mixed().is_empty();
     });
-    assert!(rust.painter.planes.unwrap().iter().map(bits).eq(ours.iter().copied()));
-    (ours.len(), mixes)
-}
-
-fn rust_side<'t>(row: &Row, records: &'t Table) -> TimedRow<'t> {
-    let segments = row.words.iter().map(|&word| words::segment(word)).collect();
-    TimedRow::new(segments, records, RustFrame { clear: CLEAR, previous_clear: None, channels: RGBA })
+    (planes, mixes)
 }
 
 /// The exports that `in_batches` comes to, with memory that is made before.
@@ -209,7 +192,8 @@ fn line(bench: &mut Bench, name: &str, row: &Row) {
 
 fn line_in_batches(bench: &mut Bench, name: &str, row: &Row) {
     let (table, mut batch, mut direct) = (table(row), Batch::new(), Direct::new(row));
-    let (painted, mixes) = check(row);
+    let (planes, mixes) = answers(row);
+    let painted = planes.len() / 256;
     assert_eq!(direct.run(row), painted);
     let exports = || {
         black_box(direct.run(black_box(row)));
@@ -220,12 +204,10 @@ fn line_in_batches(bench: &mut Bench, name: &str, row: &Row) {
 }
 
 fn line_beside_rust(bench: &mut Bench, name: &str, row: &Row) {
-    let (records, table, mut batch) = (Table::new(&row.records), table(row), Batch::new());
-    let mut rust = rust_side(row, &records);
-    let (painted, _) = check(row);
-    let rust = || black_box(&mut rust).run(black_box(0), black_box(row.tiles));
+    let (table, mut batch, (planes, _)) = (table(row), Batch::new(), answers(row));
     let through = || in_batches(black_box(row), &table, &mut batch, look_at);
-    bench.line(&format!("crate by batches: {name}, {painted} painted"), 1, None, rust, through);
+    let name = format!("crate by batches: {name}, {} painted", planes.len() / 256);
+    bench.beside(&name, 1, None, task(row), &planes, through);
 }
 
 /// One layer's row of tiles four pixels high.
@@ -277,6 +259,6 @@ pub fn print(bench: &mut Bench) {
         ("32 tiles, 64 with clips".to_string(), bands(random, clips(64))),
     ];
     loads.iter().chain(&banded).for_each(|(name, row)| line_in_batches(bench, name, row));
-    bench.titled("Whole rows by the crate, in batches", ["the Rust", "the crate"]);
+    bench.title("Whole rows by the crate, in batches");
     loads.iter().chain(&banded).for_each(|(name, row)| line_beside_rust(bench, name, row));
 }

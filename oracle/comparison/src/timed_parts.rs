@@ -3,18 +3,18 @@
 use std::hint::black_box;
 
 use reference::{
-    painter::{recorder, timed::ClipPainter},
+    painter::recorder,
     plain::{Record, RULES},
 };
 
 use crate::{
+    builds::Task,
     given::{Canvas, Fields, Queue, State, Work},
     layers::lent,
     library,
     random::Random,
     scene::word,
     timing::Bench,
-    words::{segment, Segment},
 };
 
 /// How many parts are painted in turn: few enough to stay near the processor.
@@ -29,17 +29,8 @@ const AIM: f64 = 0.65;
 /// The incoming cover.
 pub const COVER: [i8; 16] = [16; 16];
 
-/// The segments of a layer in a tile, on both sides.
-struct Part {
-    segments: Vec<Segment>,
-    words: Vec<u64>,
-}
-
-impl Part {
-    fn new(words: Vec<u64>) -> Self {
-        Self { segments: words.iter().map(|&word| segment(word)).collect(), words }
-    }
-}
+/// The words of a layer in a tile.
+type Part = Vec<u64>;
 
 /// A segment of the layer: its column, its row, how much of its double area, and its cover.
 fn placed(local_x: u8, local_y: u8, double_area_multiplier: u8, cover: i8) -> u64 {
@@ -77,13 +68,13 @@ const SHAPES: [Shape; 7] = [
 ];
 
 /// What `ffi_paint_layer` is given to paint the part: a row, a table and a queue with this layer alone.
-fn call(part: &Part, rule: u32, func: u32) -> Work {
+fn call(part: &[u64], rule: u32, func: u32) -> Work {
     let color = [0.5, 0.25, 0.75, 0.5];
     let record = Record { id: LAYER, rule, func, span: 0, clipped: 0, fill: 0, mode: 0, unchanged: 0, color };
     let mut queue = Queue { ids: vec![0; 256], covers: vec![0; 4096] };
     queue.ids[0] = LAYER;
     queue.covers[..16].copy_from_slice(&COVER);
-    let (row, table) = (part.words.clone(), lent(&[record]));
+    let (row, table) = (part.to_vec(), lent(&[record]));
     Work { tile: TILE.into(), row, table, is_kept: false, clear: [0.0; 4], previous: None, queue }
 }
 
@@ -98,16 +89,13 @@ fn bits(plane: &[f32]) -> Vec<u32> {
     plane.iter().map(|number| number.to_bits()).collect()
 }
 
-/// All ways to paint give the same coverages and the same octets.
-fn check(parts: &[Part], rule: u32) {
-    let mut clip = ClipPainter::default();
-    clip.planes = Some(Vec::new());
+/// All ways to paint give the same coverages and the same octets; the bits of these coverages.
+fn check(parts: &[Part], rule: u32) -> Vec<u64> {
+    let mut answers = Vec::new();
     for part in parts {
-        let wanted = recorder::paint(&part.words, COVER, RULES[rule as usize]);
-        clip.paint(&part.segments, COVER, rule);
-        assert_eq!(bits(clip.planes.as_ref().unwrap().last().unwrap()), bits(&wanted.plane));
+        let wanted = recorder::paint(part, COVER, RULES[rule as usize]);
         let mut plane = [7.0; 256];
-        assert_eq!(library::paint_part(&part.words, COVER, rule, &mut plane), (0, wanted.mark));
+        assert_eq!(library::paint_part(part, COVER, rule, &mut plane), (0, wanted.mark));
         assert_eq!(bits(&plane), bits(&wanted.plane));
         for (func, mark) in [(0, wanted.mark), (1, 0)] {
             let mut canvas = canvas();
@@ -115,17 +103,16 @@ fn check(parts: &[Part], rule: u32) {
             assert_eq!((number, canvas.mark), (0, mark));
             assert_eq!(bits(&canvas.plane), bits(&wanted.plane));
         }
+        answers.extend(plane.map(|number| u64::from(number.to_bits())));
     }
+    answers
 }
 
-/// The Rust, which paints each part as a clip.
-fn rust(parts: &[Part], rule: u32) -> impl FnMut() + '_ {
-    let mut painter = ClipPainter::default();
-    move || {
-        for part in black_box(parts) {
-            painter.paint(black_box(&part.segments), black_box(COVER), black_box(rule));
-        }
-    }
+/// A line beside the Rust, which paints each part as a clip.
+fn line(bench: &mut Bench, name: &str, aim: Option<f64>, parts: &[Part], rule: u32, ours: impl FnMut()) {
+    let (words, lens) = (parts.concat(), parts.iter().map(Vec::len).collect::<Vec<_>>());
+    let task = Task::Parts { words: &words, lens: &lens, cover: COVER[0], rule };
+    bench.beside(name, PARTS, aim, task, &check(parts, rule), ours);
 }
 
 /// Parts given alone, to `ffi_paint_part`.
@@ -133,7 +120,7 @@ fn alone(parts: &[Part], rule: u32) -> impl FnMut() + '_ {
     let mut plane = [0.0; 256];
     move || {
         for part in black_box(parts) {
-            black_box(library::paint_part(black_box(&part.words), black_box(COVER), black_box(rule), &mut plane));
+            black_box(library::paint_part(black_box(part), black_box(COVER), black_box(rule), &mut plane));
             black_box(&mut plane);
         }
     }
@@ -157,7 +144,7 @@ fn of_table(parts: &[Part], rule: u32, func: u32) -> impl FnMut() {
 fn each(mut line: impl FnMut(&str, &[Part], u32)) {
     let mut random = Random::new(1);
     for (name, words) in SHAPES {
-        let parts: Vec<Part> = (0..PARTS).map(|_| Part::new(words(&mut random))).collect();
+        let parts: Vec<Part> = (0..PARTS).map(|_| words(&mut random)).collect();
         for (rule, rule_name) in [(0, "NonZero"), (1, "EvenOdd")] {
             line(&format!("{name}, {rule_name}"), &parts, rule);
         }
@@ -166,15 +153,14 @@ fn each(mut line: impl FnMut(&str, &[Part], u32)) {
 
 pub fn print_alone(bench: &mut Bench) {
     each(|name, parts, rule| {
-        check(parts, rule);
-        bench.line(&format!("part: {name}"), PARTS, Some(AIM), rust(parts, rule), alone(parts, rule));
+        line(bench, &format!("part: {name}"), Some(AIM), parts, rule, alone(parts, rule));
     });
 }
 
 pub fn print_of_table(bench: &mut Bench) {
     for (func, func_name) in [(0, "drawn"), (1, "as a clip")] {
         each(|name, parts, rule| {
-            bench.line(&format!("{func_name}: {name}"), PARTS, None, rust(parts, rule), of_table(parts, rule, func));
+            line(bench, &format!("{func_name}: {name}"), None, parts, rule, of_table(parts, rule, func));
         });
     }
 }

@@ -2,13 +2,10 @@
 
 use std::hint::black_box;
 
-use reference::{
-    cpu::RGBA,
-    painter::{row::Frame, timed::TimedRow},
-    Table,
-};
+use reference::plain::Carry;
 
 use crate::{
+    builds::Task,
     given::{Canvas, Memory, Queue, State, Work},
     layers::lent,
     library,
@@ -17,11 +14,10 @@ use crate::{
     random::Random,
     timed_scenes::{bands, clips, dense, draws, left_of, load, Row},
     timing::Bench,
-    words::{segment, Segment},
 };
 
+/// The clear colour, which is the Rust's too.
 pub const CLEAR: [f32; 4] = [1.0; 4];
-pub const FRAME: Frame = Frame { clear: CLEAR, previous_clear: None, channels: RGBA };
 
 /// The library's side of a row, with all that its calls are lent.
 pub struct Ours {
@@ -89,36 +85,18 @@ impl Ours {
     }
 }
 
-pub fn segments(row: &Row) -> Vec<Segment> {
-    row.words.iter().map(|&word| segment(word)).collect()
+/// The numbers of planes by their bits, one plane behind the other.
+pub fn bits<'a>(planes: impl IntoIterator<Item = &'a f32>) -> Vec<u64> {
+    planes.into_iter().map(|number| number.to_bits().into()).collect()
 }
 
-pub fn bits(plane: &[f32]) -> Vec<u32> {
-    plane.iter().map(|number| number.to_bits()).collect()
-}
-
-/// The bits of every plane that the Rust paints.
-pub fn rust_planes(row: &Row) -> Vec<Vec<u32>> {
-    let table = Table::new(&row.records);
-    let mut rust = TimedRow::new(segments(row), &table, FRAME);
-    rust.painter.planes = Some(Vec::new());
-    rust.run(0, row.tiles);
-    rust.painter.planes.unwrap().iter().map(|plane| bits(plane)).collect()
-}
-
-/// Both sides paint the same coverages in the same order; how many layers that is.
-fn check(row: &Row) -> usize {
-    let mut ours = Vec::new();
-    assert_eq!(Ours::new(row).run(|canvas| ours.push(bits(&canvas.plane))), Ok(()));
-    assert!(rust_planes(row) == ours);
-    ours.len()
+/// What both sides go through.
+pub fn task(row: &Row) -> Task<'_> {
+    Task::Row { words: &row.words, records: &row.records, tiles: row.tiles }
 }
 
 /// A line for a row.
-fn line(bench: &mut Bench, name: &str, row: &Row) {
-    let table = Table::new(&row.records);
-    let mut rust = TimedRow::new(segments(row), &table, FRAME);
-    let rust = || black_box(&mut rust).run(black_box(0), black_box(row.tiles));
+fn line(bench: &mut Bench, name: &str, row: &Row, task: Task<'_>, answers: &[u64]) {
     let mut ours = Ours::new(row);
     let ours = || {
         let result = black_box(&mut ours).run(|canvas| {
@@ -126,7 +104,7 @@ fn line(bench: &mut Bench, name: &str, row: &Row) {
         });
         assert_eq!(result, Ok(()));
     };
-    bench.line(name, 1, None, rust, ours);
+    bench.beside(name, 1, None, task, answers, ours);
 }
 
 /// How many layers are painted stands behind a row's name.
@@ -148,18 +126,21 @@ pub fn print(bench: &mut Bench) {
 }
 
 fn print_row(bench: &mut Bench, name: &str, row: &Row) {
-    let painted = check(row);
-    line(bench, &format!("{name}, {painted} painted"), row);
+    let mut planes = Vec::new();
+    assert_eq!(Ours::new(row).run(|canvas| planes.extend(bits(&canvas.plane))), Ok(()));
+    line(bench, &format!("{name}, {} painted", planes.len() / 256), row, task(row), &planes);
 }
 
 /// Rows with no tile, and all segments left of it.
 pub fn print_openings(bench: &mut Bench) {
     for (layers, each) in [(8, 16), (64, 16), (200, 4)] {
         let row = left_of(layers, each);
-        let rust = reference::painter::row::Row::open(0, 0, 0, &row.words, &Table::new(&row.records)).queue();
         let mut ours = Ours::new(&row);
         assert_eq!(ours.run(|_| ()), Ok(()));
-        assert_eq!(carries(&ours.work.queue, ours.memory.state.counts[0]), rust);
-        line(bench, &format!("opening: {layers} layers, {each} segments each"), &row);
+        let carries = carries(&ours.work.queue, ours.memory.state.counts[0]);
+        let told = |carry: &Carry| [carry.id.into()].into_iter().chain(carry.cover.map(|byte| byte as u64));
+        let answers: Vec<u64> = carries.iter().flat_map(told).collect();
+        let task = Task::Opening { words: &row.words, records: &row.records };
+        line(bench, &format!("opening: {layers} layers, {each} segments each"), &row, task, &answers);
     }
 }

@@ -4,8 +4,9 @@
 /// Red, green, blue, alpha.
 pub type Rgba = [f32; 4];
 
-/// A record of the layer table.
+/// A record of the layer table, laid out as C has it: shared libraries are lent arrays of them.
 #[derive(Clone, Copy, Debug)]
+#[repr(C)]
 pub struct Record {
     pub id: u32,
     pub rule: u32,

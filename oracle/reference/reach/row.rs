@@ -232,7 +232,7 @@ pub(super) fn context<'c>(
     }
 }
 
-fn carry_of(carry: &CoverCarry) -> Carry {
+pub(super) fn carry_of(carry: &CoverCarry) -> Carry {
     Carry { id: carry.layer_id, cover: bytes_of(carry.cover) }
 }
 

@@ -7,10 +7,11 @@ use super::super::*;
 use super::{
     cover_of,
     recorder::exchanged,
-    row::{context, Frame, Segment},
+    row::{carry_of, context, Frame, Segment},
 };
 use crate::{
     cpu::{buffer::layout::LinearLayout, RGBA},
+    plain::Carry,
     table::Table,
 };
 
@@ -76,18 +77,18 @@ impl LayerPainter for ClipPainter {
 }
 
 /// Goes through a row as `paint_tile_row` does, with a painter of clips and no display.
-pub struct TimedRow<'t> {
+pub struct TimedRow {
     segments: Vec<Segment>,
     /// Where the first tile's segments begin, which `paint_tile_row` knows from its opening.
     start: usize,
-    table: &'t Table,
+    table: Table,
     frame: Frame,
     workbench: LayerWorkbench,
     pub painter: ClipPainter,
 }
 
-impl<'t> TimedRow<'t> {
-    pub fn new(segments: Vec<Segment>, table: &'t Table, frame: Frame) -> Self {
+impl TimedRow {
+    pub fn new(segments: Vec<Segment>, table: Table, frame: Frame) -> Self {
         let start = segments.partition_point(|segment| segment.tile_x() < 0);
         Self { segments, start, table, frame, workbench: LayerWorkbench::new(), painter: ClipPainter::default() }
     }
@@ -102,9 +103,13 @@ impl<'t> TimedRow<'t> {
                 .map_or(0, |last| last + 1);
             let (segments, rest) = left.split_at(count);
             left = rest;
-            let context = context(self.table, tile, tile_y, segments, &self.frame, None);
+            let context = context(&self.table, tile, tile_y, segments, &self.frame, None);
             black_box(self.workbench.drive_tile_painting(&mut self.painter, &context));
         }
+    }
+
+    pub fn queue(&self) -> Vec<Carry> {
+        layer_workbench::reach::queue(&self.workbench).iter().map(carry_of).collect()
     }
 
     /// `paint_tile_row` with no tile.
@@ -113,7 +118,7 @@ impl<'t> TimedRow<'t> {
             &mut self.workbench,
             tile_y,
             &self.segments,
-            self.table,
+            &self.table,
             RGBA,
             Color::default(),
             None,
