@@ -89,14 +89,16 @@ fn print_settlement(settlement: Settlement) {
 
 // Settles a solid tile. A job's colours are black at some alpha, and its clear colour is opaque black: whatever is
 // mixed, the tile's display bytes are 0, 0, 0, 255.
-pub fn settle(decision: Decision, kept: Kept) -> Kept {
+pub fn settle(decision: Decision, kept: Kept, told: bool) -> Kept {
     match decision {
         Decision::None => kept,
         Decision::Solid(_, _) => {
             let settled = row_working::settle(kept, [0, 0, 0, 255]);
             let settlement = settled.settlement;
             let after = settled.kept;
-            print_settlement(settlement);
+            if told {
+                print_settlement(settlement);
+            }
             after
         }
         Decision::Paint => kept,

@@ -1,10 +1,12 @@
 // One tile traced: its part and the queue that it takes in, its list and the decision, its cached tile, each layer that
 // is painted, the queue that it hands on, and last the line of the row program.
+pub mod chosen;
 pub mod deciding;
 pub mod lent;
 pub mod painting;
 
 use cached_tile::kept::Kept;
+use chosen::Chosen;
 use layer_workbench::PreviousClear;
 use lent::LIST_FLAGS;
 use lent::List;
@@ -78,13 +80,31 @@ fn print_queue(name: &[u8], queue: Queue, n: usize) {
     queues::print_queue(name, &ids, &covers, n);
 }
 
-// What the tile has and what comes to it.
-fn print_before(state: RowState, row: &[u64], queue: Queue) {
+fn print_tile(tile: u32) {
     trace_text::print(b"tile ");
-    trace_text::print_number(state.next as u64);
+    trace_text::print_number(tile as u64);
     trace_text::print(b"\n");
-    segments::print_part(parts::in_tile(row, painting::small(state.next)));
-    print_queue(b"  taken in: ", queue, state.left);
+}
+
+// What the tile has and what comes to it.
+fn print_before(chosen: Chosen, state: RowState, row: &[u64], queue: Queue) {
+    if chosen.parts != 0 {
+        print_tile(state.next);
+    }
+    if chosen::has(chosen, chosen::SEGMENTS) {
+        segments::print_part(parts::in_tile(row, painting::small(state.next)));
+    }
+    if chosen::has(chosen, chosen::TAKEN_IN) {
+        print_queue(b"  taken in: ", queue, state.left);
+    }
+}
+
+// A tile that is turned down is told whether it is chosen or not: the row ends there.
+fn print_refused(chosen: Chosen, tile: u32, number: u32) {
+    if chosen.parts == 0 {
+        print_tile(tile);
+    }
+    painting::print_refusal(number);
 }
 
 // The line of the row program.
@@ -104,13 +124,37 @@ fn print_line(tile: u32, done: TileDone, tally: painting::Tally, carried: usize)
 }
 
 // Decision and cached tile; the cached tile after settling.
-fn tell_decision(done: TileDone, before: Kept, after: Kept) -> Kept {
+fn tell_decision(chosen: Chosen, done: TileDone, before: Kept, after: Kept) -> Kept {
     let decision = done.decision;
-    deciding::print_decision(decision);
-    deciding::print_cached(b"  cached before:", before);
-    let kept = deciding::settle(decision, after);
-    deciding::print_cached(b"  cached after: ", kept);
+    let cached = chosen::has(chosen, chosen::CACHED);
+    if chosen::has(chosen, chosen::DECISION) {
+        deciding::print_decision(decision);
+    }
+    if cached {
+        deciding::print_cached(b"  cached before:", before);
+    }
+    let kept = deciding::settle(decision, after, cached);
+    if cached {
+        deciding::print_cached(b"  cached after: ", kept);
+    }
     kept
+}
+
+// The end of a tile: what it hands on, and the line of the row program.
+fn tell_after(
+    chosen: Chosen,
+    tile: u32,
+    done: TileDone,
+    tally: painting::Tally,
+    next: Queue,
+    carried: usize,
+) {
+    if chosen::has(chosen, chosen::HANDED_ON) {
+        print_queue(b"  handed on: ", next, carried);
+    }
+    if chosen::has(chosen, chosen::LINE) {
+        print_line(tile, done, tally, carried);
+    }
 }
 
 // What a work gives and leaves: its answer, the queue handed on and the list.
@@ -210,6 +254,7 @@ fn work_next(
 
 // An accepted work told: list, decision, cached tile, paintings, the queue handed on, line.
 fn tell_done(
+    chosen: Chosen,
     tile: u32,
     after: RowState,
     done: TileDone,
@@ -224,9 +269,12 @@ fn tell_done(
     let decision = done.decision;
     let skipped = done.skipped;
     let listed = done.listed;
-    print_list(table, list, skipped.0, listed);
-    let settled = tell_decision(done, before, kept);
+    if chosen::has(chosen, chosen::LIST) {
+        print_list(table, list, skipped.0, listed);
+    }
+    let settled = tell_decision(chosen, done, before, kept);
     let tally = painting::tally_shown(
+        chosen,
         after,
         deciding::is_paint(decision),
         tile,
@@ -237,8 +285,7 @@ fn tell_done(
         skipped.0,
         listed,
     );
-    print_queue(b"  handed on: ", next, after.left);
-    print_line(tile, done, tally, after.left);
+    tell_after(chosen, tile, done, tally, next, after.left);
     let left = tally.state;
     Step {
         state: left,
@@ -250,6 +297,7 @@ fn tell_done(
 
 // Works the next tile of a row from the queue that is left, and tells it.
 pub fn trace_tile(
+    chosen: Chosen,
     state: RowState,
     later: bool,
     row: &[u64],
@@ -257,7 +305,7 @@ pub fn trace_tile(
     kept: Kept,
     queue: Queue,
 ) -> Step {
-    print_before(state, row, queue);
+    print_before(chosen, state, row, queue);
     let done = work_next(state, later, row, table, kept, queue);
     let worked = done.worked;
     let list = done.list;
@@ -267,7 +315,7 @@ pub fn trace_tile(
     let answer = worked.answer;
     match answer {
         WorkAnswer::Refused(refusal) => {
-            painting::print_refusal(refusals::number_of(refusal));
+            print_refused(chosen, state.next, refusals::number_of(refusal));
             Step {
                 state: after,
                 kept: kept_after,
@@ -276,6 +324,7 @@ pub fn trace_tile(
             }
         }
         WorkAnswer::Done(told) => tell_done(
+            chosen,
             state.next,
             after,
             told,

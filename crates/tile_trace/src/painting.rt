@@ -1,4 +1,6 @@
 // The shown layers of a tile, counted and, where the tile is painted, painted and told one after the other.
+use crate::chosen;
+use crate::chosen::Chosen;
 use crate::lent;
 use crate::lent::List;
 use crate::lent::Queue;
@@ -6,6 +8,7 @@ use crate::lent::Table;
 use cover::Cover;
 use painter::Clip;
 use row_statements::PaintAnswer;
+use row_statements::Painted;
 use row_statements::RowState;
 use segment_rows::parts;
 use styling::FillRule;
@@ -79,11 +82,13 @@ pub fn print_refusal(number: u32) {
     trace_text::print(b"\n");
 }
 
-// The octets of an answer, which is told.
-fn tell_answer(id: u32, answer: PaintAnswer, clip: Clip) -> u32 {
+// The octets of an answer; a refusal is told in any case.
+fn tell_answer(chosen: Chosen, id: u32, answer: PaintAnswer, clip: Clip) -> u32 {
     match answer {
         PaintAnswer::Mark(mark) => {
-            print_mark(id, mark, clip);
+            if chosen::has_painting(chosen, id) {
+                print_mark(id, mark, clip);
+            }
             mark::octets(mark)
         }
         PaintAnswer::Refused(refusal) => {
@@ -93,23 +98,41 @@ fn tell_answer(id: u32, answer: PaintAnswer, clip: Clip) -> u32 {
     }
 }
 
-// Paints a layer, and tells it: mark, clip, doubled areas and weights, coverages.
-fn paint_layer(
-    tally: Tally,
+// The pixels of a painting, below its line: doubled areas and weights, coverages.
+fn tell_pixels(
+    chosen: Chosen,
+    id: u32,
+    tile: u32,
+    tile_y: u32,
+    cover: Cover,
+    row: &[u64],
+    rule: FillRule,
+    plane: &[f32; 256],
+) {
+    let told = chosen::has_painting(chosen, id);
+    if told & chosen::has(chosen, chosen::AREAS) {
+        print_areas(id, tile, tile_y, cover, row, rule);
+    }
+    if told & chosen::has(chosen, chosen::PLANES) {
+        planes::print_plane(plane);
+    }
+}
+
+// Paints a layer by lent arrays.
+fn paint_lent(
+    state: RowState,
     tile: u32,
     id: u32,
-    cover: Cover,
     row: &[u64],
     table: Table,
     queue: Queue,
-) -> Tally {
+    plane: &mut [f32; 256],
+) -> Painted {
     let layers = table.layers;
     let colors = table.colors;
     let ids = queue.ids;
     let covers = queue.covers;
-    let state = tally.state;
-    let mut plane = [0.0f32; 256];
-    let painted = row_painting::paint_layer(
+    row_painting::paint_layer(
         state,
         signed(tile),
         id,
@@ -119,14 +142,30 @@ fn paint_layer(
         table.count,
         &ids,
         &covers,
-        &mut plane,
-    );
+        plane,
+    )
+}
+
+// Paints a layer, and tells it: mark, clip, doubled areas and weights, coverages.
+fn paint_layer(
+    chosen: Chosen,
+    tally: Tally,
+    tile: u32,
+    id: u32,
+    cover: Cover,
+    row: &[u64],
+    table: Table,
+    queue: Queue,
+) -> Tally {
+    let state = tally.state;
+    let mut plane = [0.0f32; 256];
+    let painted = paint_lent(state, tile, id, row, table, queue, &mut plane);
     let answer = painted.answer;
     let after = painted.state;
     let clip = after.clip;
-    let octets = tell_answer(id, answer, clip);
-    print_areas(id, tile, after.tile_y, cover, row, rule_of(table, id));
-    planes::print_plane(&plane);
+    let octets = tell_answer(chosen, id, answer, clip);
+    let rule = rule_of(table, id);
+    tell_pixels(chosen, id, tile, after.tile_y, cover, row, rule, &plane);
     Tally {
         state: after,
         shown: std::num::wrapping_add_u32(tally.shown, 1),
@@ -146,6 +185,7 @@ fn count_layer(tally: Tally) -> Tally {
 
 // An entry of the list: one that is not shown leaves the tally.
 fn tally_entry(
+    chosen: Chosen,
     shown: bool,
     paints: bool,
     tally: Tally,
@@ -162,7 +202,7 @@ fn tally_entry(
     if !paints {
         return count_layer(tally);
     }
-    paint_layer(tally, tile, id, cover, row, table, queue)
+    paint_layer(chosen, tally, tile, id, cover, row, table, queue)
 }
 
 // How many are left of `listed` past the first `skipped`.
@@ -176,6 +216,7 @@ fn rest_of(skipped: usize, listed: usize) -> usize {
 
 // The shown layers of a list of `listed` layers, of which the first `skipped` are passed over.
 pub fn tally_shown(
+    chosen: Chosen,
     state: RowState,
     paints: bool,
     tile: u32,
@@ -199,6 +240,7 @@ pub fn tally_shown(
     while 0 < left {
         left -= 1;
         tally = tally_entry(
+            chosen,
             lent::is_unmasked(&unmasked, i),
             paints,
             tally,

@@ -1,5 +1,7 @@
 // A frame traced: a job read, and its row opened and worked tile by tile, with the cached tiles that the frame before
 // left.
+use crate::choice;
+use crate::choice::Choice;
 use frame_changes::cached;
 use frame_changes::changes;
 use job_statements::Reading;
@@ -48,6 +50,7 @@ fn due_tiles(first: u32, to: u32, tiles: i32) -> u32 {
 
 // Works the tiles of an open row, up to the first that is refused.
 fn trace_tiles(
+    choice: Choice,
     state: RowState,
     n: u32,
     later: bool,
@@ -62,6 +65,7 @@ fn trace_tiles(
     while 0 < left {
         left -= 1;
         let step = tile_trace::trace_tile(
+            choice::chosen_of(choice, at.next),
             at,
             later,
             row,
@@ -79,7 +83,14 @@ fn trace_tiles(
 }
 
 // Opens the row of a job and works its tiles.
-fn trace_row(head: Head, later: bool, row: &[u64], table: Table, kept: &mut [u8; 32760]) {
+fn trace_row(
+    choice: Choice,
+    head: Head,
+    later: bool,
+    row: &[u64],
+    table: Table,
+    kept: &mut [u8; 32760],
+) {
     let layers = table.layers;
     let colors = table.colors;
     let mut ids = [0u32; 256];
@@ -102,7 +113,7 @@ fn trace_row(head: Head, later: bool, row: &[u64], table: Table, kept: &mut [u8;
                 ids: ids,
                 covers: covers,
             };
-            trace_tiles(state, n, later, row, table, queue, kept)
+            trace_tiles(choice, state, n, later, row, table, queue, kept)
         }
     }
 }
@@ -110,6 +121,7 @@ fn trace_row(head: Head, later: bool, row: &[u64], table: Table, kept: &mut [u8;
 // Traces a job that was read as the frame after `before`. A layer whose record and segments are those of the frame
 // before counts as unchanged.
 fn trace_job(
+    choice: Choice,
     head: Head,
     read: [u32; 512],
     colors: [f32; 256],
@@ -140,7 +152,14 @@ fn trace_job(
         colors: colors,
         count: count,
     };
-    trace_row(head, before.given, front(&row, segments), table, &mut kept);
+    trace_row(
+        choice,
+        head,
+        before.given,
+        front(&row, segments),
+        table,
+        &mut kept,
+    );
     Frame {
         given: true,
         layers: layers,
@@ -153,13 +172,13 @@ fn trace_job(
 }
 
 // Reads a job from the front of an input, of which n bytes were read, and traces it as the frame after `before`.
-pub fn trace_frame(text: &[u8; 65537], n: usize, before: Frame) -> Frame {
+pub fn trace_frame(choice: Choice, text: &[u8; 65537], n: usize, before: Frame) -> Frame {
     let mut layers = [0u32; 512];
     let mut colors = [0.0f32; 256];
     let mut row = [0u64; 2048];
     match job_front::read_front(text, n, &mut layers, &mut colors, &mut row) {
         Reading::Accepted(head, count, segments) => {
-            trace_job(head, layers, colors, count, row, segments, before)
+            trace_job(choice, head, layers, colors, count, row, segments, before)
         }
         Reading::NoRoom => before,
         Reading::Malformed => {

@@ -6,10 +6,10 @@ use Rattle.tile_trace.proofs.painting.tally_shown.Statement.{statement}
 use Rattle.tile_trace.proofs.painting.tally_shown.Tie as tie
 
 abbrev Inv-loop : tie.InvT-loop
-Inv-loop paints tile row table queue skipped listed ids covers unmasked tally₀ i₀ left₀ tally i left = Unit {0}
+Inv-loop chosen paints tile row table queue skipped listed ids covers unmasked tally₀ i₀ left₀ tally i left = Unit {0}
 
 abbrev μ-loop : tie.MeasureT-loop
-μ-loop paints tile row table queue skipped listed ids covers unmasked tally₀ i₀ left₀ tally i left = left
+μ-loop chosen paints tile row table queue skipped listed ids covers unmasked tally₀ i₀ left₀ tally i left = left
 
 sub-left : tie.Need-sub-left Inv-loop μ-loop
 sub-left c = omega (arith, c .loop-test .taken)
