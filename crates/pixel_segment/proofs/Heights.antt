@@ -5,9 +5,11 @@ use Prim.Native.Nat.{ℕ, _+_, _-_, _/_, _%_, _^_, _≤_, _<_}
 use native.Mathlib.Omega.{arith}
 use lib.Dec.{lit≤}
 use lib.Pow.{shr-shr, shr-mod, shr-lt}
-use Rattle.pixel_segment.specs.Field.{cpu, gpu, widthsAt, shiftOf}
+use Rattle.pixel_segment.specs.Field.{cpu, gpu, widthsAt, widthsOf, shiftOf}
 use Rattle.pixel_segment.specs.Order.{orderKey}
 use Rattle.pixel_segment.specs.Layout.{Keyed}
+use Rattle.pixel_segment.specs.declared.consts.Layout.{Layout}
+use Rattle.pixel_segment.specs.declared.consts.Layout.the-variants.{Cpu, Gpu}
 
 -- the bits below the key, in tiles 2^k high
 pub below-key : (k : ℕ) → shiftOf (widthsAt k) 2 ≡ 16 + k
@@ -46,6 +48,10 @@ cpu-keyed = keyed-at 4 (lit≤ tt)
 
 pub gpu-keyed : Keyed gpu
 gpu-keyed = keyed-at 2 (lit≤ tt)
+
+pub keyed-of : (l : Layout) → Keyed (widthsOf l)
+keyed-of Cpu = cpu-keyed
+keyed-of Gpu = gpu-keyed
 
 -- 'order compares the upper 44 bits', and 46 of them in tiles 4 high
 pub upper-44 : (w : ℕ) → orderKey cpu w ≡ w / 2 ^ 20

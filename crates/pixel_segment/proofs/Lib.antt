@@ -2,6 +2,7 @@
 pub mod Widths
 pub mod Ranges
 pub mod ReadBack
+pub mod Joining
 pub mod Covers
 pub mod Opposite
 pub mod Edges

@@ -2,7 +2,7 @@
 -- signed field's. Assumes nothing.
 use mathlib.Core.Path.{_≡_, refl}
 use mathlib.Core.Bool.{true, _&&_}
-use mathlib.Core.List.{List}
+use mathlib.Core.List.{List, [], _∷_}
 use Prim.Native.Nat.{ℕ, zero, suc, _+_, _-_, _^_, _≤_, _<_}
 use native.Mathlib.Nat.{pow-succ'}
 use native.Mathlib.Omega.{arith}
@@ -12,15 +12,21 @@ use lib.Pow.{pow-pos}
 use Rattle.laws.specs.Integer.{plus, minus}
 use Rattle.laws.proofs.Bools.{both, left, right}
 use Rattle.laws.proofs.Parts.{whole, added, plus-neg, minus-neg, le-true, true-le, lt-true, true-lt}
-use Rattle.pixel_segment.specs.Field.{cpu, gpu, widthOf}
+use Rattle.pixel_segment.specs.Field.{cpu, gpu, widthsOf, widthOf}
 use Rattle.pixel_segment.specs.Pack.{storedOf, isHeld, lowestTile, lowestSigned, isPackable, FieldsInRange}
 use Rattle.pixel_segment.specs.Layout.{Layout}
+use Rattle.pixel_segment.specs.declared.consts.Layout as layouts
+use Rattle.pixel_segment.specs.declared.consts.Layout.the-variants.{Cpu, Gpu}
 
 pub cpu-layout : Layout cpu
 cpu-layout = record { seven = refl; signed = omega arith }
 
 pub gpu-layout : Layout gpu
 gpu-layout = record { seven = refl; signed = omega arith }
+
+pub table-of : (l : layouts.Layout) → Layout (widthsOf l)
+table-of Cpu = cpu-layout
+table-of Gpu = gpu-layout
 
 -- half the numbers of a field are below 0
 pub halves : (k : ℕ) → 1 ≤ k → 2 ^ k ≡ 2 ^ (k - 1) + 2 ^ (k - 1)
@@ -119,3 +125,30 @@ module _ (ws : List ℕ) (layout : Layout ws) (layer tx ty x y m c : ℤ) where
       let e5 = both (a && b && d && f) g e4 (is-plain (widthOf ws 4) y (r .local-y)) in
       let e6 = both (a && b && d && f && g) h e5 (is-plain (widthOf ws 5) m (r .multiplier)) in
       both (a && b && d && f && g && h) i e6 (is-signed (widthOf ws 6) c (layout .signed) (r .cover))
+
+-- ---- widths that no field of a layout is above
+
+abbrev pub wide : List ℕ
+wide = 13 ∷ 12 ∷ 21 ∷ 4 ∷ 4 ∷ 6 ∷ 6 ∷ []
+
+pub in-wide : (l : layouts.Layout) {layer tx ty x y m c : ℤ} → FieldsInRange (widthsOf l) layer tx ty x y m c → FieldsInRange wide layer tx ty x y m c
+in-wide Cpu r =
+    record {
+      layer-id = r .layer-id;
+      tile-x = r .tile-x;
+      tile-y = omega (arith, r .tile-y);
+      local-x = r .local-x;
+      local-y = r .local-y;
+      multiplier = r .multiplier;
+      cover = r .cover;
+    }
+in-wide Gpu r =
+    record {
+      layer-id = r .layer-id;
+      tile-x = r .tile-x;
+      tile-y = r .tile-y;
+      local-x = r .local-x;
+      local-y = omega (arith, r .local-y);
+      multiplier = r .multiplier;
+      cover = r .cover;
+    }

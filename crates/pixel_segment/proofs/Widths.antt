@@ -1,22 +1,25 @@
 -- Laws of the tables of widths over the tile height 2^k, and the ranges of the fields; those of `cpu` are their uses at 4. Assumes nothing.
 use mathlib.Core.Path.{_≡_, refl, ap, sym, _∙_}
 use mathlib.Core.List.{List, [], _∷_}
-use Prim.Native.Nat.{ℕ, zero, suc, _+_, _-_, _*_, _^_, _%_, _≤_, _<_, max}
-use native.Mathlib.Nat.{one-mul, mul-le-mul}
+use Prim.Native.Nat.{ℕ, zero, suc, _+_, _-_, _*_, _/_, _^_, _%_, _≤_, _<_, max}
+use native.Mathlib.Nat.{one-mul, mul-le-mul, mod-lt, lt-of-lt-of-le}
 use native.Mathlib.Numerals.{add-one}
 use native.Mathlib.Omega.{arith}
 use lib.Arith.{digits-lt}
 use lib.Dec.{lit<, lit≤}
 use lib.IntN.{ℤ, natAbs}
 use lib.ListN.{getD, drop, length}
-use lib.Pow.{shl-exact, pow-add, pow-mono}
+use lib.Pow.{shl-exact, pow-add, pow-mono, pow-pos}
 use lib.Seq.{drop-cons}
 use mir.Syntax.{w8, w16}
 use mir.Val.{SFits}
 use Rattle.laws.specs.Integer.{plus, minus}
 use Rattle.laws.proofs.Machine.{sfits, small}
 use Rattle.laws.proofs.Parts.{Whole, Difference, difference, abs-times}
-use Rattle.pixel_segment.specs.Field.{sum, cpu, gpu, widthsAt, indexOf, widthOf, shiftOf, fieldOf, tileOf, coverOf, multiplierOf, doubleAreaOf}
+use Rattle.pixel_segment.specs.Field.{sum, cpu, gpu, widthsAt, widthsOf, indexOf, widthOf, shiftOf, fieldOf}
+use Rattle.pixel_segment.specs.Field.{tileOf, layerIdOf, coverOf, multiplierOf, doubleAreaOf}
+use Rattle.pixel_segment.specs.declared.consts.Layout.{Layout}
+use Rattle.pixel_segment.specs.declared.consts.Layout.the-variants.{Cpu, Gpu}
 use Rattle.pixel_segment.specs.declared.consts.BitField.{BitField}
 use Rattle.pixel_segment.specs.declared.consts.BitField.the-variants.{TileY, TileX, LayerId, LocalX, LocalY, DoubleAreaMultiplier, Cover}
 
@@ -51,9 +54,6 @@ sum-past (suc k) (x ∷ xs) h = sum-past k xs (omega arith)
 pub shift-lt-at : (k : ℕ) → k < 15 → (i : ℕ) → shiftOf (widthsAt k) i < 64
 shift-lt-at k h i = rw add-one (omega (arith, sum-drop-le i (drop 1 (widthsAt k))))
 
-pub shift-lt : (i : ℕ) → shiftOf cpu i < 64
-shift-lt i = shift-lt-at 4 (lit< tt) i
-
 abbrev largest : List ℕ → ℕ
 largest [] = 0
 largest (x ∷ xs) = max x (largest xs)
@@ -67,9 +67,6 @@ getD-le (x ∷ xs) (suc i) = omega (arith, getD-le xs i)
 pub width-le-at : (k : ℕ) → k ≤ 15 → (i : ℕ) → widthOf (widthsAt k) i ≤ 21
 width-le-at k h i = omega (arith, getD-le (widthsAt k) i)
 
-pub width-lt : (i : ℕ) → getD cpu i 0 < 64
-width-lt i = omega (arith, width-le-at 4 (lit≤ tt) i)
-
 -- a field has its place in the table
 pub index-lt : (f : BitField) → indexOf f < 7
 index-lt TileY = omega arith
@@ -80,12 +77,48 @@ index-lt LocalY = omega arith
 index-lt DoubleAreaMultiplier = omega arith
 index-lt Cover = omega arith
 
--- no field has more values than a layer id
-pub size-le-at : (k : ℕ) → k ≤ 15 → (i : ℕ) → 2 ^ widthOf (widthsAt k) i ≤ 2 ^ 21
-size-le-at k h i = pow-mono (width-le-at k h i)
+-- ---- the same of each layout
 
-pub size-le : (f : BitField) → 2 ^ widthOf cpu (indexOf f) ≤ 2 ^ 21
-size-le f = size-le-at 4 (lit≤ tt) (indexOf f)
+pub length-of : (l : Layout) → length (widthsOf l) ≡ 7
+length-of Cpu = refl
+length-of Gpu = refl
+
+pub cover-width : (l : Layout) → widthOf (widthsOf l) 6 ≡ 6
+cover-width Cpu = refl
+cover-width Gpu = refl
+
+pub shift-lt-of : (l : Layout) (i : ℕ) → shiftOf (widthsOf l) i < 64
+shift-lt-of Cpu i = shift-lt-at 4 (lit< tt) i
+shift-lt-of Gpu i = shift-lt-at 2 (lit< tt) i
+
+pub width-le-of : (l : Layout) (i : ℕ) → widthOf (widthsOf l) i ≤ 21
+width-le-of Cpu i = width-le-at 4 (lit≤ tt) i
+width-le-of Gpu i = width-le-at 2 (lit≤ tt) i
+
+-- no field has more values than a layer id
+pub size-le-of : (l : Layout) (i : ℕ) → 2 ^ widthOf (widthsOf l) i ≤ 2 ^ 21
+size-le-of l i = pow-mono (width-le-of l i)
+
+pub sum-le-of : (l : Layout) (i : ℕ) → sum (drop i (widthsOf l)) ≤ 64
+sum-le-of Cpu i = omega (arith, sum-drop-le i cpu)
+sum-le-of Gpu i = omega (arith, sum-drop-le i gpu)
+
+-- what reading a field asks of its shift and its size
+pub readable : (l : Layout) (i : ℕ) {offset size : ℕ}
+    → offset ≡ shiftOf (widthsOf l) i → size ≡ 2 ^ widthOf (widthsOf l) i → (offset < 64) × (0 < size) × (size < 2 ^ 32)
+readable l i e f = (rw e (shift-lt-of l i), rw f (pow-pos (widthOf (widthsOf l) i)), omega (arith, f, size-le-of l i))
+
+-- a field has as many bits as its width says
+pub field-lt : (ws : List ℕ) (i w : ℕ) {n : ℕ} → widthOf ws i ≤ n → fieldOf ws i w < 2 ^ n
+field-lt ws i w h = lt-of-lt-of-le (mod-lt (w / 2 ^ shiftOf ws i) (pow-pos (widthOf ws i))) (pow-mono h)
+
+pub layer-lt : (l : Layout) (w : ℕ) → layerIdOf (widthsOf l) w < 2 ^ 21
+layer-lt l w = field-lt (widthsOf l) 2 w (width-le-of l 2)
+
+-- the fields that order compares stand above others
+pub key-above : (l : Layout) → 0 < shiftOf (widthsOf l) 2
+key-above Cpu = omega arith
+key-above Gpu = omega arith
 
 -- 1 shifted left by less than 64
 pub shifted : (k : ℕ) → k < 64 → (1 * 2 ^ k) % 2 ^ 64 ≡ 2 ^ k

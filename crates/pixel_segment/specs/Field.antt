@@ -5,6 +5,8 @@ use mathlib.Core.List.{List, [], _∷_}
 use Prim.Native.Nat.{ℕ, _+_, _-_, _/_, _%_, _^_}
 use lib.ListN.{getD, drop}
 use lib.IntN.{ℤ, pos, subℕ, _*ℤ_}
+use Rattle.pixel_segment.specs.declared.consts.Layout.{Layout}
+use Rattle.pixel_segment.specs.declared.consts.Layout.the-variants.{Cpu, Gpu}
 use Rattle.pixel_segment.specs.declared.consts.BitField.{BitField}
 use Rattle.pixel_segment.specs.declared.consts.BitField.the-variants.{TileY, TileX, LayerId, LocalX, LocalY, DoubleAreaMultiplier, Cover}
 
@@ -18,6 +20,10 @@ cpu = 11 ∷ 12 ∷ 21 ∷ 4 ∷ 4 ∷ 6 ∷ 6 ∷ []
 
 abbrev pub gpu : List ℕ
 gpu = 13 ∷ 12 ∷ 21 ∷ 4 ∷ 2 ∷ 6 ∷ 6 ∷ []
+
+abbrev pub widthsOf : Layout → List ℕ
+widthsOf Cpu = cpu
+widthsOf Gpu = gpu
 
 -- a field's place in the table
 abbrev pub indexOf : BitField → ℕ

@@ -1,23 +1,15 @@
 // How two keys compare.
+use crate::consts;
+use crate::consts::BitField;
+use crate::consts::Layout;
 ghost use mathlib.Core.Path.{_≡_};
-ghost use Rattle.pixel_segment.specs.Order.{rank, isGt, compareOf, compareℤ, compareBool};
+ghost use Rattle.pixel_segment.specs.Field.{widthsOf};
+ghost use Rattle.pixel_segment.specs.Order.{rank, orderKey, compareOf};
 
 pub enum Ordering {
     Less,
     Equal,
     Greater,
-}
-
-impl Ordering {
-    pub fn is_gt(self) -> bool
-        ensures { λ r. ⌜ r ≡ isGt (rank self) ⌝ }
-    {
-        match self {
-            Ordering::Greater => true,
-            Ordering::Less => false,
-            Ordering::Equal => false,
-        }
-    }
 }
 
 // How an unsigned number compares with another.
@@ -34,31 +26,10 @@ pub fn compare(a: u64, b: u64) -> Ordering
     }
 }
 
-// How a signed number compares with another.
-pub fn compare_i16(a: i16, b: i16) -> Ordering
-    ensures { λ r. ⌜ rank r ≡ compareℤ a b ⌝ }
+// How two words compare: by tile y, tile x and layer id, the bits from the layer id up.
+pub fn compare_words(layout: Layout, word: u64, other: u64) -> Ordering
+    ensures { λ r. ⌜ rank r ≡ compareOf (orderKey (widthsOf layout) word) (orderKey (widthsOf layout) other) ⌝ }
 {
-    if a < b {
-        return Ordering::Less;
-    }
-    if b < a {
-        Ordering::Greater
-    } else {
-        Ordering::Equal
-    }
-}
-
-// How a test compares with another: false before true.
-pub fn compare_bool(a: bool, b: bool) -> Ordering
-    ensures { λ r. ⌜ rank r ≡ compareBool a b ⌝ }
-{
-    if a {
-        if b {
-            Ordering::Equal
-        } else {
-            Ordering::Greater
-        }
-    } else {
-        if b { Ordering::Less } else { Ordering::Equal }
-    }
+    let offset = consts::shift(layout, BitField::LayerId);
+    compare(word >> offset, other >> offset)
 }

@@ -1,19 +1,21 @@
 // The packed pixel segment of tiles four pixels high (cpu/pixel_segment.rs at the GPU's layout): packing, fields,
-// order, searches and parts. The two lowest fields have the same bits at every height.
-pub mod consts;
+// order, searches and parts, each the one of `pixel_segment` or `segment_rows` at that layout. The two lowest fields
+// have the same bits at every height.
 pub mod order;
 pub mod parts;
-pub mod range;
 pub mod search;
 
+use pixel_segment::Packed;
 use pixel_segment::PixelSegment;
+use pixel_segment::consts;
 use pixel_segment::consts::BitField;
+use pixel_segment::consts::Layout;
 use pixel_segment::order::Ordering;
 ghost use mathlib.Core.Path.{_≡_};
 ghost use lib.IntN.{pos};
 ghost use Rattle.pixel_segment.specs.Field.{gpu, layerIdOf, tileXOf, tileYOf, tileOf};
 ghost use Rattle.pixel_segment.specs.Field.{localXOf, localYOf, multiplierOf, doubleAreaOf, coverOf};
-ghost use Rattle.pixel_segment.specs.Pack.{wordOf, PacksTo};
+ghost use Rattle.pixel_segment.specs.Pack.{PacksTo};
 ghost use Rattle.pixel_segment.specs.Order.{rank, orderKey, compareOf};
 ghost use Rattle.pixel_segment_gpu.specs.GpuPack.{gpuPackedAnswer};
 
@@ -24,32 +26,6 @@ pub struct GpuSegment(pub u64);
 pub enum GpuPacked {
     Segment(GpuSegment),
     FieldOutOfRange,
-}
-
-// The word of seven numbers, each field below those before it.
-fn join(
-    layer_id: u32,
-    tile_x: i16,
-    tile_y: i16,
-    local_x: u8,
-    local_y: u8,
-    double_area_multiplier: u8,
-    cover: i8,
-) -> u64
-    ensures { λ r. ⌜ r
-        ≡ wordOf gpu «layer_id» «tile_x» «tile_y» «local_x» «local_y» «double_area_multiplier» cover ⌝ }
-{
-    let w0 = consts::append(0, BitField::TileY, pixel_segment::stored(tile_y));
-    let w1 = consts::append(w0, BitField::TileX, pixel_segment::stored(tile_x));
-    let w2 = consts::append(w1, BitField::LayerId, layer_id as u64);
-    let w3 = consts::append(w2, BitField::LocalX, local_x as u64);
-    let w4 = consts::append(w3, BitField::LocalY, local_y as u64);
-    let w5 = consts::append(
-        w4,
-        BitField::DoubleAreaMultiplier,
-        double_area_multiplier as u64,
-    );
-    consts::append(w5, BitField::Cover, pixel_segment::cover_bits(cover))
 }
 
 impl GpuSegment {
@@ -66,18 +42,8 @@ impl GpuSegment {
         ensures { λ r. ⌜ PacksTo gpu (pos «layer_id») «tile_x» «tile_y»
             (pos «local_x») (pos «local_y») (pos «double_area_multiplier») cover (gpuPackedAnswer r) ⌝ }
     {
-        if !range::is_packable(
-            layer_id as i64,
-            tile_x as i64,
-            tile_y as i64,
-            local_x as i64,
-            local_y as i64,
-            double_area_multiplier as i64,
-            cover as i64,
-        ) {
-            return GpuPacked::FieldOutOfRange;
-        }
-        let word = join(
+        let packed = pixel_segment::new_in(
+            Layout::Gpu,
             layer_id,
             tile_x,
             tile_y,
@@ -86,37 +52,40 @@ impl GpuSegment {
             double_area_multiplier,
             cover,
         );
-        GpuPacked::Segment(GpuSegment(word))
+        match packed {
+            Packed::Segment(segment) => GpuPacked::Segment(GpuSegment(segment.0)),
+            Packed::FieldOutOfRange => GpuPacked::FieldOutOfRange,
+        }
     }
 
     pub fn layer_id(self) -> u32
         ensures { λ r. ⌜ r ≡ layerIdOf gpu (self .0) ⌝ }
     {
-        consts::extract(self.0, BitField::LayerId) as u32
+        consts::extract(Layout::Gpu, self.0, BitField::LayerId) as u32
     }
 
     pub fn tile_x(self) -> i16
         ensures { λ r. ⌜ r ≡ tileOf (tileXOf gpu (self .0)) ⌝ }
     {
-        consts::extract(self.0, BitField::TileX) as i16 - 1
+        consts::tile(Layout::Gpu, self.0, BitField::TileX)
     }
 
     pub fn tile_y(self) -> i16
         ensures { λ r. ⌜ r ≡ tileOf (tileYOf gpu (self .0)) ⌝ }
     {
-        consts::extract(self.0, BitField::TileY) as i16 - 1
+        consts::tile(Layout::Gpu, self.0, BitField::TileY)
     }
 
     pub fn local_x(self) -> u8
         ensures { λ r. ⌜ r ≡ localXOf gpu (self .0) ⌝ }
     {
-        consts::extract(self.0, BitField::LocalX) as u8
+        consts::extract(Layout::Gpu, self.0, BitField::LocalX) as u8
     }
 
     pub fn local_y(self) -> u8
         ensures { λ r. ⌜ r ≡ localYOf gpu (self .0) ⌝ }
     {
-        consts::extract(self.0, BitField::LocalY) as u8
+        consts::extract(Layout::Gpu, self.0, BitField::LocalY) as u8
     }
 
     pub fn double_area_multiplier(self) -> u8
@@ -143,7 +112,6 @@ impl GpuSegment {
     pub fn cmp(self, other: GpuSegment) -> Ordering
         ensures { λ r. ⌜ rank r ≡ compareOf (orderKey gpu (self .0)) (orderKey gpu (other .0)) ⌝ }
     {
-        let offset = consts::shift(BitField::LayerId);
-        pixel_segment::order::compare(self.0 >> offset, other.0 >> offset)
+        pixel_segment::order::compare_words(Layout::Gpu, self.0, other.0)
     }
 }

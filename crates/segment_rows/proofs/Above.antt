@@ -59,9 +59,6 @@ number-rank n k limit h =
     (λ (p : limit < k + 1). compare-less (n + 1) (min (k + 1) limit) (omega arith) ∙ sym (compare-less n k (omega arith)))
     (le-or-lt (k + 1) limit)
 
-pub above-number : (n k limit : ℕ) → n + 1 < limit → leb (min (k + 1) limit) n ≡ isGt (compareOf n k)
-above-number n k limit h = above-rank n (min (k + 1) limit) ∙ ap isGt (number-rank n k limit h)
-
 -- a stored tile number is at least a tile from that tile's stored number on
 pub at-least-tile : (t : ℤ) (n : ℕ) → leb (storedOf t) n ≡ leZ t (tileOf n)
 at-least-tile (pos m) n = rw (add-one, ← tile-suc m) (sym (le-tile (suc m) n))
@@ -91,17 +88,7 @@ tile-rank t n = by t
         compare-greater (n + 1) (storedOf (negsuc (suc m) +ℤ pos 1)) (omega (arith, added (negsuc (suc m) +ℤ pos 1) (pos 1)))
         ∙ sym (left-of-all m n)
 
-pub above-tile : (t : ℤ) (n : ℕ) → leb (storedOf (t +ℤ pos 1)) n ≡ isGt (compareℤ (tileOf n) t)
-above-tile t n = above-rank n (storedOf (t +ℤ pos 1)) ∙ ap isGt (tile-rank t n)
-
--- above a key that asks whether a number is at least a start: nothing below the limit where that is wanted, else from the start on
-pub above-test : (wanted b : Bool) (start n limit : ℕ) → n < limit → leb start n ≡ b → leb (cond wanted limit start) n ≡ isGt (compareBool b wanted)
-above-test true true start n limit h e = lt-leb limit n h
-above-test true false start n limit h e = lt-leb limit n h
-above-test false true start n limit h e = e
-above-test false false start n limit h e = e
-
--- nothing where that is wanted
+-- above a key that asks whether a number is at least a start: nothing where that is wanted
 pub never-above : (b : Bool) → isGt (compareBool b true) ≡ false
 never-above true = refl
 never-above false = refl

@@ -1,10 +1,13 @@
 // The parts of a row that belong to a tile or a layer, found by search and handed on as slices of the row.
 use crate::search;
 use crate::search::Found;
+use pixel_segment::consts::Layout;
 ghost use mathlib.Core.Path.{_≡_};
 ghost use Prim.Native.Nat.{_^_, _≤_, _<_};
 ghost use lib.ListN.{length};
-ghost use Rattle.segment_rows.specs.Search.{placeIn, afterOf, between, leftPart, tilePart, upToTile, layerPart};
+ghost use Rattle.pixel_segment.specs.Field.{widthsOf};
+ghost use Rattle.segment_rows.specs.Search.{placeIn, afterOf, between, leftPartIn, tilePartIn, layerPartIn};
+ghost use Rattle.segment_rows.specs.Search.{leftPart, tilePart, upToTile, layerPart};
 
 // The place after the one that a search found, or where one would stand.
 pub fn end_of(found: Found) -> usize
@@ -31,20 +34,48 @@ pub fn slice_between(segments: &[u64], start: usize, end: usize) -> &[u64]
 }
 
 // The segments left of a tile.
-pub fn left_of_tile(row: &[u64], tile_x: i16) -> &[u64]
-    ensures { λ r. ⌜ now r ≡ leftPart «tile_x» (now (row .entry)) ⌝ }
+pub fn left_of_tile_in(layout: Layout, row: &[u64], tile_x: i16) -> &[u64]
+    ensures { λ r. ⌜ now r ≡ leftPartIn (widthsOf layout) «tile_x» (now (row .entry)) ⌝ }
 {
-    let end = end_of(search::search_last_by_tile_x_at_least(row, tile_x, false));
+    let end = end_of(search::search_last_by_tile_x_at_least_in(layout, row, tile_x, false));
     slice_between(row, 0, end)
 }
 
 // The segments of a tile.
+pub fn in_tile_in(layout: Layout, row: &[u64], tile_x: i16) -> &[u64]
+    ensures { λ r. ⌜ now r ≡ tilePartIn (widthsOf layout) «tile_x» (now (row .entry)) ⌝ }
+{
+    let start = end_of(search::search_last_by_tile_x_at_least_in(layout, row, tile_x, false));
+    let end = end_of(search::search_last_by_tile_x_in(layout, row, tile_x));
+    slice_between(row, start, end)
+}
+
+// The segments of a layer in a tile's part.
+pub fn of_layer_in(layout: Layout, part: &[u64], layer_id: u32) -> &[u64]
+    ensures { λ r. ⌜ now r ≡ layerPartIn (widthsOf layout) «layer_id» (now (part .entry)) ⌝ }
+{
+    let start = end_of(search::search_last_by_layer_id_at_least_in(layout, part, layer_id, false));
+    let end = end_of(search::search_last_by_layer_id_in(layout, part, layer_id));
+    slice_between(part, start, end)
+}
+
+// In tiles 16 pixels high.
+pub fn left_of_tile(row: &[u64], tile_x: i16) -> &[u64]
+    ensures { λ r. ⌜ now r ≡ leftPart «tile_x» (now (row .entry)) ⌝ }
+{
+    left_of_tile_in(Layout::Cpu, row, tile_x)
+}
+
 pub fn in_tile(row: &[u64], tile_x: i16) -> &[u64]
     ensures { λ r. ⌜ now r ≡ tilePart «tile_x» (now (row .entry)) ⌝ }
 {
-    let start = end_of(search::search_last_by_tile_x_at_least(row, tile_x, false));
-    let end = end_of(search::search_last_by_tile_x(row, tile_x));
-    slice_between(row, start, end)
+    in_tile_in(Layout::Cpu, row, tile_x)
+}
+
+pub fn of_layer(part: &[u64], layer_id: u32) -> &[u64]
+    ensures { λ r. ⌜ now r ≡ layerPart «layer_id» (now (part .entry)) ⌝ }
+{
+    of_layer_in(Layout::Cpu, part, layer_id)
 }
 
 // What is left of a row, up to the last segment of a tile: where nothing of a lower tile is left, the tile's segments.
@@ -53,13 +84,4 @@ pub fn up_to_tile(rest: &[u64], tile_x: i16) -> &[u64]
 {
     let end = end_of(search::search_last_by_tile_x(rest, tile_x));
     slice_between(rest, 0, end)
-}
-
-// The segments of a layer in a tile's part.
-pub fn of_layer(part: &[u64], layer_id: u32) -> &[u64]
-    ensures { λ r. ⌜ now r ≡ layerPart «layer_id» (now (part .entry)) ⌝ }
-{
-    let start = end_of(search::search_last_by_layer_id_at_least(part, layer_id, false));
-    let end = end_of(search::search_last_by_layer_id(part, layer_id));
-    slice_between(part, start, end)
 }

@@ -3,7 +3,7 @@
 // halves by the field as it is stored.
 use pixel_segment::consts;
 use pixel_segment::consts::BitField;
-use pixel_segment::order::Ordering;
+use pixel_segment::consts::Layout;
 ghost use mathlib.Core.Path.{_≡_};
 ghost use mathlib.Core.Bool.{cond};
 ghost use Prim.Native.Nat.{_+_, _-_, _/_, _%_, _^_, _≤_, _<_, min};
@@ -11,9 +11,10 @@ ghost use lib.Dec.{leb};
 ghost use lib.IntN.{pos, _+ℤ_};
 ghost use lib.ListN.{length, getD};
 ghost use Rattle.laws.specs.Integer.{plus};
-ghost use Rattle.pixel_segment.specs.Order.{rank, compareOf, compareBool};
+ghost use Rattle.pixel_segment.specs.Order.{compareOf, compareBool};
+ghost use Rattle.pixel_segment.specs.Field.{widthsOf};
 ghost use Rattle.pixel_segment.specs.Pack.{storedOf};
-ghost use Rattle.segment_rows.specs.Search.{placeIn, endOf, searchOf, ended, orderAt};
+ghost use Rattle.segment_rows.specs.Search.{placeIn, endOf, searchOf, orderAtIn, orderAt};
 ghost use Rattle.segment_rows.specs.InnerHalving.{HalfOf};
 
 pub enum Key {
@@ -36,18 +37,6 @@ pub enum Found {
 
 // Above every number that a field has.
 const NO_FIELD: u32 = 4294967295;
-
-// The answer at the element where the halving ends.
-pub fn answer(order: Ordering, start: usize) -> Found
-    requires { ⌜ start < 2 ^ 63 ⌝ }
-    ensures { λ r. ⌜ placeIn r ≡ ended (rank order) start ⌝ }
-{
-    match order {
-        Ordering::Less => Found::Absent(start + 1),
-        Ordering::Equal => Found::At(start),
-        Ordering::Greater => Found::Absent(start),
-    }
-}
 
 // A number that is not negative, as a natural one; 0 for one that is.
 pub fn natural(z: i32) -> u32
@@ -79,14 +68,6 @@ pub fn above_layer_id(layer_id: u32) -> u32
     } else {
         NO_FIELD
     }
-}
-
-// The least number above a key that asks whether a field is at least a start: none where that is wanted, else the
-// start.
-pub fn above_start(wanted: bool, start: u32) -> u32
-    ensures { λ r. ⌜ r ≡ cond wanted (2 ^ 32 - 1) start ⌝ }
-{
-    if wanted { NO_FIELD } else { start }
 }
 
 fn choose(is_first: bool, first: usize, second: usize) -> usize
@@ -187,98 +168,172 @@ fn search_at_least(segments: &[u64], offset: u32, size: u64, start: u32, wanted:
     Found::Absent(end)
 }
 
-pub fn search_last_by_key(segments: &[u64], key: Key) -> Found
-    ensures { λ r. ⌜ placeIn r ≡ searchOf (orderAt key) (now (segments .entry)) ⌝ }
+pub fn search_last_by_key_in(layout: Layout, segments: &[u64], key: Key) -> Found
+    ensures { λ r. ⌜ placeIn r
+        ≡ searchOf (orderAtIn (widthsOf layout) key) (now (segments .entry)) ⌝ }
 {
     match key {
-        Key::TileY(tile_y) => search_last_by_tile_y(segments, tile_y),
-        Key::TileX(tile_x) => search_last_by_tile_x(segments, tile_x),
-        Key::LayerId(id) => search_last_by_layer_id(segments, id),
-        Key::TileXAtLeast(start, wanted) => search_last_by_tile_x_at_least(segments, start, wanted),
-        Key::LayerIdAtLeast(start, wanted) => search_last_by_layer_id_at_least(
+        Key::TileY(tile_y) => search_last_by_tile_y_in(layout, segments, tile_y),
+        Key::TileX(tile_x) => search_last_by_tile_x_in(layout, segments, tile_x),
+        Key::LayerId(id) => search_last_by_layer_id_in(layout, segments, id),
+        Key::TileXAtLeast(start, wanted) => search_last_by_tile_x_at_least_in(
+            layout,
             segments,
             start,
             wanted,
         ),
-        Key::TileYNotNegative(wanted) => search_last_by_tile_y_not_negative(segments, wanted),
+        Key::LayerIdAtLeast(start, wanted) => search_last_by_layer_id_at_least_in(
+            layout,
+            segments,
+            start,
+            wanted,
+        ),
+        Key::TileYNotNegative(wanted) => search_last_by_tile_y_not_negative_in(
+            layout,
+            segments,
+            wanted,
+        ),
     }
 }
 
-pub fn search_last_by_tile_y(segments: &[u64], tile_y: i16) -> Found
-    ensures { λ r. ⌜ placeIn r ≡ searchOf (orderAt (Key.TileY «tile_y»)) (now (segments .entry)) ⌝ }
+pub fn search_last_by_tile_y_in(layout: Layout, segments: &[u64], tile_y: i16) -> Found
+    ensures { λ r. ⌜ placeIn r
+        ≡ searchOf (orderAtIn (widthsOf layout) (Key.TileY «tile_y»)) (now (segments .entry)) ⌝ }
 {
-    let offset = consts::shift(BitField::TileY);
+    let offset = consts::shift(layout, BitField::TileY);
     search_number(
         segments,
         offset,
-        consts::size(BitField::TileY),
+        consts::size(layout, BitField::TileY),
         above_tile(tile_y),
     )
 }
 
-pub fn search_last_by_tile_x(segments: &[u64], tile_x: i16) -> Found
-    ensures { λ r. ⌜ placeIn r ≡ searchOf (orderAt (Key.TileX «tile_x»)) (now (segments .entry)) ⌝ }
+pub fn search_last_by_tile_x_in(layout: Layout, segments: &[u64], tile_x: i16) -> Found
+    ensures { λ r. ⌜ placeIn r
+        ≡ searchOf (orderAtIn (widthsOf layout) (Key.TileX «tile_x»)) (now (segments .entry)) ⌝ }
 {
-    let offset = consts::shift(BitField::TileX);
+    let offset = consts::shift(layout, BitField::TileX);
     search_number(
         segments,
         offset,
-        consts::size(BitField::TileX),
+        consts::size(layout, BitField::TileX),
         above_tile(tile_x),
     )
 }
 
-pub fn search_last_by_layer_id(segments: &[u64], layer_id: u32) -> Found
-    ensures { λ r. ⌜ placeIn r ≡ searchOf (orderAt (Key.LayerId «layer_id»)) (now (segments .entry)) ⌝ }
+pub fn search_last_by_layer_id_in(layout: Layout, segments: &[u64], layer_id: u32) -> Found
+    ensures { λ r. ⌜ placeIn r
+        ≡ searchOf (orderAtIn (widthsOf layout) (Key.LayerId «layer_id»)) (now (segments .entry)) ⌝ }
 {
-    let offset = consts::shift(BitField::LayerId);
+    let offset = consts::shift(layout, BitField::LayerId);
     search_number(
         segments,
         offset,
-        consts::size(BitField::LayerId),
+        consts::size(layout, BitField::LayerId),
         above_layer_id(layer_id),
     )
 }
 
 // The last segment whose tile x is, or is not, at least a start.
-pub fn search_last_by_tile_x_at_least(segments: &[u64], start: i16, wanted: bool) -> Found
-    ensures { λ r. ⌜ placeIn r ≡ searchOf (orderAt (Key.TileXAtLeast start wanted)) (now (segments .entry)) ⌝ }
+pub fn search_last_by_tile_x_at_least_in(
+    layout: Layout,
+    segments: &[u64],
+    start: i16,
+    wanted: bool,
+) -> Found
+    ensures { λ r. ⌜ placeIn r
+        ≡ searchOf (orderAtIn (widthsOf layout) (Key.TileXAtLeast start wanted)) (now (segments .entry)) ⌝ }
 {
-    let offset = consts::shift(BitField::TileX);
+    let offset = consts::shift(layout, BitField::TileX);
     let first = stored(start as i32);
     search_at_least(
         segments,
         offset,
-        consts::size(BitField::TileX),
+        consts::size(layout, BitField::TileX),
         first,
         wanted,
     )
 }
 
 // The last segment whose layer id is, or is not, at least a start.
-pub fn search_last_by_layer_id_at_least(segments: &[u64], start: u32, wanted: bool) -> Found
-    ensures { λ r. ⌜ placeIn r ≡ searchOf (orderAt (Key.LayerIdAtLeast start wanted)) (now (segments .entry)) ⌝ }
+pub fn search_last_by_layer_id_at_least_in(
+    layout: Layout,
+    segments: &[u64],
+    start: u32,
+    wanted: bool,
+) -> Found
+    ensures { λ r. ⌜ placeIn r
+        ≡ searchOf (orderAtIn (widthsOf layout) (Key.LayerIdAtLeast start wanted)) (now (segments .entry)) ⌝ }
 {
-    let offset = consts::shift(BitField::LayerId);
+    let offset = consts::shift(layout, BitField::LayerId);
     search_at_least(
         segments,
         offset,
-        consts::size(BitField::LayerId),
+        consts::size(layout, BitField::LayerId),
         start,
         wanted,
     )
 }
 
 // The last segment whose tile y is, or is not, at least 0.
-pub fn search_last_by_tile_y_not_negative(segments: &[u64], wanted: bool) -> Found
-    ensures { λ r. ⌜ placeIn r ≡ searchOf (orderAt (Key.TileYNotNegative wanted)) (now (segments .entry)) ⌝ }
+pub fn search_last_by_tile_y_not_negative_in(
+    layout: Layout,
+    segments: &[u64],
+    wanted: bool,
+) -> Found
+    ensures { λ r. ⌜ placeIn r
+        ≡ searchOf (orderAtIn (widthsOf layout) (Key.TileYNotNegative wanted)) (now (segments .entry)) ⌝ }
 {
-    let offset = consts::shift(BitField::TileY);
+    let offset = consts::shift(layout, BitField::TileY);
     search_at_least(
         segments,
         offset,
-        consts::size(BitField::TileY),
+        consts::size(layout, BitField::TileY),
         stored(0),
         wanted,
     )
+}
+
+// In tiles 16 pixels high.
+pub fn search_last_by_key(segments: &[u64], key: Key) -> Found
+    ensures { λ r. ⌜ placeIn r ≡ searchOf (orderAt key) (now (segments .entry)) ⌝ }
+{
+    search_last_by_key_in(Layout::Cpu, segments, key)
+}
+
+pub fn search_last_by_tile_y(segments: &[u64], tile_y: i16) -> Found
+    ensures { λ r. ⌜ placeIn r ≡ searchOf (orderAt (Key.TileY «tile_y»)) (now (segments .entry)) ⌝ }
+{
+    search_last_by_tile_y_in(Layout::Cpu, segments, tile_y)
+}
+
+pub fn search_last_by_tile_x(segments: &[u64], tile_x: i16) -> Found
+    ensures { λ r. ⌜ placeIn r ≡ searchOf (orderAt (Key.TileX «tile_x»)) (now (segments .entry)) ⌝ }
+{
+    search_last_by_tile_x_in(Layout::Cpu, segments, tile_x)
+}
+
+pub fn search_last_by_layer_id(segments: &[u64], layer_id: u32) -> Found
+    ensures { λ r. ⌜ placeIn r ≡ searchOf (orderAt (Key.LayerId «layer_id»)) (now (segments .entry)) ⌝ }
+{
+    search_last_by_layer_id_in(Layout::Cpu, segments, layer_id)
+}
+
+pub fn search_last_by_tile_x_at_least(segments: &[u64], start: i16, wanted: bool) -> Found
+    ensures { λ r. ⌜ placeIn r ≡ searchOf (orderAt (Key.TileXAtLeast start wanted)) (now (segments .entry)) ⌝ }
+{
+    search_last_by_tile_x_at_least_in(Layout::Cpu, segments, start, wanted)
+}
+
+pub fn search_last_by_layer_id_at_least(segments: &[u64], start: u32, wanted: bool) -> Found
+    ensures { λ r. ⌜ placeIn r ≡ searchOf (orderAt (Key.LayerIdAtLeast start wanted)) (now (segments .entry)) ⌝ }
+{
+    search_last_by_layer_id_at_least_in(Layout::Cpu, segments, start, wanted)
+}
+
+pub fn search_last_by_tile_y_not_negative(segments: &[u64], wanted: bool) -> Found
+    ensures { λ r. ⌜ placeIn r ≡ searchOf (orderAt (Key.TileYNotNegative wanted)) (now (segments .entry)) ⌝ }
+{
+    search_last_by_tile_y_not_negative_in(Layout::Cpu, segments, wanted)
 }

@@ -1,49 +1,11 @@
--- `PixelSegment::new` meets its contract: its arguments, widened, are those of `pack`. Assumes nothing.
-use native.Mathlib.Omega.{arith}
+-- `PixelSegment::new` meets its contract. Assumes nothing.
 use borrow.Author.Needs.{needs}
-use mir.Syntax.{w64}
-use mir.Val.{SFits}
-use mir.Facts.{toZ-ofZ, toZ-pos, sfits-widen}
+use mir.Facts.{toZ-ofZ}
 use Rattle.pixel_segment.proofs.PixelSegment.new.Statement.{statement}
 use Rattle.pixel_segment.proofs.PixelSegment.new.Tie as tie
 
-cast-pack-2 : tie.Need-cast-pack-2
-cast-pack-2 c = rw (toZ-ofZ (c .fits .tile-x)) (sfits-widen tt (c .fits .tile-x))
-
-cast-pack-3 : tie.Need-cast-pack-3
-cast-pack-3 c = rw (toZ-ofZ (c .fits .tile-y)) (sfits-widen tt (c .fits .tile-y))
-
-cast-pack-7 : tie.Need-cast-pack-7
-cast-pack-7 c = rw (toZ-ofZ (c .fits .cover)) (sfits-widen tt (c .fits .cover))
-
 returns : tie.Need-returns
-returns c =
-    let a = c .before .args in
-    let f = c .before .fits in
-    let x : SFits w64 (a .tile-x) = sfits-widen tt (f .tile-x) in
-    let y : SFits w64 (a .tile-y) = sfits-widen tt (f .tile-y) in
-    let cover : SFits w64 (a .cover) = sfits-widen tt (f .cover) in
-    rw (
-      toZ-pos w64 {n = a .layer-id} (omega arith),
-      toZ-pos w64 {n = a .local-x} (omega arith),
-      toZ-pos w64 {n = a .local-y} (omega arith),
-      toZ-pos w64 {n = a .double-area-multiplier} (omega arith),
-      toZ-ofZ (f .tile-x),
-      toZ-ofZ (f .tile-y),
-      toZ-ofZ (f .cover),
-      toZ-ofZ x,
-      toZ-ofZ y,
-      toZ-ofZ cover,
-    ) at (c .pack .ensures)
+returns c = let f = c .before .fits in rw (toZ-ofZ (f .tile-x), toZ-ofZ (f .tile-y), toZ-ofZ (f .cover)) at (c .new-in .ensures)
 
 pub new-spec : {M : Type 1} → statement M
-new-spec =
-    tie.close
-    (tie.spec
-    (λ c. search needs)
-    cast-pack-2
-    cast-pack-3
-    (λ c. search needs) (λ c. search needs) (λ c. search needs)
-    cast-pack-7
-    (λ c κs. search needs)
-    returns)
+new-spec = tie.close (tie.spec (λ c κs. search needs) returns)

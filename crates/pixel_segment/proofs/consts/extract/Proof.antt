@@ -2,16 +2,16 @@
 use native.Mathlib.Omega.{arith}
 use borrow.Author.Needs.{needs}
 use lib.Pow.{pow-pos}
-use Rattle.pixel_segment.specs.Field.{cpu, indexOf, widthOf}
-use Rattle.pixel_segment.proofs.Widths.{shift-lt}
+use Rattle.pixel_segment.specs.Field.{widthsOf, indexOf, widthOf}
+use Rattle.pixel_segment.proofs.Widths.{shift-lt-of}
 use Rattle.pixel_segment.proofs.consts.extract.Statement.{statement}
 use Rattle.pixel_segment.proofs.consts.extract.Tie as tie
 
 shr-result : tie.Need-shr-result
-shr-result c = omega (arith, shift-lt (indexOf (c .before .args .field)), c .shift .ensures)
+shr-result c = omega (arith, shift-lt-of (c .before .args .layout) (indexOf (c .before .args .field)), c .shift .ensures)
 
 rem-result : tie.Need-rem-result
-rem-result c = rw (c .size .ensures) (pow-pos (widthOf cpu (indexOf (c .before .before .args .field))))
+rem-result c = rw (c .size .ensures) (pow-pos (widthOf (widthsOf (c .before .before .args .layout)) (indexOf (c .before .before .args .field))))
 
 returns : tie.Need-returns
 returns c = rw (c .size .ensures, c .before .shift .ensures)

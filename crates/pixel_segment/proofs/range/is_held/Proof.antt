@@ -2,13 +2,15 @@
 use native.Mathlib.Omega.{arith}
 use borrow.Author.Needs.{needs}
 use mir.Facts.{toZ-ofZ}
-use Rattle.pixel_segment.proofs.Widths.{size-le}
+use Rattle.pixel_segment.specs.Field.{indexOf}
+use Rattle.pixel_segment.proofs.Widths.{size-le-of}
 use Rattle.pixel_segment.proofs.range.is_held.Statement.{statement}
 use Rattle.pixel_segment.proofs.range.is_held.Tie as tie
 
 is-among-requires : tie.Need-is-among-requires
 is-among-requires c κs =
-    (rw (toZ-ofZ (c .before .fits .low)) (c .before .pre), omega (arith, c .size .ensures, size-le (c .before .args .field)))
+    let small = size-le-of (c .before .args .layout) (indexOf (c .before .args .field)) in
+    (rw (toZ-ofZ (c .before .fits .low)) (c .before .pre), omega (arith, c .size .ensures, small))
 
 returns : tie.Need-returns
 returns c =

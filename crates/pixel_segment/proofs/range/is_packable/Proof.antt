@@ -4,6 +4,7 @@ use mir.Syntax.{w64}
 use mir.Facts.{toZ-ofZ}
 use Rattle.laws.proofs.Machine.{kept}
 use Rattle.pixel_segment.specs.Pack.{isPackable}
+use Rattle.pixel_segment.proofs.Widths.{cover-width}
 use Rattle.pixel_segment.proofs.range.is_packable.Statement.{statement}
 use Rattle.pixel_segment.proofs.range.is_packable.Tie as tie
 
@@ -38,6 +39,7 @@ returns c =
       toZ-ofZ (s .fits .local-y),
       toZ-ofZ (s .fits .double-area-multiplier),
       toZ-ofZ (s .fits .cover),
+      cover-width (s .args .layout),
     )
 
 pub is-packable-spec : {M : Type 1} → statement M

@@ -1,25 +1,11 @@
 -- `search::search_last_by_tile_y` meets its contract. Assumes nothing.
-use mathlib.Core.Path.{ap, fun-ext}
-use Prim.Native.Nat.{ℕ}
-use native.Mathlib.Omega.{arith}
 use borrow.Author.Needs.{needs}
 use mir.Facts.{toZ-ofZ}
-use Rattle.pixel_segment.specs.Field.{cpu, tileYOf}
-use Rattle.segment_rows.specs.Search.{searchOf}
-use Rattle.segment_rows.proofs.Above.{tile-rank}
 use Rattle.segment_rows.proofs.search.search_last_by_tile_y.Statement.{statement}
 use Rattle.segment_rows.proofs.search.search_last_by_tile_y.Tie as tie
 
-search-number-requires : tie.Need-search-number-requires
-search-number-requires c κs = (omega (arith, c .before .before .shift .ensures), omega (arith, c .before .size .ensures), omega (arith, c .before .size .ensures))
-
 returns : tie.Need-returns
-returns c =
-    let s = c .before .before .before .before .before in
-    rw (c .search-number .ensures, c .before .above-tile .ensures, c .before .before .size .ensures, c .before .before .before .shift .ensures, toZ-ofZ (s .fits .tile-y))
-    (ap (λ (at : ℕ → ℕ). searchOf at (s .args .segments .now)) (fun-ext (λ w. tile-rank (s .args .tile-y) (tileYOf cpu w))))
+returns c = rw (c .search-last-by-tile-y-in .ensures, toZ-ofZ (c .before .before .fits .tile-y))
 
 pub search-last-by-tile-y-spec : {M : Type 1} → statement M
-search-last-by-tile-y-spec =
-    tie.close
-    (tie.spec (λ c κs. search needs) (λ c κs. search needs) (λ c κs. search needs) search-number-requires returns)
+search-last-by-tile-y-spec = tie.close (tie.spec (λ c κs. search needs) returns)

@@ -1,0 +1,31 @@
+-- `search::search_last_by_tile_x_in` meets its contract. Assumes nothing.
+use mathlib.Core.Path.{ap, fun-ext}
+use Prim.Native.Nat.{ℕ}
+use borrow.Author.Needs.{needs}
+use mir.Facts.{toZ-ofZ}
+use Rattle.pixel_segment.specs.Field.{widthsOf, tileXOf}
+use Rattle.segment_rows.specs.Search.{searchOf}
+use Rattle.segment_rows.proofs.Above.{tile-rank}
+use Rattle.pixel_segment.proofs.Widths.{readable}
+use Rattle.segment_rows.proofs.search.search_last_by_tile_x_in.Statement.{statement}
+use Rattle.segment_rows.proofs.search.search_last_by_tile_x_in.Tie as tie
+
+search-number-requires : tie.Need-search-number-requires
+search-number-requires c κs = readable (c .before .before .before .before .args .layout) 1 (c .before .before .shift .ensures) (c .before .size .ensures)
+
+returns : tie.Need-returns
+returns c =
+    let s = c .before .before .before .before .before in
+    rw (
+      c .search-number .ensures,
+      c .before .above-tile .ensures,
+      c .before .before .size .ensures,
+      c .before .before .before .shift .ensures,
+      toZ-ofZ (s .fits .tile-x),
+    )
+    (ap (λ (at : ℕ → ℕ). searchOf at (s .args .segments .now)) (fun-ext (λ w. tile-rank (s .args .tile-x) (tileXOf (widthsOf (s .args .layout)) w))))
+
+pub search-last-by-tile-x-in-spec : {M : Type 1} → statement M
+search-last-by-tile-x-in-spec =
+    tie.close
+    (tie.spec (λ c κs. search needs) (λ c κs. search needs) (λ c κs. search needs) search-number-requires returns)
