@@ -14,8 +14,8 @@ use Rattle.cover_statements.specs.Cover.{coverAt}
 use Rattle.cover_statements.specs.Plane.{planeOf}
 use Rattle.cover_statements.proofs.Paintings.{part-short, part-heavy, part-given, plane-short, plane-heavy, plane-painted}
 use Rattle.cover_gpu.specs.GpuPaint.{GpuPainting}
-use Rattle.cover_gpu.specs.declared.plane.GpuPainted.{GpuPainted}
-use Rattle.cover_gpu.specs.declared.plane.GpuPainted.the-variants.{Done, PlaneTooShort, CoverTooLarge}
+use Rattle.cover_gpu.specs.declared.painting.GpuPainted.{GpuPainted}
+use Rattle.cover_gpu.specs.declared.painting.GpuPainted.the-variants.{Done, PlaneTooShort, CoverTooLarge}
 
 module _ {rule : FillRule} {covers : List ℤ} {part : List ℕ} {old : List Float} where
   pub gpu-short : length old < 64 → GpuPainting rule covers part old PlaneTooShort old

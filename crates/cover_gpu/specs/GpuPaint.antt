@@ -9,8 +9,8 @@ use Rattle.laws.specs.Answer.{Answer, refused, given}
 use Rattle.pixel_segment.specs.Field.{gpu}
 use Rattle.styling.specs.declared.FillRule.{FillRule}
 use Rattle.cover_statements.specs.Paint.{judgedPart, paintedPlane}
-use Rattle.cover_gpu.specs.declared.plane.GpuPainted.{GpuPainted}
-use Rattle.cover_gpu.specs.declared.plane.GpuPainted.the-variants.{Done, PlaneTooShort, CoverTooLarge}
+use Rattle.cover_gpu.specs.declared.painting.GpuPainted.{GpuPainted}
+use Rattle.cover_gpu.specs.declared.painting.GpuPainted.the-variants.{Done, PlaneTooShort, CoverTooLarge}
 
 -- in the numbers of the table of refusals; nothing is given beside the plane
 abbrev pub gpuPaintedAnswer : GpuPainted → Answer (Unit {0})

@@ -9,7 +9,7 @@ ghost use mathlib.Core.Bool.{true};
 ghost use Rattle.pixel_segment.specs.Field.{gpu, coverOf, doubleAreaOf};
 ghost use Rattle.cover_statements.specs.InnerCell.{cellOf, noCells, Judged, JudgedAreas, Summable, Summed};
 ghost use Rattle.cover_statements.specs.InnerLoad.{allLight};
-ghost use Rattle.cover_gpu.specs.InnerRows.{RowReady, RowShaded};
+ghost use Rattle.cover_statements.specs.InnerRows.{RowReady, RowShaded};
 
 // The cell of a segment: its pixel, at column × 4 + row.
 fn cell(segment: GpuSegment) -> usize
@@ -67,8 +67,8 @@ fn acc_segments(
 // A pixel row's own double areas become its doubled areas, a column after the other. `cover` comes in. One number is
 // carried along: four side by side would be put together and taken apart in each column.
 fn shade_row(areas: &mut [i16; 64], covers: &[i8; 64], y: usize, cover: i8)
-    requires { ⌜ RowReady y cover (now areas) (now covers) ⌝ }
-    ensures { λ _. ⌜ RowShaded y cover (now (areas .entry)) (now (covers .entry)) (now (areas .exit)) ⌝ }
+    requires { ⌜ RowReady gpu 4 y cover (now areas) (now covers) ⌝ }
+    ensures { λ _. ⌜ RowShaded gpu 4 y cover (now (areas .entry)) (now (covers .entry)) (now (areas .exit)) ⌝ }
 {
     let mut sum = cover;
     let mut x = 0;

@@ -3,7 +3,7 @@
 pub mod area;
 pub mod carry;
 pub mod column;
-pub mod plane;
+pub mod painting;
 
 use styling::FillRule;
 ghost use mathlib.Core.Path.{_≡_};

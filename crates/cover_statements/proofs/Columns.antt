@@ -33,7 +33,7 @@ pub record Columns (ws : List ℕ) (n : ℕ) (covers : List ℤ) (part : List �
   pub area : (k : ℕ) → k < 16 * n → coverAt areas k ≡ cond (ltb (k / n) column) (doubledArea ws (coverAt covers) part (k / n) (k % n)) (ownArea ws (k / n) (k % n) part)
   pub sum : (y : ℕ) → y < n → coverAt sums y ≡ coverAt covers y +ℤ coverBefore ws column y part
 
-cells-length : (ws : List ℕ) (n : ℕ) (f : ℕ → ℤ) (part : List ℕ) → length (cellsOf ws n f part) ≡ 16 * n
+pub cells-length : (ws : List ℕ) (n : ℕ) (f : ℕ → ℤ) (part : List ℕ) → length (cellsOf ws n f part) ≡ 16 * n
 unfolding cellsOf
 cells-length ws n f part = length-tabulate (16 * n) (λ k. sumℤ (λ w. eqb (cellOf ws n w) k) f part)
 

@@ -13,6 +13,7 @@ pub mod Cells
 pub mod Judging
 pub mod Shades
 pub mod Columns
+pub mod Rows
 pub mod Marks
 pub mod Weighings
 pub mod Entries

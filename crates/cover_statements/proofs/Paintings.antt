@@ -15,8 +15,8 @@ use Rattle.cover_statements.specs.Cover.{coverAt}
 use Rattle.cover_statements.specs.Mark.{markOf}
 use Rattle.cover_statements.specs.Paint.{partPlane, judgedPart, paintedPlane, paintedAnswer, Painting}
 use Rattle.cover_statements.specs.Plane.{sizeOf, planeOf}
-use Rattle.cover_statements.specs.declared.plane.Painted.{Painted}
-use Rattle.cover_statements.specs.declared.plane.Painted.the-variants.{Mark, PlaneTooShort, CoverTooLarge}
+use Rattle.cover_statements.specs.declared.painting.Painted.{Painted}
+use Rattle.cover_statements.specs.declared.painting.Painted.the-variants.{Mark, PlaneTooShort, CoverTooLarge}
 
 -- ---- over any widths and any height
 

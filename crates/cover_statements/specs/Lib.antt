@@ -4,6 +4,7 @@ pub mod Carry
 pub mod InnerLoad
 pub mod Area
 pub mod InnerCell
+pub mod InnerRows
 pub mod Weight
 pub mod Coverage
 pub mod Plane

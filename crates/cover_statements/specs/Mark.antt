@@ -13,8 +13,8 @@ use Rattle.laws.specs.Answer.{Answer, refused, given}
 use Rattle.laws.specs.Lists.{tabulate}
 use Rattle.cover_statements.specs.Coverage.{isAbove}
 use Rattle.cover_statements.specs.Plane.{placeOf, sizeOf}
-use Rattle.cover_statements.specs.declared.mark.Marked.{Marked}
-use Rattle.cover_statements.specs.declared.mark.Marked.the-variants.{Mark, PlaneTooShort}
+use Rattle.cover_statements.specs.declared.marking.Marked.{Marked}
+use Rattle.cover_statements.specs.declared.marking.Marked.the-variants.{Mark, PlaneTooShort}
 
 -- the coverage of row i of octet h of a column is above 0
 abbrev pub aboveAt : List Float → ℕ → ℕ → ℕ → Bool

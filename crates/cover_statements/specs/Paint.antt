@@ -14,8 +14,8 @@ use Rattle.cover_statements.specs.Carry.{isLight}
 use Rattle.cover_statements.specs.Cover.{coverAt}
 use Rattle.cover_statements.specs.Mark.{markOf}
 use Rattle.cover_statements.specs.Plane.{sizeOf, planeOf}
-use Rattle.cover_statements.specs.declared.plane.Painted.{Painted}
-use Rattle.cover_statements.specs.declared.plane.Painted.the-variants.{Mark, PlaneTooShort, CoverTooLarge}
+use Rattle.cover_statements.specs.declared.painting.Painted.{Painted}
+use Rattle.cover_statements.specs.declared.painting.Painted.the-variants.{Mark, PlaneTooShort, CoverTooLarge}
 
 -- the coverages of a part, from an incoming cover
 abbrev pub partPlane : List ℕ → FillRule → List ℤ → List ℕ → List Float

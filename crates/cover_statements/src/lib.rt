@@ -1,3 +1,3 @@
 // What marks and planes answer. The contracts and laws are in specs/ and proofs/; the functions are of cover.
-pub mod mark;
-pub mod plane;
+pub mod marking;
+pub mod painting;

@@ -2,8 +2,8 @@
 use cover::Cover;
 use cover::carry;
 use cover::carry::Carried;
-use cover_statements::mark::Marked;
-use cover_statements::plane::Painted;
+use cover_statements::marking::Marked;
+use cover_statements::painting::Painted;
 use styling::codes;
 ghost use mathlib.Core.Path.{_≡_};
 ghost use Rattle.pixel_segment.specs.Field.{cpu};

@@ -296,7 +296,7 @@ pub extern "C" fn ffi_gpu_paint_part(
         ≡ paintedPlane gpu 4 (ruleOf rule) (now (covers .entry)) (now (part .entry)) (now (plane .entry)) ⌝ }
 {
     let bytes = *covers;
-    let painted = cover_gpu::plane::paint_part(
+    let painted = cover_gpu::painting::paint_part(
         part,
         GpuCover { covers: bytes },
         codes::fill_rule(rule),

@@ -1,5 +1,5 @@
 // Tiles four pixels high: what a painting answers, and a layer's rule.
-use cover_gpu::plane::GpuPainted;
+use cover_gpu::painting::GpuPainted;
 use styling::FillRule;
 ghost use mathlib.Core.Path.{_≡_};
 ghost use Rattle.styling.specs.Codes.{ruleCode};

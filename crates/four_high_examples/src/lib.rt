@@ -1,8 +1,8 @@
 // W-213, tiles four pixels high: each example's name, and whether the answer is its own.
 use cover_gpu::GpuCover;
 use cover_gpu::carry;
-use cover_gpu::plane as gpu_plane;
-use cover_gpu::plane::GpuPainted;
+use cover_gpu::painting as gpu_plane;
+use cover_gpu::painting::GpuPainted;
 use example_lines::number_in;
 use example_lines::print;
 use layer_row_gpu::LayerRow;

@@ -5,7 +5,7 @@ pub mod judging;
 
 use cover_gpu::GpuCover;
 use cover_gpu::carry;
-use cover_gpu::plane;
+use cover_gpu::painting;
 use pixel_segment_gpu::parts;
 use refusals::Verdict;
 use segment_rows::search;
@@ -147,7 +147,7 @@ fn work(state: LayerRow, row: &[u64], plane: &mut [f32]) -> LayerRow
     let part = judging::layer_part(row, state.next, state.layer_id);
     let cover = state.cover;
     let rule = state.rule;
-    plane::paint(part, cover, rule, plane);
+    painting::paint(part, cover, rule, plane);
     hand_on(state, carry::add_segments(part, cover))
 }
 

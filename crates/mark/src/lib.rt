@@ -1,7 +1,7 @@
 // The octets of a plane that hold a coverage above 0, as the bits of a mark, and their count.
 pub mod weights;
 
-use cover_statements::mark::Marked;
+use cover_statements::marking::Marked;
 ghost use mathlib.Core.Path.{_≡_};
 ghost use Prim.Native.Nat.{_<_, _≤_, _/_, _%_};
 ghost use lib.ListN.{length};

@@ -1,6 +1,6 @@
 // W-209, planes row by row: two parts painted into a plane, by NonZero, with the numbers at their places and the mark.
 use cover::Cover;
-use cover_statements::plane::Painted;
+use cover_statements::painting::Painted;
 use styling::FillRule;
 
 // The mark, or 0 after a refusal.

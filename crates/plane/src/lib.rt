@@ -5,7 +5,7 @@ pub mod light;
 pub mod shade;
 
 use cover::Cover;
-use cover_statements::plane::Painted;
+use cover_statements::painting::Painted;
 use styling::FillRule;
 ghost use mathlib.Core.Path.{_≡_};
 ghost use mathlib.Core.Bool.{true};

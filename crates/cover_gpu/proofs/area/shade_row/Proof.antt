@@ -9,26 +9,29 @@ use mir.Syntax.{w8, w16}
 use mir.Val.{SFits, toZ, ofZ}
 use Rattle.laws.proofs.Machine.{sfits, small, kept}
 use Rattle.laws.proofs.Parts.{times, whole}
-use Rattle.pixel_segment.specs.Field.{gpu}
+use Rattle.pixel_segment.specs.Field.{gpu, localYOf}
 use Rattle.cover_statements.specs.Area.{coverBefore}
 use Rattle.cover_statements.specs.Cover.{coverAt}
 use Rattle.cover_statements.proofs.Carries.{light}
-use Rattle.cover_gpu.specs.InnerRows.{RowsDone}
-use Rattle.cover_gpu.proofs.Rows.{Fitting, sum-is, row-next, row-end, row-fits, first-sum}
+use Rattle.cover_statements.specs.InnerRows.{RowsDone}
+use Rattle.cover_statements.proofs.Rows.{Fitting, sum-is, row-next, row-end, row-fits, first-sum}
 use Rattle.cover_gpu.proofs.area.shade_row.Statement.{statement}
 use Rattle.cover_gpu.proofs.area.shade_row.Tie as tie
+
+low : (w : ℕ) → localYOf gpu w < 4
+low w = omega arith
 
 -- of every part with these cells; a signed number of a loop is held as bits
 abbrev Inv-loop : tie.InvT-loop
 Inv-loop areas₀ covers y cover sum₀ x₀ areas sum x =
     (x ≤ 16)
-    × ((cs : List ℤ) (part : List ℕ) → coverAt cs y ≡ toZ w8 cover → RowsDone cs part covers y 0 areas₀ → RowsDone cs part covers y x areas × (toZ w8 sum ≡ toZ w8 cover +ℤ coverBefore gpu x y part))
+    × ((cs : List ℤ) (part : List ℕ) → coverAt cs y ≡ toZ w8 cover → RowsDone gpu 4 cs part covers y 0 areas₀ → RowsDone gpu 4 cs part covers y x areas × (toZ w8 sum ≡ toZ w8 cover +ℤ coverBefore gpu x y part))
 
 abbrev μ-loop : tie.MeasureT-loop
 μ-loop areas₀ covers y cover sum₀ x₀ areas sum x = 16 - x
 
 loop-holds : tie.Need-loop-holds Inv-loop μ-loop
-loop-holds c = (omega arith, λ cs part e d. (d, first-sum part (c .args .y) (toZ w8 (ofZ w8 (c .args .cover)))))
+loop-holds c = (omega arith, λ cs part e d. (d, first-sum gpu part (c .args .y) (toZ w8 (ofZ w8 (c .args .cover)))))
 
 -- the sum of the row's columns passed, and the pixel
 abbrev sum-of : (c : tie.In-loop Inv-loop μ-loop) → ℤ
@@ -46,7 +49,7 @@ fitting c =
     let s = l .before in
     let e = s .pre .cover-is ∙ sym (toZ-ofZ (s .fits .cover)) in
     let q = l .loop .inv .1 (s .pre .covers) (s .pre .part) e (s .pre .done) in
-    row-fits (s .args .y) (l .loop .x) (q .0) (s .pre .low) (c .loop-test .taken) e (q .1) (light (s .pre .light))
+    row-fits low refl (s .args .y) (l .loop .x) (q .0) (s .pre .low) (c .loop-test .taken) e (q .1) (light (s .pre .light))
 
 mul-k : tie.Need-mul-k Inv-loop μ-loop
 mul-k c = omega arith
@@ -99,10 +102,10 @@ loop-again c =
       omega arith,
       λ cs part e d.
           let q = l .loop .inv .1 cs part e d in (
-            row-next (s .args .y) (l .loop .x) (q .0) (s .pre .low) (t .loop-test .taken) e (q .1) refl
+            row-next low (s .args .y) (l .loop .x) (q .0) (s .pre .low) (t .loop-test .taken) e (q .1) refl
                 (rw (toZ-ofZ (add-areas c), toZ-ofZ (cast-areas n), toZ-ofZ (scaled t), kept w16 (own-of t) (c .areas .given)) refl),
             toZ-ofZ (add-next n)
-                ∙ rw (kept w8 (cell-of t) (n .next .given)) (sum-is (s .args .y) (l .loop .x) (q .0) (s .pre .low) (t .loop-test .taken) e (q .1)),
+                ∙ rw (kept w8 (cell-of t) (n .next .given)) (sum-is low (s .args .y) (l .loop .x) (q .0) (s .pre .low) (t .loop-test .taken) e (q .1)),
           ),
     )
 

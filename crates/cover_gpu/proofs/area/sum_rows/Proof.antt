@@ -8,20 +8,20 @@ use Rattle.laws.proofs.Machine.{kept}
 use Rattle.pixel_segment.specs.Field.{gpu}
 use Rattle.cover_statements.specs.Cover.{coverAt}
 use Rattle.cover_statements.specs.InnerCell.{Accumulated}
-use Rattle.cover_gpu.specs.InnerRows.{RowsDone}
-use Rattle.cover_gpu.proofs.Rows.{rows-start, rows-end}
+use Rattle.cover_statements.specs.InnerRows.{RowsDone}
+use Rattle.cover_statements.proofs.Rows.{rows-start, rows-end}
 use Rattle.cover_gpu.proofs.area.sum_rows.Statement.{statement}
 use Rattle.cover_gpu.proofs.area.sum_rows.Tie as tie
 
 -- of every part with these cells
 abbrev Inv-loop : tie.InvT-loop
-Inv-loop areas₀ covers incoming y₀ areas y = (y ≤ 4) × ((part : List ℕ) → Accumulated gpu 4 part areas₀ covers → RowsDone incoming part covers y 0 areas)
+Inv-loop areas₀ covers incoming y₀ areas y = (y ≤ 4) × ((part : List ℕ) → Accumulated gpu 4 part areas₀ covers → RowsDone gpu 4 incoming part covers y 0 areas)
 
 abbrev μ-loop : tie.MeasureT-loop
 μ-loop areas₀ covers incoming y₀ areas y = 4 - y
 
 loop-holds : tie.Need-loop-holds Inv-loop μ-loop
-loop-holds c = (omega arith, λ part a. rows-start a)
+loop-holds c = (omega arith, λ part a. rows-start (λ w. omega arith) a)
 
 shade-row-requires : tie.Need-shade-row-requires Inv-loop μ-loop
 shade-row-requires c κs =

@@ -1,12 +1,12 @@
--- `plane::write_plane` meets its contract. Assumes nothing.
+-- `painting::write_plane` meets its contract. Assumes nothing.
 use Prim.Native.Nat.{_+_, _*_, _-_}
 use native.Mathlib.Omega.{arith}
 use lib.Ieee.{nan}
 use lib.ListN.{getD}
 use Rattle.cover_statements.specs.InnerWeighed.{coveragesIn}
 use Rattle.cover_statements.proofs.PlaneRows.{PlaneRows, rows-start, rows-room, rows-next, rows-end}
-use Rattle.cover_gpu.proofs.plane.write_plane.Statement.{statement}
-use Rattle.cover_gpu.proofs.plane.write_plane.Tie as tie
+use Rattle.cover_gpu.proofs.painting.write_plane.Statement.{statement}
+use Rattle.cover_gpu.proofs.painting.write_plane.Tie as tie
 
 abbrev Inv-loop : tie.InvT-loop
 Inv-loop weights plane₀ y₀ plane y = PlaneRows 4 (λ column row. getD (coveragesIn weights) (column * 4 + row) nan) plane₀ y plane

@@ -1,4 +1,4 @@
--- `plane::write_row` meets its contract. Assumes nothing.
+-- `painting::write_row` meets its contract. Assumes nothing.
 use mathlib.Core.Path.{refl, sym, _∙_}
 use Prim.Native.Nat.{_+_, _*_, _-_}
 use native.Mathlib.Omega.{arith}
@@ -11,8 +11,8 @@ use Rattle.laws.proofs.Parts.{whole}
 use Rattle.cover_statements.specs.InnerWeighed.{coverageIn, coveragesIn}
 use Rattle.cover_statements.proofs.PlaneRows.{Row, row-start, row-next, row-end}
 use Rattle.cover_statements.proofs.Weighings.{map-lt}
-use Rattle.cover_gpu.proofs.plane.write_row.Statement.{statement}
-use Rattle.cover_gpu.proofs.plane.write_row.Tie as tie
+use Rattle.cover_gpu.proofs.painting.write_row.Statement.{statement}
+use Rattle.cover_gpu.proofs.painting.write_row.Tie as tie
 
 abbrev Inv-loop : tie.InvT-loop
 Inv-loop weights y plane₀ x₀ plane x = Row (λ column row. getD (coveragesIn weights) (column * 4 + row) nan) y plane₀ x plane

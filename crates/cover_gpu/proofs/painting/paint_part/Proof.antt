@@ -1,8 +1,8 @@
--- `plane::paint_part` meets its contract. Assumes nothing.
+-- `painting::paint_part` meets its contract. Assumes nothing.
 use borrow.Author.Needs.{needs}
 use Rattle.cover_gpu.proofs.Paintings.{gpu-short}
-use Rattle.cover_gpu.proofs.plane.paint_part.Statement.{statement}
-use Rattle.cover_gpu.proofs.plane.paint_part.Tie as tie
+use Rattle.cover_gpu.proofs.painting.paint_part.Statement.{statement}
+use Rattle.cover_gpu.proofs.painting.paint_part.Tie as tie
 
 returns : tie.Need-returns
 returns c = gpu-short (c .if1 .taken)

@@ -1,8 +1,8 @@
--- `plane::paint` meets its contract: what is judged again is not refused. Assumes nothing.
+-- `painting::paint` meets its contract: what is judged again is not refused. Assumes nothing.
 use borrow.Author.Needs.{needs}
 use Rattle.cover_gpu.proofs.Paintings.{gpu-plane}
-use Rattle.cover_gpu.proofs.plane.paint.Statement.{statement}
-use Rattle.cover_gpu.proofs.plane.paint.Tie as tie
+use Rattle.cover_gpu.proofs.painting.paint.Statement.{statement}
+use Rattle.cover_gpu.proofs.painting.paint.Tie as tie
 
 returns : tie.Need-returns
 returns c =

@@ -1,4 +1,4 @@
--- `plane::paint_judged` meets its contract. Assumes nothing.
+-- `painting::paint_judged` meets its contract. Assumes nothing.
 use mathlib.Core.Path.{_≡_, refl, sym, ap, _∙_}
 use mathlib.Core.Bool.{true}
 use mathlib.Core.List.{List, [], _∷_}
@@ -19,8 +19,8 @@ use Rattle.cover_statements.specs.InnerWeighed.{weightIn, Weighed, coveragesIn,
 use Rattle.cover_statements.proofs.Planes.{areas-length, areas-in-range, plane-of-areas}
 use Rattle.cover_statements.proofs.Weighings.{weights-are, coverages-are}
 use Rattle.cover_gpu.proofs.Paintings.{gpu-heavy, gpu-done}
-use Rattle.cover_gpu.proofs.plane.paint_judged.Statement.{statement}
-use Rattle.cover_gpu.proofs.plane.paint_judged.Tie as tie
+use Rattle.cover_gpu.proofs.painting.paint_judged.Statement.{statement}
+use Rattle.cover_gpu.proofs.painting.paint_judged.Tie as tie
 
 returns : tie.Need-returns
 returns c = gpu-heavy (c .before .before .before .before .before .pre) (sym (c .before .is-light .ensures) ∙ not-true _ (c .if2 .taken))
