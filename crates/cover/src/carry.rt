@@ -1,6 +1,7 @@
 // The covers of a part of a row added to an incoming cover: what a tile hands on. Refused by 9 where a pixel row's
 // absolute covers exceed 127.
 use crate::Cover;
+use crate::rows;
 use pixel_segment::PixelSegment;
 ghost use mathlib.Core.Path.{_≡_};
 ghost use mathlib.Core.Bool.{true};
@@ -23,11 +24,7 @@ pub fn magnitudes(covers: [i8; 16]) -> [u16; 16]
     ensures { λ r. ⌜ Magnitudes covers r ⌝ }
 {
     let mut loads = [0u16; 16];
-    let mut y = 0;
-    while y < 16 {
-        loads[y] = weight::cover_magnitude(covers[y]);
-        y += 1;
-    }
+    rows::magnitudes(&covers, &mut loads);
     loads
 }
 
@@ -57,17 +54,11 @@ fn add_loads(part: &[u64], incoming: [u16; 16]) -> [u16; 16]
     loads
 }
 
-// Whether no load is above 127. Light rows are counted: a conjunction would be worked out row by row.
+// Whether no load is above 127.
 pub fn are_light(loads: [u16; 16]) -> bool
     ensures { λ r. ⌜ r ≡ allLight loads ⌝ }
 {
-    let mut light: u16 = 0;
-    let mut y = 0;
-    while y < 16 {
-        light += (loads[y] <= 127) as u16;
-        y += 1;
-    }
-    light == 16
+    rows::are_light(&loads)
 }
 
 // Number 9: whether it applies at no pixel row.

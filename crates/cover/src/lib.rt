@@ -1,6 +1,7 @@
 // The covers of the painter (painter/mod.rs): empty, full, carried past a part, and stored.
 pub mod carry;
 pub mod entry;
+pub mod rows;
 
 use styling::FillRule;
 ghost use mathlib.Core.Path.{_≡_};
@@ -49,30 +50,17 @@ impl Cover {
         Cover { covers }
     }
 
-    // Rows that are not empty are counted: a conjunction would be worked out row by row.
     pub fn is_empty(self, rule: FillRule) -> bool
         ensures { λ r. ⌜ r ≡ isEmpty rule (self .covers) ⌝ }
     {
         let covers = self.covers;
-        let mut filled: u16 = 0;
-        let mut y = 0;
-        while y < 16 {
-            filled += filled_at(covers[y], rule);
-            y += 1;
-        }
-        filled == 0
+        rows::are_empty(&covers, rule)
     }
 
     pub fn is_full(self, rule: FillRule) -> bool
         ensures { λ r. ⌜ r ≡ isFull rule (self .covers) ⌝ }
     {
         let covers = self.covers;
-        let mut ok = true;
-        let mut y = 0;
-        while y < 16 {
-            ok = ok & is_row_full(covers[y], rule);
-            y += 1;
-        }
-        ok
+        rows::are_full(&covers, rule)
     }
 }

@@ -2,6 +2,7 @@
 // 9 where a pixel row's absolute covers exceed 127.
 use crate::GpuCover;
 use cover::carry;
+use cover::rows;
 use pixel_segment_gpu::GpuSegment;
 ghost use mathlib.Core.Path.{_≡_};
 ghost use mathlib.Core.Bool.{true};
@@ -22,11 +23,7 @@ pub fn magnitudes(covers: [i8; 4]) -> [u16; 4]
     ensures { λ r. ⌜ Magnitudes covers r ⌝ }
 {
     let mut loads = [0u16; 4];
-    let mut y = 0;
-    while y < 4 {
-        loads[y] = weight::cover_magnitude(covers[y]);
-        y += 1;
-    }
+    rows::magnitudes(&covers, &mut loads);
     loads
 }
 
@@ -51,13 +48,7 @@ fn add_loads(part: &[u64], incoming: [u16; 4]) -> [u16; 4]
 pub fn are_light(loads: [u16; 4]) -> bool
     ensures { λ r. ⌜ r ≡ allLight loads ⌝ }
 {
-    let mut ok = true;
-    let mut y = 0;
-    while y < 4 {
-        ok = ok & (loads[y] <= 127);
-        y += 1;
-    }
-    ok
+    rows::are_light(&loads)
 }
 
 // Number 9: whether it applies at no pixel row.

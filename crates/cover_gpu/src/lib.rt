@@ -5,12 +5,10 @@ pub mod carry;
 pub mod column;
 pub mod painting;
 
+use cover::rows;
 use styling::FillRule;
 ghost use mathlib.Core.Path.{_≡_};
 ghost use Rattle.cover_statements.specs.Cover.{noCover, isEmpty, isFull};
-
-// The pixel rows of a tile.
-const ROWS: usize = 4;
 
 // One signed byte for each pixel row of a tile: 16 is a whole pixel, once around.
 pub struct GpuCover {
@@ -30,25 +28,13 @@ impl GpuCover {
         ensures { λ r. ⌜ r ≡ isEmpty rule (self .covers) ⌝ }
     {
         let covers = self.covers;
-        let mut ok = true;
-        let mut y = 0;
-        while y < ROWS {
-            ok = ok & cover::is_row_empty(covers[y], rule);
-            y += 1;
-        }
-        ok
+        rows::are_empty(&covers, rule)
     }
 
     pub fn is_full(self, rule: FillRule) -> bool
         ensures { λ r. ⌜ r ≡ isFull rule (self .covers) ⌝ }
     {
         let covers = self.covers;
-        let mut ok = true;
-        let mut y = 0;
-        while y < ROWS {
-            ok = ok & cover::is_row_full(covers[y], rule);
-            y += 1;
-        }
-        ok
+        rows::are_full(&covers, rule)
     }
 }

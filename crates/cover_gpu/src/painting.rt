@@ -7,14 +7,13 @@ use styling::FillRule;
 use weight::tile;
 ghost use mathlib.Core.Path.{_≡_};
 ghost use mathlib.Core.Bool.{true};
-ghost use Prim.Native.Nat.{_+_, _*_, _≤_, _<_};
+ghost use Prim.Native.Nat.{_≤_};
 ghost use lib.ListN.{length};
 ghost use Rattle.laws.specs.Lists.{over};
 ghost use Rattle.pixel_segment.specs.Field.{gpu};
 ghost use Rattle.cover_statements.specs.Carry.{isLight};
 ghost use Rattle.cover_statements.specs.Cover.{coverAt};
 ghost use Rattle.cover_statements.specs.Plane.{planeOf};
-ghost use Rattle.cover_statements.specs.InnerWeighed.{Weighed, weightsPlane, weightsRow, putRow};
 ghost use Rattle.cover_gpu.specs.GpuPaint.{GpuPainting};
 
 // What painting answers: done, refusal 1 or refusal 9.
@@ -22,30 +21,6 @@ pub enum GpuPainted {
     Done,
     PlaneTooShort,
     CoverTooLarge,
-}
-
-// Row y of a plane, from weights that stand by columns.
-fn write_row(weights: &[i16], y: usize, plane: &mut [f32])
-    requires { ⌜ Weighed (now weights) × (64 ≤ length (now weights)) × (y < 4) × (y * 16 + 16 ≤ length (now plane)) ⌝ }
-    ensures { λ _. ⌜ now (plane .exit) ≡ putRow y (weightsRow 4 (now (weights .entry)) y) (now (plane .entry)) ⌝ }
-{
-    let mut x = 0;
-    while x < 16 {
-        plane[y * 16 + x] = weight::coverage(weights[x * 4 + y] as u16);
-        x += 1;
-    }
-}
-
-// The plane of 64 weights that stand by columns. What lies past it stays.
-fn write_plane(weights: &[i16], plane: &mut [f32])
-    requires { ⌜ Weighed (now weights) × (64 ≤ length (now weights)) × (64 ≤ length (now plane)) ⌝ }
-    ensures { λ _. ⌜ now (plane .exit) ≡ over (weightsPlane 4 (now (weights .entry))) (now (plane .entry)) ⌝ }
-{
-    let mut y = 0;
-    while y < 4 {
-        write_row(weights, y, plane);
-        y += 1;
-    }
 }
 
 // The coverages of any part in a plane that has room for them; or refusal 9, which leaves the plane as it was.
@@ -66,7 +41,7 @@ fn paint_judged(part: &[u64], cover: GpuCover, rule: FillRule, plane: &mut [f32]
         return GpuPainted::CoverTooLarge;
     }
     tile::weigh(&mut areas, rule);
-    write_plane(&areas, plane);
+    tile::write_plane(&areas, 4, plane);
     GpuPainted::Done
 }
 

@@ -14,6 +14,8 @@ pub mod Judging
 pub mod Shades
 pub mod Columns
 pub mod Rows
+pub mod Heights
+pub mod Sums
 pub mod Marks
 pub mod Weighings
 pub mod Entries

@@ -12,19 +12,20 @@ use lib.ListN.{length, getD, length-map}
 use Rattle.laws.proofs.Orders.{eq-or-ne}
 use Rattle.laws.proofs.Parts.{abs-times}
 use Rattle.laws.proofs.Rows.{is-tabulate}
-use Rattle.laws.specs.Lists.{tabulate}
+use Rattle.laws.specs.Lists.{over, tabulate}
 use Rattle.styling.specs.declared.FillRule.{FillRule}
 use Rattle.cover_statements.specs.Carry.{isLight}
 use Rattle.cover_statements.specs.Cover.{coverAt}
 use Rattle.cover_statements.specs.Coverage.{areaCoverage, isAbove}
 use Rattle.cover_statements.specs.Mark.{isOctetUsed, aboveAt, usedOctets, bit, binaryNumber, markOf, someAbove}
 use Rattle.cover_statements.specs.Plane.{pixelOf, planeOf, coveragesOf}
-use Rattle.cover_statements.specs.InnerWeighed.{InRange, columnAreas, repeated}
+use Rattle.cover_statements.specs.InnerWeighed.{InRange, weightIn, weightsOf, coverageIn, coveragesIn, columnAreas, repeated}
 use Rattle.cover_statements.proofs.Carries.{light}
+use Rattle.cover_statements.proofs.Filled.{over-whole}
 use Rattle.cover_statements.proofs.FromRow.{area-alone}
 use Rattle.cover_statements.proofs.Marks.{some-ext, used-length, used-at}
 use Rattle.cover_statements.proofs.Planes.{pixel-at, places-ext}
-use Rattle.cover_statements.proofs.Weighings.{map-lt}
+use Rattle.cover_statements.proofs.Weighings.{map-lt, coverages-are}
 
 -- ---- the plane
 
@@ -46,6 +47,23 @@ column-in-range ws n covers {areas} e t q =
           let l : k < length covers = omega (arith, ap length q, length-map covers wide) in
           rw (q, map-lt wide covers k (pos 0) (pos 0) l, abs-times (pos 32) (coverAt covers k)) (omega (arith, light t .at k (omega arith)));
     }
+
+-- what a column's weights, their coverages and these in all columns make of a plane is the part's plane
+module _ (ws : List ℕ) (n : ℕ) (rule : FillRule) (covers : List ℤ) {areas weights : List ℤ} (long : length covers ≡ n) (a : areas ≡ columnAreas covers) (w : weights ≡ weightsOf rule areas) where
+  pub column-long : length weights ≡ n
+  column-long = ap length w ∙ length-map areas (weightIn rule) ∙ ap length a ∙ length-map covers wide ∙ long
+
+  pub column-plane : repeated n (coveragesIn weights) ≡ planeOf ws n rule (coverAt covers) []
+  column-plane =
+      ap (repeated n) (ap coveragesIn w ∙ coverages-are rule areas ∙ ap (coveragesOf rule) a)
+      ∙ sym (plane-none ws n rule covers long)
+
+  pub column-painted : (blank old : List Float) {column new : List Float} → length blank ≡ n → column ≡ over (coveragesIn weights) blank → new ≡ over (repeated n column) old
+      → new ≡ over (planeOf ws n rule (coverAt covers) []) old
+  column-painted blank old {column} {new} b q e =
+      e
+      ∙ ap (λ (l : List Float). over (repeated n l) old) (q ∙ over-whole (coveragesIn weights) blank (b ∙ sym (length-map weights coverageIn ∙ column-long)))
+      ∙ ap (λ (l : List Float). over l old) column-plane
 
 -- ---- the mark
 

@@ -5,6 +5,8 @@ pub mod InnerLoad
 pub mod Area
 pub mod InnerCell
 pub mod InnerRows
+pub mod Height
+pub mod Sums
 pub mod Weight
 pub mod Coverage
 pub mod Plane

@@ -1,4 +1,5 @@
 // From a doubled area to a coverage: the weight by each rule, and its 512th part as an f32.
+pub mod column;
 pub mod small;
 pub mod tile;
 

@@ -1,40 +1,16 @@
--- `GpuCover::is_empty` meets its contract. Assumes nothing.
-use Prim.Native.Nat.{_-_}
+-- `cover_gpu::GpuCover::is_empty` meets its contract. Assumes nothing.
+use mathlib.Core.Path.{_≡_}
 use native.Mathlib.Omega.{arith}
-use borrow.Author.Needs.{needs, sfits-of}
-use lib.IntN.{pos}
-use mir.Facts.{toZ-ofZ}
-use mir.Syntax.{w8}
-use Rattle.cover_statements.specs.Cover.{emptyAt, isEmpty}
-use Rattle.cover_statements.proofs.Testing.{Testing, test-start, test-next, test-end}
+use borrow.Author.Needs.{needs}
+use lib.ListN.{length}
 use Rattle.cover_gpu.proofs.GpuCover.is_empty.Statement.{statement}
 use Rattle.cover_gpu.proofs.GpuCover.is_empty.Tie as tie
 
-abbrev Inv-loop : tie.InvT-loop
-Inv-loop rule covers ok₀ y₀ ok y = Testing (emptyAt rule) covers 4 ok y
-
-abbrev μ-loop : tie.MeasureT-loop
-μ-loop rule covers ok₀ y₀ ok y = 4 - y
-
-loop-holds : tie.Need-loop-holds Inv-loop μ-loop
-loop-holds c = test-start (search needs)
-
-loop-again : tie.Need-loop-again Inv-loop μ-loop
-loop-again c =
-    test-next (pos 0) (c .before .before .before .loop .inv) (omega arith)
-    (rw (toZ-ofZ (sfits-of {w = w8} (c .before .is-row-empty-arg .given))) at (c .is-row-empty .ensures))
-
-returns : tie.Need-returns Inv-loop μ-loop
-unfolding isEmpty
-returns c = test-end (c .before .loop .inv) (omega arith)
+are-empty-requires : tie.Need-are-empty-requires
+are-empty-requires c κs =
+    let s = c .before .before in
+    let long : length (s .args .self .covers) ≡ 4 = search needs in
+    omega (arith, long)
 
 pub is-empty-spec : {M : Type 1} → statement M
-is-empty-spec =
-    tie.close
-    (tie.spec
-    Inv-loop
-    μ-loop
-    loop-holds
-    (λ c. omega arith) (λ c κs. tt) (λ c. omega arith) (λ c. omega arith)
-    loop-again
-    returns)
+is-empty-spec = tie.close (tie.spec (λ c. search needs) are-empty-requires (λ c. search needs))

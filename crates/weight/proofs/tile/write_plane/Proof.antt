@@ -3,6 +3,7 @@ use mathlib.Core.Path.{_≡_, sym, ap, _∙_}
 use mathlib.Core.List.{List}
 use Prim.Native.Nat.{ℕ, _+_, _*_, _-_, _≤_, _<_}
 use native.Mathlib.Omega.{arith}
+use lib.Arith.{digits-lt}
 use lib.Ieee.{Float, nan}
 use lib.IntN.{ℤ, pos}
 use lib.ListN.{length, getD, length-map}
@@ -16,33 +17,36 @@ use Rattle.weight.proofs.tile.write_plane.Statement.{statement}
 use Rattle.weight.proofs.tile.write_plane.Tie as tie
 
 -- a row of weights that stand by columns: its numbers, that they are weights, and its coverages
-module _ {weights row : List ℤ} {y : ℕ} (c : Weighed weights) (room : 256 ≤ length weights) (low : y < 16) (e : row ≡ tabulate 16 (λ x. coverAt weights (x * 16 + y))) where
+module _ {weights row : List ℤ} {n y : ℕ} (c : Weighed weights) (room : 16 * n ≤ length weights) (low : y < n) (e : row ≡ tabulate 16 (λ x. coverAt weights (x * n + y))) where
   long : length row ≡ 16
-  long = ap length e ∙ length-tabulate 16 (λ x. coverAt weights (x * 16 + y))
+  long = ap length e ∙ length-tabulate 16 (λ x. coverAt weights (x * n + y))
 
-  at : (x : ℕ) → x < 16 → coverAt row x ≡ coverAt weights (x * 16 + y)
-  at x p = ap (λ (l : List ℤ). coverAt l x) e ∙ getD-tabulate 16 (λ i. coverAt weights (i * 16 + y)) (pos 0) x p
+  at : (x : ℕ) → x < 16 → coverAt row x ≡ coverAt weights (x * n + y)
+  at x p = ap (λ (l : List ℤ). coverAt l x) e ∙ getD-tabulate 16 (λ i. coverAt weights (i * n + y)) (pos 0) x p
+
+  inside : (x : ℕ) → x < 16 → x * n + y < length weights
+  inside x p = omega (arith, digits-lt p low, room)
 
   row-weighed : Weighed row
   row-weighed =
       record {
-        low = λ x h. let p : x < 16 = omega (arith, long) in rw (at x p) (c .low (x * 16 + y) (omega arith));
-        high = λ x h. let p : x < 16 = omega (arith, long) in rw (at x p) (c .high (x * 16 + y) (omega arith));
+        low = λ x h. let p : x < 16 = omega (arith, long) in rw (at x p) (c .low (x * n + y) (inside x p));
+        high = λ x h. let p : x < 16 = omega (arith, long) in rw (at x p) (c .high (x * n + y) (inside x p));
       }
 
-  row-coverages : coveragesIn row ≡ weightsRow 16 weights y
+  row-coverages : coveragesIn row ≡ weightsRow n weights y
   row-coverages =
-      is-tabulate 16 (λ x. getD (coveragesIn weights) (x * 16 + y) nan) nan (coveragesIn row) (length-map row coverageIn ∙ long)
+      is-tabulate 16 (λ x. getD (coveragesIn weights) (x * n + y) nan) nan (coveragesIn row) (length-map row coverageIn ∙ long)
       (λ x p.
       map-lt coverageIn row x nan (pos 0) (omega (arith, long))
       ∙ ap coverageIn (at x p)
-      ∙ sym (map-lt coverageIn weights (x * 16 + y) nan (pos 0) (omega arith)))
+      ∙ sym (map-lt coverageIn weights (x * n + y) nan (pos 0) (inside x p)))
 
 abbrev Inv-loop : tie.InvT-loop
-Inv-loop weights plane₀ y₀ plane y = PlaneRows 16 (λ column row. getD (coveragesIn weights) (column * 16 + row) nan) plane₀ y plane
+Inv-loop weights rows plane₀ y₀ plane y = PlaneRows rows (λ column row. getD (coveragesIn weights) (column * rows + row) nan) plane₀ y plane
 
 abbrev μ-loop : tie.MeasureT-loop
-μ-loop weights plane₀ y₀ plane y = 16 - y
+μ-loop weights rows plane₀ y₀ plane y = rows - y
 
 loop-holds : tie.Need-loop-holds Inv-loop μ-loop
 loop-holds c = rows-start (c .before .pre .2)

@@ -1,23 +1,25 @@
--- `cover::Cover::is_full` meets its contract. Assumes nothing.
+-- `cover::rows::are_full` meets its contract. Assumes nothing.
+use mathlib.Core.Path.{refl}
 use Prim.Native.Nat.{_-_}
 use native.Mathlib.Omega.{arith}
 use borrow.Author.Needs.{needs, sfits-of}
 use lib.IntN.{pos}
+use lib.ListN.{length}
 use mir.Facts.{toZ-ofZ}
 use mir.Syntax.{w8}
 use Rattle.cover_statements.specs.Cover.{fullAt, isFull}
 use Rattle.cover_statements.proofs.Testing.{Testing, test-start, test-next, test-end}
-use Rattle.cover.proofs.Cover.is_full.Statement.{statement}
-use Rattle.cover.proofs.Cover.is_full.Tie as tie
+use Rattle.cover.proofs.rows.are_full.Statement.{statement}
+use Rattle.cover.proofs.rows.are_full.Tie as tie
 
 abbrev Inv-loop : tie.InvT-loop
-Inv-loop rule covers ok₀ y₀ ok y = Testing (fullAt rule) covers 16 ok y
+Inv-loop covers rule ok₀ y₀ ok y = Testing (fullAt rule) covers (length covers) ok y
 
 abbrev μ-loop : tie.MeasureT-loop
-μ-loop rule covers ok₀ y₀ ok y = 16 - y
+μ-loop covers rule ok₀ y₀ ok y = length covers - y
 
 loop-holds : tie.Need-loop-holds Inv-loop μ-loop
-loop-holds c = test-start (search needs)
+loop-holds c = test-start refl
 
 loop-again : tie.Need-loop-again Inv-loop μ-loop
 loop-again c =
@@ -28,8 +30,8 @@ returns : tie.Need-returns Inv-loop μ-loop
 unfolding isFull
 returns c = test-end (c .before .loop .inv) (omega arith)
 
-pub is-full-spec : {M : Type 1} → statement M
-is-full-spec =
+pub are-full-spec : {M : Type 1} → statement M
+are-full-spec =
     tie.close
     (tie.spec
     Inv-loop

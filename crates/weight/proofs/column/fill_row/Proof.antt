@@ -1,10 +1,10 @@
--- `column::fill_row` meets its contract. Assumes nothing.
+-- `weight::column::fill_row` meets its contract. Assumes nothing.
 use mathlib.Core.Path.{refl}
 use Prim.Native.Nat.{_-_}
 use native.Mathlib.Omega.{arith}
 use Rattle.cover_statements.proofs.PlaneRows.{Row, row-start, row-next, row-end}
-use Rattle.cover_gpu.proofs.column.fill_row.Statement.{statement}
-use Rattle.cover_gpu.proofs.column.fill_row.Tie as tie
+use Rattle.weight.proofs.column.fill_row.Statement.{statement}
+use Rattle.weight.proofs.column.fill_row.Tie as tie
 
 abbrev Inv-loop : tie.InvT-loop
 Inv-loop value y plane₀ x₀ plane x = Row (λ column row. value) y plane₀ x plane

@@ -1,20 +1,20 @@
--- `plane::column::repeat_column` meets its contract. Assumes nothing.
+-- `weight::column::repeat_column` meets its contract. Assumes nothing.
 use Prim.Native.Nat.{_-_}
 use native.Mathlib.Omega.{arith}
 use lib.Ieee.{nan}
-use lib.ListN.{getD}
+use lib.ListN.{length, getD}
 use Rattle.cover_statements.proofs.PlaneRows.{PlaneRows, rows-start, rows-room, rows-next, rows-end}
-use Rattle.plane.proofs.column.repeat_column.Statement.{statement}
-use Rattle.plane.proofs.column.repeat_column.Tie as tie
+use Rattle.weight.proofs.column.repeat_column.Statement.{statement}
+use Rattle.weight.proofs.column.repeat_column.Tie as tie
 
 abbrev Inv-loop : tie.InvT-loop
-Inv-loop column plane₀ y₀ plane y = PlaneRows 16 (λ x row. getD column row nan) plane₀ y plane
+Inv-loop column plane₀ y₀ plane y = PlaneRows (length column) (λ x row. getD column row nan) plane₀ y plane
 
 abbrev μ-loop : tie.MeasureT-loop
-μ-loop column plane₀ y₀ plane y = 16 - y
+μ-loop column plane₀ y₀ plane y = length column - y
 
 loop-holds : tie.Need-loop-holds Inv-loop μ-loop
-loop-holds c = rows-start (c .before .pre)
+loop-holds c = rows-start (c .before .before .pre)
 
 fill-row-requires : tie.Need-fill-row-requires Inv-loop μ-loop
 fill-row-requires c κs = rows-room (c .before .before .before .loop .inv) (c .before .before .loop-test .taken)
