@@ -14,6 +14,7 @@ ghost use Rattle.pixel_segment.specs.Field.{gpu};
 ghost use Rattle.cover_statements.specs.Carry.{isLight};
 ghost use Rattle.cover_statements.specs.Cover.{coverAt};
 ghost use Rattle.cover_statements.specs.Plane.{planeOf};
+ghost use Rattle.cover_statements.specs.InnerWeighed.{Weighed, weightsPlane};
 ghost use Rattle.cover_gpu.specs.GpuPaint.{GpuPainting};
 
 // What painting answers: done, refusal 1 or refusal 9.
@@ -21,6 +22,19 @@ pub enum GpuPainted {
     Done,
     PlaneTooShort,
     CoverTooLarge,
+}
+
+// The plane of 64 weights that stand by columns. What lies past it stays.
+fn write_plane(weights: &[i16], plane: &mut [f32])
+    requires { ⌜ Weighed (now weights) × (64 ≤ length (now weights)) × (64 ≤ length (now plane)) ⌝ }
+    ensures { λ _. ⌜ now (plane .exit) ≡ over (weightsPlane 4 (now (weights .entry))) (now (plane .entry)) ⌝ }
+{
+    let mut y = 0;
+    while y < 4 {
+        let row = tile::row_of(weights, 4, y);
+        tile::write_row(&row, y, plane);
+        y += 1;
+    }
 }
 
 // The coverages of any part in a plane that has room for them; or refusal 9, which leaves the plane as it was.
@@ -41,7 +55,7 @@ fn paint_judged(part: &[u64], cover: GpuCover, rule: FillRule, plane: &mut [f32]
         return GpuPainted::CoverTooLarge;
     }
     tile::weigh(&mut areas, rule);
-    tile::write_plane(&areas, 4, plane);
+    write_plane(&areas, plane);
     GpuPainted::Done
 }
 

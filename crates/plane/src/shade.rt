@@ -19,7 +19,7 @@ fn paint_non_zero(areas: &mut [i16], plane: &mut [f32]) -> u32
         × (r ≡ markOf (weightsPlane 16 (weightsOf NonZero (now (areas .entry))))) ⌝ }
 {
     tile::weigh_non_zero(areas);
-    tile::write_plane(areas, 16, plane);
+    tile::write_plane(areas, plane);
     weights::mark_of(areas)
 }
 

@@ -9,7 +9,6 @@ ghost use Rattle.laws.specs.Lists.{over, tabulate};
 ghost use Rattle.weight_table.specs.Rest.{curve};
 ghost use Rattle.styling.specs.declared.FillRule.the-variants.{NonZero, EvenOdd};
 ghost use Rattle.cover_statements.specs.Cover.{coverAt};
-ghost use Rattle.cover_statements.specs.Plane.{sizeOf};
 ghost use Rattle.cover_statements.specs.InnerWeighed.{
   InRange,
   Weighed,
@@ -67,7 +66,7 @@ pub fn write_coverages(weights: &[i16], plane: &mut [f32])
 }
 
 // Row y of weights that stand by columns of a tile `rows` high.
-fn row_of(weights: &[i16], rows: usize, y: usize) -> [i16; 16]
+pub fn row_of(weights: &[i16], rows: usize, y: usize) -> [i16; 16]
     requires { ⌜ (16 * rows ≤ length (now weights)) × (y < rows) ⌝ }
     ensures { λ r. ⌜ r ≡ tabulate 16 (λ x. coverAt (now (weights .entry)) (x * rows + y)) ⌝ }
 {
@@ -81,7 +80,7 @@ fn row_of(weights: &[i16], rows: usize, y: usize) -> [i16; 16]
 }
 
 // The coverages of 16 weights, as row y of a plane.
-fn write_row(row: &[i16; 16], y: usize, plane: &mut [f32])
+pub fn write_row(row: &[i16; 16], y: usize, plane: &mut [f32])
     requires { ⌜ Weighed (now row) × (length (now row) ≡ 16) × (y * 16 + 16 ≤ length (now plane)) ⌝ }
     ensures { λ _. ⌜ now (plane .exit) ≡ putRow y (coveragesIn (now (row .entry))) (now (plane .entry)) ⌝ }
 {
@@ -92,15 +91,16 @@ fn write_row(row: &[i16; 16], y: usize, plane: &mut [f32])
     }
 }
 
-// The plane of the weights of a tile `rows` high, which stand by columns: the exchange of the two places is here. What
-// lies past it stays. A row is read whole before it is written: four rows are then read and written at a time.
-pub fn write_plane(weights: &[i16], rows: usize, plane: &mut [f32])
-    requires { ⌜ Weighed (now weights) × (16 * rows ≤ length (now weights)) × (sizeOf rows ≤ length (now plane)) ⌝ }
-    ensures { λ _. ⌜ now (plane .exit) ≡ over (weightsPlane rows (now (weights .entry))) (now (plane .entry)) ⌝ }
+// The plane of 256 weights that stand by columns: the exchange of the two places is here. What lies past it stays. A
+// row is read whole before it is written: four rows are then read and written at a time, which they are not where the
+// number of rows is a parameter.
+pub fn write_plane(weights: &[i16], plane: &mut [f32])
+    requires { ⌜ Weighed (now weights) × (256 ≤ length (now weights)) × (256 ≤ length (now plane)) ⌝ }
+    ensures { λ _. ⌜ now (plane .exit) ≡ over (weightsPlane 16 (now (weights .entry))) (now (plane .entry)) ⌝ }
 {
     let mut y = 0;
-    while y < rows {
-        let row = row_of(weights, rows, y);
+    while y < 16 {
+        let row = row_of(weights, 16, y);
         write_row(&row, y, plane);
         y += 1;
     }

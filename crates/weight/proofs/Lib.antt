@@ -1,0 +1,2 @@
+-- Laws of rows of weights.
+pub mod WeightRows
