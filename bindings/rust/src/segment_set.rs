@@ -8,17 +8,28 @@ use crate::{exports, plane, segment, Cover, FillRule, PixelSegment, Refusal};
 ///
 /// The set has room for as many segments as it was begun with slots for; [`add_slots`](SegmentSet::add_slots) gives it
 /// more. An edit that is turned down leaves it as it was.
-#[derive(Clone, Debug, PartialEq, Eq)]
+///
+/// Order within a set carries no meaning: two sets are equal that hold the same segments, each as often, from the same
+/// cover, in the same layer and tile, and have room for as many.
+#[derive(Clone, Debug)]
 pub struct SegmentSet {
-    layer_id: u32,
-    tile_x: i16,
-    tile_y: i16,
+    layer: u32,
+    tile: [i16; 2],
     carry: Cover,
     loads: [u16; 16],
     count: usize,
     slots: Vec<u64>,
     areas: Box<[i16; 256]>,
 }
+
+impl PartialEq for SegmentSet {
+    fn eq(&self, other: &SegmentSet) -> bool {
+        let numbers = |set: &SegmentSet| (set.layer, set.tile, set.carry, set.loads, set.count, set.slots.len());
+        numbers(self) == numbers(other) && self.areas == other.areas && self.sorted_words() == other.sorted_words()
+    }
+}
+
+impl Eq for SegmentSet {}
 
 impl SegmentSet {
     /// Begins a set of a layer in a tile from its cover from the left and its segments so far, none or some, in so many
@@ -35,9 +46,8 @@ impl SegmentSet {
         slots: usize,
     ) -> Result<SegmentSet, Refusal> {
         let mut set = SegmentSet {
-            layer_id,
-            tile_x,
-            tile_y,
+            layer: 0,
+            tile: [0; 2],
             carry: Cover::default(),
             loads: [0; 16],
             count: 0,
@@ -50,6 +60,8 @@ impl SegmentSet {
             tile_y,
             &cover.0,
             segment::words_of(part),
+            &mut set.layer,
+            &mut set.tile,
             &mut set.carry.0,
             &mut set.loads,
             &mut set.count,
@@ -64,10 +76,9 @@ impl SegmentSet {
     /// Refused by 3 (another layer or tile), 9 (the covers of its pixel row) and 13 (every slot is held).
     pub fn take_in(&mut self, segment: PixelSegment) -> Result<(), Refusal> {
         Refusal::judge(exports::take_in(
-            self.layer_id,
-            self.tile_x,
-            self.tile_y,
             segment.word(),
+            &self.layer,
+            &self.tile,
             &mut self.carry.0,
             &mut self.loads,
             &mut self.count,
@@ -81,10 +92,9 @@ impl SegmentSet {
     /// Refused by 3 (another layer or tile) and 12 (none is held).
     pub fn let_out(&mut self, segment: PixelSegment) -> Result<(), Refusal> {
         Refusal::judge(exports::let_out(
-            self.layer_id,
-            self.tile_x,
-            self.tile_y,
             segment.word(),
+            &self.layer,
+            &self.tile,
             &mut self.carry.0,
             &mut self.loads,
             &mut self.count,
@@ -93,9 +103,25 @@ impl SegmentSet {
         ))
     }
 
+    /// The layer whose segments it holds.
+    pub fn layer_id(&self) -> u32 {
+        self.layer
+    }
+
+    /// The tile, by its column and its row.
+    pub fn tile(&self) -> (i16, i16) {
+        (self.tile[0], self.tile[1])
+    }
+
     /// The held segments, in no order that means anything.
     pub fn segments(&self) -> &[PixelSegment] {
         segment::segments_of(&self.slots[..self.count])
+    }
+
+    fn sorted_words(&self) -> Vec<u64> {
+        let mut words = self.slots[..self.count].to_vec();
+        words.sort_unstable();
+        words
     }
 
     /// How many segments it has room for.

@@ -69,6 +69,59 @@ fn a_refused_edit_leaves_the_set() {
     assert_eq!(begun(119, &[segment(0, 0, 0, -8)], 1).map(|set| set.carry().0[0]), Ok(111));
 }
 
+/// A segment taken in and let out leaves an equal set; so do the same segments in another order. Other segments, the
+/// same ones another number of times, another cover, layer, tile or number of slots make another set.
+#[test]
+fn equal_sets() {
+    let (a, b) = (segment(3, 0, 32, -16), segment(3, 0, 8, -16));
+    let mut set = begun(16, &[a], 3).unwrap();
+    let before = set.clone();
+    set.take_in(b).unwrap();
+    assert_ne!(set, before);
+    set.let_out(b).unwrap();
+    assert_eq!(set, before);
+
+    // Let out from the front, so that the last one moves into its slot.
+    let mut moved = begun(16, &[b, a, a], 3).unwrap();
+    assert_eq!(moved, begun(16, &[a, b, a], 3).unwrap());
+    assert_ne!(moved, begun(16, &[a, b, b], 3).unwrap());
+    moved.let_out(b).unwrap();
+    moved.let_out(a).unwrap();
+    assert_eq!(moved, before);
+
+    assert_ne!(begun(15, &[a], 3).unwrap(), before);
+    assert_ne!(begun(16, &[a], 4).unwrap(), before);
+    let empty = |layer, x, y| SegmentSet::begin(layer, x, y, &Cover([16; 16]), &[], 3).unwrap();
+    for other in [empty(LAYER + 1, 2, 0), empty(LAYER, 3, 0), empty(LAYER, 2, 1)] {
+        assert_ne!(other, empty(LAYER, 2, 0));
+    }
+    let mut longer = before.clone();
+    longer.add_slots(1);
+    assert_eq!(longer, begun(16, &[a], 4).unwrap());
+}
+
+/// The set knows its layer and tile: a segment of another one is refused by 3, and the set stays as it was.
+#[test]
+fn another_layer_or_tile() {
+    let place = |layer_id, tile_x, tile_y| {
+        let fields =
+            Fields { layer_id, tile_x, tile_y, local_x: 3, local_y: 0, double_area_multiplier: 32, cover: -16 };
+        PixelSegment::new(fields).unwrap()
+    };
+    let own = place(LAYER, 2, 0);
+    let mut set = begun(16, &[own], 3).unwrap();
+    assert_eq!((set.layer_id(), set.tile()), (LAYER, (2, 0)));
+    let before = set.clone();
+    for other in [place(LAYER + 1, 2, 0), place(LAYER, 3, 0), place(LAYER, 1, 0), place(LAYER, 2, 1), place(LAYER, 2, -1)] {
+        assert_eq!((set.take_in(other), set.let_out(other)), (Err(Refusal::Row), Err(Refusal::Row)));
+        assert_eq!(begun(16, &[own, other], 3), Err(Refusal::Row));
+        assert_eq!(set, before);
+        let Fields { layer_id, tile_x, tile_y, .. } = other.fields();
+        let mut there = SegmentSet::begin(layer_id, tile_x, tile_y, &Cover([16; 16]), &[other], 3).unwrap();
+        assert_eq!(there.take_in(own), Err(Refusal::Row));
+    }
+}
+
 #[test]
 fn many_edits() {
     let mut state = 1u64;

@@ -14,6 +14,13 @@ use Rattle.cover_statements.specs.Carry.{coverIn, inRow, loadIn, absCover, carr
 use Rattle.pixel_segment.specs.Field.{coverOf, localYOf}
 use Rattle.cover_statements.specs.Cover.{coverAt}
 use Rattle.refusals.specs.Refusal.{pass}
+use Rattle.ffi_sets.specs.Sets.{SetLent, begunLent, BeginTold, TakeTold, LetTold}
+
+-- a number and memory that an edit tells and leaves
+pub record EditMade (Told : ℕ → SetLent → Type 0) : Type 0 where
+  pub number : ℕ
+  pub new : SetLent
+  pub told : Told number new
 
 pub record SegmentSets : Type 0 where
   -- W-207: after any edits, refused ones included, all of the set equals a fresh working of its held words
@@ -44,3 +51,11 @@ pub record SegmentSets : Type 0 where
   pub begun-each : (b : Beginning) (slots : List ℕ) (areas : List ℤ) → beginVerdict b slots areas ≡ pass →
       takeAll (freshState (beginning (b .layer) (b .tileX) (b .tileY) (b .incoming) (take 0 (b .part))) slots areas)
       (b .part) ≡ freshState b slots areas
+
+-- The premises of calls by numbers (ffi_sets/specs/SetCalls) are met: a beginning that passes tells 0, and of every memory and every word there is an
+-- edit either way.
+pub record SetCallsExist : Type 0 where
+  pub begins : (b : Beginning) (old : SetLent) → beginVerdict b (old .slots) (old .areas) ≡ pass →
+      BeginTold b old 0 (begunLent pass (freshState b (old .slots) (old .areas)) old)
+  pub takes : (k : SetLent) (w : ℕ) → EditMade (λ r new. TakeTold k w r new)
+  pub lets : (k : SetLent) (w : ℕ) → EditMade (λ r new. LetTold k w r new)

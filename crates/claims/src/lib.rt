@@ -17,6 +17,8 @@ ghost use Rattle.listing_statements.specs.Edges.{DecidingEdges};
 ghost use Rattle.listing_runs.specs.Claim.{ListingClaim};
 ghost use Rattle.listing_runs.specs.Example.{CallsRan};
 ghost use Rattle.batch_runs.specs.BatchClaim.{BatchClaim};
+ghost use Rattle.ffi_sets.specs.Edges.{PlaceEdges};
+ghost use Rattle.ffi_sets.specs.SetCalls.{SetCallsClaim};
 ghost use Rattle.ffi_calls.specs.Calls.{CallsClaim};
 ghost use Rattle.ffi_calls.specs.ListingCalls.{ListingCallsClaim};
 ghost use Rattle.ffi_calls.specs.Example.{CallsExist};
@@ -57,7 +59,7 @@ ghost use Rattle.claims.specs.Repainting.{ChangedClips};
 ghost use Rattle.claims.specs.Runs.{RunsExist, RunsAlike};
 ghost use Rattle.claims.specs.Texts.{JobTexts};
 ghost use Rattle.claims.specs.Loads.{Loads};
-ghost use Rattle.claims.specs.Sets.{SegmentSets};
+ghost use Rattle.claims.specs.Sets.{SegmentSets, SetCallsExist};
 ghost use Rattle.claims.specs.Bounds.{CoverBounds};
 ghost use Rattle.claims.specs.Revisions.{Revisions};
 ghost use Rattle.claims.specs.RevisionEdges.{RevisionEdges};
@@ -110,8 +112,8 @@ pub fn passes_in_words() -> bool
 // Both sides of the edges of refusals: openings, tile works, paintings, decidings, tables, sets, bounds, records that
 // are sent.
 pub fn edges() -> bool
-    ensures { λ r. ⌜ OpeningEdges × RowEdges × PaintEdges × DecidingEdges × TableEdges × SetEdges × BoundsCases
-        × RevisionEdges ⌝ }
+    ensures { λ r. ⌜ OpeningEdges × RowEdges × PaintEdges × DecidingEdges × TableEdges × SetEdges × PlaceEdges
+        × BoundsCases × RevisionEdges ⌝ }
 {
     true
 }
@@ -123,9 +125,10 @@ pub fn job_texts() -> bool
     true
 }
 
-// W-207, kept sets of segments; W-211, covers within bounds; W-212, which layer record stands.
+// W-207, kept sets of segments: any list of edits, and by numbers, for callers of the exports; W-211, covers within
+// bounds; W-212, which layer record stands.
 pub fn sets_bounds_records() -> bool
-    ensures { λ r. ⌜ SegmentSets × CoverBounds × Revisions ⌝ }
+    ensures { λ r. ⌜ SegmentSets × SetCallsClaim × SetCallsExist × CoverBounds × Revisions ⌝ }
 {
     true
 }

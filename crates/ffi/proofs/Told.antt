@@ -12,8 +12,6 @@ use Rattle.cached_tile.specs.declared.SolidColor.{SolidColor}
 use Rattle.cached_tile.specs.declared.kept.Kept.{Kept}
 use Rattle.cached_tile.specs.Kept.{Writing}
 use Rattle.segment_rows.specs.Search.{Place}
-use Rattle.segment_set_statements.specs.Set.{SetState, Gives}
-use Rattle.segment_set_statements.specs.declared.Edited.{Edited}
 use Rattle.row_statements.specs.Lent.{Columns}
 use Rattle.row_statements.specs.State.{State, stateIn}
 use Rattle.row_statements.specs.Opening.{OpenGiven}
@@ -35,7 +33,6 @@ use Rattle.ffi_numbers.specs.Cached.{isSome, givenOr, colorOr, writtenOr, settl
 use Rattle.ffi_numbers.specs.Rows.{StateNumbers, openNumbers, OpenTold}
 use Rattle.ffi_numbers.specs.Counts.{CountNumbers, countedNumbers, CountTold}
 use Rattle.ffi_batch.specs.Batches.{BatchNumbers, numbersBy, BatchTold}
-use Rattle.ffi.specs.Sets.{SetNumbers, editedNumbers, EditTold}
 use Rattle.ffi.specs.Work.{WorkNumbers, workedNumbers, WorkTold}
 use Rattle.ffi.specs.Listing.{ListNumbers, listedNumbers, ListTold}
 use Rattle.ffi.specs.Deciding.{DecideNumbers, decidedNumbers, DecideTold}
@@ -113,16 +110,6 @@ batched call lent {b = b} {old = old} {back = back} e given told =
       number = told .0 ∙ ap judgedNumber (gives .end);
       numbers = told .1 ∙ λ i. numbersBy (gives .end i) (gives .state i) (gives .worked i) (gives .used i) (gives .first i) old;
       lent-is = gives .lent-is;
-    }
-
--- an edit of a kept set
-pub edited : {v : Judgement} {after : SetState} {e : Edited} {old new : SetNumbers} {r : ℕ} {slots : List ℕ} {areas : List ℤ} → Gives v after e slots areas → (r ≡ judgedNumber (judgementIn (e .verdict))) × (new ≡ editedNumbers (judgementIn (e .verdict)) (e .set) old) → EditTold v after old r new slots areas
-edited {old = old} gives told =
-    record {
-      number = told .0 ∙ ap judgedNumber (gives .answer);
-      numbers = told .1 ∙ λ i. editedNumbers (gives .answer i) (gives .leaves i .set) old;
-      slots-are = ap (λ (s : SetState). s .slots) (gives .leaves);
-      areas-are = ap (λ (s : SetState). s .areas) (gives .leaves);
     }
 
 -- whether a count may stay

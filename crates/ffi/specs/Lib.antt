@@ -7,6 +7,5 @@ pub mod Listing
 pub mod Deciding
 pub mod Painting
 pub mod Revisions
-pub mod Sets
 pub mod Bounds
 pub mod FourHighRows

@@ -11,7 +11,7 @@ use crate::{
     given::{Fields, LAYER_LIMIT},
     random::Random,
     scene::word,
-    set_calls::{self, KeptSet},
+    set_calls::{self, KeptSet, Place},
     tally::{caught, Kind, Tally},
 };
 
@@ -48,14 +48,15 @@ fn double_area(word: u64) -> i16 {
     (word >> 6 & 63) as i16 * cover_of(word)
 }
 
-fn is_here(set: &KeptSet, word: u64) -> bool {
-    let tile = ((word >> 41 & 4095) as i16 - 1, (word >> 53) as i16 - 1);
-    (word >> 20 & u64::from(LAYER_LIMIT)) as u32 == set.layer_id && tile == (set.tile_x, set.tile_y)
+fn is_of(place: Place, word: u64) -> bool {
+    let layer_id = (word >> 20 & u64::from(LAYER_LIMIT)) as u32;
+    place == Place { layer_id, tile_x: (word >> 41 & 4095) as i16 - 1, tile_y: (word >> 53) as i16 - 1 }
 }
 
 /// A set that holds these segments, in memory that was lent as `before`: all numbers by the formulas of document 01.
-fn fresh(before: &KeptSet, cover: [i8; 16], held: &[u64]) -> KeptSet {
+fn fresh(before: &KeptSet, place: Place, cover: [i8; 16], held: &[u64]) -> KeptSet {
     let mut set = before.clone();
+    (set.layer, set.tile) = (place.layer_id, [place.tile_x, place.tile_y]);
     set.slots[..held.len()].copy_from_slice(held);
     set.count = held.len();
     for (y, &incoming) in cover.iter().enumerate() {
@@ -83,7 +84,7 @@ fn is_as_painted(set: &KeptSet, cover: [i8; 16]) -> bool {
         let ours = set.areas[..AREAS].iter().map(|&d| painter::coverage(d.into(), RULES[rule]).to_bits());
         rust.is_some_and(|plane| ours.eq((0..256).map(|k| plane[k % 16 * 16 + k / 16].to_bits())))
     };
-    let (id, rule) = (set.layer_id, 0);
+    let (id, rule) = (set.layer, 0);
     let record = Record { id, rule, func: 0, span: 0, clipped: 0, fill: 0, mode: 0, unchanged: 0, color: [0.0; 4] };
     let carry = caught(|| row::carry(held, Some(cover), &record));
     // A carry of zeros is dropped.
@@ -93,6 +94,7 @@ fn is_as_painted(set: &KeptSet, cover: [i8; 16]) -> bool {
 /// A set that was begun, with what the edits so far have left.
 #[derive(Clone)]
 struct Editor {
+    place: Place,
     cover: [i8; 16],
     set: KeptSet,
 }
@@ -108,7 +110,7 @@ impl Editor {
         if areas < AREAS {
             return Err(1);
         }
-        if !is_here(&self.set, word) {
+        if !is_of(self.place, word) {
             return Err(3);
         }
         let mut held = self.held();
@@ -132,7 +134,7 @@ impl Editor {
         before.areas.truncate(areas);
         let due = self.due(edit, before.areas.len());
         let number = due.as_ref().map_or_else(|&number| number, |_| 0);
-        let wanted = due.map_or_else(|_| before.clone(), |held| fresh(&before, self.cover, &held));
+        let wanted = due.map_or_else(|_| before.clone(), |held| fresh(&before, self.place, self.cover, &held));
         kind.note(told(edit, number));
         let mut after = before.clone();
         let got = call(edit, &mut after);
@@ -168,10 +170,10 @@ fn told(edit: Edit, number: u32) -> &'static str {
 }
 
 /// A beginning from a part; the set that was begun.
-fn begin(kind: &mut Kind, before: &KeptSet, cover: [i8; 16], part: &[u64]) -> Option<Editor> {
+fn begin(kind: &mut Kind, before: &KeptSet, place: Place, cover: [i8; 16], part: &[u64]) -> Option<Editor> {
     let number = if before.areas.len() < AREAS {
         1
-    } else if !part.iter().all(|&word| is_here(before, word)) {
+    } else if !part.iter().all(|&word| is_of(place, word)) {
         3
     } else if is_heavy(part, cover) {
         9
@@ -187,24 +189,31 @@ fn begin(kind: &mut Kind, before: &KeptSet, cover: [i8; 16], part: &[u64]) -> Op
         9 => "beginning, refused by 9",
         _ => "beginning, refused by 13",
     });
-    let wanted = if number == 0 { fresh(before, cover, part) } else { before.clone() };
+    let wanted = if number == 0 { fresh(before, place, cover, part) } else { before.clone() };
     let mut after = before.clone();
-    let got = set_calls::begin(cover, part, &mut after);
+    let got = set_calls::begin(place, cover, part, &mut after);
     let same = (got, &after) == (number, &wanted) && (number > 0 || is_as_painted(&after, cover));
     kind.case(same, || {
-        format!("{part:x?} on {cover:?}, {before:x?}: expected {number}, {wanted:x?}, the library {got}, {after:x?}")
+        format!("{part:x?} of {place:?} on {cover:?}, {before:x?}: expected {number}, {wanted:x?}, the library {got}, {after:x?}")
     });
-    (number == 0).then_some(Editor { cover, set: wanted })
+    (number == 0).then_some(Editor { place, cover, set: wanted })
 }
 
 // ---- the cases
 
-/// A set in memory of which each number is another than what belongs there.
-fn any_set(random: &mut Random, slots: usize, areas: usize) -> KeptSet {
-    KeptSet {
+fn any_place(random: &mut Random) -> Place {
+    Place {
         layer_id: random.pick(&[0, 1, 5, LAYER_LIMIT]),
         tile_x: random.pick(&[-1, 0, 2, 4094]),
         tile_y: random.pick(&[-1, 0, 2046]),
+    }
+}
+
+/// A set in memory of which each number is another than what belongs there.
+fn any_set(random: &mut Random, slots: usize, areas: usize) -> KeptSet {
+    KeptSet {
+        layer: random.word() as u32,
+        tile: [(); 2].map(|()| random.word() as i16),
         carry: [(); 16].map(|()| random.word() as i8),
         loads: [(); 16].map(|()| random.word() as u16),
         count: random.word() as usize,
@@ -213,12 +222,12 @@ fn any_set(random: &mut Random, slots: usize, areas: usize) -> KeptSet {
     }
 }
 
-fn any_word(random: &mut Random, set: &KeptSet, widest: i64) -> u64 {
+fn any_word(random: &mut Random, place: Place, widest: i64) -> u64 {
     let rows = random.pick(&[2, 16]);
     word(Fields {
-        layer_id: set.layer_id,
-        tile_x: set.tile_x,
-        tile_y: set.tile_y,
+        layer_id: place.layer_id,
+        tile_x: place.tile_x,
+        tile_y: place.tile_y,
         local_x: random.below(16) as u8,
         local_y: random.below(rows) as u8,
         double_area_multiplier: random.below(64) as u8,
@@ -231,9 +240,9 @@ fn foreign(random: &mut Random, word: u64) -> u64 {
     word ^ 1 << (20 + random.below(44))
 }
 
-fn any_part(random: &mut Random, set: &KeptSet, widest: i64) -> Vec<u64> {
+fn any_part(random: &mut Random, place: Place, widest: i64) -> Vec<u64> {
     let len = random.pick(&[0, 0, 1, 3, 12]);
-    let mut part: Vec<u64> = (0..len).map(|_| any_word(random, set, widest)).collect();
+    let mut part: Vec<u64> = (0..len).map(|_| any_word(random, place, widest)).collect();
     if len > 0 && random.once_in(12) {
         let at = random.below(len);
         part[at] = foreign(random, part[at]);
@@ -243,7 +252,7 @@ fn any_part(random: &mut Random, set: &KeptSet, widest: i64) -> Vec<u64> {
 
 fn any_edit(random: &mut Random, editor: &Editor, widest: i64) -> Edit {
     let held = editor.held();
-    let mut word = any_word(random, &editor.set, widest);
+    let mut word = any_word(random, editor.place, widest);
     if !held.is_empty() && random.once_in(2) {
         word = random.pick(&held);
     }
@@ -271,15 +280,21 @@ fn edited(kind: &mut Kind) {
     };
     let before = any_set(random, slots, areas);
     let widest = random.pick(&[1, 4, 16, 31]);
-    let part = any_part(random, &before, widest);
+    let place = any_place(random);
+    let part = any_part(random, place, widest);
     let cover = match random.below(4) {
         0 => [0; 16],
         1 => [random.pick(&[16, -16, 119, 120, 127, -127, -128]); 16],
         2 => any_cover(random),
         _ => any_cover(random).map(|byte| byte / 4),
     };
-    let Some(mut editor) = begin(kind, &before, cover, &part) else { return };
+    let Some(mut editor) = begin(kind, &before, place, cover, &part) else { return };
     for _ in 0..kind.random.below(12) {
+        // Longer slots, as a caller lends them that needs more.
+        if kind.random.once_in(10) {
+            let slot = kind.random.word();
+            editor.set.slots.push(slot);
+        }
         let edit = any_edit(&mut kind.random, &editor, widest);
         let areas = if kind.random.once_in(20) { AREAS - 1 } else { usize::MAX };
         editor.edit(kind, edit, areas);
@@ -289,13 +304,13 @@ fn edited(kind: &mut Kind) {
 /// Every order of up to five edits by four words: two of one pixel, one with which the row's covers are too large, and
 /// one of another layer; in two slots.
 fn orders(kind: &mut Kind) {
-    let mut before = any_set(&mut kind.random, 2, AREAS + 3);
-    (before.layer_id, before.tile_x, before.tile_y) = (5, 2, 0);
+    let before = any_set(&mut kind.random, 2, AREAS + 3);
+    let place = Place { layer_id: 5, tile_x: 2, tile_y: 0 };
     let placed = |local_x, double_area_multiplier, cover| {
         word(Fields { layer_id: 5, tile_x: 2, tile_y: 0, local_x, local_y: 0, double_area_multiplier, cover })
     };
     let words = [placed(3, 32, -16), placed(3, 8, -16), placed(0, 63, -31), placed(3, 32, -16) ^ 1 << 20];
-    if let Some(editor) = begin(kind, &before, [66; 16], &[]) {
+    if let Some(editor) = begin(kind, &before, place, [66; 16], &[]) {
         each_order(kind, &editor, &words, 5);
     }
 }
@@ -311,12 +326,28 @@ fn each_order(kind: &mut Kind, editor: &Editor, words: &[u64], left: usize) {
     }
 }
 
-/// One edit of memory that no beginning left: d and the carry wrap, and a load never falls below 0.
+/// One edit of memory that no beginning left: d and the carry wrap, a load never falls below 0, and of a layer or a tile
+/// that no segment has every edit is refused by 3.
 fn any_memory(kind: &mut Kind) {
     let random = &mut kind.random;
     let (slots, areas) = (random.below(6), random.pick(&[255, 256, 256, 256, 256, 260]));
     let mut before = any_set(random, slots, areas);
-    let words: Vec<u64> = (0..3).map(|_| any_word(random, &before, 31)).collect();
+    let place = any_place(random);
+    let words: Vec<u64> = (0..3).map(|_| any_word(random, place, 31)).collect();
+    // In some memory one of the three is any number, or the first one past those that segments have.
+    let part = random.below(30);
+    if part != 0 {
+        before.layer = place.layer_id;
+    } else if random.once_in(2) {
+        before.layer = LAYER_LIMIT + 1;
+    }
+    for (at, own) in [(0, place.tile_x), (1, place.tile_y)] {
+        if part != at + 1 {
+            before.tile[at] = own;
+        } else if random.once_in(2) {
+            before.tile[at] = random.pick(&[-2, 2047, 4095, i16::MIN, i16::MAX]);
+        }
+    }
     before.slots.iter_mut().for_each(|slot| *slot = random.pick(&words));
     before.count = random.pick(&[0, 1, slots, slots + 1, usize::MAX]);
     if random.once_in(2) {
@@ -341,7 +372,7 @@ fn wrapped(before: &KeptSet, edit: Edit) -> Result<KeptSet, u32> {
     if set.areas.len() < AREAS {
         return Err(1);
     }
-    if !is_here(&set, word) {
+    if !is_of(Place { layer_id: set.layer, tile_x: set.tile[0], tile_y: set.tile[1] }, word) {
         return Err(3);
     }
     let sign = match edit {

@@ -144,6 +144,8 @@ extern "C" {
         covers: *const [i8; 16],
         part: *const u64,
         part_len: usize,
+        layer: *mut u32,
+        tile: *mut [i16; 2],
         carry: *mut [i8; 16],
         loads: *mut [u16; 16],
         count: *mut usize,
@@ -153,10 +155,9 @@ extern "C" {
         areas_len: usize,
     ) -> u32;
     pub fn ffi_take_in(
-        layer_id: u32,
-        tile_x: i16,
-        tile_y: i16,
         word: u64,
+        layer: *const u32,
+        tile: *const [i16; 2],
         carry: *mut [i8; 16],
         loads: *mut [u16; 16],
         count: *mut usize,
@@ -166,10 +167,9 @@ extern "C" {
         areas_len: usize,
     ) -> u32;
     pub fn ffi_let_out(
-        layer_id: u32,
-        tile_x: i16,
-        tile_y: i16,
         word: u64,
+        layer: *const u32,
+        tile: *const [i16; 2],
         carry: *mut [i8; 16],
         loads: *mut [u16; 16],
         count: *mut usize,

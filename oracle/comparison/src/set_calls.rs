@@ -3,12 +3,19 @@
 
 use crate::exports;
 
-/// A set as it is lent: its layer and its tile, its numbers, its slots and its d.
-#[derive(Clone, Debug, Eq, PartialEq)]
-pub struct KeptSet {
+/// The layer and the tile that a set is begun for.
+#[derive(Clone, Copy, Debug, Eq, PartialEq)]
+pub struct Place {
     pub layer_id: u32,
     pub tile_x: i16,
     pub tile_y: i16,
+}
+
+/// A set as it is lent: its layer and its tile, its numbers, its slots and its d.
+#[derive(Clone, Debug, Eq, PartialEq)]
+pub struct KeptSet {
+    pub layer: u32,
+    pub tile: [i16; 2],
     pub carry: [i8; 16],
     pub loads: [u16; 16],
     pub count: usize,
@@ -16,16 +23,18 @@ pub struct KeptSet {
     pub areas: Vec<i16>,
 }
 
-pub fn begin(cover: [i8; 16], part: &[u64], set: &mut KeptSet) -> u32 {
-    let KeptSet { layer_id, tile_x, tile_y, carry, loads, count, slots, areas } = set;
+pub fn begin(place: Place, cover: [i8; 16], part: &[u64], set: &mut KeptSet) -> u32 {
+    let KeptSet { layer, tile, carry, loads, count, slots, areas } = set;
     unsafe {
         exports::ffi_begin_set(
-            *layer_id,
-            *tile_x,
-            *tile_y,
+            place.layer_id,
+            place.tile_x,
+            place.tile_y,
             &cover,
             part.as_ptr(),
             part.len(),
+            layer,
+            tile,
             carry,
             loads,
             count,
@@ -39,13 +48,12 @@ pub fn begin(cover: [i8; 16], part: &[u64], set: &mut KeptSet) -> u32 {
 
 #[inline]
 pub fn take_in(word: u64, set: &mut KeptSet) -> u32 {
-    let KeptSet { layer_id, tile_x, tile_y, carry, loads, count, slots, areas } = set;
+    let KeptSet { layer, tile, carry, loads, count, slots, areas } = set;
     unsafe {
         exports::ffi_take_in(
-            *layer_id,
-            *tile_x,
-            *tile_y,
             word,
+            layer,
+            tile,
             carry,
             loads,
             count,
@@ -59,13 +67,12 @@ pub fn take_in(word: u64, set: &mut KeptSet) -> u32 {
 
 #[inline]
 pub fn let_out(word: u64, set: &mut KeptSet) -> u32 {
-    let KeptSet { layer_id, tile_x, tile_y, carry, loads, count, slots, areas } = set;
+    let KeptSet { layer, tile, carry, loads, count, slots, areas } = set;
     unsafe {
         exports::ffi_let_out(
-            *layer_id,
-            *tile_x,
-            *tile_y,
             word,
+            layer,
+            tile,
             carry,
             loads,
             count,

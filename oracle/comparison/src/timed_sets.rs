@@ -4,24 +4,25 @@ use std::hint::black_box;
 
 use crate::{
     random::Random,
-    set_calls::{self, KeptSet},
+    set_calls::{self, KeptSet, Place},
     timed_parts::{scattered, COVER, LAYER, TILE},
     timing::Bench,
 };
 
+const PLACE: Place = Place { layer_id: LAYER, tile_x: TILE, tile_y: 0 };
+
 /// A set with one slot more than it holds.
 fn begun(part: &[u64]) -> KeptSet {
     let mut set = KeptSet {
-        layer_id: LAYER,
-        tile_x: TILE,
-        tile_y: 0,
+        layer: 0,
+        tile: [0; 2],
         carry: [0; 16],
         loads: [0; 16],
         count: 0,
         slots: vec![0; part.len() + 1],
         areas: vec![0; 256],
     };
-    assert_eq!(set_calls::begin(COVER, part, &mut set), 0);
+    assert_eq!(set_calls::begin(PLACE, COVER, part, &mut set), 0);
     set
 }
 
@@ -44,7 +45,7 @@ pub fn print(bench: &mut Bench) {
         assert_eq!(kept.areas, anew.areas, "what is taken in and let out leaves d as it was");
         let begin = || {
             for _ in 0..32 {
-                assert_eq!(set_calls::begin(black_box(COVER), black_box(&part), black_box(&mut anew)), 0);
+                assert_eq!(set_calls::begin(PLACE, black_box(COVER), black_box(&part), black_box(&mut anew)), 0);
             }
         };
         bench.line(&format!("set: {len} segments, one edit"), 32, None, begin, || edits(&mut kept, &moved));

@@ -1,8 +1,8 @@
--- `sets::put_edited` meets its contract. Assumes nothing.
+-- `put_edited` meets its contract. Assumes nothing.
 use mathlib.Core.Path.{refl}
 use borrow.Author.Needs.{needs}
-use Rattle.ffi.proofs.sets.put_edited.Statement.{statement}
-use Rattle.ffi.proofs.sets.put_edited.Tie as tie
+use Rattle.ffi_sets.proofs.put_edited.Statement.{statement}
+use Rattle.ffi_sets.proofs.put_edited.Tie as tie
 
 returns : tie.Need-returns
 returns c = rw (c .before .before .verdict .given .1) (c .number-of .ensures, refl)

@@ -1,0 +1,4 @@
+-- Laws that proofs above cite.
+pub mod Told
+pub mod Calls
+pub mod Cases
