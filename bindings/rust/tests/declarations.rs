@@ -5,6 +5,9 @@ mod declarations;
 
 use std::{fs, path::PathBuf, process::Command};
 
+/// The version, and the digest of the declarations that it stands for.
+const DIGEST: (u32, u32) = (2, 0);
+
 #[test]
 fn the_files_are_what_the_sources_make() {
     for (path, text) in declarations::files() {
@@ -12,6 +15,30 @@ fn the_files_are_what_the_sources_make() {
         assert!(kept == text, "{}: run `cargo run --example declare`", path.display());
         assert!(text.matches("ffi_").count() > 30, "the sources have exports");
     }
+}
+
+/// FNV-1a over the declarations, comments left out.
+fn digest(header: &str) -> u32 {
+    let mut open = false;
+    let mut plain = header.lines().filter(|line| {
+        let comment = open || line.starts_with("/*");
+        open = comment && !line.ends_with("*/");
+        !comment && !line.is_empty()
+    });
+    let bytes = plain.by_ref().flat_map(str::bytes);
+    bytes.fold(0x811c_9dc5, |hash, byte| (hash ^ u32::from(byte)).wrapping_mul(0x0100_0193))
+}
+
+#[test]
+fn other_declarations_have_another_version() {
+    let [_, (_, header)] = declarations::files();
+    let known = DIGEST;
+    assert_eq!(
+        (tile_rows::exports::VERSION, digest(&header)),
+        known,
+        "a name, a parameter or a result is another: raise the version in crates/ffi (src/version.rt, specs/Version)"
+    );
+    assert_eq!(tile_rows::exports::version(), tile_rows::exports::VERSION, "the library that is linked is another");
 }
 
 /// What a C program of this folder prints; it compiles without a warning.

@@ -5,6 +5,7 @@
 #include "tile_rows.h"
 
 int main(void) {
+    if (ffi_version() != TILE_ROWS_VERSION) return 1;
     uint64_t word = 0;
     if (ffi_pack(5, 2, 0, 3, 4, 32, 16, &word) != 0) return 1;
     printf("word %016" PRIX64 "\n", word);

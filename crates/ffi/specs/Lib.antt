@@ -9,3 +9,4 @@ pub mod Painting
 pub mod Revisions
 pub mod Bounds
 pub mod FourHighRows
+pub mod Version

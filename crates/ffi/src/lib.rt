@@ -17,5 +17,6 @@ pub mod plates;
 pub mod rows;
 pub mod sets;
 pub mod standing;
+pub mod version;
 pub mod words;
 pub mod working;

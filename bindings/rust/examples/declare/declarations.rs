@@ -26,10 +26,20 @@ pub fn files() -> [(PathBuf, String); 2] {
     [(here.join("src/exports.rs"), rust(&exports)), (here.join("../c/tile_rows.h"), header(&exports))]
 }
 
+fn text(file: &str) -> String {
+    let folder = PathBuf::from(env!("CARGO_MANIFEST_DIR")).join("../../crates/ffi/src");
+    fs::read_to_string(folder.join(file)).expect("a source of the crate ffi")
+}
+
+/// The number of the exports, the one line of version.rt that is a number.
+pub fn version() -> String {
+    let text = text("version.rt");
+    let number = text.lines().map(str::trim).find(|line| line.parse::<u32>().is_ok());
+    number.expect("the version").to_string()
+}
+
 /// The exports of every file, in the order of lib.rt.
 fn read() -> Vec<Export> {
-    let folder = PathBuf::from(env!("CARGO_MANIFEST_DIR")).join("../../crates/ffi/src");
-    let text = |file: &str| fs::read_to_string(folder.join(file)).expect("a source of the crate ffi");
     let root = text("lib.rt");
     let modules = root.lines().filter_map(|line| line.strip_prefix("pub mod ")?.strip_suffix(';'));
     modules.flat_map(|module| exports_of(&text(&format!("{module}.rt")))).collect()
@@ -141,6 +151,8 @@ impl Export {
 /// The declarations, and a safe function for each that lends what it is given.
 fn rust(exports: &[Export]) -> String {
     let mut text = format!("// {MADE}\n\n{RUST_HEAD}");
+    text += "/// The number of the exports that stand here; [`version`] tells the number of those that are linked.\n";
+    writeln!(text, "pub const VERSION: u32 = {};\n", version()).unwrap();
     text += "mod raw {\n    extern \"C\" {\n";
     for export in exports {
         let parameters = export.parameters.iter().map(|(name, kind)| declared(name, kind)).collect::<Vec<_>>();
@@ -207,6 +219,8 @@ fn formatted(text: &str) -> String {
 
 fn header(exports: &[Export]) -> String {
     let mut text = format!("/* {MADE} */\n\n{C_HEAD}");
+    text += "\n/* The number of the exports that stand here; ffi_version tells the number of those that are linked. */\n";
+    writeln!(text, "#define TILE_ROWS_VERSION {}", version()).unwrap();
     for export in exports {
         let told = export.told().join("\n   ");
         let parameters = export.parameters.iter().map(|(name, kind)| in_c(name, kind)).collect::<Vec<_>>();
