@@ -7,7 +7,9 @@
 //! [`work_tiles`], which may have worked tiles before the refused one.
 //! The contracts stand in crates/ffi/src. Fill rules, modes and fills are numbers here, as in a layer record.
 
-mod raw {
+/// The declarations themselves, for the comparison with the Rust.
+#[doc(hidden)]
+pub mod raw {
     extern "C" {
         pub fn ffi_work_tiles(
             words: *mut [u32; 6],

@@ -18,7 +18,6 @@ pub mod damages;
 pub mod deciding;
 pub mod drafts;
 pub mod edited_sets;
-mod exports;
 pub mod four_high;
 pub mod four_high_rows;
 pub mod given;
@@ -68,3 +67,6 @@ pub mod timing;
 pub mod two_calls;
 pub mod two_rows;
 pub mod words;
+
+// the made declarations of the exports, which bindings/rust holds to crates/ffi/src
+use tile_rows::exports::raw as exports;

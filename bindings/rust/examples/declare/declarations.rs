@@ -153,7 +153,7 @@ fn rust(exports: &[Export]) -> String {
     let mut text = format!("// {MADE}\n\n{RUST_HEAD}");
     text += "/// The number of the exports that stand here; [`version`] tells the number of those that are linked.\n";
     writeln!(text, "pub const VERSION: u32 = {};\n", version()).unwrap();
-    text += "mod raw {\n    extern \"C\" {\n";
+    text += "/// The declarations themselves, for the comparison with the Rust.\n#[doc(hidden)]\npub mod raw {\n    extern \"C\" {\n";
     for export in exports {
         let parameters = export.parameters.iter().map(|(name, kind)| declared(name, kind)).collect::<Vec<_>>();
         writeln!(text, "pub fn {}({}){};", export.name, parameters.join(", "), export.arrow()).unwrap();
