@@ -1,6 +1,10 @@
 //! A row driven from a job: what the row program prints of it, and all that the inspector shows.
 
-use tile_rows::{CachedTile, Carry, Color, Decision, Frame, Listed, Mark, PixelSegment, Plane, Refusal, Row};
+use std::ops::Range;
+
+use tile_rows::{
+    CachedTile, Carry, Color, Decision, Frame, LayerTable, Listed, Mark, PixelSegment, Plane, Refusal, Row,
+};
 
 use super::job::Job;
 
@@ -78,14 +82,24 @@ pub fn work_in(row: &mut Row<'_>, tile: i32, frame: &Frame, cached: Option<&mut 
 
 /// Drives a job's row.
 pub fn drive(job: &Job, segments: &[PixelSegment]) -> Driven {
-    let table = job.table();
+    drive_row(segments, &job.table(), job.row, job.from..job.to, job.due())
+}
+
+/// Opens a row for a range of tiles, and works those that are due.
+pub fn drive_row(
+    segments: &[PixelSegment],
+    table: &LayerTable,
+    row: i32,
+    tiles: Range<i32>,
+    due: Range<i32>,
+) -> Driven {
     let mut driven = Driven { opening: None, tiles: Vec::new(), refusal: None };
-    let mut row = match Row::open(segments, &table, job.row, job.from..job.to) {
+    let mut row = match Row::open(segments, table, row, tiles) {
         Ok(row) => row,
         Err(refusal) => return Driven { refusal: Some(refusal), ..driven },
     };
     driven.opening = Some(row.carries().collect());
-    for tile in job.due() {
+    for tile in due {
         match work(&mut row, tile) {
             Ok(tile) => driven.tiles.push(tile),
             Err(refusal) => return Driven { refusal: Some(refusal), ..driven },

@@ -4,4 +4,5 @@
 
 pub mod driven;
 pub mod job;
+pub mod outline;
 pub mod plates;
