@@ -2,6 +2,7 @@
 // definition in specs/; a proof that goes makes the check of this crate fail. The worked cases P1 to P12 are held by
 // the program `cases`; what each operation promises is held by its own contract.
 ghost use Rattle.cover_statements.specs.Joined.{JoinedCovers};
+ghost use Rattle.cover_statements.specs.Sums.{SumsAnywhere, SumsAtBoth};
 ghost use Rattle.queue_statements.specs.Edges.{OpeningEdges};
 ghost use Rattle.layer_table.specs.Edges.{TableEdges};
 ghost use Rattle.segment_set_statements.specs.Edges.{SetEdges};
@@ -140,9 +141,9 @@ pub fn backwards() -> bool
     true
 }
 
-// W-213: one layer's row in tiles four pixels high, by the whole row.
+// W-213: one layer's row in tiles four pixels high, by the whole row; sums over the tile height, used at 16 and 4.
 pub fn four_high() -> bool
-    ensures { λ r. ⌜ LayerClaim × LayerRan × RowsApart ⌝ }
+    ensures { λ r. ⌜ LayerClaim × LayerRan × RowsApart × SumsAnywhere × SumsAtBoth ⌝ }
 {
     true
 }
