@@ -331,38 +331,39 @@ uint32_t ffi_open_tile_row(
     uint32_t words[6],
     size_t counts[2]);
 
-/* 0, the words of the part in `slots`, their d in `areas` and the set's numbers, or the number of the refusal. `covers`
-   is the incoming cover. */
+/* 0, the words of the part in `slots`, their d in `areas`, and which layer and tile the set is of with its other
+   numbers; or the number of the refusal. `covers` is the incoming cover. */
 uint32_t ffi_begin_set(
     uint32_t layer_id,
     int16_t tile_x,
     int16_t tile_y,
     const int8_t covers[16],
     const uint64_t *part, size_t part_len,
+    uint32_t *layer,
+    int16_t tile[2],
     int8_t carry[16],
     uint16_t loads[16],
     size_t *count,
     uint64_t *slots, size_t slots_len,
     int16_t *areas, size_t areas_len);
 
-/* 0 and the segment taken in, or the number of the refusal. */
+/* 0 and the segment taken in, or the number of the refusal. Of which layer and tile it has to be, the beginning wrote. */
 uint32_t ffi_take_in(
-    uint32_t layer_id,
-    int16_t tile_x,
-    int16_t tile_y,
     uint64_t word,
+    const uint32_t *layer,
+    const int16_t tile[2],
     int8_t carry[16],
     uint16_t loads[16],
     size_t *count,
     uint64_t *slots, size_t slots_len,
     int16_t *areas, size_t areas_len);
 
-/* 0 and one equal segment let out, or the number of the refusal. */
+/* 0 and one equal segment let out, or the number of the refusal. Of which layer and tile it has to be, the beginning
+   wrote. */
 uint32_t ffi_let_out(
-    uint32_t layer_id,
-    int16_t tile_x,
-    int16_t tile_y,
     uint64_t word,
+    const uint32_t *layer,
+    const int16_t tile[2],
     int8_t carry[16],
     uint16_t loads[16],
     size_t *count,

@@ -322,6 +322,8 @@ pub mod raw {
             covers: *const [i8; 16],
             part: *const u64,
             part_len: usize,
+            layer: *mut u32,
+            tile: *mut [i16; 2],
             carry: *mut [i8; 16],
             loads: *mut [u16; 16],
             count: *mut usize,
@@ -331,10 +333,9 @@ pub mod raw {
             areas_len: usize,
         ) -> u32;
         pub fn ffi_take_in(
-            layer_id: u32,
-            tile_x: i16,
-            tile_y: i16,
             word: u64,
+            layer: *const u32,
+            tile: *const [i16; 2],
             carry: *mut [i8; 16],
             loads: *mut [u16; 16],
             count: *mut usize,
@@ -344,10 +345,9 @@ pub mod raw {
             areas_len: usize,
         ) -> u32;
         pub fn ffi_let_out(
-            layer_id: u32,
-            tile_x: i16,
-            tile_y: i16,
             word: u64,
+            layer: *const u32,
+            tile: *const [i16; 2],
             carry: *mut [i8; 16],
             loads: *mut [u16; 16],
             count: *mut usize,
@@ -1182,8 +1182,8 @@ pub fn open_tile_row(
     }
 }
 
-/// 0, the words of the part in `slots`, their d in `areas` and the set's numbers, or the number of the refusal. `covers`
-/// is the incoming cover.
+/// 0, the words of the part in `slots`, their d in `areas`, and which layer and tile the set is of with its other
+/// numbers; or the number of the refusal. `covers` is the incoming cover.
 #[allow(clippy::too_many_arguments)]
 #[inline]
 pub fn begin_set(
@@ -1192,6 +1192,8 @@ pub fn begin_set(
     tile_y: i16,
     covers: &[i8; 16],
     part: &[u64],
+    layer: &mut u32,
+    tile: &mut [i16; 2],
     carry: &mut [i8; 16],
     loads: &mut [u16; 16],
     count: &mut usize,
@@ -1208,6 +1210,8 @@ pub fn begin_set(
             covers,
             part.as_ptr(),
             part.len(),
+            layer,
+            tile,
             carry,
             loads,
             count,
@@ -1219,14 +1223,13 @@ pub fn begin_set(
     }
 }
 
-/// 0 and the segment taken in, or the number of the refusal.
+/// 0 and the segment taken in, or the number of the refusal. Of which layer and tile it has to be, the beginning wrote.
 #[allow(clippy::too_many_arguments)]
 #[inline]
 pub fn take_in(
-    layer_id: u32,
-    tile_x: i16,
-    tile_y: i16,
     word: u64,
+    layer: &u32,
+    tile: &[i16; 2],
     carry: &mut [i8; 16],
     loads: &mut [u16; 16],
     count: &mut usize,
@@ -1237,10 +1240,9 @@ pub fn take_in(
     // to them for every value, and nothing of them is held after the call.
     unsafe {
         raw::ffi_take_in(
-            layer_id,
-            tile_x,
-            tile_y,
             word,
+            layer,
+            tile,
             carry,
             loads,
             count,
@@ -1252,14 +1254,14 @@ pub fn take_in(
     }
 }
 
-/// 0 and one equal segment let out, or the number of the refusal.
+/// 0 and one equal segment let out, or the number of the refusal. Of which layer and tile it has to be, the beginning
+/// wrote.
 #[allow(clippy::too_many_arguments)]
 #[inline]
 pub fn let_out(
-    layer_id: u32,
-    tile_x: i16,
-    tile_y: i16,
     word: u64,
+    layer: &u32,
+    tile: &[i16; 2],
     carry: &mut [i8; 16],
     loads: &mut [u16; 16],
     count: &mut usize,
@@ -1270,10 +1272,9 @@ pub fn let_out(
     // to them for every value, and nothing of them is held after the call.
     unsafe {
         raw::ffi_let_out(
-            layer_id,
-            tile_x,
-            tile_y,
             word,
+            layer,
+            tile,
             carry,
             loads,
             count,

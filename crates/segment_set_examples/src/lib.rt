@@ -1,5 +1,5 @@
 // W-207, segments that come and go: each example's name, and whether the answer and what the set then holds are its
-// own. The sets are of layer 5 in tile 2 of row 0, and two slots are lent.
+// own. The sets are of layer 5 in tile 2 of row 0 where nothing else is said, and two slots are lent.
 use cover::Cover;
 use example_lines::number_in;
 use example_lines::print;
@@ -24,8 +24,12 @@ const C: u64 = 0x0020060000500FE1;
 // Row 9, column 15, multiplier 1, cover 1.
 const D: u64 = 0x00200600005F9041;
 
-// A in layer 6.
+// A in layer 6, in tile 3, and in row 1 of tiles.
 const OTHER: u64 = 0x0020060000630830;
+
+const RIGHT: u64 = 0x0020080000530830;
+
+const BELOW: u64 = 0x0040060000530830;
 
 // Row 0, column 3, no area: covers -8, 1 and 0.
 const EIGHT: u64 = 0x0020060000530038;
@@ -34,12 +38,20 @@ const ONE: u64 = 0x0020060000530001;
 
 const NONE: u64 = 0x0020060000530000;
 
-// A set begun with a part; each row of the incoming cover is the same.
-fn begun_with(incoming: i8, part: &[u64]) -> Held {
+// A set of a layer and a tile begun with a part; each row of the incoming cover is the same.
+fn begun_at(layer_id: u32, tile_x: i16, tile_y: i16, incoming: i8, part: &[u64]) -> Held {
     let covers = [incoming; 16];
     let mut slots = [7u64; 2];
     let mut areas = [7i16; 256];
-    let edited = segment_set::begin(5, 2, 0, Cover { covers }, part, &mut slots, &mut areas);
+    let edited = segment_set::begin(
+        layer_id,
+        tile_x,
+        tile_y,
+        Cover { covers },
+        part,
+        &mut slots,
+        &mut areas,
+    );
     let verdict = edited.verdict;
     let set = edited.set;
     Held {
@@ -48,6 +60,10 @@ fn begun_with(incoming: i8, part: &[u64]) -> Held {
         slots: slots,
         areas: areas,
     }
+}
+
+fn begun_with(incoming: i8, part: &[u64]) -> Held {
+    begun_at(5, 2, 0, incoming, part)
 }
 
 fn begun(incoming: i8) -> Held {
@@ -266,8 +282,79 @@ fn print_refusals() {
     print(b"128 and nothing, 9", begun(-128).number == 9);
 }
 
+// Segments of another tile.
+fn print_tiles() {
+    let none = begun(16);
+    let right = begun_at(5, 3, 0, 16, &[RIGHT]);
+    let below = begun_at(5, 2, 1, 16, &[BELOW]);
+    print(
+        b"tile 3 taken in, 3",
+        holds(with(none, RIGHT), 3, 0, nothing()),
+    );
+    print(b"tile 3 let out, 3", without(none, RIGHT).number == 3);
+    print(
+        b"a part with tile 3, 3",
+        begun_with(16, &[RIGHT, A]).number == 3,
+    );
+    print(
+        b"row 1 taken in, 3",
+        holds(with(none, BELOW), 3, 0, nothing()),
+    );
+    print(b"row 1 let out, 3", without(none, BELOW).number == 3);
+    print(
+        b"a part with row 1, 3",
+        begun_with(16, &[A, BELOW]).number == 3,
+    );
+    print(
+        b"begun in tile 3",
+        holds(right, 0, 1, row_of(0, 3, 0, 0, 0, 32)),
+    );
+    print(
+        b"begun in tile 3, tile 2 taken in, 3",
+        with(right, A).number == 3,
+    );
+    print(
+        b"begun in row 1",
+        holds(below, 0, 1, row_of(0, 3, 0, 0, 0, 32)),
+    );
+    print(
+        b"begun in row 1, row 0 taken in, 3",
+        with(below, A).number == 3,
+    );
+}
+
+// Beginnings: what they leave, and which number comes first.
+fn print_beginnings() {
+    print(
+        b"begun with A",
+        holds(begun_with(16, &[A]), 0, 1, row_of(0, 3, 0, 0, 0, 32)),
+    );
+    print(
+        b"begun with D",
+        holds(begun_with(16, &[D]), 0, 1, row_of(9, 15, 513, 513, 17, 17)),
+    );
+    print(
+        b"begun with 119 and -8",
+        begun_with(119, &[EIGHT]).number == 0,
+    );
+    print(
+        b"begun with 120 and -8, 9",
+        begun_with(120, &[EIGHT]).number == 9,
+    );
+    print(
+        b"begun with 120, -8 and two more, 9",
+        begun_with(120, &[NONE, NONE, EIGHT]).number == 9,
+    );
+    print(
+        b"begun with 120, -8 and tile 3, 3",
+        begun_with(120, &[EIGHT, RIGHT]).number == 3,
+    );
+}
+
 pub fn print_cases() {
     print_edits();
     print_slots();
     print_refusals();
+    print_tiles();
+    print_beginnings();
 }
