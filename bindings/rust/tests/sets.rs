@@ -112,7 +112,9 @@ fn another_layer_or_tile() {
     let mut set = begun(16, &[own], 3).unwrap();
     assert_eq!((set.layer_id(), set.tile()), (LAYER, (2, 0)));
     let before = set.clone();
-    for other in [place(LAYER + 1, 2, 0), place(LAYER, 3, 0), place(LAYER, 1, 0), place(LAYER, 2, 1), place(LAYER, 2, -1)] {
+    for other in
+        [place(LAYER + 1, 2, 0), place(LAYER, 3, 0), place(LAYER, 1, 0), place(LAYER, 2, 1), place(LAYER, 2, -1)]
+    {
         assert_eq!((set.take_in(other), set.let_out(other)), (Err(Refusal::Row), Err(Refusal::Row)));
         assert_eq!(begun(16, &[own, other], 3), Err(Refusal::Row));
         assert_eq!(set, before);
