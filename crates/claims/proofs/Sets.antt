@@ -3,6 +3,7 @@ use Rattle.segment_set_statements.proofs.Keeping as keeping
 use Rattle.segment_set_statements.proofs.Effects as effects
 use Rattle.segment_set_statements.proofs.Undoing as undoing
 use Rattle.segment_set_statements.proofs.Sames as sames
+use Rattle.segment_set_statements.proofs.Alikes as alikes
 use Rattle.segment_set_statements.proofs.Each as each
 use mathlib.Core.Path.{refl, sym, ap}
 use Rattle.refusals.specs.Refusal.{Judgement}
@@ -15,6 +16,7 @@ pub segment-sets : SegmentSets
 segment-sets =
     record {
       kept = keeping.kept;
+      taken-as-begun = alikes.taken-as-begun;
       small = λ h. keeping.small h .small;
       effect-more = effects.effect-more;
       cover-more = effects.cover-more;
@@ -22,6 +24,7 @@ segment-sets =
       framed-areas = undoing.framed-areas;
       framed-carry = undoing.framed-carry;
       undone = undoing.undone;
+      order-law = alikes.order-law;
       same-areas = sames.same-areas;
       same-carry = sames.same-carry;
       same-loads = sames.same-loads;

@@ -5,8 +5,9 @@ use mathlib.Core.Bool.{cond, false}
 use Prim.Native.Nat.{ℕ, _+_, _<_, _*_, _/_, _%_, _≤_}
 use lib.IntN.{ℤ, _+ℤ_, pos, natAbs}
 use lib.ListN.{length, take}
-use Rattle.segment_set_statements.specs.Set.{Beginning, SetState, takeVerdict, letOut, takenIn, loadsFrom, beginVerdict, freshState, beginning}
+use Rattle.segment_set_statements.specs.Set.{Beginning, SetState, heldOf, takeVerdict, letOut, takenIn, loadsFrom, beginVerdict, freshState, beginning}
 use Rattle.segment_set_statements.specs.Edits.{Edits, takeAll}
+use Rattle.segment_set_statements.specs.Alike.{OrderLaw}
 use Rattle.segment_set_statements.specs.Kept.{Holds, Kept, Undone, SameWords}
 use Rattle.cover_statements.specs.Area.{doubledArea, areasOf}
 use Rattle.segment_set_statements.specs.Effect.{effectOf, isReached, areasAfter, carryAfter}
@@ -23,8 +24,12 @@ pub record EditMade (Told : ℕ → SetLent → Type 0) : Type 0 where
   pub told : Told number new
 
 pub record SegmentSets : Type 0 where
-  -- W-207: after any edits, refused ones included, all of the set equals a fresh working of its held words
-  pub kept : {b : Beginning} {ins outs : List ℕ} {s : SetState} → Edits b ins outs s → Holds (b .incoming) ins outs s
+  -- W-207: after any edits, refused ones included, and however often other slots are lent, all of the set equals a fresh working of its held words,
+  -- and it is of the layer and tile that it was begun for
+  pub kept : {b : Beginning} {ins outs : List ℕ} {s : SetState} → Edits b ins outs s → Holds b ins outs s
+  -- a segment is judged as a beginning with it and the held words would be
+  pub taken-as-begun : {incoming : List ℤ} {s : SetState} → Kept incoming s → (w : ℕ) →
+      takeVerdict s w ≡ beginVerdict (beginning (s .set .«layer_id») (s .set .«tile_x») (s .set .«tile_y») incoming (w ∷ heldOf s)) (s .slots) (s .areas)
   -- |d| is at most 8,001, so nothing is wrapped
   pub small : {incoming : List ℤ} {s : SetState} → Kept incoming s → (k : ℕ) → k < length (take 256 (s .areas)) →
       natAbs (coverAt (take 256 (s .areas)) k) ≤ 8001
@@ -41,7 +46,8 @@ pub record SegmentSets : Type 0 where
       coverAt (carryAfter op ws w carry) y ≡ coverAt carry y
   -- a segment taken in and let out leaves d, carry and loads as they were
   pub undone : {incoming : List ℤ} {s : SetState} → Kept incoming s → (w : ℕ) → takeVerdict s w ≡ pass → Undone s (letOut (takenIn s w) w)
-  -- order carries no meaning
+  -- order carries no meaning, nor does it for the verdicts
+  pub order-law : OrderLaw
   pub same-areas : (ws : List ℕ) {xs ys : List ℕ} (s : SameWords xs ys) → (n : ℕ) (incoming : ℕ → ℤ) →
       areasOf ws n incoming xs ≡ areasOf ws n incoming ys
   pub same-carry : (ws : List ℕ) {xs ys : List ℕ} (s : SameWords xs ys) → (n : ℕ) (covers : List ℤ) → carryOf ws n covers xs ≡ carryOf ws n covers ys

@@ -1,12 +1,15 @@
 -- The cases of specs/Edges, computed. Assumes nothing.
 use mathlib.Core.Path.{refl}
+use Rattle.laws.specs.Lists.{over}
 use Rattle.pixel_segment.specs.Field.{tileOf, coverOf, doubleAreaOf}
+use Rattle.cover_statements.specs.Area.{doubledArea, areasOf}
+use Rattle.cover_statements.specs.Carry.{isLight, carryOf}
 use Rattle.segment_set_statements.specs.Effect.{effectOf, carryAfter, wrap}
-use Rattle.segment_set_statements.specs.Set.{takeVerdict, letVerdict, heldOf}
+use Rattle.segment_set_statements.specs.Set.{beginVerdict, takeVerdict, letVerdict, heldOf, loadsFrom}
 use Rattle.segment_set_statements.specs.Edges.{SetEdges}
 
 pub set-edges : SetEdges
-unfolding carryAfter coverOf doubleAreaOf effectOf heldOf letVerdict takeVerdict tileOf wrap
+unfolding areasOf beginVerdict carryAfter carryOf coverOf doubleAreaOf doubledArea effectOf heldOf isLight letVerdict loadsFrom over takeVerdict tileOf wrap
 set-edges =
     record {
       own-column = refl;
@@ -25,7 +28,29 @@ set-edges =
       heavy-and-full = refl;
       one-more = refl;
       no-cover = refl;
+      right-taken = refl;
+      below-taken = refl;
+      right-let-out = refl;
+      below-let-out = refl;
       foreign-taken = refl;
       foreign-let-out = refl;
       short = refl;
+      begin-nothing = refl;
+      begin-full = refl;
+      begin-more = refl;
+      begin-light = refl;
+      begin-heavy = refl;
+      begin-127 = refl;
+      begin-128 = refl;
+      begin-other-layer = refl;
+      begin-other-x = refl;
+      begin-other-y = refl;
+      begin-short = refl;
+      begun-slots = refl;
+      begun-left = refl;
+      begun-own = refl;
+      begun-past = refl;
+      begun-carry = refl;
+      begun-loads = refl;
+      begun-count = refl;
     }

@@ -3,7 +3,7 @@ use mathlib.Core.Path.{_≡_, refl, sym, ap, _∙_}
 use mathlib.Core.Bool.{Bool, true, false, cond, not}
 use mathlib.Core.List.{List, [], _∷_, _++_}
 use mathlib.Core.Logic.{⊎-elim}
-use Prim.Native.Nat.{ℕ, zero, suc, _+_, _-_, _≤_, _<_}
+use Prim.Native.Nat.{ℕ, zero, suc, _+_, _-_, _≤_, _<_, min}
 use native.Mathlib.Numerals.{add-one}
 use native.Mathlib.Omega.{arith}
 use borrow.Author.Tests.{ltb-true, ltb-false, leb-false, not-false}
@@ -28,12 +28,13 @@ use Rattle.cover_statements.proofs.Planes.{areas-length, areas-in-range}
 use Rattle.segment_set_statements.specs.Effect.{areasAfter, carryAfter, loadsAfter}
 use Rattle.segment_set_statements.specs.Set.{SetState, state, Beginning, nothing, freshState, heldOf, isHere, isWordHeld, heldPlace, takeVerdict, takenIn, letVerdict, letOut, settled}
 use Rattle.segment_set_statements.specs.Kept.{Kept, SameWords, Holds}
-use Rattle.segment_set_statements.specs.Edits.{Edits, accepted}
-use Rattle.segment_set_statements.specs.Edits.Edits.{begun, taken, let-out}
+use Rattle.segment_set_statements.specs.Edits.{Edits, Relent, accepted}
+use Rattle.segment_set_statements.specs.Edits.Edits.{begun, taken, let-out, relent}
 use Rattle.segment_set_statements.proofs.Begins.{Begun, begin-passed, take-over, same-snoc}
 use Rattle.segment_set_statements.proofs.Places.{held-by-place, place-holds}
-use Rattle.segment_set_statements.proofs.Sames.{same-sym, same-all}
-use Rattle.segment_set_statements.proofs.Steps.{areas-taken, areas-let, carry-taken, carry-let, loads-taken, loads-let, light-taken, light-let}
+use Rattle.segment_set_statements.proofs.Sames.{same-sym, same-all, same-length, same-areas, same-carry, same-loads}
+use Rattle.segment_set_statements.proofs.Steps.{areas-taken, areas-let, carry-taken, carry-let, loads-taken, loads-let}
+use Rattle.segment_set_statements.proofs.Steps.{light-taken, light-let, same-light}
 
 -- ---- the lines of a verdict that passes
 
@@ -49,6 +50,15 @@ four a b c d i j k l e =
     let p = passed a i (unless b j (unless c k (unless d l pass))) e in
     let q = three b c d j k l (p .1) in
     (p .0, q .0, q .1, q .2)
+
+-- ---- how many words are held
+
+held-length : (s : SetState) → length (heldOf s) ≡ min (s .set .count) (length (s .slots))
+unfolding heldOf
+held-length s = length-take (s .set .count) (s .slots)
+
+pub count-held : {incoming : List ℤ} {s : SetState} → Kept incoming s → length (heldOf s) ≡ s .set .count
+count-held {s = s} k = omega (arith, k .within, held-length s)
 
 -- ---- begun
 
@@ -209,22 +219,68 @@ module _ (s : SetState) (w : ℕ) (h : isWordHeld w (heldOf s) ≡ true) where
           loads-are = ap (loadsAfter _-_ cpu w) (k .loads-are) ∙ loads-let incoming w same-let;
         }
 
+-- ---- other slots, another d
+
+same-relent : (s : SetState) (slots : List ℕ) (areas : List ℤ) → Relent s slots areas → SameWords (heldOf (state (s .set) slots areas)) (heldOf s)
+unfolding heldOf
+same-relent s slots areas r = r .words
+
+kept-relent : {incoming : List ℤ} {s : SetState} → Kept incoming s → (slots : List ℕ) (areas : List ℤ) → Relent s slots areas →
+    Kept incoming (state (s .set) slots areas)
+kept-relent {incoming} {s} k slots areas r =
+    let same = same-relent s slots areas r in
+    let d = r .areas-are ∙ k .areas-are in
+    record {
+      room = omega (arith, ap length d, length-take 256 areas, areas-length cpu 16 (coverAt incoming) (heldOf s));
+      within = omega (arith, k .within, same-length (r .words), held-length s, length-take (s .set .count) slots);
+      here = same-all (isHere (s .set)) (same-sym same) (k .here);
+      light = same-light incoming (same-sym same) (k .light);
+      areas-are = d ∙ sym (same-areas cpu same 16 (coverAt incoming));
+      carry-is = k .carry-is ∙ sym (same-carry cpu same 16 incoming);
+      loads-are = k .loads-are ∙ sym (same-loads cpu same 16 incoming);
+    }
+
 -- ---- any list of edits
 
-step-in : {incoming : List ℤ} {ins outs : List ℕ} {s : SetState} (w : ℕ) (j : Judgement) → takeVerdict s w ≡ j → Holds incoming ins outs s → Holds incoming (accepted j w ins) outs (settled j (takenIn s w) s)
+step-in : {b : Beginning} {ins outs : List ℕ} {s : SetState} (w : ℕ) (j : Judgement) → takeVerdict s w ≡ j → Holds b ins outs s →
+    Holds b (accepted j w ins) outs (settled j (takenIn s w) s)
 step-in {s = s} w pass e h =
     let t = take-passed s w e in
-    record { kept = kept-taken (h .kept) w t; words = λ v. omega (arith, h .words v, same-taken s w t .at v) }
+    record {
+      kept = kept-taken (h .kept) w t;
+      layer-is = h .layer-is;
+      tile-x-is = h .tile-x-is;
+      tile-y-is = h .tile-y-is;
+      words = λ v. omega (arith, h .words v, same-taken s w t .at v);
+    }
 step-in w (refuse n) e h = h
 
-step-out : {incoming : List ℤ} {ins outs : List ℕ} {s : SetState} (w : ℕ) (j : Judgement) → letVerdict s w ≡ j → Holds incoming ins outs s → Holds incoming ins (accepted j w outs) (settled j (letOut s w) s)
+step-out : {b : Beginning} {ins outs : List ℕ} {s : SetState} (w : ℕ) (j : Judgement) → letVerdict s w ≡ j → Holds b ins outs s →
+    Holds b ins (accepted j w outs) (settled j (letOut s w) s)
 step-out {s = s} w pass e h =
     let t = let-passed s w e .held in
-    record { kept = kept-let s w t (h .kept); words = λ v. omega (arith, h .words v, same-let s w t .at v) }
+    record {
+      kept = kept-let s w t (h .kept);
+      layer-is = h .layer-is;
+      tile-x-is = h .tile-x-is;
+      tile-y-is = h .tile-y-is;
+      words = λ v. omega (arith, h .words v, same-let s w t .at v);
+    }
 step-out w (refuse n) e h = h
 
+step-lent : {b : Beginning} {ins outs : List ℕ} {s : SetState} (slots : List ℕ) (areas : List ℤ) → Relent s slots areas → Holds b ins outs s →
+    Holds b ins outs (state (s .set) slots areas)
+step-lent {s = s} slots areas r h =
+    record {
+      kept = kept-relent (h .kept) slots areas r;
+      layer-is = h .layer-is;
+      tile-x-is = h .tile-x-is;
+      tile-y-is = h .tile-y-is;
+      words = λ v. omega (arith, h .words v, same-relent s slots areas r .at v);
+    }
+
 -- W-207: after any edits, refused ones included, all of the set equals a fresh working of its held words
-pub kept : {b : Beginning} {ins outs : List ℕ} {s : SetState} → Edits b ins outs s → Holds (b .incoming) ins outs s
+pub kept : {b : Beginning} {ins outs : List ℕ} {s : SetState} → Edits b ins outs s → Holds b ins outs s
 unfolding heldOf
 kept {b} (begun lentSlots lentAreas e g) =
     let p = begin-passed e in
@@ -232,10 +288,14 @@ kept {b} (begun lentSlots lentAreas e g) =
     rw is
     (record {
       kept = kept-begun b lentSlots lentAreas p;
+      layer-is = refl;
+      tile-x-is = refl;
+      tile-y-is = refl;
       words = λ v. rw (take-over (b .part) lentSlots (length (b .part)) refl) (omega arith);
     })
 kept (taken {s = s} w h g) = rw (g .leaves) (step-in w (takeVerdict s w) refl (kept h))
 kept (let-out {s = s} w h g) = rw (g .leaves) (step-out w (letVerdict s w) refl (kept h))
+kept (relent slots areas h r) = step-lent slots areas r (kept h)
 
 -- on a kept set |d| is at most 8,001, so nothing is wrapped
 pub small : {incoming : List ℤ} {s : SetState} → Kept incoming s → InRange (take 256 (s .areas))

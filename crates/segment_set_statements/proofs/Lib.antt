@@ -13,4 +13,5 @@ pub mod Letting
 pub mod Starting
 pub mod Undoing
 pub mod Each
+pub mod Alikes
 pub mod Cases

@@ -1,12 +1,14 @@
 -- Two lists with the same words, each as often, are worked alike: order within a set carries no meaning. Over any widths and height.
 -- Assumes nothing.
 use mathlib.Core.Path.{_≡_, refl, sym, ap, ap₂, _∙_}
-use mathlib.Core.Bool.{Bool, true, false, cond, not, _&&_}
+use mathlib.Core.Bool.{Bool, true, false, cond, not, _&&_, _||_}
 use mathlib.Core.List.{List, [], _∷_}
 use Prim.Native.Nat.{ℕ, _+_, _*_, _/_, _%_}
 use native.Mathlib.Omega.{arith}
+use borrow.Author.Tests.{lt-ltb, le-ltb}
 use lib.IntN.{ℤ, pos, natAbs, _+ℤ_, _*ℤ_}
-use lib.Dec.{leb}
+use lib.Dec.{eqb, leb, ltb}
+use lib.ListN.{length}
 use Rattle.laws.specs.Lists.{tabulate, all, every}
 use Rattle.laws.specs.Sum.{countBy}
 use Rattle.laws.proofs.Bools.{both, left, right}
@@ -15,7 +17,7 @@ use Rattle.pixel_segment.specs.Field.{coverOf, doubleAreaOf}
 use Rattle.cover_statements.specs.Area.{isBefore, isOwn, coverBefore, ownArea, doubledArea, areasOf}
 use Rattle.cover_statements.specs.Carry.{inRow, absCover, coverIn, loadIn, lightAt, isLight, carryOf}
 use Rattle.cover_statements.specs.Cover.{coverAt}
-use Rattle.segment_set_statements.specs.Set.{loadsFrom}
+use Rattle.segment_set_statements.specs.Set.{isWordHeld, loadsFrom}
 use Rattle.segment_set_statements.specs.Kept.{SameWords}
 use Rattle.segment_set_statements.proofs.Lists.{tabulate-ext}
 
@@ -61,6 +63,30 @@ module _ (ws : List ℕ) {xs ys : List ℕ} (s : SameWords xs ys) where
   same-loads n covers =
       tabulate-ext n (λ y. natAbs (coverAt covers y) + loadIn ws y xs) (λ y. natAbs (coverAt covers y) + loadIn ws y ys)
       (λ y h. ap (λ (l : ℕ). natAbs (coverAt covers y) + l) (same-load y))
+
+-- ---- how many words they are, and whether one is held
+
+all-counted : (xs : List ℕ) → countBy (λ w. true) xs ≡ length xs
+all-counted [] = refl
+all-counted (x ∷ xs) = omega (arith, all-counted xs)
+
+pub same-length : {xs ys : List ℕ} → SameWords xs ys → length xs ≡ length ys
+same-length {xs} {ys} s = sym (all-counted xs) ∙ sumℕ-same (λ w. true) (λ w. 1) xs ys (s .at) ∙ all-counted ys
+
+held-counted : (w : ℕ) (xs : List ℕ) → isWordHeld w xs ≡ ltb 0 (countBy (λ v. eqb v w) xs)
+held-counted w [] = sym (le-ltb 0 0 (omega arith))
+held-counted w (x ∷ xs) = by (eqb x w) (held-counted w xs)
+  where
+    by : (t : Bool) → isWordHeld w xs ≡ ltb 0 (countBy (λ v. eqb v w) xs) → (t || isWordHeld w xs) ≡ ltb 0 (cond t 1 0 + countBy (λ v. eqb v w) xs)
+    by true e = sym (lt-ltb 0 (1 + countBy (λ v. eqb v w) xs) (omega arith))
+    by false e =
+        let n = countBy (λ v. eqb v w) xs in
+        let none : n ≡ 0 + n = omega arith in
+        e ∙ ap (ltb 0) none
+
+pub same-held : (w : ℕ) {xs ys : List ℕ} → SameWords xs ys → isWordHeld w xs ≡ isWordHeld w ys
+same-held w {xs} {ys} s =
+    held-counted w xs ∙ ap (ltb 0) (sumℕ-same (λ v. eqb v w) (λ v. 1) xs ys (s .at)) ∙ sym (held-counted w ys)
 
 -- ---- a test of every word
 

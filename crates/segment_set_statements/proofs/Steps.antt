@@ -84,6 +84,10 @@ unfolding isLight
 is-light incoming part h =
     every-intro 16 (lightAt cpu incoming part) (λ y q. le-leb (natAbs (coverAt incoming y) + loadIn cpu y part) 127 (h y q))
 
+-- it applies to no other order of the words
+pub same-light : (incoming : List ℤ) {xs ys : List ℕ} → SameWords xs ys → isLight cpu 16 incoming xs ≡ true → isLight cpu 16 incoming ys ≡ true
+same-light incoming {xs} {ys} s l = is-light incoming ys (λ y q. omega (arith, light l .at y q, same-load cpu s y))
+
 -- ---- ys are the words of xs and w
 
 module _ (incoming : List ℤ) (w : ℕ) {xs ys : List ℕ} (s : SameWords ys (w ∷ xs)) where

@@ -2,12 +2,13 @@
 use mathlib.Core.Path.{_≡_}
 use mathlib.Core.List.{List, [], _∷_, _++_}
 use Prim.Native.Nat.{ℕ}
-use lib.IntN.{pos, negsuc, _+ℤ_}
+use lib.IntN.{ℤ, pos, negsuc, _+ℤ_}
 use lib.ListN.{replicate}
-use Rattle.refusals.specs.Refusal.{pass, refuse}
+use Rattle.refusals.specs.Refusal.{Judgement, pass, refuse}
 use Rattle.pixel_segment.specs.Field.{cpu}
+use Rattle.cover_statements.specs.Cover.{coverAt}
 use Rattle.segment_set_statements.specs.Effect.{effectOf, areaAfter, carryAfter}
-use Rattle.segment_set_statements.specs.Set.{SetState, state, takeVerdict, letVerdict}
+use Rattle.segment_set_statements.specs.Set.{SetState, state, Beginning, beginning, beginVerdict, beginOf, takeVerdict, letVerdict}
 
 -- row 0, column 3, cover -16, multiplier 32; the same with multiplier 8; row 0, column 0, multiplier 63, cover -31; row 9, column 15, both 1
 abbrev a : ℕ
@@ -22,9 +23,15 @@ c = 0x0020060000500FE1
 abbrev d : ℕ
 d = 0x00200600005F9041
 
--- a in layer 6; row 0, column 3, covers -8, 1 and 0
+-- a in layer 6, in tile 3, and in row 1 of tiles; row 0, column 3, covers -8, 1 and 0
 abbrev other : ℕ
 other = 0x0020060000630830
+
+abbrev right : ℕ
+right = 0x0020080000530830
+
+abbrev below : ℕ
+below = 0x0040060000530830
 
 abbrev eight : ℕ
 eight = 0x0020060000530038
@@ -42,6 +49,18 @@ set-of load slots count numbers =
     (record { «layer_id» = 5; «tile_x» = pos 2; «tile_y» = pos 0; carry = record { covers = replicate 16 (pos 16) }; loads = replicate 16 load; count = count })
     slots
     (replicate numbers (pos 512))
+
+-- a beginning with the same cover in each row, and some words
+abbrev from : ℤ → List ℕ → Beginning
+from cover part = beginning 5 (pos 2) (pos 0) (replicate 16 cover) part
+
+-- judged with so many slots and numbers of d
+abbrev begin : ℤ → List ℕ → ℕ → ℕ → Judgement
+begin cover part slots numbers = beginVerdict (from cover part) (replicate slots 7) (replicate numbers (pos 7))
+
+-- begun with a in two slots
+abbrev with-a : SetState
+with-a = beginOf (from (pos 16) (a ∷ [])) (replicate 2 7) (replicate 257 (pos 7))
 
 pub record SetEdges : Type 0 where
   -- what a segment adds: in its own column, right of it, left of it, and in another row
@@ -66,6 +85,32 @@ pub record SetEdges : Type 0 where
   pub one-more : takeVerdict (set-of 127 (0 ∷ []) 0 256) one ≡ refuse 9
   pub no-cover : takeVerdict (set-of 127 (0 ∷ []) 0 256) none ≡ pass
   -- number 3, before 12; number 1, before 3
+  pub right-taken : takeVerdict (set-of 16 (0 ∷ []) 0 256) right ≡ refuse 3
+  pub below-taken : takeVerdict (set-of 16 (0 ∷ []) 0 256) below ≡ refuse 3
+  pub right-let-out : letVerdict (set-of 16 (right ∷ []) 1 256) right ≡ refuse 3
+  pub below-let-out : letVerdict (set-of 16 (below ∷ []) 1 256) below ≡ refuse 3
   pub foreign-taken : takeVerdict (set-of 16 (0 ∷ []) 0 256) other ≡ refuse 3
   pub foreign-let-out : letVerdict (set-of 16 [] 0 256) other ≡ refuse 3
   pub short : takeVerdict (set-of 16 (0 ∷ []) 0 255) other ≡ refuse 1
+  -- beginning: with nothing in no slot, with a part that fills the slots, and number 13
+  pub begin-nothing : begin (pos 16) [] 0 256 ≡ pass
+  pub begin-full : begin (pos 16) (a ∷ b ∷ []) 2 256 ≡ pass
+  pub begin-more : begin (pos 16) (a ∷ b ∷ d ∷ []) 2 256 ≡ refuse 13
+  -- number 9, of the cover alone too; before 13
+  pub begin-light : begin (pos 119) (eight ∷ []) 1 256 ≡ pass
+  pub begin-heavy : begin (pos 120) (eight ∷ []) 0 256 ≡ refuse 9
+  pub begin-127 : begin (negsuc 126) [] 0 256 ≡ pass
+  pub begin-128 : begin (negsuc 127) [] 0 256 ≡ refuse 9
+  -- number 3, wherever the segment stands, before 9; number 1, before 3
+  pub begin-other-layer : begin (pos 16) (a ∷ other ∷ []) 2 256 ≡ refuse 3
+  pub begin-other-x : begin (pos 16) (right ∷ a ∷ []) 2 256 ≡ refuse 3
+  pub begin-other-y : begin (pos 120) (eight ∷ below ∷ []) 2 256 ≡ refuse 3
+  pub begin-short : begin (pos 16) (below ∷ []) 1 255 ≡ refuse 1
+  -- what it leaves: the first slot, d of row 0 and past the 256 numbers, the carry, the loads, and how many slots are held
+  pub begun-slots : with-a .slots ≡ a ∷ 7 ∷ []
+  pub begun-left : coverAt (with-a .areas) 32 ≡ pos 512
+  pub begun-own : coverAt (with-a .areas) 48 ≡ pos 0
+  pub begun-past : coverAt (with-a .areas) 256 ≡ pos 7
+  pub begun-carry : with-a .set .carry .covers ≡ pos 0 ∷ replicate 15 (pos 16)
+  pub begun-loads : with-a .set .loads ≡ 32 ∷ replicate 15 16
+  pub begun-count : with-a .set .count ≡ 1

@@ -13,7 +13,7 @@ use Rattle.pixel_segment.specs.Field.{cpu}
 use Rattle.cover_statements.specs.Area.{areasOf}
 use Rattle.cover_statements.specs.Carry.{isLight, carryOf}
 use Rattle.cover_statements.specs.Cover.{coverAt}
-use Rattle.segment_set_statements.specs.Set.{SetState, heldOf, isHere, loadsFrom}
+use Rattle.segment_set_statements.specs.Set.{SetState, Beginning, heldOf, isHere, loadsFrom}
 
 pub record Kept (incoming : List ℤ) (s : SetState) : Type 0 where
   pub room : 256 ≤ length (s .areas)
@@ -31,9 +31,12 @@ timesOf v words = countBy (eqb v) words
 pub record SameWords (xs ys : List ℕ) : Type 0 where
   pub at : (v : ℕ) → timesOf v xs ≡ timesOf v ys
 
--- the set is kept, and holds the words taken in less those let out, each as often
-pub record Holds (incoming : List ℤ) (ins outs : List ℕ) (s : SetState) : Type 0 where
-  pub kept : Kept incoming s
+-- the set is kept, is of the layer and tile that it was begun for, and holds the words taken in less those let out, each as often
+pub record Holds (b : Beginning) (ins outs : List ℕ) (s : SetState) : Type 0 where
+  pub kept : Kept (b .incoming) s
+  pub layer-is : s .set .«layer_id» ≡ b .layer
+  pub tile-x-is : s .set .«tile_x» ≡ b .tileX
+  pub tile-y-is : s .set .«tile_y» ≡ b .tileY
   pub words : (v : ℕ) → timesOf v (heldOf s) + timesOf v outs ≡ timesOf v ins
 
 -- what a segment that was taken in and let out leaves: d, carry and loads as they were

@@ -3,5 +3,6 @@ pub mod Effect
 pub mod Set
 pub mod Kept
 pub mod Edits
+pub mod Alike
 pub mod InnerSpread
 pub mod Edges
