@@ -20,6 +20,7 @@ ghost use Rattle.listing_runs.specs.Example.{CallsRan};
 ghost use Rattle.batch_runs.specs.BatchClaim.{BatchClaim};
 ghost use Rattle.ffi_sets.specs.Edges.{PlaceEdges};
 ghost use Rattle.ffi_sets.specs.SetCalls.{SetCallsClaim};
+ghost use Rattle.ffi_four_high.specs.FourHighCalls.{NumbersClaim, NumbersExist};
 ghost use Rattle.ffi_calls.specs.Calls.{CallsClaim};
 ghost use Rattle.ffi_calls.specs.ListingCalls.{ListingCallsClaim};
 ghost use Rattle.ffi_calls.specs.Example.{CallsExist};
@@ -141,9 +142,10 @@ pub fn backwards() -> bool
     true
 }
 
-// W-213: one layer's row in tiles four pixels high, by the whole row; sums over the tile height, used at 16 and 4.
+// W-213: one layer's row in tiles four pixels high, by the whole row, for callers of the operations and of the exports;
+// sums over the tile height, used at 16 and 4.
 pub fn four_high() -> bool
-    ensures { λ r. ⌜ LayerClaim × LayerRan × RowsApart × SumsAnywhere × SumsAtBoth ⌝ }
+    ensures { λ r. ⌜ LayerClaim × LayerRan × NumbersClaim × NumbersExist × RowsApart × SumsAnywhere × SumsAtBoth ⌝ }
 {
     true
 }

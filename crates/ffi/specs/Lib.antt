@@ -8,5 +8,4 @@ pub mod Deciding
 pub mod Painting
 pub mod Revisions
 pub mod Bounds
-pub mod FourHighRows
 pub mod Version

@@ -7,6 +7,7 @@ use ffi_numbers::four_high;
 use ffi_numbers::words;
 use pixel_segment_gpu::GpuPacked;
 use pixel_segment_gpu::GpuSegment;
+use pixel_segment_gpu::order;
 use pixel_segment_gpu::search;
 use styling::codes;
 ghost use mathlib.Core.Path.{_≡_};
@@ -18,6 +19,8 @@ ghost use Rattle.pixel_segment.specs.Order.{orderKey, compareOf};
 ghost use Rattle.segment_rows.specs.Search.{searchOf, orderAtIn};
 ghost use Rattle.segment_rows.specs.declared.search.Key.{Key};
 ghost use Rattle.styling.specs.Codes.{ruleOf};
+ghost use Rattle.segment_rows.specs.Rows.{ascends, isRow};
+ghost use Rattle.cover_statements.specs.Cover.{isEmpty, isFull};
 ghost use Rattle.cover_statements.specs.Carry.{addOf};
 ghost use Rattle.cover_statements.specs.Paint.{paintedPlane};
 ghost use Rattle.cover.specs.Adding.{answerOf};
@@ -156,6 +159,22 @@ pub extern "C" fn ffi_gpu_fields(
     *cover = segment.cover();
 }
 
+// Whether the words do not descend by tile y, tile x and layer.
+#[no_mangle]
+pub extern "C" fn ffi_gpu_does_ascend(row: &[u64]) -> bool
+    ensures { λ r. ⌜ r ≡ ascends (orderKey gpu) (now (row .entry)) ⌝ }
+{
+    order::does_ascend(row)
+}
+
+// Whether they are a row: they ascend, and each has the stored tile y, which is its own plus 1.
+#[no_mangle]
+pub extern "C" fn ffi_gpu_is_row(row: &[u64], stored_tile_y: u64) -> bool
+    ensures { λ r. ⌜ r ≡ isRow gpu «stored_tile_y» (now (row .entry)) ⌝ }
+{
+    order::is_row(row, stored_tile_y)
+}
+
 // How a segment compares with another: 0 less, 1 equal, 2 greater.
 #[no_mangle]
 pub extern "C" fn ffi_gpu_cmp(word: u64, other: u64) -> u8
@@ -254,6 +273,22 @@ pub extern "C" fn ffi_gpu_search_last_by_tile_y_not_negative(
         search::search_last_by_tile_y_not_negative(segments, wanted),
         place,
     )
+}
+
+#[no_mangle]
+pub extern "C" fn ffi_gpu_is_empty(covers: &[i8; 4], rule: u32) -> bool
+    ensures { λ r. ⌜ r ≡ isEmpty (ruleOf rule) (now (covers .entry)) ⌝ }
+{
+    let bytes = *covers;
+    GpuCover { covers: bytes }.is_empty(codes::fill_rule(rule))
+}
+
+#[no_mangle]
+pub extern "C" fn ffi_gpu_is_full(covers: &[i8; 4], rule: u32) -> bool
+    ensures { λ r. ⌜ r ≡ isFull (ruleOf rule) (now (covers .entry)) ⌝ }
+{
+    let bytes = *covers;
+    GpuCover { covers: bytes }.is_full(codes::fill_rule(rule))
 }
 
 // 0 and the covers of the part added to those in `covers`, or 9.

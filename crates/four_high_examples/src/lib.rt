@@ -6,6 +6,8 @@ use cover_gpu::painting::GpuPainted;
 use example_lines::number_in;
 use example_lines::print;
 use layer_row_gpu::LayerRow;
+use layer_row_gpu::tiles;
+use layer_row_gpu::tiles::Ended;
 use pixel_segment::order::Ordering;
 use pixel_segment_gpu::GpuPacked;
 use pixel_segment_gpu::GpuSegment;
@@ -117,9 +119,9 @@ fn print_coverages() {
 }
 
 // What the opening of a row without segments answers.
-fn opens(tile_y: i32) -> u32 {
+fn opens(tile_y: i32, layer_id: u32, rule: u32) -> u32 {
     let words = [0u64; 1];
-    let opened = layer_row_gpu::open_layer_row(tile_y, 0, 4, 1, FillRule::NonZero, &words[0..0]);
+    let opened = layer_row_gpu::open_layer_row(tile_y, 0, 4, layer_id, rule, &words[0..0]);
     let answer = opened.answer;
     number_in(answer)
 }
@@ -143,9 +145,13 @@ fn hands_on(state: LayerRow, first: i8, second: i8, third: i8, fourth: i8) -> bo
 }
 
 fn print_openings() {
-    print(b"row 8190 opens", opens(8190) == 0);
-    print(b"row 8191, 2", opens(8191) == 2);
-    print(b"row -1, 2", opens(-1) == 2);
+    print(b"row 8190 opens", opens(8190, 1, 0) == 0);
+    print(b"row 8191, 2", opens(8191, 1, 0) == 2);
+    print(b"row -1, 2", opens(-1, 1, 0) == 2);
+    print(b"layer 2097151 opens", opens(0, 2097151, 1) == 0);
+    print(b"layer 2097152, 4", opens(0, 2097152, 1) == 4);
+    print(b"rule 2, 4", opens(0, 1, 2) == 4);
+    print(b"row 8191 and rule 7, 2", opens(8191, 1, 7) == 2);
 }
 
 // Layer 1 in tiles -1, 0 and 2.
@@ -182,11 +188,53 @@ fn print_others(one: LayerRow) {
     print(b"tile 3 hands on 0, 0, -5, 0", hands_on(four, 0, 0, -5, 0));
 }
 
+// How a range of tiles ended: 0 all that were asked for, 1 the row's end, 2 no plane, 3 the next would be refused.
+fn end_of(ended: Ended) -> u32 {
+    match ended {
+        Ended::Asked => 0,
+        Ended::RowEnd => 1,
+        Ended::NoRoom => 2,
+        Ended::Refused(_) => 3,
+    }
+}
+
+// Whether a range with three planes from tile 0 on works so many tiles, and ends so.
+fn ranges(opened: LayerRow, tiles: usize, worked: usize, end: u32) -> bool {
+    let row = row();
+    let mut places = [0.25f32; 192];
+    let range = tiles::work_tiles(opened, 0, tiles, &row, &mut places);
+    let ended = range.ended;
+    (range.worked == worked) & (end_of(ended) == end)
+}
+
+fn print_range(opened: LayerRow) {
+    print(b"two tiles of two", ranges(opened, 2, 2, 0));
+    print(b"four tiles, planes for three", ranges(opened, 4, 3, 2));
+    let row = row();
+    let mut few = [0.25f32; 63];
+    let refused = tiles::work_tiles(opened, 0, 4, &row, &mut few);
+    let answer = refused.answer;
+    print(b"a range with 63 numbers, 1", number_in(answer) == 1);
+    let mut many = [0.25f32; 512];
+    let range = tiles::work_tiles(opened, 0, 9, &row, &mut many);
+    let ended = range.ended;
+    let state = range.state;
+    print(
+        b"nine tiles of a row of four",
+        (range.worked == 4) & (end_of(ended) == 1) & hands_on(state, 0, 0, -5, 0),
+    );
+    print(
+        b"its third plane has 1 in row 0",
+        (many[128] == 1.0) & (many[143] == 0.0) & (many[256] == 0.25),
+    );
+}
+
 fn print_row() {
     let row = row();
-    let answer = layer_row_gpu::open_layer_row(0, 0, 4, 1, FillRule::NonZero, &row);
+    let answer = layer_row_gpu::open_layer_row(0, 0, 4, 1, 0, &row);
     let opened = answer.state;
     print(b"opened with 16, 0, 0, 0", hands_on(opened, 16, 0, 0, 0));
+    print_range(opened);
     print_others(print_first(opened));
 }
 

@@ -2,6 +2,10 @@
 pub mod Within
 pub mod Parts
 pub mod Verdicts
+pub mod Planes
+pub mod Dues
+pub mod Ranges
+pub mod Going
 pub mod Runs
 pub mod LayerExample
 pub mod Alike

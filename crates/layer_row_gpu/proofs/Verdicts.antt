@@ -15,7 +15,7 @@ use Rattle.laws.specs.Integer.{plus, minus}
 use Rattle.laws.proofs.Parts.{whole, lt-false, equal}
 use Rattle.laws.proofs.Bools.{clash}
 use Rattle.laws.proofs.Orders.{le-or-lt}
-use Rattle.refusals.specs.Refusal.{pass}
+use Rattle.refusals.specs.Refusal.{pass, unless}
 use Rattle.refusals.proofs.Judging.{passed, or-left, or-right}
 use Rattle.pixel_segment.specs.Field.{gpu}
 use Rattle.segment_rows.specs.Rows.{isRow}
@@ -23,13 +23,16 @@ use Rattle.cover_statements.specs.Carry.{isLight}
 use Rattle.cover_statements.specs.Cover.{noCover}
 use Rattle.layer_row_gpu.specs.InnerWorks.{Openable, WorkableLayer}
 use Rattle.layer_row_gpu.specs.LayerState.{LayerState, hasBadSpan, isAstray, isOtherTile, layerTile}
-use Rattle.layer_row_gpu.specs.OpenLayer.{LayerCall, layerLeft, openLayerVerdict, callVerdictOf}
+use Rattle.layer_row_gpu.specs.OpenLayer.{LayerCall, layerLeft, isBadRecord, openLayerVerdict, callVerdictOf}
 use Rattle.layer_row_gpu.specs.WorkLayer.{workLayerVerdict}
 
 -- a test that fails, as a fact
 not-below : (m n : ℕ) → ltb m n ≡ false → n ≤ m
 not-below m n e =
     ⊎-elim (λ (h : n ≤ m). h) (λ (h : m < n). absurd (clash (lt-ltb m n h) e)) (le-or-lt n m)
+
+pub not-at-most : (m n : ℕ) → leb m n ≡ false → n < m
+not-at-most m n h = ⊎-elim (λ (p : m ≤ n). absurd (clash (le-leb m n p) h)) (λ (p : n < m). p) (le-or-lt m n)
 
 -- numbers in range, where 2 does not apply to an opening
 pub record Span (tileY from to : ℤ) : Type 0 where
@@ -63,9 +66,12 @@ pub record OpenPassed (c : LayerCall) : Type 0 where
 pub open-passed : (c : LayerCall) → callVerdictOf c ≡ pass → OpenPassed c
 unfolding openLayerVerdict
 open-passed c e =
+    let light = unless (not (isLight gpu 4 (noCover 4) (layerLeft (c .from) (c .layer) (c .row)))) 9 pass in
+    let known = unless (isBadRecord (c .layer) (c .rule)) 4 light in
     let two = passed _ _ _ e in
-    let three = passed _ _ _ (two .1) in
-    let nine = passed _ _ _ (three .1) in
+    let three = passed (not (isRow gpu (suc (plus (c .tileY))) (c .row))) 3 known (two .1) in
+    let four = passed (isBadRecord (c .layer) (c .rule)) 4 light (three .1) in
+    let nine = passed _ _ _ (four .1) in
     record {
       span = good-span (c .tileY) (c .from) (c .to) (two .0);
       in-order = not-false (isRow gpu (suc (plus (c .tileY))) (c .row)) (three .0);
@@ -85,6 +91,7 @@ pub record WorkPassed (s : LayerState) (tile : ℤ) (row : List ℕ) (plane : Li
   pub tile-is : tile ≡ pos (s .next)
   pub left : s .next < s .to
   pub last : s .to ≤ 4095
+  pub known : isAstray s ≡ false
   pub in-order : isRow gpu (suc (s .tileY)) row ≡ true
   pub light : isLight gpu 4 (s .covers) (layerTile s tile row) ≡ true
 
@@ -98,9 +105,6 @@ module _ (s : LayerState) (tile : ℤ) where
         equal tile (pos (s .next)) (omega (arith, whole tile, low, same)),
         not-at-most (s .to) (s .next) ahead,
       )
-    where
-      not-at-most : (m n : ℕ) → leb m n ≡ false → n < m
-      not-at-most m n h = ⊎-elim (λ (p : m ≤ n). absurd (clash (le-leb m n p) h)) (λ (p : n < m). p) (le-or-lt m n)
 
   -- 2 does not apply
   pub due : (isAstray s || isOtherTile s tile) ≡ false → (tile ≡ pos (s .next)) × (s .next < s .to) × (s .to ≤ 4095)
@@ -126,6 +130,7 @@ module _ (s : LayerState) (tile : ℤ) where
           tile-is = d .0;
           left = d .1;
           last = d .2;
+          known = or-left (isAstray s) (isOtherTile s tile) (two .0);
           in-order = not-false (isRow gpu (suc (s .tileY)) row) (three .0);
           light = not-false (isLight gpu 4 (s .covers) (layerTile s tile row)) (nine .0);
         }

@@ -2,9 +2,11 @@
 pub mod LayerState
 pub mod OpenLayer
 pub mod WorkLayer
+pub mod WorkTiles
 pub mod LayerDue
 pub mod LayerRun
 pub mod LayerExample
 pub mod Apart
 pub mod InnerCovers
 pub mod InnerWorks
+pub mod InnerTiles

@@ -27,16 +27,33 @@ workLayerVerdict s tile row plane =
     (unless (not (isLight gpu 4 (s .covers) (layerTile s tile row))) 9
     pass)))
 
--- what a verdict leaves of the state and of the plane
-abbrev pub workedState : Judgement → LayerState → ℤ → List ℕ → LayerState
-workedState pass s tile row = pastTile s (layerTile s tile row)
-workedState (refuse number) s tile row = s
+-- what a caller chooses: the tile, and the row and the plane that it lends
+pub record LayerChoice : Type 0 where
+  pub tile : ℤ
+  pub row : List ℕ
+  pub plane : List Float
 
-abbrev pub workedPlane : Judgement → LayerState → ℤ → List ℕ → List Float → List Float
-workedPlane pass s tile row plane = over (planeOf gpu 4 (s .rule) (coverAt (s .covers)) (layerTile s tile row)) plane
-workedPlane (refuse number) s tile row plane = plane
+abbrev pub layerChoice : ℤ → List ℕ → List Float → LayerChoice
+layerChoice tile row plane = record { tile = tile; row = row; plane = plane }
 
-pub record WorksLayer (s : LayerState) (tile : ℤ) (row : List ℕ) (plane : List Float) (r : WorkedLayer) (back : List Float) : Type 0 where
-  pub answer : judgementIn (r .answer) ≡ workLayerVerdict s tile row plane
-  pub state-is : layerStateIn (r .state) ≡ workedState (workLayerVerdict s tile row plane) s tile row
-  pub plane-is : back ≡ workedPlane (workLayerVerdict s tile row plane) s tile row plane
+-- what a work gives: its answer, the state, and the lent plane at exit
+pub record LayerGiven : Type 0 where
+  pub answer : Judgement
+  pub state : LayerState
+  pub plane : List Float
+
+-- by its verdict
+abbrev pub workedBy : Judgement → LayerState → LayerChoice → LayerGiven
+workedBy (refuse number) s choice = record { answer = refuse number; state = s; plane = choice .plane }
+workedBy pass s choice =
+    let part = layerTile s (choice .tile) (choice .row) in
+    record { answer = pass; state = pastTile s part; plane = over (planeOf gpu 4 (s .rule) (coverAt (s .covers)) part) (choice .plane) }
+
+abbrev pub workLayerOf : LayerState → LayerChoice → LayerGiven
+workLayerOf s choice = workedBy (workLayerVerdict s (choice .tile) (choice .row) (choice .plane)) s choice
+
+-- the operation's promise
+pub record WorksLayer (g : LayerGiven) (r : WorkedLayer) (back : List Float) : Type 0 where
+  pub answer : judgementIn (r .answer) ≡ g .answer
+  pub state-is : layerStateIn (r .state) ≡ g .state
+  pub plane-is : back ≡ g .plane

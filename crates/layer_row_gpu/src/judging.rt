@@ -14,7 +14,7 @@ ghost use Rattle.refusals.specs.Refusal.{judgementIn};
 ghost use Rattle.pixel_segment.specs.Field.{gpu};
 ghost use Rattle.segment_rows.specs.Search.{tilePartIn, layerPartIn};
 ghost use Rattle.layer_row_gpu.specs.LayerState.{layerStateIn, hasBadSpan, isAstray, isOtherTile};
-ghost use Rattle.layer_row_gpu.specs.OpenLayer.{openLayerVerdict};
+ghost use Rattle.layer_row_gpu.specs.OpenLayer.{isBadRecord, openLayerVerdict};
 ghost use Rattle.layer_row_gpu.specs.WorkLayer.{workLayerVerdict};
 
 // Refusal 2 of an opening: the row's number or its tiles out of range.
@@ -24,15 +24,32 @@ fn has_bad_span(tile_y: i32, from: i32, to: i32) -> bool
     (tile_y < 0) | (8190 < tile_y) | (from < 0) | (to < from) | (4095 < to)
 }
 
-// Refusals 2, 3 and 9 of an opening.
-pub fn judge_opening(tile_y: i32, from: i32, to: i32, layer_id: u32, row: &[u64]) -> Verdict
-    ensures { λ r. ⌜ judgementIn r ≡ openLayerVerdict «tile_y» from to «layer_id» (now (row .entry)) ⌝ }
+// Refusal 4: the layer, or the number of its rule, out of range.
+fn is_bad_record(layer_id: u32, rule: u32) -> bool
+    ensures { λ r. ⌜ r ≡ isBadRecord «layer_id» rule ⌝ }
+{
+    (2097151 < layer_id) | (1 < rule)
+}
+
+// Refusals 2, 3, 4 and 9 of an opening.
+pub fn judge_opening(
+    tile_y: i32,
+    from: i32,
+    to: i32,
+    layer_id: u32,
+    rule: u32,
+    row: &[u64],
+) -> Verdict
+    ensures { λ r. ⌜ judgementIn r ≡ openLayerVerdict «tile_y» from to «layer_id» rule (now (row .entry)) ⌝ }
 {
     if has_bad_span(tile_y, from, to) {
         return Verdict::Refuse(Refusal::Tile);
     }
     if !order::is_row(row, search::natural(tile_y) as u64 + 1) {
         return Verdict::Refuse(Refusal::Row);
+    }
+    if is_bad_record(layer_id, rule) {
+        return Verdict::Refuse(Refusal::Table);
     }
     if !covers::is_light(parts::left_of_tile(row, from as i16), layer_id) {
         return Verdict::Refuse(Refusal::Covers);

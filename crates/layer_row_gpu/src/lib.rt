@@ -2,6 +2,7 @@
 // and hands on the layer's carry. Every call is judged first; a refusal leaves everything as it was.
 pub mod covers;
 pub mod judging;
+pub mod tiles;
 
 use cover_gpu::GpuCover;
 use cover_gpu::carry;
@@ -10,15 +11,17 @@ use pixel_segment_gpu::parts;
 use refusals::Verdict;
 use segment_rows::search;
 use styling::FillRule;
+use styling::codes;
 ghost use mathlib.Core.Path.{_≡_};
 ghost use Prim.Native.Nat.{_<_};
 ghost use Rattle.laws.specs.Lists.{over};
 ghost use Rattle.pixel_segment.specs.Field.{gpu};
+ghost use Rattle.styling.specs.Codes.{ruleOf};
 ghost use Rattle.cover_statements.specs.Cover.{coverAt};
 ghost use Rattle.cover_statements.specs.Plane.{planeOf};
 ghost use Rattle.layer_row_gpu.specs.LayerState.{layerStateIn, dropped, handedLayer, pastTile};
 ghost use Rattle.layer_row_gpu.specs.OpenLayer.{layerCall, firstState, noTiles, OpensLayer};
-ghost use Rattle.layer_row_gpu.specs.WorkLayer.{WorksLayer};
+ghost use Rattle.layer_row_gpu.specs.WorkLayer.{layerChoice, workLayerOf, WorksLayer};
 ghost use Rattle.layer_row_gpu.specs.InnerWorks.{Openable, WorkableLayer, dueTile};
 
 // Where a caller stands in a layer's row: the cover is what the next tile takes in.
@@ -46,7 +49,7 @@ pub struct WorkedLayer {
 }
 
 // The state of an opening that nothing refuses.
-fn open(tile_y: i32, from: i32, to: i32, layer_id: u32, rule: FillRule, row: &[u64]) -> LayerRow
+fn open(tile_y: i32, from: i32, to: i32, layer_id: u32, rule: u32, row: &[u64]) -> LayerRow
     requires { ⌜ Openable (layerCall «tile_y» from to «layer_id» rule (now row)) ⌝ }
     ensures { λ r. ⌜ layerStateIn r ≡ firstState (layerCall «tile_y» from to «layer_id» rule (now (row .entry))) ⌝ }
 {
@@ -58,14 +61,14 @@ fn open(tile_y: i32, from: i32, to: i32, layer_id: u32, rule: FillRule, row: &[u
         to: search::natural(to),
         next: first,
         layer_id: layer_id,
-        rule: rule,
+        rule: codes::fill_rule(rule),
         cover: cover,
     }
 }
 
 // A state without tiles.
-fn closed(layer_id: u32, rule: FillRule) -> LayerRow
-    ensures { λ r. ⌜ layerStateIn r ≡ noTiles «layer_id» rule ⌝ }
+fn closed(layer_id: u32, rule: u32) -> LayerRow
+    ensures { λ r. ⌜ layerStateIn r ≡ noTiles «layer_id» (ruleOf rule) ⌝ }
 {
     let cover = GpuCover::default();
     LayerRow {
@@ -74,23 +77,24 @@ fn closed(layer_id: u32, rule: FillRule) -> LayerRow
         to: 0,
         next: 0,
         layer_id: layer_id,
-        rule: rule,
+        rule: codes::fill_rule(rule),
         cover: cover,
     }
 }
 
-// Opens a layer's row: the state before its first tile, with the exact sum of the layer's covers left of it.
+// Opens a layer's row: the state before its first tile, with the exact sum of the layer's covers left of it. The rule
+// is its number in a layer record.
 pub fn open_layer_row(
     tile_y: i32,
     from: i32,
     to: i32,
     layer_id: u32,
-    rule: FillRule,
+    rule: u32,
     row: &[u64],
 ) -> OpenedLayer
     ensures { λ r. ⌜ OpensLayer (layerCall «tile_y» from to «layer_id» rule (now (row .entry))) r ⌝ }
 {
-    match judging::judge_opening(tile_y, from, to, layer_id, row) {
+    match judging::judge_opening(tile_y, from, to, layer_id, rule, row) {
         Verdict::Refuse(refusal) => {
             let state = closed(layer_id, rule);
             OpenedLayer {
@@ -153,8 +157,9 @@ fn work(state: LayerRow, row: &[u64], plane: &mut [f32]) -> LayerRow
 
 // Works the next tile: its coverages in the lent plane, and the carry in the state.
 pub fn work_tile(state: LayerRow, tile: i32, row: &[u64], plane: &mut [f32]) -> WorkedLayer
-    ensures { λ r. ⌜ WorksLayer (layerStateIn state) tile (now (row .entry)) (now (plane .entry)) r
-        (now (plane .exit)) ⌝ }
+    ensures { λ r. ⌜ WorksLayer
+        (workLayerOf (layerStateIn state) (layerChoice tile (now (row .entry)) (now (plane .entry))))
+        r (now (plane .exit)) ⌝ }
 {
     match judging::judge_work(state, tile, row, plane) {
         Verdict::Refuse(refusal) => WorkedLayer {

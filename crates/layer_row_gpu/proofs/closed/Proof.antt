@@ -5,8 +5,8 @@ use Rattle.layer_row_gpu.proofs.closed.Tie as tie
 
 returns : tie.Need-returns
 returns c =
-    let a = c .before .args in
-    λ i. record { tileY = 0; from = 0; to = 0; next = 0; layer = a .layer-id; rule = a .rule; covers = c .default .ensures i }
+    let d = c .before in
+    λ i. record { tileY = 0; from = 0; to = 0; next = 0; layer = d .before .args .layer-id; rule = c .fill-rule .ensures i; covers = d .default .ensures i }
 
 pub closed-spec : {M : Type 1} → statement M
-closed-spec = tie.close (tie.spec (λ c κs. search needs) returns)
+closed-spec = tie.close (tie.spec (λ c κs. search needs) (λ c κs. search needs) returns)

@@ -35,15 +35,16 @@ sum-requires c κs = ap (isLight gpu 4 (noCover 4)) (left-told c) ∙ c .before 
 
 returns : tie.Need-returns
 returns c =
-    let p = c .before .before in
+    let z = c .before in
+    let p = z .before .before in
     let l = p .before in
     let n = l .before in
     let s = n .before .before in
-    let row : c .before .natural2 .result ≡ plus (s .args .tile-y) = c .before .natural2 .ensures ∙ ap plus (toZ-ofZ (s .fits .tile-y)) in
+    let row : z .before .natural2 .result ≡ plus (s .args .tile-y) = z .before .natural2 .ensures ∙ ap plus (toZ-ofZ (s .fits .tile-y)) in
     let first : n .natural .result ≡ plus (s .args .from) = n .natural .ensures ∙ ap plus (toZ-ofZ (s .fits .from)) in
-    let last : c .natural3 .result ≡ plus (s .args .to) = c .natural3 .ensures ∙ ap plus (toZ-ofZ (s .fits .to)) in
+    let last : z .natural3 .result ≡ plus (s .args .to) = z .natural3 .ensures ∙ ap plus (toZ-ofZ (s .fits .to)) in
     let covers = p .sum .ensures ∙ ap (carryOf gpu 4 (noCover 4)) (left-told l) in
-    λ i. record { tileY = row i; from = first i; to = last i; next = first i; layer = s .args .layer-id; rule = s .args .rule; covers = covers i }
+    λ i. record { tileY = row i; from = first i; to = last i; next = first i; layer = s .args .layer-id; rule = c .fill-rule .ensures i; covers = covers i }
 
 pub open-spec : {M : Type 1} → statement M
 open-spec =
@@ -53,5 +54,5 @@ open-spec =
     cast-left-of-tile
     (λ c κs. search needs)
     sum-requires
-    (λ c κs. search needs) (λ c κs. search needs)
+    (λ c κs. search needs) (λ c κs. search needs) (λ c κs. search needs)
     returns)

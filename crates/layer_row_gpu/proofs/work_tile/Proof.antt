@@ -9,7 +9,7 @@ use Rattle.pixel_segment.specs.Field.{gpu}
 use Rattle.cover_statements.specs.Cover.{coverAt}
 use Rattle.cover_statements.specs.Plane.{planeOf}
 use Rattle.layer_row_gpu.specs.LayerState.{layerStateIn, layerTile, pastTile}
-use Rattle.layer_row_gpu.specs.WorkLayer.{workLayerVerdict, workedState, workedPlane}
+use Rattle.layer_row_gpu.specs.WorkLayer.{workLayerVerdict, layerChoice, LayerGiven, workedBy}
 use Rattle.layer_row_gpu.proofs.Verdicts.{work-passed, workable}
 use Rattle.layer_row_gpu.proofs.work_tile.Statement.{statement}
 use Rattle.layer_row_gpu.proofs.work_tile.Tie as tie
@@ -30,12 +30,13 @@ returns : tie.Need-returns
 returns c =
     let j = c .before .before .before in
     let a = j .before .before .before .before .args in
-    let s = layerStateIn (a .state) in
+    let choice = layerChoice (a .tile) (a .row .now) (a .plane .now) in
     let v = sym (told j) ∙ ap judgementIn (c .before .refusal .given .1) in
+    let told-by = sym (ap (λ (k : Judgement). workedBy k (layerStateIn (a .state)) choice) v) in
     record {
-      answer = sym v;
-      state-is = sym (ap (λ (k : Judgement). workedState k s (a .tile) (a .row .now)) v);
-      plane-is = sym (ap (λ (k : Judgement). workedPlane k s (a .tile) (a .row .now) (a .plane .now)) v);
+      answer = ap (λ (x : LayerGiven). x .answer) told-by;
+      state-is = ap (λ (x : LayerGiven). x .state) told-by;
+      plane-is = ap (λ (x : LayerGiven). x .plane) told-by;
     }
 
 returns-2 : tie.Need-returns-2
@@ -44,18 +45,20 @@ returns-2 c =
     let t = w .before .before in
     let a = t .before .before .before .before .before .before .args in
     let s = layerStateIn (a .state) in
+    let choice = layerChoice (a .tile) (a .row .now) (a .plane .now) in
     let v = passes t in
     let due = sym (work-passed s (a .tile) (a .row .now) (a .plane .now) v .tile-is) in
+    let told-by = sym (ap (λ (k : Judgement). workedBy k s choice) v) in
     record {
-      answer = sym v;
+      answer = ap (λ (x : LayerGiven). x .answer) told-by;
       state-is =
           w .work .ensures .0
           ∙ ap (λ (z : ℤ). pastTile s (layerTile s z (a .row .now))) due
-          ∙ sym (ap (λ (k : Judgement). workedState k s (a .tile) (a .row .now)) v);
+          ∙ ap (λ (x : LayerGiven). x .state) told-by;
       plane-is =
           w .work .ensures .1
           ∙ ap (λ (z : ℤ). over (planeOf gpu 4 (a .state .rule) (coverAt (a .state .cover .covers)) (layerTile s z (a .row .now))) (a .plane .now)) due
-          ∙ sym (ap (λ (k : Judgement). workedPlane k s (a .tile) (a .row .now) (a .plane .now)) v);
+          ∙ ap (λ (x : LayerGiven). x .plane) told-by;
     }
 
 pub work-tile-spec : {M : Type 1} → statement M

@@ -1,7 +1,7 @@
 -- `four_high_rows::ffi_gpu_work_tile` meets its contract: it tells what the work answers. Assumes nothing.
 use borrow.Author.Needs.{needs}
 use mir.Facts.{toZ-ofZ}
-use Rattle.ffi.proofs.FourHighTold.{layer-worked}
+use Rattle.ffi_four_high.proofs.FourHighTold.{layer-worked}
 use Rattle.ffi.proofs.four_high_rows.ffi_gpu_work_tile.Statement.{statement}
 use Rattle.ffi.proofs.four_high_rows.ffi_gpu_work_tile.Tie as tie
 
@@ -10,7 +10,7 @@ returns c =
     let w = c .before .before .before .before .before .before in
     let t = w .before .before in
     let s = t .before .before .before .before .before in
-    layer-worked (t .to-layer-row .ensures) (rw (toZ-ofZ (s .fits .tile)) at (w .work-tile .ensures)) (c .put-layer-row .ensures)
+    layer-worked _ (t .to-layer-row .ensures) (rw (toZ-ofZ (s .fits .tile)) at (w .work-tile .ensures)) (c .put-layer-row .ensures)
 
 pub ffi-gpu-work-tile-spec : {M : Type 1} → statement M
 ffi-gpu-work-tile-spec =

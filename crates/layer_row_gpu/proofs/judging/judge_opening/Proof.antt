@@ -48,9 +48,9 @@ first-fits c =
     sfits w16 _ (record { above = omega (arith, p .first .1, p .last .1); below = omega (arith, p .first .0) })
 
 -- whether number 9 does not apply
-light-told : (c : tie.After-is-light) → c .is-light .result ≡ isLight gpu 4 (noCover 4) (layerLeft (c .before .before .before .before .before .before .before .before .args .from) (c .before .before .before .before .before .before .before .before .args .layer-id) (c .before .before .before .before .before .before .before .before .args .row .now))
+light-told : (c : tie.After-is-light) → let a = c .before .before .before .before .before .before .before .before .before .before .args in c .is-light .result ≡ isLight gpu 4 (noCover 4) (layerLeft (a .from) (a .layer-id) (a .row .now))
 light-told c =
-    let e = c .before .before in
+    let e = c .before .before .before .before in
     let k = e .before .before .before .before .before in
     let s = k .before in
     let in-order = sym (row-told (e .before)) ∙ not-false (e .before .is-row .result) (e .if2 .left) in
@@ -66,22 +66,50 @@ returns-2 : tie.Need-returns-2
 unfolding openLayerVerdict
 returns-2 c = rw (← span-told (c .before .before .before .before), c .before .before .before .if1 .left, ← row-told (c .before), c .if2 .taken)
 
-cast-left-of-tile : tie.Need-cast-left-of-tile
-cast-left-of-tile c = rw (toZ-ofZ (c .before .before .before .before .before .before .fits .from)) (first-fits c)
-
 returns-3 : tie.Need-returns-3
 unfolding openLayerVerdict
 returns-3 c =
-    let l = c .before in
-    let e = l .before .before in
-    rw (← span-told (e .before .before .before .before), e .before .before .before .if1 .left, ← row-told (e .before), e .if2 .left, ← light-told l, c .if3 .taken)
+    let e = c .before .before in
+    rw (← span-told (e .before .before .before .before), e .before .before .before .if1 .left, ← row-told (e .before), e .if2 .left, ← c .before .is-bad-record .ensures, c .if3 .taken)
+
+cast-left-of-tile : tie.Need-cast-left-of-tile
+cast-left-of-tile c =
+    let e = c .before .before in
+    rw (toZ-ofZ (e .before .before .before .before .before .before .fits .from)) (first-fits e)
 
 returns-4 : tie.Need-returns-4
 unfolding openLayerVerdict
 returns-4 c =
     let l = c .before in
-    let e = l .before .before in
-    rw (← span-told (e .before .before .before .before), e .before .before .before .if1 .left, ← row-told (e .before), e .if2 .left, ← light-told l, c .if3 .left)
+    let b = l .before .before in
+    let e = b .before .before in
+    rw (
+      ← span-told (e .before .before .before .before),
+      e .before .before .before .if1 .left,
+      ← row-told (e .before),
+      e .if2 .left,
+      ← b .before .is-bad-record .ensures,
+      b .if3 .left,
+      ← light-told l,
+      c .if4 .taken,
+    )
+
+returns-5 : tie.Need-returns-5
+unfolding openLayerVerdict
+returns-5 c =
+    let l = c .before in
+    let b = l .before .before in
+    let e = b .before .before in
+    rw (
+      ← span-told (e .before .before .before .before),
+      e .before .before .before .if1 .left,
+      ← row-told (e .before),
+      e .if2 .left,
+      ← b .before .is-bad-record .ensures,
+      b .if3 .left,
+      ← light-told l,
+      c .if4 .left,
+    )
 
 pub judge-opening-spec : {M : Type 1} → statement M
 judge-opening-spec =
@@ -91,7 +119,9 @@ judge-opening-spec =
     returns
     (λ c κs. search needs) (λ c. search needs) (λ c. search needs) (λ c κs. search needs)
     returns-2
+    (λ c κs. search needs)
+    returns-3
     cast-left-of-tile
     (λ c κs. search needs) (λ c κs. search needs)
-    returns-3
-    returns-4)
+    returns-4
+    returns-5)

@@ -1,8 +1,8 @@
--- `four_high_rows::to_layer_row` meets its contract. Assumes nothing.
+-- `to_layer_row` meets its contract. Assumes nothing.
 use mathlib.Core.Path.{refl}
 use borrow.Author.Needs.{needs}
-use Rattle.ffi.proofs.four_high_rows.to_layer_row.Statement.{statement}
-use Rattle.ffi.proofs.four_high_rows.to_layer_row.Tie as tie
+use Rattle.ffi_four_high.proofs.to_layer_row.Statement.{statement}
+use Rattle.ffi_four_high.proofs.to_layer_row.Tie as tie
 
 returns : tie.Need-returns
 returns c = rw (c .fill-rule .ensures) refl

@@ -1,8 +1,8 @@
--- `four_high_rows::put_layer_row` meets its contract. Assumes nothing.
+-- `put_layer_row` meets its contract. Assumes nothing.
 use mathlib.Core.Path.{refl}
 use borrow.Author.Needs.{needs}
-use Rattle.ffi.proofs.four_high_rows.put_layer_row.Statement.{statement}
-use Rattle.ffi.proofs.four_high_rows.put_layer_row.Tie as tie
+use Rattle.ffi_four_high.proofs.put_layer_row.Statement.{statement}
+use Rattle.ffi_four_high.proofs.put_layer_row.Tie as tie
 
 returns : tie.Need-returns
 returns c = rw (c .before .before .answer .given .1) (c .number-of .ensures, refl)

@@ -1,0 +1,3 @@
+-- Laws of one layer's row of tiles four pixels high by numbers.
+pub mod FourHighTold
+pub mod FourHighCalls
