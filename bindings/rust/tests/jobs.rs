@@ -3,14 +3,15 @@
 #[path = "../examples/support/mod.rs"]
 mod support;
 
-#[path = "../examples/inspect/page.rs"]
-mod page;
-#[path = "../examples/inspect/pictures.rs"]
-mod pictures;
+#[path = "../examples/inspect/view/mod.rs"]
+mod view;
 
 mod stored;
 
-use std::{fs, path::PathBuf, process::Command};
+use std::{fs, path::PathBuf};
+
+/// Where the pages would find the manual.
+const MANUAL: &str = "docs/TOUR.md";
 
 #[test]
 fn each_job_gives_what_the_row_program_prints() {
@@ -30,7 +31,7 @@ fn texts<'a>(page: &'a str, start: &str) -> Vec<&'a str> {
 #[test]
 fn the_page_has_the_numbers_of_the_row_program() {
     for (name, text, printed) in stored::jobs() {
-        let page = page::page(&name, &text, Some(0..4095));
+        let page = view::page(&name, MANUAL, &text, Some(0..4095));
         let lines: Vec<&str> = printed.lines().filter(|&line| line != support::driven::NAMES).collect();
         assert_eq!(texts(&page, "<code class=\"line\">"), lines, "{name}");
         let refused_open = !page.contains("class=\"strip");
@@ -54,7 +55,7 @@ fn the_page_has_the_numbers_of_the_row_program() {
 #[test]
 fn the_page_draws_what_it_counts() {
     for (name, text, printed) in stored::jobs() {
-        let page = page::page(&name, &text, Some(0..4095));
+        let page = view::page(&name, MANUAL, &text, Some(0..4095));
         let sum = |field: usize| -> usize {
             let lines = printed.lines().filter(|line| line.starts_with(|first: char| first.is_ascii_digit()));
             lines.map(|line| line.split(' ').nth(field).unwrap().parse::<usize>().unwrap()).sum()
@@ -70,8 +71,8 @@ fn the_page_draws_what_it_counts() {
 fn the_tours_pages_are_the_inspectors() {
     for name in ["carry_to_the_right", "covered_carry_to_the_right", "equal_keys"] {
         let file = format!("{name}.job");
-        let page =
-            page::page(&format!("crates/jobs/data/{file}"), &fs::read(stored::path("data").join(&file)).unwrap(), None);
+        let text = fs::read(stored::path("data").join(&file)).unwrap();
+        let page = view::page(&format!("crates/jobs/data/{file}"), "../../TOUR.md", &text, None);
         let kept = PathBuf::from(env!("CARGO_MANIFEST_DIR")).join(format!("../../docs/tour/pages/{name}.html"));
         assert!(fs::read_to_string(kept).unwrap() == page, "{name}: `inspect {file}` makes another page");
         let tour = fs::read_to_string(stored::path("../../docs/TOUR.md")).unwrap();
@@ -79,32 +80,3 @@ fn the_tours_pages_are_the_inspectors() {
     }
 }
 
-/// A page as Chromium leaves it after its scripts, and one more script, ran.
-fn loaded(name: &str, page: &str, script: &str) -> String {
-    let file = PathBuf::from(env!("CARGO_TARGET_TMPDIR")).join(name);
-    fs::write(&file, page.replace("</body>", &format!("<script>{script}</script></body>"))).unwrap();
-    let url = format!("file://{}", file.display());
-    let words = ["--headless", "--no-sandbox", "--disable-gpu", "--dump-dom", &url];
-    let output = Command::new("chromium").args(words).output().expect("chromium is on the path");
-    String::from_utf8(output.stdout).unwrap()
-}
-
-/// In a browser: the numbers are there, and a tile is chosen by nothing, by a key, by the mouse.
-#[test]
-#[ignore = "needs Chromium"]
-fn a_browser_loads_the_page() {
-    let key = "dispatchEvent(new KeyboardEvent('keydown', { key: 'End' }))";
-    let mouse = "document.querySelectorAll('a.choose')[1].click()";
-    for name in ["example.job", "clip_that_is_used.job", "nine_kept_carry.job"] {
-        let (name, text, printed) = stored::jobs().into_iter().find(|(stored, ..)| stored == name).expect("a job file");
-        let page = page::page(&name, &text, None);
-        let lines: Vec<&str> = printed.lines().filter(|&line| line != support::driven::NAMES).collect();
-        for (script, chosen) in [("", 0), (key, lines.len() - 1), (mouse, 1)] {
-            let page = loaded(&format!("{name}.html"), &page, script);
-            assert_eq!(texts(&page, "<code class=\"line\">"), lines, "{name}");
-            let section = format!("<section class=\"tile chosen\" id=\"tile-{chosen}\">");
-            assert!(page.contains(&section), "{name}: tile {chosen} is chosen after {script:?}");
-            assert_eq!(page.matches("class=\"tile chosen\"").count(), 1, "{name}: no other is");
-        }
-    }
-}

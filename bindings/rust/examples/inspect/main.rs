@@ -103,8 +103,8 @@ fn plate_pages(folder: &str, files: &[&str], manual: &str) -> Result<(), String>
     let rows = if is_figure { figure_rows(&files_of(files)?)? } else { job_rows(files)? };
     for row in &rows {
         let page = match &row.worked {
-            Ok((input, _)) => view::row_page(&row.name, manual, input),
-            Err(_) => view::page(&row.name, manual, &bytes_of(&row.name)?, None),
+            Ok((input, _)) => view::row_page(&row.source, manual, input, Some("index.html")),
+            Err(_) => view::page(&row.source, manual, &bytes_of(&row.source)?, None),
         };
         write(&row.address, page)?;
     }
@@ -124,7 +124,8 @@ fn note(files: &[&str], is_figure: bool) -> String {
 fn job_rows(files: &[&str]) -> Result<Vec<plate::PlateRow>, String> {
     let row = |(at, file): (usize, &&str)| {
         let worked = Input::of_job(&bytes_of(file)?).map(|input| (input.clone(), frames::worked(&[input]).remove(0)));
-        Ok(plate::PlateRow { name: (*file).to_string(), address: format!("row-{at}.html"), worked })
+        let name = Path::new(file).file_name().map_or(file.to_string(), |name| name.to_string_lossy().into_owned());
+        Ok(plate::PlateRow { name, source: file.to_string(), address: format!("row-{at}.html"), worked })
     };
     files.iter().enumerate().map(row).collect()
 }
@@ -137,7 +138,12 @@ fn figure_rows(files: &[&str]) -> Result<Vec<plate::PlateRow>, String> {
         let inputs = frames::with_flags(inputs);
         let last = inputs.last().cloned().expect("a figure is named");
         let shot = frames::worked(&inputs).pop().expect("as many as frames");
-        plate::PlateRow { name: format!("row {row}"), address: format!("row-{row}.html"), worked: Ok((last, shot)) }
+        plate::PlateRow {
+            name: format!("row {row}"),
+            source: format!("{}, row {row}", files.join(" then ")),
+            address: format!("row-{row}.html"),
+            worked: Ok((last, shot)),
+        }
     };
     Ok((0..rows).map(row).collect())
 }

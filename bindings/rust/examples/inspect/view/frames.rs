@@ -116,6 +116,7 @@ fn display_bytes(input: &Input, tile: &Tile) -> [u8; 4] {
         }
     }
     let byte = |linear: f32| {
+        let linear = f64::from(linear);
         let curved = if linear <= 0.003_130_8 { 12.92 * linear } else { 1.055 * linear.powf(1.0 / 2.4) - 0.055 };
         (curved * 255.0) as u8
     };

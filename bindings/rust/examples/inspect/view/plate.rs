@@ -6,9 +6,10 @@ use tile_rows::{Decision, Refusal};
 
 use super::{bitmap, document, document::escaped, frames::Shot, input::Input};
 
-/// A row of the plate: what it is called, where its page is, and its frames, of which the last is shown.
+/// A row of the plate: what it is called, the text that it is of, where its page is, and its last frame.
 pub struct PlateRow {
     pub name: String,
+    pub source: String,
     pub address: String,
     pub worked: Result<(Input, Shot), Refusal>,
 }

@@ -25,9 +25,10 @@ pub fn page(name: &str, manual: &str, text: &[u8], range: Option<Range<i32>>) ->
     document::page(name, manual, &body)
 }
 
-/// The page of a row of any source.
-pub fn row_page(name: &str, manual: &str, input: &Input) -> String {
-    document::page(name, manual, &body(input, Some(input.due.clone())))
+/// The page of a row of any source; `plate` is where the page of its plate is.
+pub fn row_page(name: &str, manual: &str, input: &Input, plate: Option<&str>) -> String {
+    let back = plate.map_or(String::new(), |plate| format!("<p><a href=\"{plate}\">The whole plate</a></p>\n"));
+    document::page(name, manual, &(back + &body(input, Some(input.due.clone()))))
 }
 
 fn body(input: &Input, range: Option<Range<i32>>) -> String {
@@ -67,6 +68,14 @@ fn told(input: &Input, driven: &Driven, tiles: &[Tile]) -> String {
     let next = input.tiles.start + driven.tiles.len() as i32;
     let refused = driven.refusal.map(|refusal| (next, refusal));
     let scene = Scene::new(input, driven, tiles, opening, refused);
+    if let Some((tile, refusal)) = refused {
+        writeln!(
+            text,
+            "<p class=\"refusal\">The row ends at tile {tile}: refused {}.</p>",
+            refusal.number()
+        )
+        .expect("a string takes every text");
+    }
     text += &Lanes { input, tiles, refused }.strip();
     text += &words::strip(input);
     tiles.iter().for_each(|tile| text += &scene.tile(tile));
