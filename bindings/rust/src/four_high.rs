@@ -191,10 +191,21 @@ impl Cover {
     pub fn carry(&mut self, part: &[PixelSegment]) -> Result<(), Refusal> {
         Refusal::judge(exports::gpu_carry(words_of(part), &mut self.0))
     }
+
+    /// Whether it leaves all to its right outside: NonZero, all zero; EvenOdd, all multiples of 32.
+    pub fn is_empty(&self, rule: FillRule) -> bool {
+        exports::gpu_is_empty(&self.0, rule.code())
+    }
+
+    /// Whether it covers all to its right: NonZero, each 16 or more either way; EvenOdd, each an odd multiple of 16.
+    pub fn is_full(&self, rule: FillRule) -> bool {
+        exports::gpu_is_full(&self.0, rule.code())
+    }
 }
 
 /// The coverage of each pixel of a tile 16 wide and 4 high, 0 to 1.
 #[derive(Clone, Debug, PartialEq)]
+#[repr(transparent)]
 pub struct Plane([f32; 64]);
 
 impl Plane {
@@ -232,11 +243,34 @@ impl Default for Plane {
     }
 }
 
+/// Why a range of tiles ended ([`LayerRow::work_tiles`]).
+#[derive(Clone, Copy, Debug, PartialEq, Eq)]
+pub enum RangeEnd {
+    /// Every tile that was asked for is worked.
+    Asked,
+    /// The row has no further tile.
+    RowEnd,
+    /// No plane is left for a further tile.
+    NoRoom,
+    /// The next tile would be turned down.
+    Refused(Refusal),
+}
+
+/// What a range of tiles gave: how many were worked, and why it ended.
+#[derive(Clone, Copy, Debug, PartialEq, Eq)]
+pub struct TilesWorked {
+    /// How many tiles were worked: of as many planes, from the first on, the coverages are written.
+    pub worked: usize,
+    /// Why the range ended.
+    pub ended: RangeEnd,
+}
+
 /// One layer's open row: it borrows the row's segments for its life, those of other layers too, and owns the layer's
 /// cover, so nothing that it was opened with can change between two calls.
 ///
-/// Tile after tile, [`work_next`](LayerRow::work_next), or [`work`](LayerRow::work) with the tile's number. A call that
-/// is turned down leaves the row and the plane as they were.
+/// Tile after tile, [`work_next`](LayerRow::work_next), or [`work`](LayerRow::work) with the tile's number; or many tiles
+/// in one call, [`work_tiles`](LayerRow::work_tiles), which judges the row once. A call that is turned down leaves the
+/// row and the planes as they were.
 ///
 /// A layer that the row lacks is worked as zeros.
 #[derive(Clone, Debug, PartialEq, Eq)]
@@ -251,7 +285,7 @@ impl<'a> LayerRow<'a> {
     /// Opens row `tile_y` for a layer and the tiles of a range, with the sum of the layer's covers left of the first.
     ///
     /// Refused by 2 (a row number that is not 0 to 8,190, or a range that is not within 0 to 4,095), 3 (the segments
-    /// are no row) and 9 (the layer's covers left of the first tile).
+    /// are no row), 4 (a layer above 2,097,151) and 9 (the layer's covers left of the first tile).
     pub fn open(
         segments: &'a [PixelSegment],
         tile_y: i32,
@@ -325,6 +359,43 @@ impl<'a> LayerRow<'a> {
             Ok(None)
         }
     }
+
+    /// Works the next tiles, one into each plane, while the row has them and none is turned down.
+    ///
+    /// Refused by 2 (past the last tile) and 9 (the covers of a pixel row) where the first tile is; a later tile that
+    /// would be refused ends the range. Without a plane no tile is asked for, and none is worked.
+    pub fn work_tiles(&mut self, planes: &mut [Plane]) -> Result<TilesWorked, Refusal> {
+        let (tile, tiles) = (self.next_tile(), planes.len());
+        let mut done = [0; 3];
+        Refusal::judge(exports::gpu_work_tiles(
+            &mut self.words,
+            &mut self.cover.0,
+            tile,
+            tiles,
+            words_of(self.segments),
+            numbers_of(planes),
+            &mut done,
+        ))?;
+        let [worked, end, number] = done;
+        let ended = match end {
+            0 => RangeEnd::Asked,
+            1 => RangeEnd::RowEnd,
+            2 => RangeEnd::NoRoom,
+            // A refusal's number is above 0 and below 16.
+            _ => match Refusal::judge(number as u32) {
+                Err(refusal) => RangeEnd::Refused(refusal),
+                Ok(()) => RangeEnd::Asked,
+            },
+        };
+        Ok(TilesWorked { worked, ended })
+    }
+}
+
+/// The numbers of planes, in place, plane after plane.
+#[allow(unsafe_code)]
+fn numbers_of(planes: &mut [Plane]) -> &mut [f32] {
+    // SAFETY: a Plane is 64 f32 (`repr(transparent)`), so the same memory is 64 numbers a plane for the same borrow.
+    unsafe { slice::from_raw_parts_mut(planes.as_mut_ptr().cast(), planes.len() * 64) }
 }
 
 /// The packed words of segments, in place.

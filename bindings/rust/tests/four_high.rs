@@ -5,7 +5,7 @@ use std::cmp::Ordering;
 
 use tile_rows::{
     exports,
-    four_high::{self, search_last, Key, LayerRow},
+    four_high::{self, search_last, Key, LayerRow, RangeEnd, TilesWorked},
     Color, Cover, Fields, FillRule, Layer, LayerTable, PixelSegment, Plane, Refusal, Row, Style, TileList,
 };
 
@@ -331,4 +331,67 @@ fn rows_beside_rows_16_high() {
             }
         }
     }
+}
+
+#[test]
+fn a_range_is_the_succession_of_its_tiles() {
+    let row = segments(ROW);
+    for (planes, worked, ended) in
+        [(2, 2, RangeEnd::Asked), (4, 4, RangeEnd::Asked), (6, 4, RangeEnd::RowEnd), (0, 0, RangeEnd::Asked)]
+    {
+        let mut single = LayerRow::open(&row, 0, 0..4, 1, FillRule::NonZero).unwrap();
+        let mut many = single.clone();
+        let mut old = four_high::Plane::new();
+        old.paint_part(&row[1..2], &four_high::Cover([7; 4]), FillRule::NonZero).unwrap();
+        let mut expected = vec![old.clone(); planes];
+        let mut given = expected.clone();
+        for plane in expected.iter_mut().take(worked) {
+            single.work_next(plane).unwrap();
+        }
+        assert_eq!(many.work_tiles(&mut given), Ok(TilesWorked { worked, ended }), "{planes} planes");
+        assert_eq!((&given, &many), (&expected, &single));
+    }
+}
+
+#[test]
+fn a_range_ends_before_a_tile_that_is_refused() {
+    // Layer 1 has more in a pixel row of tile 1 than number 9 lets pass.
+    let heavy = Fields { layer_id: 1, tile_x: 1, cover: 31, ..FIELDS };
+    let row = [segment(heavy); 5];
+    let mut open = LayerRow::open(&row, 0, 0..3, 1, FillRule::NonZero).unwrap();
+    let mut planes = vec![four_high::Plane::new(); 3];
+    let worked = TilesWorked { worked: 1, ended: RangeEnd::Refused(Refusal::Covers) };
+    assert_eq!((open.work_tiles(&mut planes), open.next_tile()), (Ok(worked), 1));
+    let before = open.clone();
+    assert_eq!((open.work_tiles(&mut planes), &open), (Err(Refusal::Covers), &before));
+    let mut ended = LayerRow::open(&row[..0], 0, 2..2, 1, FillRule::NonZero).unwrap();
+    assert_eq!(ended.work_tiles(&mut planes), Err(Refusal::Tile));
+    assert_eq!(ended.work_tiles(&mut []), Ok(TilesWorked { worked: 0, ended: RangeEnd::Asked }));
+}
+
+#[test]
+fn a_layer_record_out_of_range() {
+    let (mut words, mut covers) = ([9; 6], [9; 4]);
+    for (layer_id, rule, number) in [(2_097_151, 1, 0), (2_097_152, 1, 4), (1, 2, 4), (1, 7, 4)] {
+        (words, covers) = ([9; 6], [9; 4]);
+        assert_eq!(exports::gpu_open_layer_row(0, 0, 4, layer_id, rule, &[], &mut words, &mut covers), number);
+        assert_eq!((words == [9; 6], covers == [9; 4]), (number == 4, number == 4));
+    }
+    // 3 comes before 4, and 4 before 9.
+    let row = segments(ROW);
+    let words_of_row = [ROW[1], ROW[0]];
+    assert_eq!(exports::gpu_open_layer_row(0, 0, 4, 1, 7, &words_of_row, &mut words, &mut covers), 3);
+    let heavy = [segment(Fields { layer_id: 1, tile_x: -1, cover: 31, ..FIELDS }).word(); 5];
+    assert_eq!(exports::gpu_open_layer_row(0, 0, 4, 1, 7, &heavy, &mut words, &mut covers), 4);
+    assert_eq!(exports::gpu_open_layer_row(0, 0, 4, 1, 1, &heavy, &mut words, &mut covers), 9);
+    assert_eq!(LayerRow::open(&row, 0, 0..4, 2_097_152, FillRule::NonZero), Err(Refusal::Table));
+}
+
+#[test]
+fn rows_and_covers_by_the_exports() {
+    assert!(exports::gpu_is_row(&ROW, 1) && !exports::gpu_is_row(&ROW, 2) && exports::gpu_does_ascend(&ROW));
+    assert!(!exports::gpu_does_ascend(&[ROW[1], ROW[0]]));
+    let (thirty_two, sixteen) = (four_high::Cover([32; 4]), four_high::Cover([-16; 4]));
+    assert!(thirty_two.is_empty(FillRule::EvenOdd) && !thirty_two.is_empty(FillRule::NonZero));
+    assert!(sixteen.is_full(FillRule::EvenOdd) && sixteen.is_full(FillRule::NonZero));
 }

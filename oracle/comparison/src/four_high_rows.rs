@@ -53,6 +53,22 @@ pub fn work(state: &mut LayerState, tile: i32, row: &[u64], plane: &mut [f32]) -
     unsafe { exports::ffi_gpu_work_tile(words, covers, tile, row.as_ptr(), row.len(), plane.as_mut_ptr(), plane.len()) }
 }
 
+/// A range of tiles: its number, and how many tiles were worked, why it ended and by which number.
+pub fn work_tiles(
+    state: &mut LayerState,
+    tile: i32,
+    tiles: usize,
+    row: &[u64],
+    planes: &mut [f32],
+    done: &mut [usize; 3],
+) -> u32 {
+    let LayerState { words, covers } = state;
+    let (planes_ptr, planes_len) = (planes.as_mut_ptr(), planes.len());
+    unsafe {
+        exports::ffi_gpu_work_tiles(words, covers, tile, tiles, row.as_ptr(), row.len(), planes_ptr, planes_len, done)
+    }
+}
+
 /// A row's segments, in the order of their words.
 struct Segments {
     fields: Vec<Fields>,
@@ -158,6 +174,7 @@ fn rows(kind: &mut Kind) {
     kind.case(rust_covers[..4] == state.covers, || {
         format!("{call:?} of {row:x?}: the Rust opens with {rust_covers:?}, the library with {:?}", state.covers)
     });
+    a_range(kind, state, from, &row);
     for tile in from..from + tiles {
         turned_down(kind, &state, tile, &row);
         if !tile_of_row(kind, &mut state, tile, &row, &segments, &mut rust, call) {
@@ -165,6 +182,53 @@ fn rows(kind: &mut Kind) {
         }
     }
     turned_down(kind, &state, from + tiles, &row);
+}
+
+/// A range beside the single calls of its tiles: any number of tiles and of planes, from the next tile or another.
+fn a_range(kind: &mut Kind, start: LayerState, next: i32, row: &[u64]) {
+    let random = &mut kind.random;
+    let (tile, tiles) = (next + random.pick(&[0, 0, 0, 0, 1, -1]), random.below(8));
+    let old = any_plane(random.below(6) * 64 + random.pick(&[0, 0, 1, 63]));
+    // The single calls, one after the other.
+    let (mut single, mut expected) = (start, old.clone());
+    let (mut worked, mut end, mut first) = (0, [0, 0], 0);
+    while worked < tiles {
+        let here = tile + worked as i32;
+        let room = expected.len() / 64;
+        if worked > 0 && here as u32 >= single.words[2] {
+            end = [1, 0];
+            break;
+        }
+        if worked > 0 && worked >= room {
+            end = [2, 0];
+            break;
+        }
+        let start = (worked * 64).min(expected.len());
+        let number = work(&mut single, here, row, &mut expected[start..]);
+        if number != 0 {
+            first = if worked == 0 { number } else { 0 };
+            end = [3, number as usize];
+            break;
+        }
+        worked += 1;
+    }
+    const LEFT: [usize; 3] = [77; 3];
+    let (mut state, mut planes, mut done) = (start, old.clone(), LEFT);
+    let number = work_tiles(&mut state, tile, tiles, row, &mut planes, &mut done);
+    let told = if first == 0 { [worked, end[0], end[1]] } else { LEFT };
+    kind.note(match (first, end[0]) {
+        (0, 0) => "range: all that were asked for",
+        (0, 1) => "range: the row's end",
+        (0, 2) => "range: no plane is left",
+        (0, _) => "range: the next would be refused",
+        (1, _) => "range refused by 1",
+        (2, _) => "range refused by 2",
+        _ => "range refused by 9",
+    });
+    let same = number == first && done == told && state == single && bits(&planes) == bits(&expected);
+    kind.case(same, || {
+        format!("{tiles} tiles from {tile} of {start:?} of {row:x?}: expected {first} {told:?}, {number} {done:?}")
+    });
 }
 
 /// The next tile on both sides; false where number 9 ends the row.
@@ -246,7 +310,8 @@ fn any_calls(kind: &mut Kind) {
     let random = &mut kind.random;
     let edges = [i32::MIN, -1, 0, 1, 2046, 2047, 4094, 4095, 4096, 8190, 8191, i32::MAX];
     let (tile_y, from, to) = (random.pick(&edges), random.pick(&edges), random.pick(&edges));
-    let call = Opening { tile_y, from, to, layer: LAYER, rule: random.below(3) as u32 };
+    let (layer, rule) = (random.pick(&[LAYER, LAYER, LAYER, 2_097_151, 2_097_152, u32::MAX]), random.pick(&[0, 1, 1, 2, 7]));
+    let call = Opening { tile_y, from, to, layer, rule };
     let is_bad = !(0..=8190).contains(&tile_y) || from < 0 || to < from || to > 4095;
     let row_y = if is_bad || random.once_in(3) { 7 } else { tile_y as i16 };
     let segments = Segments::any(kind, row_y, 4);
@@ -255,7 +320,9 @@ fn any_calls(kind: &mut Kind) {
         2
     } else if !row.is_empty() && i32::from(row_y) != tile_y {
         3
-    } else if segments.sums(-1, from - 1).iter().any(|&(_, load)| load > 127) {
+    } else if layer > 2_097_151 || rule > 1 {
+        4
+    } else if layer == LAYER && segments.sums(-1, from - 1).iter().any(|&(_, load)| load > 127) {
         9
     } else {
         0
@@ -266,6 +333,7 @@ fn any_calls(kind: &mut Kind) {
         0 => "opened",
         2 => "opening refused by 2",
         3 => "opening refused by 3",
+        4 => "opening refused by 4",
         _ => "opening refused by 9",
     });
     kind.case(number == expected && (number == 0 || state == UNTOUCHED), || {
