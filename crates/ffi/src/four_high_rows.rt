@@ -50,7 +50,12 @@ pub extern "C" fn ffi_gpu_work_tile(
 {
     let state_words = *words;
     let bytes = *covers;
-    let worked = layer_row_gpu::work_tile(ffi_four_high::to_layer_row(state_words, bytes), tile, row, plane);
+    let worked = layer_row_gpu::work_tile(
+        ffi_four_high::to_layer_row(state_words, bytes),
+        tile,
+        row,
+        plane,
+    );
     let answer = worked.answer;
     let state = worked.state;
     ffi_four_high::put_layer_row(answer, state, words, covers)

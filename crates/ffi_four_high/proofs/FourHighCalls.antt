@@ -76,18 +76,22 @@ module _ (c : LayerCall) (p : OpenPassed c) where
     work-then {k} {new} {r} choice back is same w more =
         let v = layerDueVerdict c n choice in
         let d = subst (λ (g : LayerGiven). WorkLayerTold g k r new back) (ap (λ (x : LayerState). workLayerOf x choice) is ∙ work-given c p n inside choice same) w in
-        let g = workLayerDue c n choice in
-        (d, more (tilesAfter v n) (inside-after c p n inside choice v refl)
-        (ap stateHeld (d .numbers) ∙ held-after (g .answer) k is (work-kept c n choice v) ∙ state-after c n (choice .plane) v))
+        let g = workLayerDue c n choice in (
+          d,
+          more (tilesAfter v n) (inside-after c p n inside choice v refl)
+              (ap stateHeld (d .numbers) ∙ held-after (g .answer) k is (work-kept c n choice v) ∙ state-after c n (choice .plane) v),
+        )
 
     range-then : {old new : TilesNumbers} {r : ℕ} (choice : TilesChoice) (back : _) → stateHeld (old .state) ≡ layerStateOn c n → (tilesDueVerdict c n choice ≡ pass → choice .row ≡ c .row)
         → TilesTold (workTilesOf (stateHeld (old .state)) choice) old r new back → Then (new .state) ts → AllTold c n (LayerTold.range choice old r new back ∷ ts)
     range-then {old} {new} {r} choice back is same w more =
         let d = subst (λ (g : TilesGiven). TilesTold g old r new back) (ap (λ (x : LayerState). workTilesOf x choice) is ∙ tiles-given c p n inside choice same) w in
-        let g = workTilesDue c n choice in
-        (d, more (n + g .worked) (tiles-inside c p n inside choice)
-        (ap (λ (x : TilesNumbers). stateHeld (x .state)) (d .numbers)
-        ∙ held-after (g .answer) (old .state) is (range-kept c n choice (tilesDueVerdict c n choice)) ∙ tiles-state c n choice))
+        let g = workTilesDue c n choice in (
+          d,
+          more (n + g .worked) (tiles-inside c p n inside choice)
+              (ap (λ (x : TilesNumbers). stateHeld (x .state)) (d .numbers)
+              ∙ held-after (g .answer) (old .state) is (range-kept c n choice (tilesDueVerdict c n choice)) ∙ tiles-state c n choice),
+        )
 
     call-then : {k k′ : LayerNumbers} {t : LayerTold} → stateHeld k ≡ layerStateOn c n → NumberCall c k t k′ → Then k′ ts → AllTold c n (t ∷ ts)
     call-then is (NumberCall.work {choice = choice} {back = back} same w) more = work-then choice back is (λ v. same) w more
@@ -105,7 +109,7 @@ numbers c old new k ts opened calls =
     let ok = accepted c (opened .number) in
     let p = open-passed c ok in
     let is : stateHeld new ≡ layerStateOn c 0 =
-        ap stateHeld (opened .numbers) ∙ ap (λ (j : Judgement). stateHeld (layerNumbersBy j (openedState j c) old)) ok ∙ state-back (openedState pass c) ∙ sym (start c) in
+    ap stateHeld (opened .numbers) ∙ ap (λ (j : Judgement). stateHeld (layerNumbersBy j (openedState j c) old)) ok ∙ state-back (openedState pass c) ∙ sym (start c) in
     (layer-facts c, all-told c p calls 0 (omega (arith, p .span .first .1)) is)
 
 -- ---- such calls exist

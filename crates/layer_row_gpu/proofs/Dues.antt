@@ -150,7 +150,7 @@ module _ (c : LayerCall) where
         let there = layer-facts n .tile-is choice v in
         let state-is = past-due there (same refl) in
         let plane-is : workedBy pass (layerStateOn c n) choice .plane ≡ layerOut pass c n (choice .plane) .plane =
-            rw (there, same refl) (ap (λ (l : List Float). over l (choice .plane)) (plane-from-row {covers = coverOn c n} (lit< tt) (cover-from-row n))) in
+        rw (there, same refl) (ap (λ (l : List Float). over l (choice .plane)) (plane-from-row {covers = coverOn c n} (lit< tt) (cover-from-row n))) in
         λ i. record { answer = pass; state = state-is i; plane = plane-is i }
 
     pub work-given : (layerDueVerdict c n choice ≡ pass → choice .row ≡ c .row) → workLayerOf (layerStateOn c n) choice ≡ workLayerDue c n choice
@@ -163,4 +163,3 @@ module _ (c : LayerCall) where
   pub state-after : (n : ℕ) (plane : List Float) (j : Judgement) → layerOut j c n plane .state ≡ layerStateOn c (tilesAfter j n)
   state-after n plane pass = refl
   state-after n plane (refuse number) = refl
-

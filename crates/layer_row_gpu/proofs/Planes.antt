@@ -43,10 +43,10 @@ put-next k front plane xs f p h =
     let only : plane ++ drop (length plane) (planeAt k all) ≡ plane = ap (λ (z : List Float). plane ++ z) (drop-of-length-le (planeAt k all) short) ∙ append-nil plane in
     let long : length all ≡ length xs = length-append front rest ∙ rw (length-drop (length front) xs) (omega (arith, f, h)) in
     let back : drop (a + length plane) all ≡ drop (length (front ++ plane)) xs =
-        sym (drop-drop (length plane) a all)
-        ∙ ap (λ (z : List Float). drop (length plane) z) (drop-at front rest a f)
-        ∙ drop-drop (length plane) (length front) xs
-        ∙ ap (λ (m : ℕ). drop m xs) (sym (length-append front plane)) in
+    sym (drop-drop (length plane) a all)
+    ∙ ap (λ (z : List Float). drop (length plane) z) (drop-at front rest a f)
+    ∙ drop-drop (length plane) (length front) xs
+    ∙ ap (λ (m : ℕ). drop m xs) (sym (length-append front plane)) in
     ap (λ (z : List Float). sets all a z) only
     ∙ sets-eq plane all a (omega (arith, p, h, long))
     ∙ ap (λ (z : List Float). z ++ plane ++ drop (a + length plane) all) (take-at front rest a f)
