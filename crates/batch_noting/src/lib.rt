@@ -67,7 +67,7 @@ fn put_bytes(kept: &mut [u8], at: usize, bytes: [u8; 8])
     kept[at + 7] = bytes[7];
 }
 
-pub fn put_kept(keeps: bool, kept: &mut [u8], i: usize, after: Kept)
+fn put_kept(keeps: bool, kept: &mut [u8], i: usize, after: Kept)
     requires { ⌜ (keeps ≡ true → (i + 1) * 8 ≤ length (now kept)) ⌝ }
     ensures { λ _. ⌜ now (kept .exit) ≡ keptOver keeps (now (kept .entry)) i after ⌝ }
 {
@@ -93,31 +93,43 @@ fn code_of(decision: Decision) -> usize
     decide::code_of(decision) as usize
 }
 
-fn put_five(told: &mut [usize], at: usize, a: usize, b: usize, c: usize, d: usize, e: usize)
-    requires { ⌜ at + 5 ≤ length (now told) ⌝ }
-    ensures { λ _. ⌜ now (told .exit) ≡ sets (now (told .entry)) at (a ∷ b ∷ c ∷ d ∷ e ∷ []) ⌝ }
+fn put_six(
+    told: &mut [usize],
+    at: usize,
+    a: usize,
+    b: usize,
+    c: usize,
+    d: usize,
+    e: usize,
+    f: usize,
+)
+    requires { ⌜ at + 6 ≤ length (now told) ⌝ }
+    ensures { λ _. ⌜ now (told .exit) ≡ sets (now (told .entry)) at (a ∷ b ∷ c ∷ d ∷ e ∷ f ∷ []) ⌝ }
 {
     told[at] = a;
     told[at + 1] = b;
     told[at + 2] = c;
     told[at + 3] = d;
     told[at + 4] = e;
+    told[at + 5] = f;
 }
 
-pub fn put_told(told: &mut [usize], i: usize, done: TileDone, shown: usize)
-    requires { ⌜ (i + 1) * 5 ≤ length (now told) ⌝ }
-    ensures { λ _. ⌜ now (told .exit) ≡ sets (now (told .entry)) (i * 5) (tileNumbers (tileAnswerIn done) shown) ⌝ }
+fn put_told(told: &mut [usize], i: usize, done: TileDone, shown: usize, carried: usize)
+    requires { ⌜ (i + 1) * 6 ≤ length (now told) ⌝ }
+    ensures { λ _. ⌜ now (told .exit)
+        ≡ sets (now (told .entry)) (i * 6) (tileNumbers (tileAnswerIn done) shown carried) ⌝ }
 {
     let decision = done.decision;
     let skipped = done.skipped;
-    put_five(
+    put_six(
         told,
-        i * 5,
+        i * 6,
         code_of(decision),
         before_of(decision),
         done.listed,
         skipped.0,
         shown,
+        carried,
     );
 }
 
@@ -131,7 +143,7 @@ fn put_four(bottoms: &mut [f32], at: usize, r: f32, g: f32, b: f32, a: f32)
     bottoms[at + 3] = a;
 }
 
-pub fn put_bottom(bottoms: &mut [f32], i: usize, decision: Decision)
+fn put_bottom(bottoms: &mut [f32], i: usize, decision: Decision)
     requires { ⌜ (i + 1) * 4 ≤ length (now bottoms) ⌝ }
     ensures { λ _. ⌜ now (bottoms .exit) ≡ bottomsOver (decisionIn decision) i (now (bottoms .entry)) ⌝ }
 {
@@ -151,4 +163,113 @@ pub fn put_words(painted: &mut [u32], at: usize, id: u32, mark: u32)
 {
     painted[at] = id;
     painted[at + 1] = mark;
+}
+
+// What is noted of the tile of number i, beside its layers.
+pub fn put_tile(
+    keeps: bool,
+    i: usize,
+    done: TileDone,
+    after: Kept,
+    shown: usize,
+    carried: usize,
+    kept: &mut [u8],
+    told: &mut [usize],
+    bottoms: &mut [f32],
+)
+    requires { ⌜ NoteRoom keeps i (now kept) (now told) (now bottoms) ⌝ }
+    ensures { λ _. ⌜ now (kept .exit) ≡ keptOver keeps (now (kept .entry)) i after ⌝ }
+    ensures { λ _. ⌜ now (told .exit)
+        ≡ sets (now (told .entry)) (i * 6) (tileNumbers (tileAnswerIn done) shown carried) ⌝ }
+    ensures { λ _. ⌜ now (bottoms .exit) ≡ bottomsOver (decisionIn (done .decision)) i (now (bottoms .entry)) ⌝ }
+{
+    let decision = done.decision;
+    put_kept(keeps, kept, i, after);
+    put_told(told, i, done, shown, carried);
+    put_bottom(bottoms, i, decision);
+}
+
+// How many of the shown layers to come lie before those to mix, and how many planes are used.
+pub struct Mixing {
+    pub before: usize,
+    pub used: usize,
+}
+
+// The next listed layer: where it is shown and does not lie before those to mix, its id and mark 0 are noted, as of a
+// painted layer; its plane is left as it was.
+fn mix_entry(unmasked: bool, id: u32, at: Mixing, painted: &mut [u32]) -> Mixing
+    requires { ⌜ (at .used + 1) * 2 ≤ length (now painted) ⌝ }
+    ensures { λ r. ⌜ EntryMixed unmasked id at (now (painted .entry)) r (now (painted .exit)) ⌝ }
+{
+    if !unmasked {
+        return at;
+    }
+    if 0 < at.before {
+        return Mixing {
+            before: at.before - 1,
+            used: at.used,
+        };
+    }
+    let words = at.used * 2;
+    put_words(painted, words, id, 0);
+    Mixing {
+        before: 0,
+        used: at.used + 1,
+    }
+}
+
+// The layers of a solid tile that are mixed over its bottom colour: the shown ones but for the first so many.
+fn mix_listed(
+    list_ids: &[u32],
+    list_unmasked: &[bool],
+    skipped: usize,
+    listed: usize,
+    before: usize,
+    used: usize,
+    painted: &mut [u32],
+) -> usize
+    requires { ⌜ MixRoom (now «list_ids») (now «list_unmasked») skipped listed used (now painted) ⌝ }
+    ensures { λ r. ⌜ AllMixed (now («list_ids» .entry)) (now («list_unmasked» .entry)) skipped listed before used
+        (now (painted .entry)) r (now (painted .exit)) ⌝ }
+{
+    let mut at = Mixing {
+        before: before,
+        used: used,
+    };
+    let mut i = skipped;
+    while i < listed {
+        at = mix_entry(list_unmasked[i], list_ids[i], at, painted);
+        i += 1;
+    }
+    at.used
+}
+
+// Notes the layers that a tile mixes. How many planes are used then.
+pub fn put_mixed(
+    decision: Decision,
+    list_ids: &[u32],
+    list_unmasked: &[bool],
+    skipped: usize,
+    listed: usize,
+    used: usize,
+    painted: &mut [u32],
+) -> usize
+    requires { ⌜ MixRoom (now «list_ids») (now «list_unmasked») skipped listed used (now painted) ⌝ }
+    ensures { λ r. ⌜ record { used = r; painted = now (painted .exit) }
+        ≡ mixesFrom (record { used = used; painted = now (painted .entry) })
+        (mixedOf (decisionIn decision) (shownIn skipped (take listed (now («list_unmasked» .entry))) (take listed (now («list_ids» .entry))))) ⌝ }
+{
+    match decision {
+        Decision::None => used,
+        Decision::Solid(_, before) => mix_listed(
+            list_ids,
+            list_unmasked,
+            skipped,
+            listed,
+            before,
+            used,
+            painted,
+        ),
+        Decision::Paint => used,
+    }
 }

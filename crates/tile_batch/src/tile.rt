@@ -1,10 +1,8 @@
 // One tile of a batch: judged by what the tile itself can be refused for, worked, noted, and its shown layers painted.
-use crate::tile_judging;
-use batch_statements::Batch;
+use batch_steps::Standing;
 use cached_tile::kept::Kept;
 use layer_workbench::PreviousClear;
 use refusals::Refusal;
-use refusals::Verdict;
 use row_driver::tile::is_paint;
 use row_statements::TileDone;
 use row_statements::TileWorked;
@@ -28,28 +26,9 @@ ghost use Rattle.batch_painting.specs.InnerShown.{PlaneRoom};
 ghost use Rattle.tile_batch.specs.InnerTurns.{batchIn, walkPast, NotesTile, NoteRoom};
 ghost use Rattle.tile_batch.specs.InnerTurns.{Turnable, HereWorkable, GivesPartTurn, GivesPartBatch};
 
-fn refused(at: Batch, refusal: Refusal) -> Batch
-    ensures { λ r. ⌜ r ≡ record {
-      state = at .state;
-      worked = at .worked;
-      used = at .used;
-      first = at .first;
-      verdict = verdict.Refuse refusal;
-    } ⌝ }
-{
-    let state = at.state;
-    Batch {
-        state: state,
-        worked: at.worked,
-        used: at.used,
-        first: at.first,
-        verdict: Verdict::Refuse(refusal),
-    }
-}
-
 // Paints the shown layers of a tile that is accepted, and notes the tile.
 fn note_tile(
-    at: Batch,
+    at: Standing,
     worked: TileWorked,
     done: TileDone,
     n: usize,
@@ -60,13 +39,14 @@ fn note_tile(
     keeps: bool,
     ids: &[u32],
     covers: &[i8],
+    list_ids: &[u32],
     list_unmasked: &[bool],
     kept: &mut [u8],
     told: &mut [usize],
     bottoms: &mut [f32],
     planes: &mut [f32],
     painted: &mut [u32],
-) -> Batch
+) -> Standing
     requires { ⌜ Painter n (now ids) (now covers) (now part) (now layers) (now colors) count
         × Walkable (tableOf (now layers) (now colors) count) (queueOf n (now ids) (now covers)) (now part)
         (now «list_unmasked») (done .skipped .0) (done .listed)
@@ -84,8 +64,6 @@ fn note_tile(
     let tile = worked.kept;
     let decision = done.decision;
     let skipped = done.skipped;
-    let i = at.worked;
-    let next = i + 1;
     let made = batch_painting::paint_shown(
         is_paint(decision),
         ids,
@@ -103,28 +81,39 @@ fn note_tile(
         planes,
         painted,
     );
-    batch_noting::put_kept(keeps, kept, i, tile);
-    batch_noting::put_told(told, i, done, made.shown);
-    batch_noting::put_bottom(bottoms, i, decision);
+    let used = batch_noting::put_mixed(
+        decision,
+        list_ids,
+        list_unmasked,
+        skipped.0,
+        done.listed,
+        made.used,
+        painted,
+    );
+    batch_noting::put_tile(
+        keeps,
+        at.worked,
+        done,
+        tile,
+        made.shown,
+        after.left,
+        kept,
+        told,
+        bottoms,
+    );
     let state = made.state;
-    Batch {
-        state: state,
-        worked: next,
-        used: made.used,
-        first: !at.first,
-        verdict: Verdict::Pass,
-    }
+    batch_steps::past(at, state, used)
 }
 
-// Works a tile that neither 2 nor 6 refuses.
+// Works the next tile, whose segments are lent: judged by 6 to 9, and then noted. Its carries come in by the first of
+// the two queues and go out by the second.
 fn work_here(
-    at: Batch,
+    at: Standing,
     part: &[u64],
     layers: &[u32],
     colors: &[f32],
     count: usize,
     keeps: bool,
-    held: Kept,
     clear: Color,
     previous: PreviousClear,
     ids: &[u32],
@@ -141,11 +130,11 @@ fn work_here(
     planes: &mut [f32],
     painted: &mut [u32],
     sums: &mut [i8; 4096],
-) -> Batch
-    requires { ⌜ HereWorkable (batchRow (now part) (lentTable (now layers) (now colors) count) keeps clear previous)
+) -> Standing
+    requires { ⌜ Turnable (batchRow (now part) (lentTable (now layers) (now colors) count) keeps clear previous)
         (batchIn at (batchLent (columns (now ids) (now covers)) (columns (now «next_ids») (now «next_covers»))
         (now kept) (now told) (now bottoms) (now planes) (now painted)))
-        (listColumns (now «list_ids») (now «list_covers») (now «list_flags») (now «list_unmasked»)) held ⌝ }
+        (listColumns (now «list_ids») (now «list_covers») (now «list_flags») (now «list_unmasked»)) ⌝ }
     ensures { λ r. ⌜ GivesPartTurn (at .first)
         (batchRow (now (part .entry)) (lentTable (now (layers .entry)) (now (colors .entry)) count)
         keeps clear previous)
@@ -159,6 +148,10 @@ fn work_here(
         (now (kept .exit)) (now (told .exit)) (now (bottoms .exit)) (now (planes .exit)) (now (painted .exit))) ⌝ }
 {
     let state = at.state;
+    let held = batch_noting::kept_at(keeps, kept, at.worked);
+    if held.is_tag_out_of_range() {
+        return batch_steps::refused(at, Refusal::Tag);
+    }
     let worked = row_working::work_part(
         state,
         part,
@@ -180,7 +173,7 @@ fn work_here(
     );
     let answer = worked.answer;
     match answer {
-        WorkAnswer::Refused(refusal) => refused(at, refusal),
+        WorkAnswer::Refused(refusal) => batch_steps::refused(at, refusal),
         WorkAnswer::Done(done) => note_tile(
             at,
             worked,
@@ -193,93 +186,20 @@ fn work_here(
             keeps,
             ids,
             covers,
-            list_unmasked,
-            kept,
-            told,
-            bottoms,
-            planes,
-            painted,
-        ),
-    }
-}
-
-// Works the next tile, whose segments are lent. Its carries come in by the first of the two queues and go out by the
-// second.
-fn work_next(
-    at: Batch,
-    part: &[u64],
-    layers: &[u32],
-    colors: &[f32],
-    count: usize,
-    keeps: bool,
-    clear: Color,
-    previous: PreviousClear,
-    ids: &[u32],
-    covers: &[i8],
-    next_ids: &mut [u32],
-    next_covers: &mut [i8],
-    list_ids: &mut [u32],
-    list_covers: &mut [i8],
-    list_flags: &mut [bool],
-    list_unmasked: &mut [bool],
-    kept: &mut [u8],
-    told: &mut [usize],
-    bottoms: &mut [f32],
-    planes: &mut [f32],
-    painted: &mut [u32],
-    sums: &mut [i8; 4096],
-) -> Batch
-    requires { ⌜ Turnable (batchRow (now part) (lentTable (now layers) (now colors) count) keeps clear previous)
-        (batchIn at (batchLent (columns (now ids) (now covers)) (columns (now «next_ids») (now «next_covers»))
-        (now kept) (now told) (now bottoms) (now planes) (now painted)))
-        (listColumns (now «list_ids») (now «list_covers») (now «list_flags») (now «list_unmasked»)) ⌝ }
-    ensures { λ r. ⌜ GivesPartTurn (at .first)
-        (batchRow (now (part .entry)) (lentTable (now (layers .entry)) (now (colors .entry)) count)
-        keeps clear previous)
-        (batchIn at (batchLent (columns (now (ids .entry)) (now (covers .entry)))
-        (columns (now («next_ids» .entry)) (now («next_covers» .entry)))
-        (now (kept .entry)) (now (told .entry)) (now (bottoms .entry)) (now (planes .entry))
-        (now (painted .entry))))
-        r
-        (batchLent (columns (now (ids .entry)) (now (covers .entry)))
-        (columns (now («next_ids» .exit)) (now («next_covers» .exit)))
-        (now (kept .exit)) (now (told .exit)) (now (bottoms .exit)) (now (planes .exit)) (now (painted .exit))) ⌝ }
-{
-    let state = at.state;
-    let held = batch_noting::kept_at(keeps, kept, at.worked);
-    match tile_judging::judge_next(state, held) {
-        Verdict::Refuse(refusal) => refused(at, refusal),
-        Verdict::Pass => work_here(
-            at,
-            part,
-            layers,
-            colors,
-            count,
-            keeps,
-            held,
-            clear,
-            previous,
-            ids,
-            covers,
-            next_ids,
-            next_covers,
             list_ids,
-            list_covers,
-            list_flags,
             list_unmasked,
             kept,
             told,
             bottoms,
             planes,
             painted,
-            sums,
         ),
     }
 }
 
 // Works the next tile from the queue that holds the carries, and writes the other.
 pub fn turn(
-    at: Batch,
+    at: Standing,
     part: &[u64],
     layers: &[u32],
     colors: &[f32],
@@ -301,7 +221,7 @@ pub fn turn(
     planes: &mut [f32],
     painted: &mut [u32],
     sums: &mut [i8; 4096],
-) -> Batch
+) -> Standing
     requires { ⌜ Turnable (batchRow (now part) (lentTable (now layers) (now colors) count) keeps clear previous)
         (batchIn at (sided (at .first)
         (batchLent (columns (now «a_ids») (now «a_covers»)) (columns (now «b_ids») (now «b_covers»))
@@ -321,7 +241,7 @@ pub fn turn(
         (now (kept .exit)) (now (told .exit)) (now (bottoms .exit)) (now (planes .exit)) (now (painted .exit))) ⌝ }
 {
     if at.first {
-        work_next(
+        work_here(
             at,
             part,
             layers,
@@ -346,7 +266,7 @@ pub fn turn(
             sums,
         )
     } else {
-        work_next(
+        work_here(
             at,
             part,
             layers,
