@@ -15,6 +15,7 @@ ghost use Rattle.ffi_numbers.specs.Cached.{keptOf};
 ghost use Rattle.pass_statements.specs.Decision.{codeOf, decisionIn};
 ghost use Rattle.row_statements.specs.TileWork.{tileAnswerIn};
 ghost use Rattle.batch_statements.specs.BatchLent.{keptAt, keptOver, beforeOf, tileNumbers, bottomsOver};
+ghost use Rattle.batch_noting.specs.InnerNoting.{NoteRoom};
 
 // The eight bytes of a tile.
 fn tile_from(bytes: &[u8]) -> Kept
@@ -187,89 +188,4 @@ pub fn put_tile(
     put_kept(keeps, kept, i, after);
     put_told(told, i, done, shown, carried);
     put_bottom(bottoms, i, decision);
-}
-
-// How many of the shown layers to come lie before those to mix, and how many planes are used.
-pub struct Mixing {
-    pub before: usize,
-    pub used: usize,
-}
-
-// The next listed layer: where it is shown and does not lie before those to mix, its id and mark 0 are noted, as of a
-// painted layer; its plane is left as it was.
-fn mix_entry(unmasked: bool, id: u32, at: Mixing, painted: &mut [u32]) -> Mixing
-    requires { ⌜ (at .used + 1) * 2 ≤ length (now painted) ⌝ }
-    ensures { λ r. ⌜ EntryMixed unmasked id at (now (painted .entry)) r (now (painted .exit)) ⌝ }
-{
-    if !unmasked {
-        return at;
-    }
-    if 0 < at.before {
-        return Mixing {
-            before: at.before - 1,
-            used: at.used,
-        };
-    }
-    let words = at.used * 2;
-    put_words(painted, words, id, 0);
-    Mixing {
-        before: 0,
-        used: at.used + 1,
-    }
-}
-
-// The layers of a solid tile that are mixed over its bottom colour: the shown ones but for the first so many.
-fn mix_listed(
-    list_ids: &[u32],
-    list_unmasked: &[bool],
-    skipped: usize,
-    listed: usize,
-    before: usize,
-    used: usize,
-    painted: &mut [u32],
-) -> usize
-    requires { ⌜ MixRoom (now «list_ids») (now «list_unmasked») skipped listed used (now painted) ⌝ }
-    ensures { λ r. ⌜ AllMixed (now («list_ids» .entry)) (now («list_unmasked» .entry)) skipped listed before used
-        (now (painted .entry)) r (now (painted .exit)) ⌝ }
-{
-    let mut at = Mixing {
-        before: before,
-        used: used,
-    };
-    let mut i = skipped;
-    while i < listed {
-        at = mix_entry(list_unmasked[i], list_ids[i], at, painted);
-        i += 1;
-    }
-    at.used
-}
-
-// Notes the layers that a tile mixes. How many planes are used then.
-pub fn put_mixed(
-    decision: Decision,
-    list_ids: &[u32],
-    list_unmasked: &[bool],
-    skipped: usize,
-    listed: usize,
-    used: usize,
-    painted: &mut [u32],
-) -> usize
-    requires { ⌜ MixRoom (now «list_ids») (now «list_unmasked») skipped listed used (now painted) ⌝ }
-    ensures { λ r. ⌜ record { used = r; painted = now (painted .exit) }
-        ≡ mixesFrom (record { used = used; painted = now (painted .entry) })
-        (mixedOf (decisionIn decision) (shownIn skipped (take listed (now («list_unmasked» .entry))) (take listed (now («list_ids» .entry))))) ⌝ }
-{
-    match decision {
-        Decision::None => used,
-        Decision::Solid(_, before) => mix_listed(
-            list_ids,
-            list_unmasked,
-            skipped,
-            listed,
-            before,
-            used,
-            painted,
-        ),
-        Decision::Paint => used,
-    }
 }

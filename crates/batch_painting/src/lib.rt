@@ -167,7 +167,7 @@ fn paint_listed(
     requires { ⌜ Painter n (now ids) (now covers) (now part) (now layers) (now colors) count
         × Walkable (tableOf (now layers) (now colors) count) (queueOf n (now ids) (now covers)) (now part)
         (now «list_unmasked») skipped listed
-        × PlaneRoom used 256 (now planes) (now painted) ⌝ }
+        × PlaneRoom used listed (now planes) (now painted) ⌝ }
     ensures { λ r. ⌜ AllPainted (tableOf (now (layers .entry)) (now (colors .entry)) count)
         (queueOf n (now (ids .entry)) (now (covers .entry))) (now (part .entry))
         (shownIn skipped (take listed (now («list_unmasked» .entry)))
@@ -221,7 +221,7 @@ pub fn paint_shown(
     requires { ⌜ Painter n (now ids) (now covers) (now part) (now layers) (now colors) count
         × Walkable (tableOf (now layers) (now colors) count) (queueOf n (now ids) (now covers)) (now part)
         (now «list_unmasked») skipped listed
-        × PlaneRoom used 256 (now planes) (now painted) × (clipIn (state .clip) ≡ none) ⌝ }
+        × PlaneRoom used listed (now planes) (now painted) × (clipIn (state .clip) ≡ none) ⌝ }
     ensures { λ r. ⌜ walkAt r (now (planes .exit)) (now (painted .exit))
         ≡ walkFrom paints (tableOf (now (layers .entry)) (now (colors .entry)) count)
         (queueOf n (now (ids .entry)) (now (covers .entry))) (now (part .entry))

@@ -1,2 +1,4 @@
 -- Laws of batches.
 pub mod ShownFew
+pub mod ListedFew
+pub mod Refused

@@ -1,29 +1,34 @@
--- A batch of tiles as a public operation: judged once by 1 to 5, then the succession of the calls on tile after tile, as many as are asked for while 256
--- planes are free: the work on the tile, and where it is decided 'paint' the painting of each shown layer, ascending, each into the next plane. A tile
--- that is turned down ends the batch; what the tiles before it left stands, and nothing else is written. Every tile is told by what the public
--- operations give (`workOf`, `paintOf`), each called with what the one before it left.
+-- A batch of tiles as a public operation: the succession of the calls on tile after tile, as many as are asked for, while the row has tiles and there is
+-- room: the work on the tile, and where it is decided 'paint' the painting of each shown layer, ascending, each into the next plane; where it is solid the
+-- layers that it mixes are noted. Every tile is told by what the public operations give (`workOf`, `paintOf`), each called with what the one before it left,
+-- so that a batch has no verdict of its own: it is refused where its first tile is, by that number, and nothing is worked or written then; else it is accepted,
+-- and tells why it ended. Where it calls nothing (no tile is asked for, none is left, or there is no room for one), it judges nothing.
 use mathlib.Core.Path.{_≡_}
 use mathlib.Core.Bool.{Bool, true, false, not, cond}
 use mathlib.Core.List.{List, [], _∷_}
 use Prim.Native.Nat.{ℕ, zero, suc, _+_, _*_}
-use lib.Dec.{ltb}
+use lib.Dec.{leb}
 use lib.Ieee.{Float}
 use lib.IntN.{ℤ, pos}
 use lib.ListN.{length, replicate}
 use lib.Seq.{sets}
 use Rattle.laws.specs.Answer.{Answer, refused, given}
 use Rattle.laws.specs.Integer.{plus}
-use Rattle.refusals.specs.Refusal.{Judgement, pass, refuse, judgementIn}
+use Rattle.refusals.specs.Refusal.{Judgement, pass, refuse, numberOf}
 use Rattle.styling.specs.declared.Color.{Color}
 use Rattle.layer_workbench.specs.declared.PreviousClear.{PreviousClear}
 use Rattle.row_statements.specs.Lent.{Columns, ListColumns, LentTable}
-use Rattle.row_statements.specs.State.{State, stateIn, isWrongNext}
-use Rattle.row_statements.specs.Conditions.{firstFive}
+use Rattle.row_statements.specs.State.{State, stateIn}
 use Rattle.row_statements.specs.TileWork.{WorkCall, WorkGiven, TileAnswer, workCall, workLent, workOf}
 use Rattle.row_statements.specs.Painting.{PaintGiven, paintCall, paintOf}
 use Rattle.row_lines.specs.Calls.{shownBy, paintedBy}
-use Rattle.batch_statements.specs.BatchLent.{BatchLent, sided, planesIn, isBatchShort, keptAt, keptOver, tileNumbers, bottomsOver, planeAt}
+use Rattle.batch_statements.specs.BatchLent.{BatchLent, sided, roomIn, hasRoom, keptAt, keptOver, tileNumbers, bottomsOver, planeAt, mixedOf, wordsAt, mixesFrom}
 use Rattle.batch_statements.specs.declared.Batch as batch
+use Rattle.batch_statements.specs.declared.BatchAnswer as answer
+use Rattle.batch_statements.specs.declared.BatchAnswer.the-variants as batch-answer
+use Rattle.batch_statements.specs.declared.End as end
+use Rattle.batch_statements.specs.declared.End.the-variants as batch-end
+use Rattle.batch_statements.specs.declared.Room as room
 
 -- what all tiles of a batch share; `keeps` says whether cached tiles are lent
 pub record BatchRow : Type 0 where
@@ -46,10 +51,19 @@ pub record BatchAt : Type 0 where
   pub used : ℕ
   pub lent : BatchLent
 
--- how it ended
+-- why it ended: all tiles that were asked for are worked, the row has no more, there is no room for a further one, or the next one would be refused
+pub data BatchEnd : Type 0 where
+  asked : BatchEnd
+  rowEnd : BatchEnd
+  noRoom : BatchEnd
+  nextRefused : (number : ℕ) → BatchEnd
+
 pub record BatchGiven : Type 0 where
   pub at : BatchAt
-  pub end : Judgement
+  pub end : BatchEnd
+
+abbrev pub endedAt : BatchAt → BatchEnd → BatchGiven
+endedAt s e = record { at = s; end = e }
 
 -- ---- the shown layers of a tile, painted one after the other
 
@@ -59,7 +73,7 @@ pub record PlanesAt : Type 0 where
   pub planes : List Float
   pub painted : List ℕ
 
--- after the painting of a layer: the next plane, its layer id and its mark. None is refused (proofs/Paintings)
+-- after the painting of a layer: the next plane, its layer id and its mark. None is refused (tile_batch/proofs/Paintings)
 abbrev pub paintedPast : Answer ℕ → ℕ → PaintGiven → PlanesAt → PlanesAt
 paintedPast (refused number) id g p = p
 paintedPast (given mark) id g p =
@@ -91,10 +105,16 @@ module _ (c : BatchRow) where
   abbrev pub workAt : BatchAt → WorkGiven
   workAt s = workOf (callAt s) (workLent (s .lent .other) ownList)
 
-  -- the planes of its shown layers
+  -- its shown layers painted, those that it mixes noted
+  abbrev pub paintsPast : BatchAt → TileAnswer → WorkGiven → PlanesAt
+  paintsPast s t g =
+      paintsFrom (s .tile) (s .lent .queue) (record { state = g .state; used = s .used; planes = s .lent .planes; painted = s .lent .painted }) (paintedBy t (g .lent))
+
   abbrev pub planesPast : BatchAt → TileAnswer → WorkGiven → PlanesAt
   planesPast s t g =
-      paintsFrom (s .tile) (s .lent .queue) (record { state = g .state; used = s .used; planes = s .lent .planes; painted = s .lent .painted }) (paintedBy t (g .lent))
+      let p = paintsPast s t g in
+      let w = mixesFrom (wordsAt (p .used) (p .painted)) (mixedOf (t .decision) (shownBy t (g .lent))) in
+      record { state = p .state; used = w .used; planes = p .planes; painted = w .painted }
 
   -- after an accepted work and its paintings: the other queue holds the carries now
   abbrev pub lentPast : BatchAt → TileAnswer → WorkGiven → PlanesAt → BatchLent
@@ -103,7 +123,7 @@ module _ (c : BatchRow) where
         queue = g .lent .queue;
         other = s .lent .queue;
         kept = keptOver (c .keeps) (s .lent .kept) (s .worked) (g .kept);
-        told = sets (s .lent .told) (s .worked * 5) (tileNumbers t (length (shownBy t (g .lent))));
+        told = sets (s .lent .told) (s .worked * 6) (tileNumbers t (length (shownBy t (g .lent))) (g .state .left));
         bottoms = bottomsOver (t .decision) (s .worked) (s .lent .bottoms);
         planes = p .planes;
         painted = p .painted;
@@ -114,25 +134,30 @@ module _ (c : BatchRow) where
       let p = planesPast s t g in
       record { state = p .state; tile = pos (plus (s .tile) + 1); first = not (s .first); worked = s .worked + 1; used = p .used; lent = lentPast s t g p }
 
-  abbrev pub turnBy : Answer TileAnswer → BatchAt → WorkGiven → BatchGiven
-  turnBy (refused number) s g = record { at = s; end = refuse number }
-  turnBy (given t) s g = record { at = tilePast s t g; end = pass }
+  -- where it stands then, and a pass, or the number by which the work is refused
+  pub record TurnGiven : Type 0 where
+    pub at : BatchAt
+    pub verdict : Judgement
 
-  unfoldable pub turnOf : BatchAt → BatchGiven
+  abbrev pub turnBy : Answer TileAnswer → BatchAt → WorkGiven → TurnGiven
+  turnBy (refused number) s g = record { at = s; verdict = refuse number }
+  turnBy (given t) s g = record { at = tilePast s t g; verdict = pass }
+
+  unfoldable pub turnOf : BatchAt → TurnGiven
   turnOf s = turnBy (workAt s .answer) s (workAt s)
 
-  -- ---- tile after tile, k that are left, while 256 of the planes are free
+  -- ---- tile after tile, k that are left, in the room that is lent
 
-  abbrev pub nextBy : Judgement → BatchGiven → BatchGiven → BatchGiven
-  nextBy (refuse number) here rest = here
-  nextBy pass here rest = rest
+  abbrev pub nextBy : Judgement → BatchAt → BatchGiven → BatchGiven
+  nextBy (refuse number) s rest = endedAt s (nextRefused number)
+  nextBy pass s rest = rest
 
-  unfoldable pub tilesFrom : ℕ → ℕ → BatchAt → BatchGiven
-  tilesFrom planes zero s = record { at = s; end = pass }
-  tilesFrom planes (suc k) s =
-      cond (ltb planes (s .used + 256))
-      (record { at = s; end = pass })
-      (nextBy (turnOf s .end) (turnOf s) (tilesFrom planes k (turnOf s .at)))
+  unfoldable pub tilesFrom : room.Room → ℕ → BatchAt → BatchGiven
+  tilesFrom r zero s = endedAt s asked
+  tilesFrom r (suc k) s =
+      cond (leb (s .state .to) (s .state .next))
+      (endedAt s rowEnd)
+      (cond (hasRoom r (s .worked) (s .used)) (nextBy (turnOf s .verdict) s (tilesFrom r k (turnOf s .at))) (endedAt s noRoom))
 
 -- ---- the batch
 
@@ -146,28 +171,52 @@ pub record BatchCall : Type 0 where
 abbrev pub batchCall : State → ℤ → ℕ → BatchRow → BatchCall
 batchCall state tile tiles over = record { state = state; tile = tile; tiles = tiles; over = over }
 
--- the lowest of 1 to 5 that applies to the first tile, also where no tile is asked for
-unfoldable pub batchVerdict : BatchCall → BatchLent → Judgement
-batchVerdict c m =
-    firstFive (isBatchShort (c .over .keeps) (c .tiles) (c .over .table) m) (isWrongNext (c .state) (c .tile)) (c .state .tileY) (c .over .row) (c .over .table) (c .state .left) (m .queue .ids)
-    pass
-
 abbrev pub batchStart : BatchCall → BatchLent → BatchAt
 batchStart c m = record { state = c .state; tile = c .tile; first = true; worked = 0; used = 0; lent = m }
 
-abbrev pub batchBy : Judgement → BatchCall → BatchLent → BatchGiven
-batchBy (refuse number) c m = record { at = batchStart c m; end = refuse number }
-batchBy pass c m = tilesFrom (c .over) (planesIn m) (c .tiles) (batchStart c m)
-
 unfoldable pub batchOf : BatchCall → BatchLent → BatchGiven
-batchOf c m = batchBy (batchVerdict c m) c m
+batchOf c m = tilesFrom (c .over) (roomIn (c .over .keeps) (c .over .table .count) m) (c .tiles) (batchStart c m)
+
+-- what it answers: where no tile is worked and the first one is refused, that refusal; else why it ended
+abbrev pub refusedAt : ℕ → ℕ → Answer BatchEnd
+refusedAt zero number = refused number
+refusedAt (suc worked) number = given (nextRefused number)
+
+abbrev pub answerOf : ℕ → BatchEnd → Answer BatchEnd
+answerOf worked asked = given asked
+answerOf worked rowEnd = given rowEnd
+answerOf worked noRoom = given noRoom
+answerOf worked (nextRefused number) = refusedAt worked number
+
+abbrev pub batchAnswer : BatchGiven → Answer BatchEnd
+batchAnswer g = answerOf (g .at .worked) (g .end)
 
 -- ---- the promise: the answer, and the lent memory as it lies
+
+-- the cases of the code's answer
+abbrev pub endIn : end.End → BatchEnd
+endIn batch-end.Asked = asked
+endIn batch-end.RowEnd = rowEnd
+endIn batch-end.NoRoom = noRoom
+endIn (batch-end.NextRefused r) = nextRefused (numberOf r)
+
+abbrev pub answerIn : answer.BatchAnswer → Answer BatchEnd
+answerIn (batch-answer.Refused r) = refused (numberOf r)
+answerIn (batch-answer.Ended e) = given (endIn e)
 
 pub record GivesBatch (g : BatchGiven) (r : batch.Batch) (back : BatchLent) : Type 0 where
   pub state : stateIn (r .state) ≡ g .at .state
   pub worked : r .worked ≡ g .at .worked
   pub used : r .used ≡ g .at .used
   pub first : r .first ≡ g .at .first
-  pub end : judgementIn (r .verdict) ≡ g .end
+  pub answer : answerIn (r .answer) ≡ batchAnswer g
   pub lent-is : back ≡ sided (g .at .first) (g .at .lent)
+
+-- ---- demand 1, as a law over the definition (proofs/Refused): a refused batch leaves the state and every lent slice as they were, and its number is that by
+-- which the first tile's own call is refused
+
+abbrev pub BatchRefused : Type 0
+BatchRefused =
+    (c : BatchCall) (m : BatchLent) (number : ℕ) →
+    batchAnswer (batchOf c m) ≡ refused number →
+    (batchOf c m .at ≡ batchStart c m) × (workAt (c .over) (batchStart c m) .answer ≡ refused number)

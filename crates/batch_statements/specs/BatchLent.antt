@@ -1,10 +1,10 @@
--- The memory that a batch is lent: two queues, and for each tile that is asked for the bytes of its cached tile, five numbers and a colour; for each
--- plane 256 coverages and two words. How the bytes of a tile, its numbers and a plane lie in it, and refusal 1. Stands for 'lent arrays with counts'
--- and for condition 1 of 'Turned down', of many tiles at once.
-use mathlib.Core.Bool.{Bool, true, false, cond, _&&_, _||_}
+-- The memory that a batch is lent: two queues, and for each tile the bytes of its cached tile, six numbers and a colour; for each plane 256 coverages
+-- and two words. How the bytes of a tile, its numbers and a plane lie in it, and whether there is room for a further tile. Stands for 'lent arrays with
+-- counts', of many tiles at once; that memory ends is no refusal.
+use mathlib.Core.Bool.{Bool, true, false, cond, _&&_}
 use mathlib.Core.List.{List, [], _∷_}
-use Prim.Native.Nat.{ℕ, _*_, _/_, min}
-use lib.Dec.{ltb}
+use Prim.Native.Nat.{ℕ, _+_, _*_, _/_, min}
+use lib.Dec.{ltb, leb}
 use lib.Ieee.{Float}
 use lib.ListN.{length, take, drop}
 use lib.Seq.{sets}
@@ -12,8 +12,9 @@ use Rattle.cached_tile.specs.Kept.{noTile}
 use Rattle.cached_tile.specs.declared.kept.Kept as kept
 use Rattle.ffi_numbers.specs.Cached.{keptOf, tileBytes}
 use Rattle.pass_statements.specs.Decision.{TileDecision, none, solid, paint, codeOf}
-use Rattle.row_statements.specs.Lent.{Columns, LentTable, isQueueShort, isLentShort}
+use Rattle.row_statements.specs.Lent.{Columns}
 use Rattle.row_statements.specs.TileWork.{TileAnswer}
+use Rattle.batch_statements.specs.declared.Room as room
 
 -- `queue` holds the carries, `other` is the one that the next tile writes
 pub record BatchLent : Type 0 where
@@ -34,18 +35,25 @@ abbrev pub sided : Bool → BatchLent → BatchLent
 sided true m = m
 sided false m = record { queue = m .other; other = m .queue; kept = m .kept; told = m .told; bottoms = m .bottoms; planes = m .planes; painted = m .painted }
 
--- how many planes there are: 256 coverages and two words each
-abbrev pub planesIn : BatchLent → ℕ
-planesIn m = min (length (m .planes) / 256) (length (m .painted) / 2)
+-- ---- room
 
--- 1: a queue below 256 entries, a table shorter than its count, fewer than 256 planes, or a thing of the tiles too short for those that are asked for;
--- `keeps` says whether cached tiles are lent
-abbrev pub isBatchShort : Bool → ℕ → LentTable → BatchLent → Bool
-isBatchShort keeps tiles table m =
-    isQueueShort (m .queue) || isQueueShort (m .other) || isLentShort table || ltb (planesIn m) 256
-    || (keeps && ltb (length (m .kept) / 8) tiles)
-    || ltb (length (m .told) / 5) tiles
-    || ltb (length (m .bottoms) / 4) tiles
+-- by the lengths of the lent memory: how many tiles there is room for, cached tiles among it where `keeps` says that they are lent; how many planes, of 256
+-- coverages and two words each; and how many of these must be free before a tile: as many as it can list layers, at most 256 and at most the table's count
+-- (proofs/ListedFew)
+abbrev pub roomFor : Bool → ℕ → ℕ → ℕ → ℕ → ℕ → ℕ → room.Room
+roomFor keeps count kept told bottoms planes painted =
+    record {
+      tiles = cond keeps (min (kept / 8) (min (told / 6) (bottoms / 4))) (min (told / 6) (bottoms / 4));
+      planes = min (planes / 256) (painted / 2);
+      needed = min 256 count;
+    }
+
+abbrev pub roomIn : Bool → ℕ → BatchLent → room.Room
+roomIn keeps count m = roomFor keeps count (length (m .kept)) (length (m .told)) (length (m .bottoms)) (length (m .planes)) (length (m .painted))
+
+-- for a further tile, after so many are worked and so many planes are used
+abbrev pub hasRoom : room.Room → ℕ → ℕ → Bool
+hasRoom r worked used = ltb worked (r .tiles) && leb (used + r .needed) (r .planes)
 
 -- ---- the i-th tile of the batch
 
@@ -62,9 +70,9 @@ beforeOf none = 0
 beforeOf (solid bottom before) = before
 beforeOf paint = 0
 
--- its numbers: the decision and what lies before, how many layers are listed, skipped and shown
-abbrev pub tileNumbers : TileAnswer → ℕ → List ℕ
-tileNumbers t shown = codeOf (t .decision) ∷ beforeOf (t .decision) ∷ t .listed ∷ t .skipped ∷ shown ∷ []
+-- its numbers: the decision and what lies before, how many layers are listed, skipped and shown, how many carries are handed on
+abbrev pub tileNumbers : TileAnswer → ℕ → ℕ → List ℕ
+tileNumbers t shown carried = codeOf (t .decision) ∷ beforeOf (t .decision) ∷ t .listed ∷ t .skipped ∷ shown ∷ carried ∷ []
 
 -- the bottom colour of a solid tile; another leaves what was there
 abbrev pub bottomsOver : TileDecision → ℕ → List Float → List Float
@@ -76,3 +84,22 @@ bottomsOver paint i old = old
 
 abbrev pub planeAt : ℕ → List Float → List Float
 planeAt u planes = take 256 (drop (u * 256) planes)
+
+-- ---- the layers that a solid tile mixes over its bottom colour: the shown ones but for those that lie before
+
+abbrev pub mixedOf : TileDecision → List ℕ → List ℕ
+mixedOf none shown = []
+mixedOf (solid bottom before) shown = drop before shown
+mixedOf paint shown = []
+
+-- each takes the next plane's words, its id and mark 0; the plane is left as it was
+pub record WordsAt : Type 0 where
+  pub used : ℕ
+  pub painted : List ℕ
+
+abbrev pub wordsAt : ℕ → List ℕ → WordsAt
+wordsAt used painted = record { used = used; painted = painted }
+
+unfoldable pub mixesFrom : WordsAt → List ℕ → WordsAt
+mixesFrom w [] = w
+mixesFrom w (id ∷ ids) = mixesFrom (wordsAt (w .used + 1) (sets (w .painted) (w .used * 2) (id ∷ 0 ∷ []))) ids

@@ -8,12 +8,15 @@ use refusals::Refusal;
 use refusals::Verdict;
 use row_statements::RowState;
 ghost use mathlib.Core.Path.{_≡_};
-ghost use mathlib.Core.Bool.{not, cond};
-ghost use Prim.Native.Nat.{_+_, _/_, _≤_, min};
+ghost use mathlib.Core.Bool.{true, not, cond};
+ghost use Prim.Native.Nat.{_+_, _/_, _<_, _^_, min};
 ghost use lib.ListN.{length};
+ghost use Rattle.refusals.specs.Refusal.{judgementIn, numberOf};
 ghost use Rattle.refusals.specs.declared.Verdict.the-variants as verdict;
-ghost use Rattle.batch_statements.specs.BatchLent.{hasRoom, roomFor};
-ghost use Rattle.batch_steps.specs.InnerStanding.{goesOn, Ends};
+ghost use Rattle.row_statements.specs.State.{stateIn};
+ghost use Rattle.batch_statements.specs.BatchLent.{roomFor, hasRoom};
+ghost use Rattle.batch_statements.specs.Batch.{nextRefused, endIn, answerIn, answerOf};
+ghost use Rattle.batch_steps.specs.InnerStanding.{isPass, goesOn, endAt, endBy, Ends};
 
 // Where a batch stands between two tiles: the state, how many tiles are worked and planes used, whether the first of the
 // two queues holds the carries, and a pass, or why the next tile is refused.
@@ -173,7 +176,7 @@ pub fn refused(at: Standing, refusal: Refusal) -> Standing
 
 // Past a tile that is worked and painted: the other queue holds the carries.
 pub fn past(at: Standing, state: RowState, used: usize) -> Standing
-    requires { ⌜ at .worked + 1 ≤ 18446744073709551615 ⌝ }
+    requires { ⌜ at .worked + 1 < 2 ^ 64 ⌝ }
     ensures { λ r. ⌜ r ≡ record {
       state = state;
       worked = at .worked + 1;

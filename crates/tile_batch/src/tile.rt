@@ -81,7 +81,7 @@ fn note_tile(
         planes,
         painted,
     );
-    let used = batch_noting::put_mixed(
+    let used = batch_mixing::put_mixed(
         decision,
         list_ids,
         list_unmasked,

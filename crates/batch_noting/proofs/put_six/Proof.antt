@@ -1,12 +1,12 @@
--- `put_five` meets its contract. Assumes nothing.
+-- `put_six` meets its contract. Assumes nothing.
 use mathlib.Core.Path.{_≡_, _∙_}
 use Prim.Native.Nat.{suc, _+_, _<_}
 use native.Mathlib.Omega.{arith}
 use borrow.Author.Needs.{needs}
 use lib.ListN.{length, set, length-set}
 use Rattle.batch_noting.proofs.Stores.{below}
-use Rattle.batch_noting.proofs.put_five.Statement.{statement}
-use Rattle.batch_noting.proofs.put_five.Tie as tie
+use Rattle.batch_noting.proofs.put_six.Statement.{statement}
+use Rattle.batch_noting.proofs.put_six.Tie as tie
 
 mul-told : tie.Need-mul-told
 mul-told c = search needs
@@ -72,6 +72,24 @@ slice-write-told-5 c =
     let h : at + 4 < length l0 = omega (arith, c .pre) in
     below l3 (at + 3) (at + 4) (c .args .d) (below l2 (at + 2) (at + 4) (c .args .c) (below l1 (at + 1) (at + 4) (c .args .b) (below l0 at (at + 4) (c .args .a) h)))
 
+add-told-5 : tie.Need-add-told-5
+add-told-5 c = search needs
+
+mul-told-6 : tie.Need-mul-told-6
+mul-told-6 c = search needs
+
+slice-write-told-6 : tie.Need-slice-write-told-6
+slice-write-told-6 c =
+    let at = c .args .at in
+    let l0 = c .args .told .now in
+    let l1 = set l0 (at) (c .args .a) in
+    let l2 = set l1 (at + 1) (c .args .b) in
+    let l3 = set l2 (at + 2) (c .args .c) in
+    let l4 = set l3 (at + 3) (c .args .d) in
+    let h : at + 5 < length l0 = omega (arith, c .pre) in
+    let h3 = below l2 (at + 2) (at + 5) (c .args .c) (below l1 (at + 1) (at + 5) (c .args .b) (below l0 at (at + 5) (c .args .a) h)) in
+    below l4 (at + 4) (at + 5) (c .args .e) (below l3 (at + 3) (at + 5) (c .args .d) h3)
+
 same-length : tie.Need-same-length
 same-length c =
     let at = c .args .at in
@@ -81,7 +99,9 @@ same-length c =
     let l3 = set l2 (at + 2) (c .args .c) in
     let l4 = set l3 (at + 3) (c .args .d) in
     let l5 = set l4 (at + 4) (c .args .e) in
-    length-set l4 (at + 4) (c .args .e) ∙ length-set l3 (at + 3) (c .args .d) ∙ length-set l2 (at + 2) (c .args .c) ∙ length-set l1 (at + 1) (c .args .b) ∙ length-set l0 (at) (c .args .a)
+    let l6 = set l5 (at + 5) (c .args .f) in
+    length-set l5 (at + 5) (c .args .f)
+    ∙ length-set l4 (at + 4) (c .args .e) ∙ length-set l3 (at + 3) (c .args .d) ∙ length-set l2 (at + 2) (c .args .c) ∙ length-set l1 (at + 1) (c .args .b) ∙ length-set l0 (at) (c .args .a)
 
 returns : tie.Need-returns
 returns c =
@@ -90,10 +110,11 @@ returns c =
     let e2 : at + 2 ≡ suc (suc (at)) = omega arith in
     let e3 : at + 3 ≡ suc (suc (suc (at))) = omega arith in
     let e4 : at + 4 ≡ suc (suc (suc (suc (at)))) = omega arith in
-    rw (e1, e2, e3, e4)
+    let e5 : at + 5 ≡ suc (suc (suc (suc (suc (at))))) = omega arith in
+    rw (e1, e2, e3, e4, e5)
 
-pub put-five-spec : {M : Type 1} → statement M
-put-five-spec =
+pub put-six-spec : {M : Type 1} → statement M
+put-six-spec =
     tie.close
     (tie.spec
     mul-told
@@ -110,5 +131,8 @@ put-five-spec =
     add-told-4
     mul-told-5
     slice-write-told-5
+    add-told-5
+    mul-told-6
+    slice-write-told-6
     same-length
     returns)

@@ -1,0 +1,2 @@
+-- The layers that a solid tile mixes: what the contracts say.
+pub mod InnerMixing
