@@ -65,6 +65,11 @@ pub record BatchGiven : Type 0 where
 abbrev pub endedAt : BatchAt → BatchEnd → BatchGiven
 endedAt s e = record { at = s; end = e }
 
+-- where it stands after a tile, and a pass, or the number by which the tile is refused
+pub record TurnGiven : Type 0 where
+  pub at : BatchAt
+  pub verdict : Judgement
+
 -- ---- the shown layers of a tile, painted one after the other
 
 pub record PlanesAt : Type 0 where
@@ -133,11 +138,6 @@ module _ (c : BatchRow) where
   tilePast s t g =
       let p = planesPast s t g in
       record { state = p .state; tile = pos (plus (s .tile) + 1); first = not (s .first); worked = s .worked + 1; used = p .used; lent = lentPast s t g p }
-
-  -- where it stands then, and a pass, or the number by which the work is refused
-  pub record TurnGiven : Type 0 where
-    pub at : BatchAt
-    pub verdict : Judgement
 
   abbrev pub turnBy : Answer TileAnswer → BatchAt → WorkGiven → TurnGiven
   turnBy (refused number) s g = record { at = s; verdict = refuse number }

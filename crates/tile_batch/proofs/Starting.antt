@@ -1,67 +1,123 @@
--- A batch before its first tile: what 1 to 5 leave lets the tiles be worked, and a refusal leaves everything as it was. Assumes nothing.
-use mathlib.Core.Path.{_≡_, refl, ap, ap₂, sym, subst}
-use mathlib.Core.Bool.{Bool, true, false, not, _&&_, _||_}
-use Prim.Native.Nat.{ℕ, suc, _+_, _-_, _*_, _/_, _≤_}
+-- A batch before its first tile: what 1 to 5 leave lets the tiles be worked, and where none is worked, or the first is refused, everything is as it was.
+-- Assumes nothing.
+use mathlib.Core.Path.{_≡_, refl, ap, sym, subst, _∙_}
+use mathlib.Core.Bool.{Bool, true, false, not, cond, _&&_, _||_}
+use mathlib.Core.List.{List}
+use Prim.Native.Nat.{ℕ, suc, _+_, _-_, _*_, _/_, _≤_, _<_, min}
 use native.Mathlib.Omega.{arith}
-use borrow.Author.Tests.{ltb-false, not-false}
+use borrow.Author.Tests.{not-false}
 use lib.Dec.{ltb}
 use lib.IntN.{ℤ, pos}
 use lib.ListN.{length}
-use Rattle.refusals.specs.Refusal.{Judgement, pass, refuse, unless, numberOf}
-use Rattle.refusals.specs.declared.Refusal.{Refusal}
-use Rattle.refusals.specs.declared.Verdict.the-variants as verdict
+use Rattle.refusals.specs.Refusal.{Judgement, pass, refuse, unless, andThen, judgementIn}
+use Rattle.refusals.specs.declared.Verdict.{Verdict}
 use Rattle.refusals.proofs.Judging.{passed, or-left, or-right}
 use Rattle.pixel_segment.specs.Field.{cpu}
 use Rattle.segment_rows.specs.Rows.{Words, isRow}
 use Rattle.queue_statements.specs.Queue.{isQueue}
+use Rattle.cached_tile.specs.Kept.{tagOutOfRange}
 use Rattle.row_statements.specs.Lent.{isQueueShort, isLentShort, isLentTable}
-use Rattle.row_statements.specs.State.{stateIn, isStray, isNotNext}
+use Rattle.row_statements.specs.State.{stateIn, isStray, isNotNext, isWrongNext}
+use Rattle.row_statements.specs.Conditions.{firstFive}
+use Rattle.row_statements.specs.TileWork.{layersVerdict, saysFor, argsVerdict, workLent, workOut}
 use Rattle.row_statements.specs.InnerWork.{judgedBy}
 use Rattle.row_statements.specs.declared.RowState.{RowState}
 use Rattle.row_statements.proofs.Works.{is-next}
-use Rattle.batch_statements.specs.BatchLent.{BatchLent, planesIn, isBatchShort}
-use Rattle.batch_statements.specs.Batch.{BatchRow, BatchCall, BatchAt, BatchGiven, batchCall, batchVerdict, batchBy, batchOf, tilesFrom, GivesBatch}
+use Rattle.batch_statements.specs.BatchLent.{BatchLent, keptAt, roomIn, hasRoom}
+use Rattle.batch_statements.specs.Batch.{BatchRow, BatchCall, BatchAt, BatchGiven, TurnGiven, nextRefused, endedAt, batchCall, batchStart, batchOf, ownList, callAt, turnBy, turnOf, nextBy, tilesFrom, GivesBatch}
 use Rattle.batch_statements.specs.declared.Batch.{Batch}
-use Rattle.tile_batch.specs.InnerTurns.{batchIn, starting, Startable}
+use Rattle.batch_statements.specs.declared.Room.{Room}
+use Rattle.batch_steps.specs.InnerStanding.{starting, isPass, goesOn, endBy, Ends}
+use Rattle.batch_steps.specs.declared.Standing.{Standing}
+use Rattle.tile_batch.specs.InnerTurns.{isBatchShort, batchIn, BatchRoom, Startable}
+use Rattle.tile_batch.proofs.Going.{Goes, goes, turned, ended}
 
-and-false : (a b : Bool) → (a && b) ≡ false → a ≡ true → b ≡ false
-and-false true b e h = e
-and-false false b e h = absurd (let z : _≡_ {A = ℕ} 0 1 = cc in omega arith)
+no-more : (b : Bool) → (b || false) ≡ b
+no-more true = refl
+no-more false = refl
+
+-- where one of the first five lines refuses, the lines below say nothing
+five-refuse : (a b d e f : Bool) (n : ℕ) (below : Judgement) → unless a 1 (unless b 2 (unless d 3 (unless e 4 (unless f 5 pass)))) ≡ refuse n → unless a 1 (unless b 2 (unless d 3 (unless e 4 (unless f 5 below)))) ≡ refuse n
+five-refuse true b d e f n below h = h
+five-refuse false true d e f n below h = h
+five-refuse false false true e f n below h = h
+five-refuse false false false true f n below h = h
+five-refuse false false false false true n below h = h
+five-refuse false false false false false n below h = absurd (let z : _≡_ {A = ℕ} 0 1 = cc in omega arith)
 
 module _ (state : RowState) (tile : ℤ) (tiles : ℕ) (c : BatchRow) (m : BatchLent) where
   abbrev pub called : BatchCall
   called = batchCall (stateIn state) tile tiles c
 
-  pub verdict-is : {short : Bool} → short ≡ isBatchShort (c .keeps) tiles (c .table) m → judgedBy short (stateIn state) tile (c .row) (c .table) (m .queue .ids) ≡ batchVerdict called m
-  unfolding judgedBy batchVerdict
-  verdict-is e = ap (λ (b : Bool). judgedBy b (stateIn state) tile (c .row) (c .table) (m .queue .ids)) e
+  abbrev pub room : Room
+  room = roomIn (c .keeps) (c .table .count) m
 
-  pub batch-refused : {r : Refusal} → batchVerdict called m ≡ refuse (numberOf r) → GivesBatch (batchOf called m) (record { state = state; worked = 0; used = 0; first = true; verdict = verdict.Refuse r }) m
+  -- 1 to 5 of the first tile
+  abbrev pub judged : Judgement
+  judged = judgedBy (isBatchShort (c .table) (m .queue) (m .other)) (stateIn state) tile (c .row) (c .table) (m .queue .ids)
+
+  abbrev pub standing : Verdict → Standing
+  standing v = record { state = state; worked = 0; used = 0; first = true; verdict = v }
+
+  -- ---- a first tile that one of them refuses
+
+  turn-is : {n : ℕ} → judged ≡ refuse n → turnOf c (batchStart called m) ≡ record { at = batchStart called m; verdict = refuse n }
+  unfolding turnOf workOut judgedBy argsVerdict
+  turn-is {n} e =
+      let s = batchStart called m in
+      let short = isBatchShort (c .table) (m .queue) (m .other) in
+      let six = unless (tagOutOfRange (keptAt (c .keeps) (m .kept) 0)) 6 pass in
+      let args : argsVerdict (callAt c s) (workLent (m .other) (ownList c)) ≡ refuse n =
+      ap (λ (b : Bool). firstFive b (isWrongNext (stateIn state) tile) (state .«tile_y») (c .row) (c .table) (state .left) (m .queue .ids) six) (no-more short)
+      ∙ five-refuse short (isWrongNext (stateIn state) tile) (not (isRow cpu (suc (state .«tile_y»)) (c .row))) (not (isLentTable (c .table))) (not (isQueue (state .left) (m .queue .ids))) n six e in
+      ap (λ (j : Judgement). let g = workOut (andThen j (layersVerdict (callAt c s))) (saysFor (callAt c s)) (stateIn state) (keptAt (c .keeps) (m .kept) 0) (workLent (m .other) (ownList c)) in turnBy c (g .answer) s g) args
+
+  refused-first : {n : ℕ} → judged ≡ refuse n → Goes pass 0 0 (state .next) (state .to) tiles room → batchOf called m ≡ endedAt (batchStart called m) (nextRefused n)
   unfolding batchOf
-  batch-refused {r} e =
-      subst (λ (j : Judgement). GivesBatch (batchBy j called m) (record { state = state; worked = 0; used = 0; first = true; verdict = verdict.Refuse r }) m) (sym e)
-      (record { state = refl; worked = refl; used = refl; first = refl; end = refl; lent-is = refl })
+  refused-first e h =
+      let s = batchStart called m in
+      let some : tiles ≡ suc (tiles - 1) = let x = h .more in omega (arith, x) in
+      ap (λ (k : ℕ). tilesFrom c room k s) some
+      ∙ turned c room s (tiles - 1) (h .inside) (h .room)
+      ∙ ap (λ (g : TurnGiven). nextBy c (g .verdict) s (tilesFrom c room (tiles - 1) (g .at))) (turn-is e)
 
-  module _ (v : batchVerdict called m ≡ pass) where
-    record Passed : Type 0 where
-      queue-room : isQueueShort (m .queue) ≡ false
-      other-room : isQueueShort (m .other) ≡ false
-      table-long : isLentShort (c .table) ≡ false
-      enough-planes : 256 ≤ planesIn m
-      kept-room : c .keeps ≡ true → tiles * 8 ≤ length (m .kept)
-      told-room : tiles * 5 ≤ length (m .told)
-      bottoms-room : tiles * 4 ≤ length (m .bottoms)
+  -- ---- where no tile is worked
 
+  abbrev goesBy : Judgement → Bool
+  goesBy v = isPass v && ltb 0 tiles && ltb (state .next) (state .to) && hasRoom room 0 0
+
+  ended-first : (go : Bool) → go ≡ goesBy pass → (v : Judgement) → v ≡ cond go judged pass → goesBy v ≡ false → batchOf called m ≡ endedAt (batchStart called m) (endBy v (stateIn state) 0 tiles)
+  unfolding batchOf
+  ended-first go eg pass ev h = ended c room (batchStart called m) tiles tiles (omega arith) h
+  ended-first true eg (refuse n) ev h = refused-first (sym ev) (goes pass 0 0 (state .next) (state .to) tiles room (sym eg))
+  ended-first false eg (refuse n) ev h = absurd (let z : _≡_ {A = ℕ} 0 1 = cc in omega arith)
+
+  pub batch-ended : {go : Bool} (v : Verdict) {r : Batch} → go ≡ goesOn (starting state) tiles room → judgementIn v ≡ cond go judged pass → goesOn (standing v) tiles room ≡ false → Ends (standing v) tiles r → GivesBatch (batchOf called m) r m
+  batch-ended {go} v {r} eg ev h e =
+      subst (λ (g : BatchGiven). GivesBatch g r m) (sym (ended-first go eg (judgementIn v) ev h))
+      (record { state = ap stateIn (e .state); worked = e .worked; used = e .used; first = e .first; answer = e .answer; lent-is = refl })
+
+  -- ---- where tiles are worked
+
+  judged-passes : (go : Bool) (v : Judgement) → v ≡ cond go judged pass → go ≡ goesBy pass → goesBy v ≡ true → judged ≡ pass
+  judged-passes true pass ev eg h = sym ev
+  judged-passes false pass ev eg h = absurd (let z : _≡_ {A = Bool} true false = sym h ∙ sym eg in let y : _≡_ {A = ℕ} 0 1 = cc in omega arith)
+  judged-passes go (refuse n) ev eg h = absurd (let z : _≡_ {A = ℕ} 0 1 = cc in omega arith)
+
+  pub passes : {go : Bool} (v : Verdict) → go ≡ goesOn (starting state) tiles room → judgementIn v ≡ cond go judged pass → goesOn (standing v) tiles room ≡ true → judged ≡ pass
+  passes {go} v eg ev h = judged-passes go (judgementIn v) ev eg h
+
+  module _ (v : judged ≡ pass) where
     -- what each line of the judge tells
     record Lines : Type 0 where
-      short : isBatchShort (c .keeps) tiles (c .table) m ≡ false
+      short : isBatchShort (c .table) (m .queue) (m .other) ≡ false
       wrong : (isStray (stateIn state) || isNotNext (stateIn state) tile) ≡ false
       row : not (isRow cpu (suc (state .«tile_y»)) (c .row)) ≡ false
       table : not (isLentTable (c .table)) ≡ false
       queue : not (isQueue (state .left) (m .queue .ids)) ≡ false
 
     lines : Lines
-    unfolding batchVerdict
+    unfolding judgedBy
     lines =
         let q = not (isQueue (state .left) (m .queue .ids)) in
         let t = not (isLentTable (c .table)) in
@@ -70,51 +126,30 @@ module _ (state : RowState) (tile : ℤ) (tiles : ℕ) (c : BatchRow) (m : Batch
         let five = unless q 5 pass in
         let four = unless t 4 five in
         let three = unless r 3 four in
-        let first = passed (isBatchShort (c .keeps) tiles (c .table) m) 1 (unless w 2 three) v in
+        let first = passed (isBatchShort (c .table) (m .queue) (m .other)) 1 (unless w 2 three) v in
         let second = passed w 2 three (first .1) in
         let third = passed r 3 four (second .1) in
         let fourth = passed t 4 five (third .1) in
         record { short = first .0; wrong = second .0; row = third .0; table = fourth .0; queue = passed q 5 pass (fourth .1) .0 }
 
-    one : isBatchShort (c .keeps) tiles (c .table) m ≡ false
-    one = lines .short
+    rooms-of : BatchRoom (c .keeps) (c .table .count) room m
+    rooms-of = by (c .keeps) refl
+      where
+        by : (k : Bool) → c .keeps ≡ k → BatchRoom (c .keeps) (c .table .count) room m
+        by true e =
+            let t : room .tiles ≡ min (length (m .kept) / 8) (min (length (m .told) / 6) (length (m .bottoms) / 4)) = ap (λ (b : Bool). cond b (min (length (m .kept) / 8) (min (length (m .told) / 6) (length (m .bottoms) / 4))) (min (length (m .told) / 6) (length (m .bottoms) / 4))) e in
+            record { kept = λ h. omega (arith, t); told = omega (arith, t); bottoms = omega (arith, t); planes-long = omega arith; painted-long = omega arith; needed = refl }
+        by false e =
+            let t : room .tiles ≡ min (length (m .told) / 6) (length (m .bottoms) / 4) = ap (λ (b : Bool). cond b (min (length (m .kept) / 8) (min (length (m .told) / 6) (length (m .bottoms) / 4))) (min (length (m .told) / 6) (length (m .bottoms) / 4))) e in
+            record { kept = λ h. absurd (let z : _≡_ {A = Bool} true false = sym h ∙ e in let y : _≡_ {A = ℕ} 0 1 = cc in omega arith); told = omega (arith, t); bottoms = omega (arith, t); planes-long = omega arith; painted-long = omega arith; needed = refl }
 
-    rooms : Passed
-    rooms =
+    pub startable : Words (c .row) → Startable c state room m
+    startable w =
         let q = isQueueShort (m .queue) in
         let o = isQueueShort (m .other) in
         let t = isLentShort (c .table) in
-        let p = ltb (planesIn m) 256 in
-        let k = c .keeps && ltb (length (m .kept) / 8) tiles in
-        let d = ltb (length (m .told) / 5) tiles in
-        let b = ltb (length (m .bottoms) / 4) tiles in
-        let e6 = or-left (q || o || t || p || k || d) b one in
-        let e5 = or-left (q || o || t || p || k) d e6 in
-        let e4 = or-left (q || o || t || p) k e5 in
-        let e3 = or-left (q || o || t) p e4 in
-        let e2 = or-left (q || o) t e3 in
-        let told = ltb-false (length (m .told) / 5) tiles (or-right (q || o || t || p || k) d e6) in
-        let bottoms = ltb-false (length (m .bottoms) / 4) tiles (or-right (q || o || t || p || k || d) b one) in
-        record {
-          queue-room = or-left q o e2;
-          other-room = or-right q o e2;
-          table-long = or-right (q || o) t e3;
-          enough-planes = ltb-false (planesIn m) 256 (or-right (q || o || t) p e4);
-          kept-room = λ h. let kept = ltb-false (length (m .kept) / 8) tiles (and-false (c .keeps) (ltb (length (m .kept) / 8) tiles) (or-right (q || o || t || p) k e5) h) in omega (arith, kept);
-          told-room = omega (arith, told);
-          bottoms-room = omega (arith, bottoms);
-        }
-
-    pub enough : 256 ≤ planesIn m
-    enough = rooms .enough-planes
-
-    all-planes : planesIn m - 256 + 256 ≡ planesIn m
-    all-planes = omega (arith, enough)
-
-    pub startable : Words (c .row) → Startable c state tiles (planesIn m - 256 + 256) m
-    startable w =
-        let r = rooms in
         let l = lines in
+        let two = or-left (q || o) t (l .short) in
         record {
           stands =
               record {
@@ -123,27 +158,19 @@ module _ (state : RowState) (tile : ℤ) (tiles : ℕ) (c : BatchRow) (m : Batch
                 words = w;
                 ascends = not-false (isRow cpu (suc (state .«tile_y»)) (c .row)) (l .row);
                 in-table = not-false (isLentTable (c .table)) (l .table);
-                table-long = r .table-long;
-                queue-room = r .queue-room;
-                other-room = r .other-room;
+                table-long = or-right (q || o) t (l .short);
+                queue-room = or-left q o two;
+                other-room = or-right q o two;
                 in-queue = not-false (isQueue (state .left) (m .queue .ids)) (l .queue);
               };
-          room =
-              record {
-                kept = r .kept-room;
-                told = r .told-room;
-                bottoms = r .bottoms-room;
-                planes-long = omega (arith, enough);
-                painted-long = omega (arith, enough);
-              };
+          room = rooms-of;
         }
 
     tile-is : pos (state .next) ≡ tile
     tile-is = sym (is-next (stateIn state) tile (or-right (isStray (stateIn state)) (isNotNext (stateIn state) tile) (lines .wrong)) .is-tile)
 
-    pub batch-passed : {r : Batch} {back : BatchLent} → GivesBatch (tilesFrom c (planesIn m - 256 + 256) tiles (batchIn (starting state) m)) r back → GivesBatch (batchOf called m) r back
+    pub batch-passed : {r : Batch} {back : BatchLent} → GivesBatch (tilesFrom c room tiles (batchIn (starting state) m)) r back → GivesBatch (batchOf called m) r back
     unfolding batchOf
     batch-passed {r} {back} g =
-        let start : batchIn (starting state) m ≡ record { state = stateIn state; tile = tile; first = true; worked = 0; used = 0; lent = m } = ap (λ (t : ℤ). record { state = stateIn state; tile = t; first = true; worked = 0; used = 0; lent = m }) tile-is in
-        let h = subst (λ (x : BatchGiven). GivesBatch x r back) (ap₂ (λ (n : ℕ) (s : BatchAt). tilesFrom c n tiles s) all-planes start) g in
-        subst (λ (j : Judgement). GivesBatch (batchBy j called m) r back) (sym v) h
+        let start : batchIn (starting state) m ≡ batchStart called m = ap (λ (t : ℤ). record { state = stateIn state; tile = t; first = true; worked = 0; used = 0; lent = m }) tile-is in
+        subst (λ (x : BatchGiven). GivesBatch x r back) (ap (λ (s : BatchAt). tilesFrom c room tiles s) start) g

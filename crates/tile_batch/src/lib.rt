@@ -4,7 +4,6 @@ pub mod tile;
 
 use batch_statements::Batch;
 use batch_statements::Room;
-use batch_steps::Standing;
 use layer_workbench::PreviousClear;
 use refusals::Verdict;
 use row_statements::RowState;
@@ -17,10 +16,10 @@ ghost use Rattle.refusals.specs.Refusal.{judgementIn, pass};
 ghost use Rattle.row_statements.specs.Lent.{columns, lentTable};
 ghost use Rattle.row_statements.specs.State.{stateIn};
 ghost use Rattle.row_statements.specs.InnerWork.{judgedBy};
-ghost use Rattle.batch_statements.specs.BatchLent.{batchLent, isBatchShort};
+ghost use Rattle.batch_statements.specs.BatchLent.{batchLent};
 ghost use Rattle.batch_statements.specs.Batch.{batchRow, batchCall, batchOf, tilesFrom, GivesBatch};
-ghost use Rattle.batch_steps.specs.InnerStanding.{goesOn, starting};
-ghost use Rattle.tile_batch.specs.InnerTurns.{batchIn, Startable};
+ghost use Rattle.batch_steps.specs.InnerStanding.{starting};
+ghost use Rattle.tile_batch.specs.InnerTurns.{isBatchShort, batchIn, Startable};
 
 // Refusal 1 of the first tile: a queue below 256 entries, or a table shorter than its count.
 fn is_short(

@@ -9,22 +9,21 @@ use row_statements::TileWorked;
 use row_statements::WorkAnswer;
 use styling::Color;
 ghost use mathlib.Core.Path.{_≡_};
-ghost use mathlib.Core.Bool.{not};
 ghost use mathlib.Core.Option.{none};
 ghost use Prim.Native.Nat.{_≤_};
-ghost use Rattle.refusals.specs.declared.Verdict.the-variants as verdict;
+ghost use lib.ListN.{length};
 ghost use Rattle.layer_table.specs.Table.{tableOf};
 ghost use Rattle.queue_statements.specs.Queue.{queueOf};
 ghost use Rattle.painter.specs.Clip.{clipIn};
 ghost use Rattle.listed_painting.specs.InnerWalk.{Painter};
 ghost use Rattle.shown_layers.specs.InnerTally.{Walkable};
 ghost use Rattle.row_statements.specs.Lent.{columns, listColumns, lentTable};
-ghost use Rattle.row_statements.specs.State.{stateIn};
 ghost use Rattle.batch_statements.specs.BatchLent.{batchLent, sided};
 ghost use Rattle.batch_statements.specs.Batch.{batchRow};
+ghost use Rattle.batch_noting.specs.InnerNoting.{NoteRoom};
 ghost use Rattle.batch_painting.specs.InnerShown.{PlaneRoom};
-ghost use Rattle.tile_batch.specs.InnerTurns.{batchIn, walkPast, NotesTile, NoteRoom};
-ghost use Rattle.tile_batch.specs.InnerTurns.{Turnable, HereWorkable, GivesPartTurn, GivesPartBatch};
+ghost use Rattle.tile_batch.specs.InnerTurns.{batchIn, walkPast, mixPast, NotesTile};
+ghost use Rattle.tile_batch.specs.InnerTurns.{Turnable, GivesPartTurn, GivesPartStanding};
 
 // Paints the shown layers of a tile that is accepted, and notes the tile.
 fn note_tile(
@@ -50,15 +49,16 @@ fn note_tile(
     requires { ⌜ Painter n (now ids) (now covers) (now part) (now layers) (now colors) count
         × Walkable (tableOf (now layers) (now colors) count) (queueOf n (now ids) (now covers)) (now part)
         (now «list_unmasked») (done .skipped .0) (done .listed)
-        × NoteRoom keeps (at .worked) (batchLent (columns (now ids) (now covers)) (columns (now ids) (now covers))
-        (now kept) (now told) (now bottoms) (now planes) (now painted))
-        × PlaneRoom (at .used) 256 (now planes) (now painted) × (clipIn (worked .state .clip) ≡ none) ⌝ }
-    ensures { λ r. ⌜ NotesTile keeps at worked done
-        (walkPast at worked done (tableOf (now (layers .entry)) (now (colors .entry)) count)
+        × (done .listed ≤ length (now «list_ids»))
+        × NoteRoom keeps (at .worked) (now kept) (now told) (now bottoms)
+        × PlaneRoom (at .used) (done .listed) (now planes) (now painted) × (clipIn (worked .state .clip) ≡ none) ⌝ }
+    ensures { λ r. ⌜ (let walked = walkPast at worked done (tableOf (now (layers .entry)) (now (colors .entry)) count)
         (queueOf n (now (ids .entry)) (now (covers .entry))) (now (part .entry))
-        (now («list_unmasked» .entry)) (now (planes .entry)) (now (painted .entry)))
+        (now («list_unmasked» .entry)) (now (planes .entry)) (now (painted .entry)) in
+        NotesTile keeps at worked done walked
+        (mixPast walked done (now («list_ids» .entry)) (now («list_unmasked» .entry)))
         (now (kept .entry)) (now (told .entry)) (now (bottoms .entry))
-        r (now (kept .exit)) (now (told .exit)) (now (bottoms .exit)) (now (planes .exit)) (now (painted .exit)) ⌝ }
+        r (now (kept .exit)) (now (told .exit)) (now (bottoms .exit)) (now (planes .exit)) (now (painted .exit))) ⌝ }
 {
     let after = worked.state;
     let tile = worked.kept;
@@ -227,7 +227,7 @@ pub fn turn(
         (batchLent (columns (now «a_ids») (now «a_covers»)) (columns (now «b_ids») (now «b_covers»))
         (now kept) (now told) (now bottoms) (now planes) (now painted))))
         (listColumns (now «list_ids») (now «list_covers») (now «list_flags») (now «list_unmasked»)) ⌝ }
-    ensures { λ r. ⌜ GivesPartBatch
+    ensures { λ r. ⌜ GivesPartStanding
         (batchRow (now (part .entry)) (lentTable (now (layers .entry)) (now (colors .entry)) count)
         keeps clear previous)
         (batchIn at (sided (at .first)
