@@ -2,9 +2,9 @@
 
 /* The exports of target/staticlib/libffi.a, for x86-64. A slice is a pointer and a length, and the pointer is not NULL
    even where the length is 0; an array of fixed length is a pointer. What a call may write must not overlap anything
-   else that it is lent. A call that can be refused returns the number of the refusal, or 0, and then leaves what it
-   was lent as it was, but for ffi_work_tiles, which may have worked tiles before the refused one. A bool that is lent
-   holds 0 or 1. docs/MANUAL.md, sections 2 and 4, tells of refusals, states and answers.
+   else that it is lent. A call that can be refused returns the number of the refusal, and then leaves what it was lent
+   as it was, or 0. A bool that is lent holds 0 or 1. docs/MANUAL.md, sections 2 and 4, tells of refusals, states and
+   answers.
 
    To keep tiles from frame to frame: README.md beside this file, 'Keeping tiles from C'. In short, for each tile: list
    (ffi_list_tile); decide without a cached tile, which tells the shown layers; where these, by id and by whether each
@@ -22,12 +22,16 @@
 extern "C" {
 #endif
 
-/* 0 or the number of the refusal. A refusal of the first tile leaves all lent memory as it was. After any other answer
-   `words` and `counts` are the state after the tiles worked, and `done` tells how many these are, how many planes they
-   used, and which queue holds the carries, 0 the first or 1 the second. Each tile has five numbers in `told` (the
-   decision, of a solid tile how many shown layers lie before those to mix, how many layers are listed, skipped, shown),
-   where it is solid its bottom colour in `bottoms`, and where `keeps` is set its cached tile in eight bytes of `kept`.
-   Each painted layer has a plane, and its id and its mark in `painted`. */
+/* 0 or the number of the refusal: that of the first tile, which leaves all lent memory as it was, `done` too. Else
+   `words` and `counts` are the state after the tiles worked, and `done` tells how many these are (0 is possible), how
+   many planes they used, which queue holds the carries (0 the first, 1 the second), why the batch ended (0 all tiles that
+   were asked for are worked, 1 the row has no more, 2 no room for a further one, 3 the next one would be refused), and
+   the number of that refusal or 0. Each tile has six numbers in `told` (the decision, of a solid tile how many shown
+   layers lie before those to mix, how many layers are listed, skipped, shown, and how many carries are handed on), where
+   it is solid its bottom colour in `bottoms`, and where `keeps` is set its cached tile in eight bytes of `kept`. Each
+   painted layer has a plane, and its id and its mark in `painted`; each layer that a solid tile mixes has its id and mark
+   0 there, and its plane is left as it was. A tile is worked only where as many planes are free as it can list layers:
+   256, or the table's count where that is less. */
 uint32_t ffi_work_tiles(
     uint32_t words[6],
     size_t counts[2],
@@ -50,7 +54,7 @@ uint32_t ffi_work_tiles(
     float *bottoms, size_t bottoms_len,
     float *planes, size_t planes_len,
     uint32_t *painted, size_t painted_len,
-    size_t done[3]);
+    size_t done[5]);
 
 /* 0 and the six planes, or the number of the refusal. `bounds` has two bytes a segment, its lowest and its highest
    cover. */

@@ -3,38 +3,43 @@
 use std::mem;
 
 use crate::{
-    cached_tile, exports,
-    list::{TileList, ENTRIES},
-    plane,
-    row::{decision_of, Standing},
-    segment, CachedTile, Decision, Frame, Mark, Plane, Refusal, Row,
+    cached_tile, exports, list::ENTRIES, plane, row::decision_of, segment, CachedTile, Decision, Frame, Mark, Plane,
+    Refusal, Row,
 };
-
-/// How many planes a tile can use: one for each layer of its list.
-const PLANES_OF_A_TILE: usize = ENTRIES;
 
 /// What a batch of tiles gave ([`Row::work_tiles`]): their decisions, and the planes of those that are painted.
 ///
-/// It owns the memory that the call writes, some 300 kB, and is used again for batch after batch and row after row. It
-/// is `Send`: each thread has its own.
+/// It owns the memory that the call writes, and is used again for batch after batch and row after row. It is `Send`:
+/// each thread has its own.
 #[derive(Clone, Debug)]
 pub struct Batch {
+    /// How many planes are used before a batch ends.
+    wanted: usize,
     first: i32,
     worked: usize,
-    refusal: Option<Refusal>,
     /// Of each tile its decision, how many shown layers lie before those to mix, how many layers are listed, passed
-    /// over, shown.
-    told: Vec<[usize; 5]>,
+    /// over, shown, and how many carries it hands on.
+    told: Vec<[usize; 6]>,
     /// The bottom colour of each tile that is solid.
     bottoms: Vec<[f32; 4]>,
+    /// A plane for each painted layer. A layer that a solid tile mixes leaves its plane as it was.
     planes: Vec<Plane>,
     /// Of each plane its layer's id and its mark.
     painted: Vec<[u32; 2]>,
-    /// The layers to mix of the solid tiles, tile after tile.
-    mixed: Vec<u32>,
-    /// Where the row stood before the batch, and a list: a tile that mixes colours is listed once more.
-    start: Standing,
-    list: TileList,
+}
+
+/// Why a batch ended where it did.
+#[derive(Clone, Copy, Debug, PartialEq, Eq)]
+#[must_use]
+pub enum BatchEnd {
+    /// All tiles that were asked for are worked.
+    Asked,
+    /// The row has no further tile.
+    RowEnd,
+    /// There is no room for a further tile: the batch's planes are used, or `kept` has no cached tile for it.
+    NoRoom,
+    /// The next tile would be turned down, by this. The next call is.
+    NextRefused(Refusal),
 }
 
 /// A tile of a batch.
@@ -50,9 +55,11 @@ pub struct BatchTile<'a> {
     pub passed_over: usize,
     /// How many of them are shown: neither masked off nor passed over.
     pub shown: usize,
+    /// How many carries it hands on.
+    pub carried: usize,
     planes: &'a [Plane],
     painted: &'a [[u32; 2]],
-    mixed: &'a [u32],
+    mixed: &'a [[u32; 2]],
 }
 
 /// A painted layer of a tile.
@@ -68,102 +75,62 @@ pub struct PaintedLayer<'a> {
 }
 
 impl Batch {
-    /// A batch that takes tiles until 32 planes are used: so many stay in a processor's nearest memory.
+    /// A batch that takes tiles until 128 planes are used: so many stay in a processor's nearer memory.
     pub fn new() -> Batch {
-        Batch::with_planes(32)
+        Batch::with_planes(128)
     }
 
-    /// A batch that takes tiles until so many planes, or more, are used; 0 counts as 1. The last tile may use 256, so
-    /// there is room for 255 more.
+    /// A batch that takes tiles until so many planes, or more, are used; 0 counts as 1. The last tile may use as many as
+    /// the table has layers, 256 at most: for these there is room besides. A plane has 1 kB.
     pub fn with_planes(planes: usize) -> Batch {
-        let room = planes.max(1) + PLANES_OF_A_TILE - 1;
         Batch {
+            wanted: planes.max(1),
             first: -1,
             worked: 0,
-            refusal: None,
             told: Vec::new(),
             bottoms: Vec::new(),
-            planes: vec![Plane::new(); room],
-            painted: vec![[0; 2]; room],
-            mixed: Vec::new(),
-            start: Standing::new(),
-            list: TileList::new(),
+            planes: Vec::new(),
+            painted: Vec::new(),
         }
     }
 
     /// The tiles that were worked, from left to right.
     pub fn tiles(&self) -> impl ExactSizeIterator<Item = BatchTile<'_>> + '_ {
-        let (mut planes, mut painted, mut mixed) = (&self.planes[..], &self.painted[..], &self.mixed[..]);
+        let (mut planes, mut painted) = (&self.planes[..], &self.painted[..]);
         (0..self.worked).map(move |place| {
-            let told = &self.told[place];
-            let [code, before, listed, passed_over, shown] = *told;
+            let [code, before, listed, passed_over, shown, carried] = self.told[place];
             let decision = decision_of(code, before, self.bottoms[place]);
-            let paints = if matches!(decision, Decision::Paint) { shown } else { 0 };
-            BatchTile {
-                tile: self.first + place as i32,
-                decision,
-                listed,
-                passed_over,
-                shown,
-                planes: taken_off(&mut planes, paints),
-                painted: taken_off(&mut painted, paints),
-                mixed: taken_off(&mut mixed, mixes(told)),
-            }
+            let (paints, mixes) = match decision {
+                Decision::Paint => (shown, 0),
+                Decision::Solid { before, .. } => (0, shown - before),
+                Decision::None => (0, 0),
+            };
+            let used = (taken_off(&mut planes, paints + mixes), taken_off(&mut painted, paints + mixes));
+            let (planes, (painted, mixed)) = (&used.0[..paints], used.1.split_at(paints));
+            let tile = self.first + place as i32;
+            BatchTile { tile, decision, listed, passed_over, shown, carried, planes, painted, mixed }
         })
     }
 
-    /// Why the batch ended, where the tile after its last was turned down. [`Row::work_tiles`] answers the same when it
-    /// is called again.
-    pub fn refusal(&self) -> Option<Refusal> {
-        self.refusal
-    }
-
-    /// Makes it empty, with room for so many tiles of a row that stands so.
-    fn begin(&mut self, at: &Standing, first: i32, tiles: usize) {
-        (self.first, self.worked, self.refusal) = (first, 0, None);
-        self.mixed.clear();
-        self.start.go_to(at);
+    /// Makes it empty, with room for so many tiles that each list so many layers at most. How many planes are lent.
+    fn begin(&mut self, first: i32, tiles: usize, layers: usize) -> usize {
+        (self.first, self.worked) = (first, 0);
         if self.told.len() < tiles {
-            self.told.resize(tiles, [0; 5]);
+            self.told.resize(tiles, [0; 6]);
             self.bottoms.resize(tiles, [0.0; 4]);
         }
-    }
-
-    /// Notes the layers to mix of each solid tile. The library tells of each how many there are, and which they are is
-    /// in its list: so tiles are listed once more, up to the last that mixes colours. A list has the layers of the
-    /// tile's own segments and of its carries, so that the tile's segments are all that is lent of the row.
-    fn note_mixed(&mut self, row: &Row<'_>, frame: &Frame) -> Result<(), Refusal> {
-        let count = self.told[..self.worked].iter().rposition(|told| mixes(told) > 0).map_or(0, |last| last + 1);
-        for (tile, told) in (self.first..).zip(&self.told[..count]) {
-            let own = segment::in_tile(row.segments(), tile as i16);
-            self.start.list(own, row.table(), tile, &mut self.list)?;
-            if mixes(told) > 0 {
-                let [_, before, listed, passed_over, shown] = *told;
-                self.list.passed_over = passed_over;
-                if passed_over + shown < listed {
-                    // Which layers are masked off is decided once more, too.
-                    row.decide(&mut self.list, frame, None)?;
-                }
-                let shown = self.list.listed().filter(|listed| listed.is_shown());
-                self.mixed.extend(shown.skip(before).map(|listed| listed.id));
-            }
+        let room = self.wanted - 1 + layers;
+        if self.planes.len() < room {
+            self.planes.resize(room, Plane::new());
+            self.painted.resize(room, [0; 2]);
         }
-        Ok(())
+        room
     }
 }
 
 impl Default for Batch {
     fn default() -> Batch {
         Batch::new()
-    }
-}
-
-/// How many colours a tile mixes.
-fn mixes(&[code, before, _, _, shown]: &[usize; 5]) -> usize {
-    if code == 1 {
-        shown - before
-    } else {
-        0
     }
 }
 
@@ -182,23 +149,46 @@ impl<'a> BatchTile<'a> {
     }
 
     /// Where it is solid: the layers whose colours are mixed above the bottom colour, ascending.
-    pub fn mixed(&self) -> &'a [u32] {
-        self.mixed
+    pub fn mixed(&self) -> impl DoubleEndedIterator<Item = u32> + ExactSizeIterator + 'a {
+        self.mixed.iter().map(|&[id, _]| id)
     }
 }
 
 impl Row<'_> {
     /// Works and paints up to so many tiles from the next on, in one call of the library, which judges the row and the
-    /// table once: [`work`](Row::work) and [`paint_shown`](Row::paint_shown) of one after the other. It ends earlier
-    /// where the planes of the batch are used up, or the row ends. Gives how many were worked, which the batch then
-    /// tells of: 0 says that the row is at its end.
+    /// table once: [`work`](Row::work) and [`paint_shown`](Row::paint_shown) of one after the other. Asking for more
+    /// tiles than the row has is no fault. The batch then tells of the tiles that were worked, and the answer why it
+    /// ended:
     ///
-    /// `kept` has a cached tile for each tile of the row, that of the first of [`tiles`](Row::tiles) first. A solid
-    /// tile is [settled](crate::settle) by its caller, after the batch.
+    /// ```
+    /// # use tile_rows::{Batch, BatchEnd, Color, Frame, LayerTable, Refusal, Row};
+    /// # fn main() -> Result<(), Refusal> {
+    /// # let table = LayerTable::new(&[]);
+    /// # let mut row = Row::open(&[], &table, 0, 0..300)?;
+    /// # let frame = Frame { clear: Color::default(), previous_clear: None };
+    /// # let (mut batch, mut worked) = (Batch::new(), 0);
+    /// loop {
+    ///     let end = row.work_tiles(64, &frame, None, &mut batch)?;
+    ///     for tile in batch.tiles() {
+    ///         // ..
+    /// #       worked += 1;
+    ///     }
+    ///     if end == BatchEnd::RowEnd {
+    ///         break;
+    ///     }
+    /// }
+    /// # assert_eq!(worked, 300);
+    /// # Ok(())
+    /// # }
+    /// ```
+    ///
+    /// `kept` has a cached tile for each tile of the row, that of the first of [`tiles`](Row::tiles) first. Where it is
+    /// shorter the row is worked up to its end: [`NoRoom`](BatchEnd::NoRoom) without a tile says that it has none for
+    /// the next. A solid tile is [settled](crate::settle) by its caller, after the batch.
     ///
     /// A tile that is turned down ends the batch before it: the row stands at this tile, and can be used on. So a call
-    /// is refused only where its first tile is, by what `work` names, or by 1 (`kept` is too short), and leaves the row
-    /// and `kept` as they were, while the batch is empty.
+    /// is refused only where its first tile is, by what `work` names, and leaves the row and `kept` as they were, while
+    /// the batch is empty.
     ///
     /// After a batch [`incoming`](Row::incoming), [`carries`](Row::carries) and [`paint`](Row::paint) are those of its
     /// last tile. The row keeps no list of it: [`listed`](Row::listed) is empty.
@@ -208,44 +198,43 @@ impl Row<'_> {
         frame: &Frame,
         kept: Option<&mut [CachedTile]>,
         batch: &mut Batch,
-    ) -> Result<usize, Refusal> {
-        let first = self.next_tile();
-        let left = (self.tiles().end - first) as usize;
-        let tiles = tiles.min(left);
-        batch.begin(&self.at, first, tiles);
-        if tiles == 0 {
-            return Ok(0);
-        }
-        let (number, [worked, _, queue]) = self.lend(tiles, frame, kept, batch);
-        (batch.worked, batch.refusal) = (worked, Refusal::judge(number).err());
-        if worked == 0 {
-            return Refusal::judge(number).map(|()| 0);
-        }
+    ) -> Result<BatchEnd, Refusal> {
+        let (number, [worked, _, queue, end, next]) = self.lend(tiles, frame, kept, batch);
+        Refusal::judge(number)?;
+        batch.worked = worked;
         if queue == 1 {
             mem::swap(&mut self.at.taken, &mut self.at.handed);
         }
-        self.list.clear();
-        batch.note_mixed(self, frame).expect("tiles that were accepted are accepted again");
-        Ok(worked)
+        if worked > 0 {
+            self.list.clear();
+        }
+        Ok(match end {
+            0 => BatchEnd::Asked,
+            1 => BatchEnd::RowEnd,
+            2 => BatchEnd::NoRoom,
+            _ => BatchEnd::NextRefused(Refusal::judge(next as u32).expect_err("a refusal has a number")),
+        })
     }
 
-    /// The call: its answer, and how many tiles it worked, how many planes these use, and which queue holds the
-    /// carries. That the row is judged once for all tiles is the library's affair, which is proved to answer as single
-    /// calls do.
+    /// The call: its answer, and how many tiles it worked, how many planes these use, which queue holds the carries, why
+    /// it ended, and the next tile's refusal. That the row is judged once for all tiles is the library's affair, which
+    /// is proved to answer as single calls do.
     fn lend(
         &mut self,
         tiles: usize,
         frame: &Frame,
         kept: Option<&mut [CachedTile]>,
         batch: &mut Batch,
-    ) -> (u32, [usize; 3]) {
+    ) -> (u32, [usize; 5]) {
         let (layers, colors, count) = self.table().lent();
         let segments = segment::words_of(self.segments());
         let (tile, past) = (self.next_tile(), (self.next_tile() - self.tiles().start) as usize);
+        let left = (self.tiles().end - tile) as usize;
+        let room = batch.begin(tile, tiles.min(left), count.min(ENTRIES));
         let previous = frame.previous_clear.unwrap_or_default();
         let keeps = kept.is_some();
         let kept = kept.unwrap_or_default().get_mut(past..).unwrap_or_default();
-        let mut done = [0; 3];
+        let mut done = [0; 5];
         let number = exports::work_tiles(
             &mut self.at.state.words,
             &mut self.at.state.counts,
@@ -266,8 +255,8 @@ impl Row<'_> {
             &mut self.at.taken.covers,
             batch.told.as_flattened_mut(),
             batch.bottoms.as_flattened_mut(),
-            plane::numbers_of(&mut batch.planes),
-            batch.painted.as_flattened_mut(),
+            plane::numbers_of(&mut batch.planes[..room]),
+            batch.painted[..room].as_flattened_mut(),
             &mut done,
         );
         (number, done)

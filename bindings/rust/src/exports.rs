@@ -3,8 +3,7 @@
 //! The plain operations: each export of the library as a safe function, for callers with memory of their own.
 //!
 //! Each judges all that it is given, however it was made. A call that can be refused returns the number of the
-//! refusal ([`Refusal::judge`](crate::Refusal::judge)), or 0; a refused call leaves what it was lent as it was, but for
-//! [`work_tiles`], which may have worked tiles before the refused one.
+//! refusal ([`Refusal::judge`](crate::Refusal::judge)), or 0; a refused call leaves what it was lent as it was.
 //! The contracts stand in crates/ffi/src. Fill rules, modes and fills are numbers here, as in a layer record.
 
 /// The declarations themselves, for the comparison with the Rust.
@@ -45,7 +44,7 @@ pub mod raw {
             planes_len: usize,
             painted: *mut u32,
             painted_len: usize,
-            done: *mut [usize; 3],
+            done: *mut [usize; 5],
         ) -> u32;
         pub fn ffi_bound_part(
             layer_id: u32,
@@ -457,12 +456,16 @@ pub mod raw {
     }
 }
 
-/// 0 or the number of the refusal. A refusal of the first tile leaves all lent memory as it was. After any other answer
-/// `words` and `counts` are the state after the tiles worked, and `done` tells how many these are, how many planes they
-/// used, and which queue holds the carries, 0 the first or 1 the second. Each tile has five numbers in `told` (the
-/// decision, of a solid tile how many shown layers lie before those to mix, how many layers are listed, skipped, shown),
-/// where it is solid its bottom colour in `bottoms`, and where `keeps` is set its cached tile in eight bytes of `kept`.
-/// Each painted layer has a plane, and its id and its mark in `painted`.
+/// 0 or the number of the refusal: that of the first tile, which leaves all lent memory as it was, `done` too. Else
+/// `words` and `counts` are the state after the tiles worked, and `done` tells how many these are (0 is possible), how
+/// many planes they used, which queue holds the carries (0 the first, 1 the second), why the batch ended (0 all tiles that
+/// were asked for are worked, 1 the row has no more, 2 no room for a further one, 3 the next one would be refused), and
+/// the number of that refusal or 0. Each tile has six numbers in `told` (the decision, of a solid tile how many shown
+/// layers lie before those to mix, how many layers are listed, skipped, shown, and how many carries are handed on), where
+/// it is solid its bottom colour in `bottoms`, and where `keeps` is set its cached tile in eight bytes of `kept`. Each
+/// painted layer has a plane, and its id and its mark in `painted`; each layer that a solid tile mixes has its id and mark
+/// 0 there, and its plane is left as it was. A tile is worked only where as many planes are free as it can list layers:
+/// 256, or the table's count where that is less.
 #[allow(clippy::too_many_arguments)]
 #[inline]
 pub fn work_tiles(
@@ -487,7 +490,7 @@ pub fn work_tiles(
     bottoms: &mut [f32],
     planes: &mut [f32],
     painted: &mut [u32],
-    done: &mut [usize; 3],
+    done: &mut [usize; 5],
 ) -> u32 {
     // SAFETY: the references are those that the export takes, a slice with its own length; it is proved to keep
     // to them for every value, and nothing of them is held after the call.

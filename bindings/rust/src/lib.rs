@@ -12,7 +12,9 @@
 //! [`Batch`]. This loop is what stands in the place of the painter's coverage stage:
 //!
 //! ```
-//! use tile_rows::{Batch, Color, Decision, Fields, Frame, Layer, LayerTable, PixelSegment, Refusal, Row, Style};
+//! use tile_rows::{
+//!     Batch, BatchEnd, Color, Decision, Fields, Frame, Layer, LayerTable, PixelSegment, Refusal, Row, Style,
+//! };
 //!
 //! # fn main() -> Result<(), Refusal> {
 //! // One opaque layer: an edge goes up at the left of tile 0, and down in the middle of tile 2.
@@ -32,7 +34,8 @@
 //! let mut words = Vec::new();
 //! let mut batch = Batch::new(); // one for each thread, used again for row after row
 //! let mut row = Row::open(&segments, &table, 0, 0..4)?;
-//! while row.work_tiles(64, &frame, None, &mut batch)? > 0 {
+//! loop {
+//!     let end = row.work_tiles(64, &frame, None, &mut batch)?;
 //!     for tile in batch.tiles() {
 //!         words.push(tile.decision.word());
 //!         match tile.decision {
@@ -40,7 +43,7 @@
 //!             Decision::Solid { bottom, .. } => {
 //!                 // Mix the colours of the layers of `tile.mixed()`, in their order, above `bottom`; make the display
 //!                 // bytes, and ask `settle` whether they are to be written.
-//!                 assert!(tile.mixed().is_empty() && (tile.tile != 1 || bottom == black));
+//!                 assert!(tile.mixed().len() == 0 && (tile.tile != 1 || bottom == black));
 //!             }
 //!             Decision::Paint => for layer in tile.painted() {
 //!                 // Blend the layer by its coverages, in the octets that the mark names. A clip has mark 0: its
@@ -49,6 +52,9 @@
 //!                 assert_eq!(layer.mark.octets(), if tile.tile == 0 { 32 } else { 16 });
 //!             }
 //!         }
+//!     }
+//!     if end == BatchEnd::RowEnd {
+//!         break;
 //!     }
 //! }
 //! assert_eq!(words, ["paint", "solid", "paint", "solid"]);
@@ -175,7 +181,7 @@ mod style;
 mod table;
 
 pub use crate::{
-    batch::{Batch, BatchTile, PaintedLayer},
+    batch::{Batch, BatchEnd, BatchTile, PaintedLayer},
     bounds::Bounded,
     cached_tile::{settle, CachedTile, Settled},
     color::Color,

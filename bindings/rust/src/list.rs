@@ -58,12 +58,6 @@ impl Queue {
     pub(crate) fn carries(&self, count: usize) -> impl ExactSizeIterator<Item = Carry> + '_ {
         (0..count).map(|place| Carry { id: self.ids[place], cover: cover_at(&self.covers, place) })
     }
-
-    /// Takes over the first entries of another queue.
-    pub(crate) fn copy_from(&mut self, other: &Queue, count: usize) {
-        self.ids[..count].copy_from_slice(&other.ids[..count]);
-        self.covers[..16 * count].copy_from_slice(&other.covers[..16 * count]);
-    }
 }
 
 /// A tile's list, by columns. It is lent to [`Row::list`](crate::Row::list) and [`Row::decide`](crate::Row::decide), and

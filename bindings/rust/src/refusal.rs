@@ -89,7 +89,7 @@ impl Refusal {
         match self {
             Refusal::Room => {
                 "lent memory is too short: a queue or list below 256 entries, a plane below 256 numbers (64 where tiles \
-                 are four pixels high), a layer table shorter than its count, or fewer cached tiles than a batch asks for"
+                 are four pixels high), or a layer table shorter than its count"
             }
             Refusal::Tile => {
                 "the tile is not the next (in painting: not the one just worked) or outside the row's tiles, the row \

@@ -55,12 +55,6 @@ impl Standing {
         Standing { state: State::default(), taken: queue(), handed: queue() }
     }
 
-    /// Goes to where another stands. What its last tile took in is left behind: only the next tile may be asked for.
-    pub(crate) fn go_to(&mut self, other: &Standing) {
-        self.state = other.state;
-        self.handed.copy_from(&other.handed, other.state.counts[0]);
-    }
-
     /// Lists the next tile and hands the carries on.
     pub(crate) fn list(
         &mut self,

@@ -164,12 +164,6 @@ pub fn is_row(segments: &[PixelSegment], tile_y: i16) -> bool {
     exports::is_row(words_of(segments), stored_tile_y)
 }
 
-/// The segments of a tile, of ascending segments of one row.
-pub(crate) fn in_tile(segments: &[PixelSegment], tile_x: i16) -> &[PixelSegment] {
-    let past = |key| search_last(segments, key).map_or_else(|place| place, |last| last + 1);
-    &segments[past(Key::TileXAtLeast(tile_x, false))..past(Key::TileXAtLeast(tile_x + 1, false))]
-}
-
 /// The packed words of segments, in place.
 #[allow(unsafe_code)]
 pub fn words_of(segments: &[PixelSegment]) -> &[u64] {

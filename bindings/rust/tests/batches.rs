@@ -13,8 +13,8 @@ use support::{
     plates::{self, draw},
 };
 use tile_rows::{
-    settle, Batch, BatchTile, CachedTile, Color, Decision, Fields, FillRule, Frame, Layer, LayerTable, PixelSegment,
-    Plane, Plate, Refusal, Row, Style,
+    settle, Batch, BatchEnd, BatchTile, CachedTile, Color, Decision, Fields, FillRule, Frame, Layer, LayerTable,
+    PixelSegment, Plane, Plate, Refusal, Row, Style,
 };
 
 const WHITE: Color = Color { r: 1.0, g: 1.0, b: 1.0, a: 1.0 };
@@ -36,10 +36,22 @@ fn example() -> Vec<PixelSegment> {
     [edge(1, 0, 0, 16), edge(1, 2, 8, -16)].concat()
 }
 
-/// The line of the row program, up to the carries.
+/// The line of the row program.
 fn line(tile: &BatchTile<'_>) -> String {
     let octets: u32 = tile.painted().map(|layer| layer.mark.octets()).sum();
-    format!("{} {} {} {} {octets} ", tile.tile, tile.decision.word(), tile.listed, tile.shown)
+    let BatchTile { tile: number, decision, listed, shown, carried, .. } = tile;
+    format!("{number} {} {listed} {shown} {octets} {carried}", decision.word())
+}
+
+/// A call that is accepted: how many tiles it worked, and why it ended.
+fn work_tiles(
+    row: &mut Row<'_>,
+    tiles: usize,
+    kept: Option<&mut [CachedTile]>,
+    batch: &mut Batch,
+) -> Result<(usize, BatchEnd), Refusal> {
+    let end = row.work_tiles(tiles, &FRAME, kept, batch)?;
+    Ok((batch.tiles().len(), end))
 }
 
 /// The layers to mix, by a tile's list.
@@ -53,7 +65,8 @@ fn check_tile(tile: &BatchTile<'_>, single: &Tile, told: &str) {
     assert_eq!((tile.tile, tile.decision, tile.listed), (single.tile, single.decision, single.list.len()), "{told}");
     let passed_over = single.list.iter().filter(|entry| entry.listed.is_passed_over).count();
     assert_eq!((tile.passed_over, tile.shown), (passed_over, single.shown()), "{told}");
-    assert_eq!(tile.mixed(), mixed(single), "{told}, tile {}", tile.tile);
+    assert!(tile.mixed().eq(mixed(single)), "{told}, tile {}", tile.tile);
+    assert_eq!(tile.carried, single.carries.len(), "{told}, tile {}", tile.tile);
     let bits = |plane: &Plane| plane.as_numbers().map(f32::to_bits);
     let ours: Vec<_> = tile.painted().map(|layer| (layer.id, layer.mark, bits(layer.plane))).collect();
     let painted = single.list.iter().filter_map(|entry| Some((entry.listed.id, entry.painted.as_ref()?)));
@@ -78,22 +91,29 @@ fn check_job(
     let (mut singles, mut lines) = (driven.tiles.iter(), lines.iter());
     let refusal = loop {
         let due = (job.due().end - row.next_tile()).max(0) as usize;
-        match row.work_tiles(size().min(due), &FRAME, None, batch) {
+        let asked = size().min(due);
+        let end = match row.work_tiles(asked, &FRAME, None, batch) {
             Err(refusal) => break Some(refusal),
-            Ok(0) => break None,
-            Ok(worked) => assert_eq!(batch.tiles().len(), worked, "{told}"),
-        }
-        let (mut last, mut printed) = (None, String::new());
+            Ok(end) => end,
+        };
+        let mut last = None;
         for tile in batch.tiles() {
             let single = singles.next().expect("no more tiles than single calls work");
             check_tile(&tile, single, told);
-            printed = line(&tile);
-            let line = lines.next().expect("the row program prints as many");
-            assert!(line.starts_with(&printed), "{told}: {printed}");
-            last = Some((single, line));
+            assert_eq!(lines.next(), Some(&&line(&tile)[..]), "{told}: the row program's line");
+            last = Some(single);
         }
-        let (single, line) = last.expect("a tile was worked");
-        assert_eq!(format!("{printed}{}", row.carries().len()), **line, "{told}");
+        let worked = batch.tiles().len();
+        match end {
+            BatchEnd::Asked => assert_eq!(worked, asked, "{told}"),
+            BatchEnd::RowEnd => assert!(worked < asked && row.next_tile() == row.tiles().end, "{told}"),
+            BatchEnd::NoRoom => assert!(0 < worked && worked < asked, "{told}"),
+            BatchEnd::NextRefused(refusal) => assert_eq!(Some(refusal), driven.refusal, "{told}"),
+        }
+        if worked == asked && worked == due {
+            break None;
+        }
+        let single = last.expect("a tile was worked");
         assert!(row.carries().eq(single.carries.iter().copied()), "{told}: carries");
         assert!(row.incoming().eq(single.incoming.iter().copied()), "{told}: what came in");
         assert_eq!(row.listed().len(), 0, "{told}: a batch leaves no list");
@@ -101,7 +121,7 @@ fn check_job(
     assert_eq!((refusal, singles.len()), (driven.refusal, 0), "{told}");
 }
 
-/// Every job file in batches of one tile, of random sizes, and as large as 32 planes, one plane and 600 make them.
+/// Every job file in batches of one tile, of random sizes, and as large as 128 planes, one plane and 600 make them.
 #[test]
 fn each_job_gives_what_the_row_program_prints() {
     let mut batches = [Batch::new(), Batch::with_planes(1), Batch::with_planes(600), Batch::with_planes(0)];
@@ -141,8 +161,8 @@ fn any_table(state: &mut u32) -> LayerTable {
 }
 
 /// Stands for a tile's display bytes: they hang on all that is mixed.
-fn bytes(bottom: Color, mixed: &[u32]) -> [u8; 4] {
-    let sum = mixed.iter().fold(bottom.r as u32, |sum, &id| sum * 31 + id + 1);
+fn bytes(bottom: Color, mixed: impl Iterator<Item = u32>) -> [u8; 4] {
+    let sum = mixed.fold(bottom.r as u32, |sum, id| sum * 31 + id + 1);
     sum.to_le_bytes()
 }
 
@@ -160,19 +180,27 @@ fn frames_with_cached_tiles() {
             let open = || Row::open(plate.row(j), &table, j as i32, 3..12).unwrap();
             let (mut single, mut batched) = (open(), open());
             let [ours, theirs] = &mut kept;
-            while batched.work_tiles(1 + draw(&mut state) as usize % 6, &frame, Some(ours), &mut batch).unwrap() > 0 {
+            loop {
+                let size = 1 + draw(&mut state) as usize % 6;
+                let end = batched.work_tiles(size, &frame, Some(ours), &mut batch).unwrap();
                 for tile in batch.tiles() {
                     let place = tile.tile as usize - 3;
                     let worked = driven::work_in(&mut single, tile.tile, &frame, Some(&mut theirs[place])).unwrap();
                     check_tile(&tile, &worked, "frames");
                     words[["none", "solid", "paint"].iter().position(|&word| word == tile.decision.word()).unwrap()] +=
                         1;
-                    mixes += usize::from(!tile.mixed().is_empty());
+                    mixes += usize::from(tile.mixed().len() > 0);
                     if let Decision::Solid { bottom, .. } = tile.decision {
                         let settled = settle(Some(&mut ours[place]), bytes(bottom, tile.mixed()));
-                        assert_eq!(settled, single.settle(Some(&mut theirs[place]), bytes(bottom, &mixed(&worked))));
+                        assert_eq!(
+                            settled,
+                            single.settle(Some(&mut theirs[place]), bytes(bottom, mixed(&worked).into_iter()))
+                        );
                         kept_tiles += usize::from(settled == Ok(tile_rows::Settled::Keep));
                     }
+                }
+                if end == BatchEnd::RowEnd {
+                    break;
                 }
             }
             assert_eq!((ours, batched.next_tile()), (theirs, 12));
@@ -186,13 +214,14 @@ fn a_refusal_in_the_middle_ends_the_batch_before_it() {
     let (segments, table) = ([example(), edge(2, 2, 0, 16)].concat(), LayerTable::new(&[solid(1)]));
     let mut row = Row::open(&segments, &table, 0, 0..4).unwrap();
     let mut batch = Batch::new();
-    assert_eq!((batch.tiles().len(), batch.refusal()), (0, None));
-    assert_eq!(row.work_tiles(9, &FRAME, None, &mut batch), Ok(2), "the table has no layer 2");
+    assert_eq!(batch.tiles().len(), 0);
+    let ended = BatchEnd::NextRefused(Refusal::Missing);
+    assert_eq!(work_tiles(&mut row, 9, None, &mut batch), Ok((2, ended)), "the table has no layer 2");
     assert_eq!(batch.tiles().map(|tile| tile.decision.word()).collect::<Vec<_>>(), ["paint", "solid"]);
-    assert_eq!((batch.refusal(), row.next_tile()), (Some(Refusal::Missing), 2));
+    assert_eq!(row.next_tile(), 2);
     let carries: Vec<_> = row.carries().collect();
     assert_eq!(row.work_tiles(9, &FRAME, None, &mut batch), Err(Refusal::Missing));
-    assert_eq!((batch.tiles().len(), batch.refusal()), (0, Some(Refusal::Missing)));
+    assert_eq!(batch.tiles().len(), 0);
     assert_eq!((row.next_tile(), row.carries().collect::<Vec<_>>()), (2, carries));
     assert_eq!(row.work(2, &FRAME, None), Err(Refusal::Missing), "a single call says the same");
     assert_eq!(row.paint(1, &mut Plane::new()).unwrap().octets(), 32, "tile 1 is still the one just worked");
@@ -205,15 +234,33 @@ fn a_damaged_tag_is_mended_and_the_row_used_on() {
     let mut batch = Batch::new();
     let mut kept = [CachedTile::default(); 4];
     kept[1] = CachedTile([4, 1, 2, 3, 4, 5, 6, 7]);
-    assert_eq!(row.work_tiles(4, &FRAME, Some(&mut kept), &mut batch), Ok(1));
+    let ended = BatchEnd::NextRefused(Refusal::Tag);
+    assert_eq!(work_tiles(&mut row, 4, Some(&mut kept), &mut batch), Ok((1, ended)));
     let before = kept;
     assert_eq!(row.work_tiles(4, &FRAME, Some(&mut kept), &mut batch), Err(Refusal::Tag));
     assert_eq!((kept, row.next_tile()), (before, 1), "a refused call leaves the bytes");
     kept[1] = CachedTile::default();
-    assert_eq!(row.work_tiles(4, &FRAME, Some(&mut kept), &mut batch), Ok(3));
+    assert_eq!(work_tiles(&mut row, 4, Some(&mut kept), &mut batch), Ok((3, BatchEnd::RowEnd)));
     assert_eq!(kept.map(|tile| tile.layer_count()), [Some(1), Some(1), Some(1), Some(0)]);
-    assert_eq!(row.work_tiles(4, &FRAME, Some(&mut kept), &mut batch), Ok(0), "the row is at its end");
-    assert_eq!((batch.tiles().len(), batch.refusal()), (0, None));
+}
+
+/// The end of the row is told apart from nothing done: all tiles that are asked for, none asked for, more than there are.
+#[test]
+fn ends_are_told_apart() {
+    let (segments, table) = (example(), LayerTable::new(&[solid(1)]));
+    let mut row = Row::open(&segments, &table, 0, 0..4).unwrap();
+    let mut batch = Batch::new();
+    assert_eq!(work_tiles(&mut row, 0, None, &mut batch), Ok((0, BatchEnd::Asked)));
+    assert_eq!(work_tiles(&mut row, 1, None, &mut batch), Ok((1, BatchEnd::Asked)));
+    assert_eq!(work_tiles(&mut row, 3, None, &mut batch), Ok((3, BatchEnd::Asked)), "it ends with the row");
+    let incoming: Vec<_> = row.incoming().collect();
+    for tiles in [1, 9, usize::MAX] {
+        assert_eq!(work_tiles(&mut row, tiles, None, &mut batch), Ok((0, BatchEnd::RowEnd)));
+    }
+    assert_eq!(work_tiles(&mut row, 0, None, &mut batch), Ok((0, BatchEnd::Asked)), "nothing is asked for");
+    assert!(row.incoming().eq(incoming) && row.next_tile() == 4, "a batch of no tile leaves the row");
+    let mut row = Row::open(&segments, &table, 0, 0..4).unwrap();
+    assert_eq!(work_tiles(&mut row, 5, None, &mut batch), Ok((4, BatchEnd::RowEnd)), "more than the row has");
 }
 
 #[test]
@@ -221,13 +268,16 @@ fn cached_tiles_that_are_too_few() {
     let (segments, table) = (example(), LayerTable::new(&[solid(1)]));
     let mut row = Row::open(&segments, &table, 0, 0..4).unwrap();
     let (mut batch, mut kept) = (Batch::new(), [CachedTile::default(); 3]);
-    assert_eq!(row.work_tiles(4, &FRAME, Some(&mut kept), &mut batch), Err(Refusal::Room));
-    assert_eq!((row.next_tile(), kept), (0, [CachedTile::default(); 3]));
-    assert_eq!(row.work_tiles(3, &FRAME, Some(&mut kept), &mut batch), Ok(3), "of three tiles they are enough");
-    assert_eq!(row.work_tiles(1, &FRAME, Some(&mut kept), &mut batch), Err(Refusal::Room));
-    assert_eq!(row.work_tiles(1, &FRAME, Some(&mut kept[..1]), &mut batch), Err(Refusal::Room));
-    assert_eq!(row.work_tiles(0, &FRAME, Some(&mut kept), &mut batch), Ok(0), "nothing is asked for");
-    assert_eq!(row.work_tiles(1, &FRAME, None, &mut batch), Ok(1));
+    assert_eq!(work_tiles(&mut row, 2, Some(&mut kept), &mut batch), Ok((2, BatchEnd::Asked)));
+    assert_eq!(work_tiles(&mut row, 4, Some(&mut kept), &mut batch), Ok((1, BatchEnd::NoRoom)));
+    let before = kept;
+    for kept in [&mut kept[..], &mut { before }[..1], &mut []] {
+        assert_eq!(work_tiles(&mut row, 1, Some(kept), &mut batch), Ok((0, BatchEnd::NoRoom)));
+    }
+    assert_eq!((kept, row.next_tile()), (before, 3));
+    assert_eq!(work_tiles(&mut row, 0, Some(&mut kept), &mut batch), Ok((0, BatchEnd::Asked)), "nothing is asked for");
+    assert_eq!(work_tiles(&mut row, 1, None, &mut batch), Ok((1, BatchEnd::Asked)));
+    assert_eq!(work_tiles(&mut row, 1, Some(&mut kept), &mut batch), Ok((0, BatchEnd::RowEnd)), "which comes first");
 }
 
 /// Covers that grow too large in tile 1, and 257 layers in tile 1.
@@ -239,9 +289,24 @@ fn other_refusals_in_the_middle() {
     for (segments, refusal) in [(high, Refusal::Covers), (crowd, Refusal::Layers)] {
         let mut row = Row::open(&segments, &table, 0, 0..4).unwrap();
         let mut batch = Batch::new();
-        assert_eq!(row.work_tiles(4, &FRAME, None, &mut batch), Ok(1));
-        assert_eq!(batch.refusal(), Some(refusal));
+        assert_eq!(work_tiles(&mut row, 4, None, &mut batch), Ok((1, BatchEnd::NextRefused(refusal))));
         assert_eq!(row.work_tiles(4, &FRAME, None, &mut batch), Err(refusal));
+    }
+}
+
+/// Eight layers of a table of eight: a tile needs eight free planes, not 256.
+#[test]
+fn a_tile_needs_as_many_planes_as_the_table_has_layers() {
+    let layers = |id| Layer::draw(id, Style::solid(Color { a: 0.5, ..WHITE }));
+    let table = LayerTable::new(&(0..8).map(layers).collect::<Vec<_>>());
+    let segments: Vec<PixelSegment> = (0..6).flat_map(|tile| (0..8).flat_map(move |id| edge(id, tile, 3, 1))).collect();
+    for (planes, sizes) in [(1, vec![1; 6]), (8, vec![1; 6]), (9, vec![2; 3]), (25, vec![4, 2]), (41, vec![6])] {
+        let mut row = Row::open(&segments, &table, 0, 0..6).unwrap();
+        let mut batch = Batch::with_planes(planes);
+        for (at, &size) in sizes.iter().enumerate() {
+            let end = if at + 1 == sizes.len() { BatchEnd::RowEnd } else { BatchEnd::NoRoom };
+            assert_eq!(work_tiles(&mut row, 7, None, &mut batch), Ok((size, end)), "{planes} planes, batch {at}");
+        }
     }
 }
 
@@ -256,11 +321,13 @@ fn tiles_of_256_layers() {
         let mut row = Row::open(&segments, &table, 0, 0..3).unwrap();
         let mut batch = Batch::with_planes(planes);
         let mut sizes = Vec::new();
-        while row.work_tiles(usize::MAX, &FRAME, None, &mut batch).unwrap() > 0 {
-            assert!(batch.tiles().all(|tile| tile.painted().len() == 256));
+        let mut end = BatchEnd::NoRoom;
+        while end == BatchEnd::NoRoom {
+            end = row.work_tiles(usize::MAX, &FRAME, None, &mut batch).unwrap();
             assert!(batch.tiles().all(|tile| tile.painted().map(|layer| layer.id).eq(0..256)));
             sizes.push(batch.tiles().len());
         }
+        assert_eq!(end, BatchEnd::RowEnd);
         assert_eq!((sizes.len(), sizes.iter().sum::<usize>()), (batches, 3), "{planes} planes: {sizes:?}");
     }
 }
@@ -280,7 +347,7 @@ fn batches_and_single_calls_take_turns() {
                 assert_eq!(row.work(tile, &FRAME, None), single.work(tile, &FRAME, None));
                 assert!(row.listed().eq(single.listed()));
             } else {
-                row.work_tiles(1 + draw(&mut state) as usize % 4, &FRAME, None, &mut batch).unwrap();
+                assert!(work_tiles(&mut row, 1 + draw(&mut state) as usize % 4, None, &mut batch).is_ok());
                 for tile in batch.tiles() {
                     check_tile(&tile, &driven::work_in(&mut single, tile.tile, &FRAME, None).unwrap(), "turns");
                 }
@@ -303,7 +370,7 @@ fn a_draw_that_lacks_its_clip() {
     let table = LayerTable::new(&[Layer::clip(1, 1), Layer::clip(2, 5), Layer::draw(3, clipped)]);
     let segments = [edge(1, -1, 0, 8), edge(2, -1, 0, 8), edge(3, -1, 0, 16)].concat();
     let mut batch = Batch::default();
-    Row::open(&segments, &table, 0, 0..1).unwrap().work_tiles(1, &FRAME, None, &mut batch).unwrap();
+    assert!(work_tiles(&mut Row::open(&segments, &table, 0, 0..1).unwrap(), 1, None, &mut batch).is_ok());
     let tile = batch.tiles().next().unwrap();
     let painted: Vec<_> = tile.painted().map(|layer| (layer.id, layer.plane.at(7, 7), layer.mark.0)).collect();
     assert_eq!(painted, [(1, 0.5, 0), (2, 0.5, 0), (3, 1.0, 0)]);
@@ -338,10 +405,10 @@ fn a_row_and_a_batch_move_to_another_thread() {
     let (segments, table) = (example(), LayerTable::new(&[solid(1)]));
     let mut row = Row::open(&segments, &table, 0, 0..4).unwrap();
     let mut batch = Batch::new();
-    row.work_tiles(1, &FRAME, None, &mut batch).unwrap();
+    assert!(work_tiles(&mut row, 1, None, &mut batch).is_ok());
     let batch = std::thread::scope(|scope| {
         let moved = move || {
-            row.work_tiles(3, &FRAME, None, &mut batch).unwrap();
+            assert!(work_tiles(&mut row, 3, None, &mut batch).is_ok());
             batch
         };
         scope.spawn(moved).join().unwrap()

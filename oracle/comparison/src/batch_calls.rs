@@ -5,7 +5,11 @@ use crate::{
     given::{Queue, State, Work},
 };
 
-/// All that a batch may write: its state, the two queues, for each tile the bytes of its cached tile, five numbers and a
+/// Numbers of a tile: its decision, how many shown layers lie before those to mix, how many layers are listed, skipped,
+/// shown, and how many carries it hands on.
+pub const TOLD: usize = 6;
+
+/// All that a batch may write: its state, the two queues, for each tile the bytes of its cached tile, six numbers and a
 /// colour, for each plane 256 coverages and two words, and the numbers that it is told by.
 #[derive(Clone, Debug)]
 pub struct Batch {
@@ -16,14 +20,29 @@ pub struct Batch {
     pub bottoms: Vec<f32>,
     pub planes: Vec<f32>,
     pub painted: Vec<u32>,
-    /// Tiles worked, planes used, and which queue holds the carries.
-    pub done: [usize; 3],
+    /// Tiles worked, planes used, which queue holds the carries, why it ended, and the number of the next tile's
+    /// refusal.
+    pub done: [usize; 5],
 }
+
+/// Why a batch ended, by its numbers.
+pub const ASKED: usize = 0;
+pub const ROW_END: usize = 1;
+pub const NO_ROOM: usize = 2;
+pub const NEXT_REFUSED: usize = 3;
 
 impl Batch {
     /// How many planes there is room for.
     pub fn planes(&self) -> usize {
         (self.planes.len() / 256).min(self.painted.len() / 2)
+    }
+
+    /// Whether a tile may be worked behind so many tiles that used so many planes.
+    pub fn has_room(&self, work: &Work, worked: usize, used: usize) -> bool {
+        (!work.is_kept || worked < self.kept.len() / 8)
+            && worked < self.told.len() / TOLD
+            && worked < self.bottoms.len() / 4
+            && used + needed(work) <= self.planes()
     }
 
     /// Which parts are other than in another one.
@@ -47,6 +66,11 @@ impl PartialEq for Batch {
     fn eq(&self, other: &Self) -> bool {
         self.unlike(other).is_empty()
     }
+}
+
+/// How many planes a tile can need: as many as it can list layers.
+pub fn needed(work: &Work) -> usize {
+    work.table.count.min(256)
 }
 
 /// The number of the refusal; the batch holds what the call left. Of the work only the queue is not read.

@@ -9,18 +9,24 @@ use crate::{
     scene::word,
 };
 
-/// Outcomes by their numbers.
+/// Why a batch ended that worked a tile, or none, by the number of the reason.
+pub const ENDS: [[&str; 3]; 2] = [
+    ["nothing asked for", "at the row's end", "no room for a tile"],
+    ["ended: all asked for", "ended: the row's end", "ended: no room for a further tile"],
+];
+
+/// The same where the next tile would be refused, by the number of that refusal.
 pub const LATER: [&str; 10] = [
     "accepted",
-    "a later tile refused by 1",
-    "a later tile refused by 2",
-    "a later tile refused by 3",
-    "a later tile refused by 4",
-    "a later tile refused by 5",
-    "a later tile refused by 6",
-    "a later tile refused by 7",
-    "a later tile refused by 8",
-    "a later tile refused by 9",
+    "ended: the next refused by 1",
+    "ended: the next refused by 2",
+    "ended: the next refused by 3",
+    "ended: the next refused by 4",
+    "ended: the next refused by 5",
+    "ended: the next refused by 6",
+    "ended: the next refused by 7",
+    "ended: the next refused by 8",
+    "ended: the next refused by 9",
 ];
 
 /// A copy that is damaged in one way, mostly one that refuses the first tile.
@@ -41,18 +47,29 @@ pub fn damaged(random: &mut Random, work: &Work, batch: &Batch) -> (Work, Batch)
     (work, batch)
 }
 
-/// One of the lent columns one entry too short, or long enough.
+/// One of the two queues one entry too short, or long enough.
 fn shorten(random: &mut Random, batch: &mut Batch) {
     let entries = random.pick(&[0, 255, 255, 256]);
     let side = random.below(2);
-    match random.below(7) {
-        0 => batch.queues[side].ids.truncate(entries),
-        1 => batch.queues[side].covers.truncate(16 * entries + 15),
-        2 => batch.planes.truncate(256 * entries + 255),
-        3 => batch.painted.truncate(2 * entries + 1),
-        4 => batch.kept.truncate(batch.kept.len().saturating_sub(1 + random.below(20))),
-        5 => batch.told.truncate(batch.told.len().saturating_sub(1 + random.below(7))),
-        _ => batch.bottoms.truncate(batch.bottoms.len().saturating_sub(1 + random.below(6))),
+    if random.once_in(2) {
+        batch.queues[side].ids.truncate(entries);
+    } else {
+        batch.queues[side].covers.truncate(16 * entries + 15);
+    }
+}
+
+/// Less room than there was: columns cut anywhere.
+pub fn narrow(random: &mut Random, batch: &mut Batch) {
+    let mut cut = |len: usize| random.below(len + 1);
+    let [kept, told, bottoms, planes, painted] =
+        [batch.kept.len(), batch.told.len(), batch.bottoms.len(), batch.planes.len(), batch.painted.len()]
+            .map(&mut cut);
+    match random.below(5) {
+        0 => batch.kept.truncate(kept),
+        1 => batch.told.truncate(told),
+        2 => batch.bottoms.truncate(bottoms),
+        3 => batch.planes.truncate(planes),
+        _ => batch.painted.truncate(painted),
     }
 }
 
@@ -60,7 +77,7 @@ fn shorten(random: &mut Random, batch: &mut Batch) {
 /// too much cover.
 pub fn later(random: &mut Random, tiles: usize, work: &mut Work, batch: &mut Batch) {
     let at = 1 + random.below(tiles - 1);
-    if work.is_kept && random.once_in(3) {
+    if work.is_kept && random.once_in(3) && 8 * at < batch.kept.len() {
         batch.kept[8 * at] = random.pick(&[4, 7, 128]);
     } else {
         crowd(random, at, work);

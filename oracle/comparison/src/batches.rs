@@ -3,8 +3,9 @@
 use reference::plain::{Cached, Decision, Worked};
 
 use crate::{
-    batch_calls::{work_tiles, Batch},
-    batch_damages::{damaged, later, LATER},
+    batch_calls::{needed, work_tiles, Batch, ASKED, NEXT_REFUSED, NO_ROOM, ROW_END, TOLD},
+    batch_damages::{damaged, later, narrow, ENDS, LATER},
+    batch_edges,
     given::{Canvas, Memory, Queue, State, Work},
     judge,
     layers::lent,
@@ -18,46 +19,65 @@ use crate::{
 
 pub fn compare(tally: &mut Tally) {
     tally.random("batches, rows over several frames", batches);
+    tally.kind("batches, every edge", batch_edges::edges);
 }
 
 // ---- the succession of the single calls
 
 /// The number, the memory, and how far it came.
-struct Outcome {
+pub struct Outcome {
     number: u32,
     after: Batch,
-    done: [usize; 3],
+    done: [usize; 5],
 }
 
-/// Judged once, then tile after tile while 256 planes are free. A refusal of the first tile leaves everything.
+/// Tile after tile, up to the first reason to end. A refusal of the first tile is the batch's, and leaves everything.
 fn by_single_calls(work: &Work, tiles: usize, before: &Batch) -> Outcome {
-    let number = judge::batch(work, tiles, before);
-    let mut outcome = Outcome { number, after: before.clone(), done: [0; 3] };
-    while outcome.number == 0 && outcome.done[0] < tiles && outcome.done[1] + 256 <= before.planes() {
-        outcome.turn(work);
-    }
-    if outcome.number == 0 || outcome.done[0] > 0 {
+    let mut outcome = Outcome { number: 0, after: before.clone(), done: [0; 5] };
+    loop {
+        let [worked, used, side, ..] = outcome.done;
+        let [_, _, to, next, ..] = outcome.after.state.words;
+        outcome.done[3] = if worked == tiles {
+            ASKED
+        } else if to <= next {
+            ROW_END
+        } else if !before.has_room(work, worked, used) {
+            NO_ROOM
+        } else {
+            let number = judge::batch_tile(work, &outcome.after, worked, side);
+            if number == 0 {
+                outcome.turn(work);
+                continue;
+            }
+            outcome.done[4] = number as usize;
+            NEXT_REFUSED
+        };
+        if worked == 0 && outcome.done[3] == NEXT_REFUSED {
+            outcome.number = outcome.done[4] as u32;
+            return outcome;
+        }
         outcome.after.done = outcome.done;
+        // The state is written as it is read: whether there is a clip as 0 or 1, and no last layer of none.
+        let [.., clip, last] = &mut outcome.after.state.words;
+        (*clip, *last) = if *clip == 0 { (0, 0) } else { (1, *last) };
+        return outcome;
     }
-    outcome
 }
 
 impl Outcome {
-    /// The work on the next tile, and the painting of each of its shown layers.
+    /// The work on the next tile, and the painting of each of its shown layers; the layers that a solid tile mixes.
     fn turn(&mut self, work: &Work) {
-        let Self { number, after, done: [worked, used, side] } = self;
+        let Self { after, done: [worked, used, side, ..], .. } = self;
         let work = Work { tile: work.tile + *worked as i32, queue: after.queues[*side].clone(), ..work.clone() };
         let mut memory = one_tile(after, after.queues[1 - *side].clone());
         if work.is_kept {
             memory.kept.copy_from_slice(&after.kept[8 * *worked..][..8]);
         }
-        *number = library::work_tile(&work, &mut memory);
-        if *number != 0 {
-            return;
-        }
+        assert_eq!(library::work_tile(&work, &mut memory), 0, "a tile that no condition refuses");
         let [decision, before, listed, skipped] = memory.told;
-        let shown: Vec<usize> = (skipped..listed).filter(|&i| memory.shown[i]).collect();
-        after.told[5 * *worked..][..5].copy_from_slice(&[decision, before, listed, skipped, shown.len()]);
+        let shown: Vec<u32> = (skipped..listed).filter(|&i| memory.shown[i]).map(|i| memory.list.ids[i]).collect();
+        let told = [decision, before, listed, skipped, shown.len(), memory.state.counts[0]];
+        after.told[TOLD * *worked..][..TOLD].copy_from_slice(&told);
         if decision == 1 {
             after.bottoms[4 * *worked..][..4].copy_from_slice(&memory.bottom.map(f32::from_bits));
         }
@@ -65,10 +85,15 @@ impl Outcome {
             after.kept[8 * *worked..][..8].copy_from_slice(&memory.kept);
         }
         let mut canvas = Canvas { state: memory.state, plane: vec![7.0; 256], mark: 7 };
-        for i in shown.into_iter().filter(|_| decision == 2) {
-            assert_eq!(library::paint_layer(&work, memory.list.ids[i], &mut canvas), 0, "a shown layer is painted");
-            after.planes[256 * *used..][..256].copy_from_slice(&canvas.plane);
-            after.painted[2 * *used..][..2].copy_from_slice(&[memory.list.ids[i], canvas.mark]);
+        let first = [shown.len(), before, 0][decision];
+        for &id in &shown[first..] {
+            let mut mark = 0;
+            if decision == 2 {
+                assert_eq!(library::paint_layer(&work, id, &mut canvas), 0, "a shown layer is painted");
+                after.planes[256 * *used..][..256].copy_from_slice(&canvas.plane);
+                mark = canvas.mark;
+            }
+            after.painted[2 * *used..][..2].copy_from_slice(&[id, mark]);
             *used += 1;
         }
         after.state = canvas.state;
@@ -85,20 +110,23 @@ fn one_tile(batch: &Batch, next: Queue) -> Memory {
 }
 
 /// One call on both sides; what it came to, where they agree.
-fn check(kind: &mut Kind, work: &Work, tiles: usize, before: &Batch) -> Option<Outcome> {
+pub fn check(kind: &mut Kind, work: &Work, tiles: usize, before: &Batch) -> Option<Outcome> {
     let wanted = by_single_calls(work, tiles, before);
-    kind.note(match (wanted.number, wanted.done[0]) {
-        (0, 0) => "accepted, no tile",
-        (0, worked) if worked < tiles => "ended by its planes",
-        (number, 0) => REFUSED[number as usize],
-        (number, _) => LATER[number as usize],
+    let [worked, .., end, refusal] = wanted.done;
+    kind.note(match (wanted.number, end) {
+        (0, NEXT_REFUSED) => LATER[refusal],
+        (0, end) => ENDS[worked.min(1)][end],
+        (number, _) => REFUSED[number as usize],
     });
     let mut after = before.clone();
     let number = work_tiles(work, tiles, &mut after);
     let same = number == wanted.number && after == wanted.after;
     kind.case(same, || {
         let (input, seen) = (input(work, tiles, before), after.unlike(&wanted.after));
-        format!("{input}: the library {number}, the single calls {}; {seen}", wanted.number)
+        format!(
+            "{input}: the library {number} {:?}, the single calls {} {:?}; {seen}",
+            after.done, wanted.number, wanted.after.done
+        )
     });
     same.then_some(wanted)
 }
@@ -159,9 +187,9 @@ impl<'t> Open<'t> {
         Self { models, picture, work, to: scene.to, state, queue }
     }
 
-    /// All that a batch may write, longer than it needs, with numbers of its own; room for 256 planes or some more.
+    /// All that a batch may write, longer than it needs, with numbers of its own; planes for a tile and some more.
     fn any_batch(&self, random: &mut Random, tiles: usize, cached: &[Cached]) -> Batch {
-        let planes = 256 + if random.once_in(4) { random.below(345) } else { random.below(16) };
+        let planes = needed(&self.work) + if random.once_in(4) { random.below(90) } else { random.below(16) };
         let mut kept: Vec<u8> = (0..8 * tiles + random.below(20)).map(|_| random.word() as u8).collect();
         for (bytes, cached) in kept.chunks_exact_mut(8).zip(&cached[self.work.tile as usize..]) {
             bytes.copy_from_slice(&cached.0);
@@ -173,11 +201,11 @@ impl<'t> Open<'t> {
             state: self.state,
             queues: [self.queue.clone(), any_queue(random, false)],
             kept,
-            told: (0..5 * tiles + random.below(7)).map(|_| random.word() as usize).collect(),
+            told: (0..TOLD * tiles + random.below(8)).map(|_| random.word() as usize).collect(),
             bottoms: (0..4 * tiles + random.below(6)).map(|_| f32::from_bits(random.word() as u32)).collect(),
             planes: (0..256 * planes + random.below(300)).map(|i| -1000.0 - i as f32).collect(),
             painted: (0..2 * planes + random.below(4)).map(|_| random.word() as u32).collect(),
-            done: [(); 3].map(|()| random.word() as usize),
+            done: [(); 5].map(|()| random.word() as usize),
         }
     }
 
@@ -196,6 +224,9 @@ impl<'t> Open<'t> {
             check(kind, &work, tiles, &batch);
         }
         let mut work = self.work.clone();
+        if kind.random.once_in(8) {
+            narrow(&mut kind.random, &mut batch);
+        }
         if kind.random.once_in(3) && left.min(tiles) > 1 {
             later(&mut kind.random, left.min(tiles), &mut work, &mut batch);
         }
@@ -205,7 +236,7 @@ impl<'t> Open<'t> {
 
     /// The Rust works the same tiles; the row goes on after them.
     fn follow(&mut self, kind: &mut Kind, before: &Batch, outcome: &Outcome, cached: &mut [Cached]) -> Option<()> {
-        let Outcome { after, done: [worked, used, side], .. } = outcome;
+        let Outcome { after, done: [worked, used, side, ..], .. } = outcome;
         let mut planes = 0;
         for at in 0..*worked {
             let tile = self.work.tile as usize + at;
@@ -215,8 +246,7 @@ impl<'t> Open<'t> {
                 return None;
             };
             self.compare_tile(kind, before, after, at, &judged.worked);
-            self.compare_planes(kind, before, after, planes, &judged.worked);
-            planes += judged.worked.painted.len();
+            planes += self.compare_planes(kind, before, after, planes, &judged.worked);
             let mut bytes = cached[tile];
             if self.work.is_kept {
                 bytes.0.copy_from_slice(&after.kept[8 * at..][..8]);
@@ -245,26 +275,42 @@ impl<'t> Open<'t> {
             Decision::Paint => (2, 0, bits(before)),
         };
         kind.note(["none", "solid", "paint"][code]);
-        let same = after.told[5 * at..][..5] == [code, first, worked.list.len(), worked.skipped, shown]
+        let told = [code, first, worked.list.len(), worked.skipped, shown, worked.queue.len()];
+        let same = after.told[TOLD * at..][..TOLD] == told
             && bits(after) == bottom
             && worked.cached.is_none_or(|(kept, _)| after.kept[8 * at..][..8] == kept.0);
         kind.case(same, || {
-            let told = &after.told[5 * at..][..5];
+            let told = &after.told[TOLD * at..][..TOLD];
             format!("{}: tile {at} of it {told:?}; the Rust {}", input(&self.work, at, before), brief(worked))
         });
     }
 
-    /// The planes from `first` on, with their layers and marks.
-    fn compare_planes(&self, kind: &mut Kind, before: &Batch, after: &Batch, first: usize, worked: &Worked) {
-        for (u, painted) in (first..).zip(&worked.painted) {
-            let plane = after.planes[256 * u..][..256].iter().map(|one| one.to_bits());
-            let same =
-                plane.eq(painted.plane.map(f32::to_bits)) && after.painted[2 * u..][..2] == [painted.id, painted.mark];
+    /// The planes from `first` on, with their layers and marks; of a solid tile the layers to mix, and nothing written in
+    /// the planes. How many that is.
+    fn compare_planes(&self, kind: &mut Kind, before: &Batch, after: &Batch, first: usize, worked: &Worked) -> usize {
+        let bits = |batch: &Batch, u: usize| -> Vec<u32> {
+            batch.planes[256 * u..][..256].iter().map(|one| one.to_bits()).collect()
+        };
+        let mut compare = |u: usize, plane: Vec<u32>, id: u32, mark: u32| {
+            let same = bits(after, u) == plane && after.painted[2 * u..][..2] == [id, mark];
             kind.case(same, || {
                 let told = &after.painted[2 * u..][..2];
-                format!("{}: plane {u} of {told:x?}; the Rust {painted:?}", input(&self.work, u, before))
+                format!("{}: plane {u} of {told:x?}; the Rust {id} {mark:x}", input(&self.work, u, before))
             });
+        };
+        let mixed = match worked.decision {
+            Decision::Solid { before, .. } => before,
+            _ => usize::MAX,
+        };
+        let shown = worked.list.iter().skip(worked.skipped).filter(|entry| entry.shown);
+        let mixed: Vec<u32> = shown.skip(mixed).map(|entry| entry.id).collect();
+        for (u, &id) in (first..).zip(&mixed) {
+            compare(u, bits(before, u), id, 0);
         }
+        for (u, painted) in (first..).zip(&worked.painted) {
+            compare(u, painted.plane.map(f32::to_bits).to_vec(), painted.id, painted.mark);
+        }
+        mixed.len() + worked.painted.len()
     }
 }
 

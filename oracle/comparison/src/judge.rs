@@ -153,19 +153,13 @@ pub fn work(tile: &Tile<'_>, row: &[u64], table: &LentTable) -> u32 {
     }
 }
 
-/// A batch, judged once by 1 to 5, also where no tile is asked for.
-pub fn batch(work: &Work, tiles: usize, batch: &Batch) -> u32 {
-    let lent_short = batch.queues.iter().any(|queue| is_short(queue.ids.len(), queue.covers.len()))
-        || batch.planes() < 256
-        || work.is_kept && batch.kept.len() / 8 < tiles
-        || batch.told.len() / 5 < tiles
-        || batch.bottoms.len() / 4 < tiles;
-    let queue = if lent_short { Vec::new() } else { carries(&batch.queues[0], batch.state.counts[0].min(256)) };
-    let tile = Tile { state: batch.state, tile: work.tile, lent_short, queue: &queue, tag: None };
-    match self::work(&tile, &work.row, &work.table) {
-        number @ 1..=5 => number,
-        _ => 0,
-    }
+/// The next tile of a batch, behind so many: its own call, with a list of its own.
+pub fn batch_tile(work: &Work, batch: &Batch, worked: usize, side: usize) -> u32 {
+    let lent_short = batch.queues.iter().any(|queue| is_short(queue.ids.len(), queue.covers.len()));
+    let queue = if lent_short { Vec::new() } else { carries(&batch.queues[side], batch.state.counts[0].min(256)) };
+    let tag = work.is_kept.then(|| batch.kept[8 * worked]);
+    let tile = Tile { state: batch.state, tile: work.tile + worked as i32, lent_short, queue: &queue, tag };
+    self::work(&tile, &work.row, &work.table)
 }
 
 /// Deciding about n entries of a list. `ids` are theirs, as many as the column has.

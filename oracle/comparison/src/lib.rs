@@ -5,6 +5,7 @@ pub mod arrangements;
 pub mod backwards;
 pub mod batch_calls;
 pub mod batch_damages;
+pub mod batch_edges;
 pub mod batches;
 pub mod bench;
 pub mod bounds;

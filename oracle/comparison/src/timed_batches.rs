@@ -3,7 +3,7 @@
 use std::hint::black_box;
 
 use crate::{
-    batch_calls::{work_tiles, Batch},
+    batch_calls::{needed, work_tiles, Batch, TOLD},
     given::{Queue, State, Work},
     layers::lent,
     library,
@@ -13,9 +13,6 @@ use crate::{
     timed_scenes::{bands, clips, dense, draws, level, load, Row},
     timing::Bench,
 };
-
-/// A batch ends where fewer planes are free than a tile can use.
-const A_TILE: usize = 256;
 
 /// What the ratio should be at most.
 const AIM: f64 = 0.65;
@@ -30,19 +27,20 @@ struct Batched {
 impl Batched {
     /// With planes for so many layers beside those that a tile can use.
     fn new(row: &Row, planes: usize) -> Self {
-        let planes = planes + A_TILE - 1;
         let queue = || Queue { ids: vec![0; 256], covers: vec![0; 4096] };
         let (words, table) = (row.words.clone(), lent(&row.records));
         let work = Work { tile: 0, row: words, table, is_kept: false, clear: CLEAR, previous: None, queue: queue() };
+        // A batch ends where fewer planes are free than a tile can use.
+        let planes = planes + needed(&work) - 1;
         let batch = Batch {
             state: State { words: [0; 6], counts: [0; 2] },
             queues: [queue(), queue()],
             kept: Vec::new(),
-            told: vec![0; 5 * row.tiles],
+            told: vec![0; TOLD * row.tiles],
             bottoms: vec![0.0; 4 * row.tiles],
             planes: vec![0.0; 256 * planes],
             painted: vec![0; 2 * planes],
-            done: [0; 3],
+            done: [0; 5],
         };
         Self { tiles: row.tiles, work, batch }
     }
@@ -83,12 +81,29 @@ fn is_mark_of(row: &Row, id: u32, (plane, mark): &Painted) -> bool {
     }
 }
 
+/// The places of the painted layers; a solid tile has those that it mixes in `painted` too.
+fn painted_places(batch: &Batch) -> Vec<usize> {
+    let (mut places, mut used) = (Vec::new(), 0);
+    for told in batch.told.chunks_exact(TOLD).take(batch.done[0]) {
+        match told[0] {
+            1 => used += told[4] - told[1],
+            2 => {
+                places.extend(used..used + told[4]);
+                used += told[4];
+            }
+            _ => (),
+        }
+    }
+    assert_eq!(used, batch.done[1]);
+    places
+}
+
 /// The coverages and the marks are those of the single calls, in their order; the bits of all coverages.
 fn check(row: &Row, planes: usize) -> Vec<u64> {
     let (mut ours, mut single): (Vec<Painted>, Vec<Painted>) = (Vec::new(), Vec::new());
     let mut ids = Vec::new();
     let result = Batched::new(row, planes).run(|batch| {
-        for i in 0..batch.done[1] {
+        for i in painted_places(batch) {
             ids.push(batch.painted[2 * i]);
             ours.push((batch.planes[256 * i..256 * (i + 1)].to_vec(), batch.painted[2 * i + 1]));
         }

@@ -4,10 +4,11 @@
 use std::hint::black_box;
 
 use tile_rows::{
-    exports, four_high, segment, Batch, BatchTile, Color, FillRule, Frame, LayerTable, Plane, Row as OpenRow,
+    exports, four_high, segment, Batch, BatchEnd, BatchTile, Color, FillRule, Frame, LayerTable, Plane, Row as OpenRow,
 };
 
 use crate::{
+    batch_calls::TOLD,
     given::Fields,
     layers::lent,
     library,
@@ -55,15 +56,22 @@ fn through(row: &Row, table: &LayerTable, plane: &mut Plane) -> usize {
 #[inline(never)]
 fn in_batches(row: &Row, table: &LayerTable, batch: &mut Batch, mut seen: impl FnMut(&BatchTile<'_>)) {
     let (mut open, frame) = (open(row, table), frame());
-    while open.work_tiles(usize::MAX, &frame, None, batch).unwrap() > 0 {
+    loop {
+        let end = open.work_tiles(usize::MAX, &frame, None, batch).unwrap();
         batch.tiles().for_each(|tile| seen(&tile));
+        if end == BatchEnd::RowEnd {
+            return;
+        }
     }
 }
 
-/// Each tile and each painted layer is looked at.
+/// Each tile, each painted layer and each that is mixed is looked at.
 fn look_at(tile: &BatchTile<'_>) {
     for layer in black_box(tile).painted() {
         black_box((layer.id, layer.mark, layer.plane));
+    }
+    for layer in tile.mixed() {
+        black_box(layer);
     }
 }
 
@@ -72,7 +80,7 @@ fn answers(row: &Row) -> (Vec<u64>, bool) {
     let (mut planes, mut mixes) = (Vec::new(), false);
     in_batches(row, &table(row), &mut Batch::new(), |tile| {
         tile.painted().for_each(|layer| planes.extend(bits(layer.plane.as_numbers())));
-        mixes |= !tile.mixed().is_empty();
+        mixes |= tile.mixed().len() > 0;
     });
     (planes, mixes)
 }
@@ -91,13 +99,15 @@ impl Direct {
     fn new(row: &Row) -> Direct {
         let words = lent(&row.records);
         let queue = || (vec![0; 256], vec![0; 4096]);
+        // As `Batch::new` has them: 128, and as many as a tile can use.
+        let planes = 127 + words.count.min(256);
         Direct {
             table: (words.layers, words.colors, words.count),
             queues: [queue(), queue()],
-            told: vec![0; 5 * row.tiles],
+            told: vec![0; TOLD * row.tiles],
             bottoms: vec![0.0; 4 * row.tiles],
-            planes: vec![0.0; 256 * 287],
-            painted: vec![0; 2 * 287],
+            planes: vec![0.0; 256 * planes],
+            painted: vec![0; 2 * planes],
         }
     }
 
@@ -125,7 +135,7 @@ impl Direct {
         while (words[3] as i32) < tiles {
             let next = words[3] as i32;
             let [(a_ids, a_covers), (b_ids, b_covers)] = &mut queues;
-            let mut done = [0; 3];
+            let mut done = [0; 5];
             let number = exports::work_tiles(
                 &mut words,
                 &mut counts,
@@ -152,23 +162,28 @@ impl Direct {
             );
             assert_eq!(number, 0);
             queues.rotate_left(done[2]);
-            sum += look(&told[..5 * done[0]], planes, painted);
+            sum += look(&told[..TOLD * done[0]], planes, painted);
         }
         sum
     }
 }
 
-/// Looks at each tile and each painted layer of a batch; how many of these there are.
+/// Looks at each tile, each painted layer and each that is mixed of a batch; how many are painted.
 fn look(told: &[usize], planes: &[f32], painted: &[u32]) -> usize {
-    let mut used = 0;
-    for tile in told.chunks_exact(5) {
-        let paints = if black_box(tile)[0] == 2 { tile[4] } else { 0 };
-        for plane in used..used + paints {
-            black_box((painted[2 * plane], painted[2 * plane + 1], &planes[256 * plane..256 * plane + 256]));
+    let (mut used, mut paints) = (0, 0);
+    for tile in told.chunks_exact(TOLD) {
+        let ends = used + [0, tile[4] - tile[1], tile[4]][black_box(tile)[0]];
+        for plane in used..ends {
+            if tile[0] == 2 {
+                black_box((painted[2 * plane], painted[2 * plane + 1], &planes[256 * plane..256 * plane + 256]));
+                paints += 1;
+            } else {
+                black_box(painted[2 * plane]);
+            }
         }
-        used += paints;
+        used = ends;
     }
-    used
+    paints
 }
 
 fn line(bench: &mut Bench, name: &str, row: &Row) {
@@ -199,8 +214,8 @@ fn line_in_batches(bench: &mut Bench, name: &str, row: &Row) {
         black_box(direct.run(black_box(row)));
     };
     let through = || in_batches(black_box(row), &table, &mut batch, look_at);
-    let (told, aim) = if mixes { (", mixing", None) } else { ("", Some(AIM)) };
-    bench.line(&format!("crate in batches: {name}{told}, {painted} painted"), 1, aim, exports, through);
+    let told = if mixes { ", mixing" } else { "" };
+    bench.line(&format!("crate in batches: {name}{told}, {painted} painted"), 1, Some(AIM), exports, through);
 }
 
 fn line_beside_rust(bench: &mut Bench, name: &str, row: &Row) {

@@ -126,7 +126,12 @@ fn told(time: f64) -> String {
 
 /// Best and median.
 fn both(times: &[f64]) -> String {
-    format!("{} / {}", told(best(times)), told(median(times)))
+    let (best, median) = (best(times), median(times));
+    if best < 10_000.0 {
+        format!("{best:.1} / {median:.1}")
+    } else {
+        format!("{:.1} / {:.1} µs", best / 1000.0, median / 1000.0)
+    }
 }
 
 /// Nanoseconds a call in each round, of all sides in turn; which one begins, and where in the stack, changes from round

@@ -8,8 +8,8 @@ use comparison::{
 };
 use reference::plain::{self, Cached, Record, Worked};
 use tile_rows::{
-    segment, settle, Batch, BatchTile, BlendMode, CachedTile, Color, Cover, Decision, Fill, FillRule, Frame, Func,
-    Layer, LayerTable, Listed, PixelSegment, Plane, Row, Settled, Style,
+    segment, settle, Batch, BatchEnd, BatchTile, BlendMode, CachedTile, Color, Cover, Decision, Fill, FillRule, Frame,
+    Func, Layer, LayerTable, Listed, PixelSegment, Plane, Row, Settled, Style,
 };
 
 fn layer(record: &Record) -> Layer {
@@ -82,13 +82,13 @@ fn check_cached(mut kept: Option<CachedTile>, rust: &Worked, scene: &Scene) -> O
 fn check_batched(tile: &BatchTile<'_>, rust: &Worked, scene: &Scene) {
     assert_eq!(decided(&tile.decision), decided_by_rust(&rust.decision), "{scene:?}");
     let shown: Vec<u32> = rust.list.iter().skip(rust.skipped).filter(|one| one.shown).map(|one| one.id).collect();
-    let numbers = (rust.list.len(), rust.skipped, shown.len());
-    assert_eq!((tile.listed, tile.passed_over, tile.shown), numbers, "{scene:?}");
+    let numbers = (rust.list.len(), rust.skipped, shown.len(), rust.queue.len());
+    assert_eq!((tile.listed, tile.passed_over, tile.shown, tile.carried), numbers, "{scene:?}");
     let mixed = match rust.decision {
         plain::Decision::Solid { before, .. } => &shown[before..],
         _ => &[],
     };
-    assert_eq!(tile.mixed(), mixed, "{scene:?}");
+    assert!(tile.mixed().eq(mixed.iter().copied()), "{scene:?}");
     assert_eq!(tile.painted().len(), rust.painted.len(), "{scene:?}");
     for (layer, wanted) in tile.painted().zip(&rust.painted) {
         assert_eq!((layer.id, layer.mark.0), (wanted.id, wanted.mark), "{scene:?}");
@@ -115,7 +115,9 @@ impl Batches {
         scene: &Scene,
     ) {
         let (first, mut left) = (row.tiles().start, rust);
-        while row.work_tiles(1 + self.sizes.below(8), frame, kept.as_deref_mut(), &mut self.batch).unwrap() > 0 {
+        loop {
+            let size = 1 + self.sizes.below(8);
+            let end = row.work_tiles(size, frame, kept.as_deref_mut(), &mut self.batch).unwrap();
             self.count += 1;
             let (here, rest) = left.split_at(self.batch.tiles().len());
             left = rest;
@@ -126,8 +128,12 @@ impl Batches {
                 place.zip(after).into_iter().for_each(|(place, after)| *place = after);
             }
             let carries = row.carries().map(|carry| (carry.id, carry.cover.0));
-            let last = here.last().expect("a batch has a tile");
-            assert!(carries.eq(last.queue.iter().map(|carry| (carry.id, carry.cover))), "{scene:?}");
+            if let Some(last) = here.last() {
+                assert!(carries.eq(last.queue.iter().map(|carry| (carry.id, carry.cover))), "{scene:?}");
+            }
+            if end == BatchEnd::RowEnd {
+                break;
+            }
         }
         assert!(left.is_empty(), "{scene:?}");
     }

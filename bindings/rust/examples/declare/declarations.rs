@@ -90,8 +90,7 @@ const RUST_HEAD: &str = "\
 //! The plain operations: each export of the library as a safe function, for callers with memory of their own.
 //!
 //! Each judges all that it is given, however it was made. A call that can be refused returns the number of the
-//! refusal ([`Refusal::judge`](crate::Refusal::judge)), or 0; a refused call leaves what it was lent as it was, but for
-//! [`work_tiles`], which may have worked tiles before the refused one.
+//! refusal ([`Refusal::judge`](crate::Refusal::judge)), or 0; a refused call leaves what it was lent as it was.
 //! The contracts stand in crates/ffi/src. Fill rules, modes and fills are numbers here, as in a layer record.
 
 ";
@@ -104,9 +103,9 @@ const SAFETY: &str = "\
 const C_HEAD: &str = "\
 /* The exports of target/staticlib/libffi.a, for x86-64. A slice is a pointer and a length, and the pointer is not NULL
    even where the length is 0; an array of fixed length is a pointer. What a call may write must not overlap anything
-   else that it is lent. A call that can be refused returns the number of the refusal, or 0, and then leaves what it
-   was lent as it was, but for ffi_work_tiles, which may have worked tiles before the refused one. A bool that is lent
-   holds 0 or 1. docs/MANUAL.md, sections 2 and 4, tells of refusals, states and answers.
+   else that it is lent. A call that can be refused returns the number of the refusal, and then leaves what it was lent
+   as it was, or 0. A bool that is lent holds 0 or 1. docs/MANUAL.md, sections 2 and 4, tells of refusals, states and
+   answers.
 
    To keep tiles from frame to frame: README.md beside this file, 'Keeping tiles from C'. In short, for each tile: list
    (ffi_list_tile); decide without a cached tile, which tells the shown layers; where these, by id and by whether each

@@ -6,7 +6,9 @@ use std::{
     thread,
 };
 
-use tile_rows::{Batch, BatchTile, Decision, Fields, Layer, LayerTable, PixelSegment, Plate, Refusal, Row, Style};
+use tile_rows::{
+    Batch, BatchEnd, BatchTile, Decision, Fields, Layer, LayerTable, PixelSegment, Plate, Refusal, Row, Style,
+};
 
 use super::driven::FRAME;
 
@@ -71,10 +73,13 @@ impl Told {
 /// The tiles of a row, worked in batches.
 pub fn tiles(row: &mut Row<'_>, batch: &mut Batch) -> Result<Vec<Told>, Refusal> {
     let mut told = Vec::new();
-    while row.work_tiles(usize::MAX, &FRAME, None, batch)? > 0 {
+    loop {
+        let end = row.work_tiles(usize::MAX, &FRAME, None, batch)?;
         told.extend(batch.tiles().map(Told::of));
+        if end == BatchEnd::RowEnd {
+            return Ok(told);
+        }
     }
-    Ok(told)
 }
 
 /// The tiles of so many rows, worked on so many threads: each takes the next row that nobody has.
