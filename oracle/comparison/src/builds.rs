@@ -22,10 +22,10 @@ const BUILDS: [(&str, &str, &str, bool); 4] = [
 pub enum Task<'a> {
     /// Parts of a layer, one behind the other, each painted in one tile with this cover in every pixel row.
     Parts { words: &'a [u64], lens: &'a [usize], cover: i8, rule: u32 },
-    /// A row of so many tiles from 0 on, opened, worked and painted.
+    /// A row of so many tiles from 0 on, opened, worked and painted; without a tile its opening.
     Row { words: &'a [u64], records: &'a [Record], tiles: usize },
-    /// The opening of a row without a tile.
-    Opening { words: &'a [u64], records: &'a [Record] },
+    /// The same of several rows, one after the other.
+    Plate { rows: &'a [Vec<u64>], records: &'a [Record], tiles: usize },
     /// A search for each of the values, by the key of this number: tile y, tile x, layer id, tile x at least the value,
     /// tile y not negative.
     Search { key: usize, words: &'a [u64], values: &'a [i32] },
@@ -36,8 +36,7 @@ pub enum Task<'a> {
 }
 
 type Parts = unsafe extern "C" fn(*const u64, *const usize, usize, i8, u32) -> *mut c_void;
-type Row = unsafe extern "C" fn(*const u64, usize, *const Record, usize, usize) -> *mut c_void;
-type Opening = unsafe extern "C" fn(*const u64, usize, *const Record, usize) -> *mut c_void;
+type Rows = unsafe extern "C" fn(*const u64, *const usize, usize, *const Record, usize, usize) -> *mut c_void;
 type Search = unsafe extern "C" fn(usize, *const u64, usize, *const i32, usize) -> *mut c_void;
 type Ordering = unsafe extern "C" fn(*const u64, usize, bool) -> *mut c_void;
 type Packing = unsafe extern "C" fn(*const u64, usize) -> *mut c_void;
@@ -94,12 +93,13 @@ impl Build {
                     make(words.as_ptr(), lens.as_ptr(), lens.len(), cover, rule)
                 }
                 Task::Row { words, records, tiles } => {
-                    let make: Row = mem::transmute(self.symbol("row"));
-                    make(words.as_ptr(), words.len(), records.as_ptr(), records.len(), tiles)
+                    let make: Rows = mem::transmute(self.symbol("rows"));
+                    make(words.as_ptr(), &words.len(), 1, records.as_ptr(), records.len(), tiles)
                 }
-                Task::Opening { words, records } => {
-                    let make: Opening = mem::transmute(self.symbol("opening"));
-                    make(words.as_ptr(), words.len(), records.as_ptr(), records.len())
+                Task::Plate { rows, records, tiles } => {
+                    let make: Rows = mem::transmute(self.symbol("rows"));
+                    let (words, lens) = (rows.concat(), rows.iter().map(Vec::len).collect::<Vec<_>>());
+                    make(words.as_ptr(), lens.as_ptr(), lens.len(), records.as_ptr(), records.len(), tiles)
                 }
                 Task::Search { key, words, values } => {
                     let make: Search = mem::transmute(self.symbol("search"));

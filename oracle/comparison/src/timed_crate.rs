@@ -3,19 +3,21 @@
 
 use std::hint::black_box;
 
+use reference::plain::Record;
 use tile_rows::{
     exports, four_high, segment, Batch, BatchEnd, BatchTile, Color, FillRule, Frame, LayerTable, Plane, Row as OpenRow,
 };
 
 use crate::{
     batch_calls::TOLD,
+    builds::Task,
     given::Fields,
     layers::lent,
     library,
     loads::Asked,
     random::Random,
     timed_rows::{bits, task, Ours, CLEAR},
-    timed_scenes::{bands, clips, draws, load, Row},
+    timed_scenes::{bands, clips, draws, load, plate, Row, Rows},
     timing::Bench,
 };
 
@@ -26,13 +28,25 @@ fn frame() -> Frame {
     Frame { clear: Color::from(CLEAR), previous_clear: None }
 }
 
-fn table(row: &Row) -> LayerTable {
-    let words = lent(&row.records);
+fn table(records: &[Record]) -> LayerTable {
+    let words = lent(records);
     LayerTable::from_words(words.layers, words.colors, words.count)
 }
 
 fn open<'a>(row: &'a Row, table: &'a LayerTable) -> OpenRow<'a> {
     OpenRow::open(segment::segments_of(&row.words), table, 0, 0..row.tiles as i32).unwrap()
+}
+
+/// The tiles of an opened row in batches, with a look at each.
+fn batches(mut row: OpenRow<'_>, batch: &mut Batch, mut seen: impl FnMut(&BatchTile<'_>)) {
+    let frame = frame();
+    loop {
+        let end = row.work_tiles(usize::MAX, &frame, None, batch).unwrap();
+        batch.tiles().for_each(|tile| seen(&tile));
+        if end == BatchEnd::RowEnd {
+            return;
+        }
+    }
 }
 
 /// The row opened, each tile worked and its shown layers painted; how many were.
@@ -54,14 +68,17 @@ fn through(row: &Row, table: &LayerTable, plane: &mut Plane) -> usize {
 
 /// The same in batches, with a look at each tile.
 #[inline(never)]
-fn in_batches(row: &Row, table: &LayerTable, batch: &mut Batch, mut seen: impl FnMut(&BatchTile<'_>)) {
-    let (mut open, frame) = (open(row, table), frame());
-    loop {
-        let end = open.work_tiles(usize::MAX, &frame, None, batch).unwrap();
-        batch.tiles().for_each(|tile| seen(&tile));
-        if end == BatchEnd::RowEnd {
-            return;
-        }
+fn in_batches(row: &Row, table: &LayerTable, batch: &mut Batch, seen: impl FnMut(&BatchTile<'_>)) {
+    batches(open(row, table), batch, seen);
+}
+
+/// A plate in batches, row after row.
+#[inline(never)]
+fn plate_in_batches(plate: &Rows, table: &LayerTable, batch: &mut Batch, mut seen: impl FnMut(&BatchTile<'_>)) {
+    for (tile_y, words) in plate.rows.iter().enumerate() {
+        let segments = segment::segments_of(words);
+        let row = OpenRow::open(segments, table, tile_y as i32, 0..plate.tiles as i32).unwrap();
+        batches(row, batch, &mut seen);
     }
 }
 
@@ -78,7 +95,7 @@ fn look_at(tile: &BatchTile<'_>) {
 /// The bits of all coverages that the batches paint, and whether a tile mixes colours.
 fn answers(row: &Row) -> (Vec<u64>, bool) {
     let (mut planes, mut mixes) = (Vec::new(), false);
-    in_batches(row, &table(row), &mut Batch::new(), |tile| {
+    in_batches(row, &table(&row.records), &mut Batch::new(), |tile| {
         tile.painted().for_each(|layer| planes.extend(bits(layer.plane.as_numbers())));
         mixes |= tile.mixed().len() > 0;
     });
@@ -187,7 +204,7 @@ fn look(told: &[usize], planes: &[f32], painted: &[u32]) -> usize {
 }
 
 fn line(bench: &mut Bench, name: &str, row: &Row) {
-    let table = table(row);
+    let table = table(&row.records);
     let mut plane = Plane::new();
     let mut ours = Ours::new(row);
     let mut painted = 0;
@@ -206,7 +223,7 @@ fn line(bench: &mut Bench, name: &str, row: &Row) {
 }
 
 fn line_in_batches(bench: &mut Bench, name: &str, row: &Row) {
-    let (table, mut batch, mut direct) = (table(row), Batch::new(), Direct::new(row));
+    let (table, mut batch, mut direct) = (table(&row.records), Batch::new(), Direct::new(row));
     let (planes, mixes) = answers(row);
     let painted = planes.len() / 256;
     assert_eq!(direct.run(row), painted);
@@ -219,10 +236,21 @@ fn line_in_batches(bench: &mut Bench, name: &str, row: &Row) {
 }
 
 fn line_beside_rust(bench: &mut Bench, name: &str, row: &Row) {
-    let (table, mut batch, (planes, _)) = (table(row), Batch::new(), answers(row));
+    let (table, mut batch, (planes, _)) = (table(&row.records), Batch::new(), answers(row));
     let through = || in_batches(black_box(row), &table, &mut batch, look_at);
     let name = format!("crate by batches: {name}, {} painted", planes.len() / 256);
     bench.beside(&name, 1, None, task(row), &planes, through);
+}
+
+/// A plate beside the Rust, which goes through its rows one after the other, too.
+fn line_of_plate(bench: &mut Bench, name: &str, plate: &Rows) {
+    let (table, mut batch, mut planes) = (table(&plate.records), Batch::new(), Vec::new());
+    plate_in_batches(plate, &table, &mut batch, |tile| {
+        tile.painted().for_each(|layer| planes.extend(bits(layer.plane.as_numbers())));
+    });
+    let name = format!("plate: {} x {} tiles, {name}, {} painted", plate.rows.len(), plate.tiles, planes.len() / 256);
+    let task = Task::Plate { rows: &plate.rows, records: &plate.records, tiles: plate.tiles };
+    bench.beside(&name, 1, None, task, &planes, || plate_in_batches(black_box(plate), &table, &mut batch, look_at));
 }
 
 /// One layer's row of tiles four pixels high.
@@ -276,4 +304,23 @@ pub fn print(bench: &mut Bench) {
     loads.iter().chain(&banded).for_each(|(name, row)| line_in_batches(bench, name, row));
     bench.title("Whole rows by the crate, in batches");
     loads.iter().chain(&banded).for_each(|(name, row)| line_beside_rust(bench, name, row));
+    bench.title("Whole plates by the crate, in batches");
+    for (count, layers, alpha, told) in [
+        (64, 8, 0.5, "translucent"),
+        (64, 32, 0.5, "translucent"),
+        (64, 32, 1.0, "opaque"),
+        (1024, 4, 0.5, "translucent"),
+    ] {
+        let rows = plate(count, draws(layers, alpha), |_| bands(random, draws(layers, alpha)));
+        line_of_plate(bench, &format!("{layers} {told}"), &rows);
+    }
+    let mut seeds = 0..;
+    let rows = plate(64, draws(8, 0.5), |_| light(&mut seeds, 64, 1024));
+    line_of_plate(bench, "8 translucent, loads", &rows);
+}
+
+/// The made load of the next seed that no condition refuses.
+fn light(seeds: &mut impl Iterator<Item = u32>, tiles: i64, segments: i64) -> Row {
+    let mut loads = seeds.map(|seed| load(Asked { seed, tiles, segments }, 0));
+    loads.find(|row| Ours::new(row).work(library::work_tile).is_ok()).unwrap()
 }

@@ -96,7 +96,7 @@ pub fn task(row: &Row) -> Task<'_> {
 }
 
 /// A line for a row.
-fn line(bench: &mut Bench, name: &str, row: &Row, task: Task<'_>, answers: &[u64]) {
+fn line(bench: &mut Bench, name: &str, row: &Row, answers: &[u64]) {
     let mut ours = Ours::new(row);
     let ours = || {
         let result = black_box(&mut ours).run(|canvas| {
@@ -104,7 +104,7 @@ fn line(bench: &mut Bench, name: &str, row: &Row, task: Task<'_>, answers: &[u64
         });
         assert_eq!(result, Ok(()));
     };
-    bench.beside(name, 1, None, task, answers, ours);
+    bench.beside(name, 1, None, task(row), answers, ours);
 }
 
 /// How many layers are painted stands behind a row's name.
@@ -128,7 +128,7 @@ pub fn print(bench: &mut Bench) {
 fn print_row(bench: &mut Bench, name: &str, row: &Row) {
     let mut planes = Vec::new();
     assert_eq!(Ours::new(row).run(|canvas| planes.extend(bits(&canvas.plane))), Ok(()));
-    line(bench, &format!("{name}, {} painted", planes.len() / 256), row, task(row), &planes);
+    line(bench, &format!("{name}, {} painted", planes.len() / 256), row, &planes);
 }
 
 /// Rows with no tile, and all segments left of it.
@@ -140,7 +140,6 @@ pub fn print_openings(bench: &mut Bench) {
         let carries = carries(&ours.work.queue, ours.memory.state.counts[0]);
         let told = |carry: &Carry| [carry.id.into()].into_iter().chain(carry.cover.map(|byte| byte as u64));
         let answers: Vec<u64> = carries.iter().flat_map(told).collect();
-        let task = Task::Opening { words: &row.words, records: &row.records };
-        line(bench, &format!("opening: {layers} layers, {each} segments each"), &row, task, &answers);
+        line(bench, &format!("opening: {layers} layers, {each} segments each"), &row, &answers);
     }
 }

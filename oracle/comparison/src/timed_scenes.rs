@@ -107,6 +107,20 @@ pub fn bands(random: &mut Random, records: Vec<Record>) -> Row {
     Row { tiles: TILES as usize, words, records }
 }
 
+/// Rows of as many tiles and the same layers, from tile row 0 on.
+pub struct Rows {
+    pub tiles: usize,
+    pub rows: Vec<Vec<u64>>,
+    pub records: Vec<Record>,
+}
+
+/// So many rows, each put into a tile row of its own.
+pub fn plate(count: usize, records: Vec<Record>, mut row: impl FnMut(u64) -> Row) -> Rows {
+    let rows: Vec<Row> = (0..count as u64).map(&mut row).collect();
+    let moved = |(tile_y, row): (usize, &Row)| row.words.iter().map(|word| word + ((tile_y as u64) << 53)).collect();
+    Rows { tiles: rows[0].tiles, rows: rows.iter().enumerate().map(moved).collect(), records }
+}
+
 /// No tile, and so many segments of each layer left of it.
 pub fn left_of(layers: u32, each: usize) -> Row {
     let mut random = Random::new(9);

@@ -76,56 +76,71 @@ impl LayerPainter for ClipPainter {
     }
 }
 
-/// Goes through a row as `paint_tile_row` does, with a painter of clips and no display.
-pub struct TimedRow {
-    segments: Vec<Segment>,
-    /// Where the first tile's segments begin, which `paint_tile_row` knows from its opening.
-    start: usize,
+/// Goes through rows as `paint_tile_row` does, with a painter of clips and no display: one after the other, from tile
+/// row 0 on.
+pub struct TimedRows {
+    /// Each row's segments, and where those of the first tile begin, which `paint_tile_row` knows from its opening.
+    rows: Vec<(Vec<Segment>, usize)>,
     table: Table,
     frame: Frame,
     workbench: LayerWorkbench,
     pub painter: ClipPainter,
 }
 
-impl TimedRow {
-    pub fn new(segments: Vec<Segment>, table: Table, frame: Frame) -> Self {
-        let start = segments.partition_point(|segment| segment.tile_x() < 0);
-        Self { segments, start, table, frame, workbench: LayerWorkbench::new(), painter: ClipPainter::default() }
+impl TimedRows {
+    pub fn new(rows: Vec<Vec<Segment>>, table: Table, frame: Frame) -> Self {
+        let begun = |segments: Vec<Segment>| {
+            let start = segments.partition_point(|segment| segment.tile_x() < 0);
+            (segments, start)
+        };
+        let rows = rows.into_iter().map(begun).collect();
+        Self { rows, table, frame, workbench: LayerWorkbench::new(), painter: ClipPainter::default() }
     }
 
-    /// The opening and the work on each of the tiles.
+    /// The opening of each row, and the work on each of the tiles.
     #[inline(never)]
-    pub fn run(&mut self, tile_y: usize, tiles: usize) {
-        self.open(tile_y, tiles);
-        let mut left = &self.segments[self.start..];
-        for tile in 0..tiles {
-            let count = crate::cpu::search_last_by_key(left, tile as i16, |segment| segment.tile_x())
-                .map_or(0, |last| last + 1);
-            let (segments, rest) = left.split_at(count);
-            left = rest;
-            let context = context(&self.table, tile, tile_y, segments, &self.frame, None);
-            black_box(self.workbench.drive_tile_painting(&mut self.painter, &context));
+    pub fn run(&mut self, tiles: usize) {
+        let Self { rows, table, frame, workbench, painter } = self;
+        for (tile_y, (segments, start)) in rows.iter().enumerate() {
+            open(painter, workbench, table, tile_y, segments, tiles);
+            let mut left = &segments[*start..];
+            for tile in 0..tiles {
+                let count = crate::cpu::search_last_by_key(left, tile as i16, |segment| segment.tile_x())
+                    .map_or(0, |last| last + 1);
+                let (segments, rest) = left.split_at(count);
+                left = rest;
+                let context = context(table, tile, tile_y, segments, frame, None);
+                black_box(workbench.drive_tile_painting(painter, &context));
+            }
         }
     }
 
+    /// What the last row hands on, or opens with where there is no tile.
     pub fn queue(&self) -> Vec<Carry> {
         layer_workbench::reach::queue(&self.workbench).iter().map(carry_of).collect()
     }
+}
 
-    /// `paint_tile_row` with no tile.
-    fn open(&mut self, tile_y: usize, tiles: usize) {
-        self.painter.painter.paint_tile_row::<Table, LinearLayout>(
-            &mut self.workbench,
-            tile_y,
-            &self.segments,
-            &self.table,
-            RGBA,
-            Color::default(),
-            None,
-            None,
-            (&mut [] as &mut [Slice<'_, u8>]).chunks_exact_mut(1),
-            &Some(Rect { hor: 0..tiles, vert: tile_y..tile_y + 1 }),
-            None,
-        );
-    }
+/// `paint_tile_row` with no tile.
+fn open(
+    painter: &mut ClipPainter,
+    workbench: &mut LayerWorkbench,
+    table: &Table,
+    tile_y: usize,
+    segments: &[Segment],
+    tiles: usize,
+) {
+    painter.painter.paint_tile_row::<Table, LinearLayout>(
+        workbench,
+        tile_y,
+        segments,
+        table,
+        RGBA,
+        Color::default(),
+        None,
+        None,
+        (&mut [] as &mut [Slice<'_, u8>]).chunks_exact_mut(1),
+        &Some(Rect { hor: 0..tiles, vert: tile_y..tile_y + 1 }),
+        None,
+    );
 }

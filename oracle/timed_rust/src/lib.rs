@@ -6,7 +6,7 @@ use std::slice;
 
 use reference::{plain::Record, Table};
 
-use work::{Opening, Ordering, Packing, Parts, Search, Work};
+use work::{Opening, Ordering, Packing, Parts, Rows, Search, Work};
 
 mod work;
 
@@ -38,28 +38,27 @@ pub unsafe extern "C" fn parts(words: *const u64, lens: *const usize, count: usi
     made(Parts::new(lent(words, lens.iter().sum()), lens, cover, rule))
 }
 
-/// A row of so many tiles from 0 on, opened, worked and painted; every layer is painted as a clip.
+/// Rows of so many tiles from 0 on, one behind the other in `words`, opened, worked and painted; every layer is painted
+/// as a clip. Without a tile they are only opened.
 ///
 /// # Safety
-/// There are so many words and so many records.
+/// `lens` has `rows` lengths, `words` as many words as they add up to, and there are so many records.
 #[no_mangle]
-pub unsafe extern "C" fn row(
+pub unsafe extern "C" fn rows(
     words: *const u64,
-    len: usize,
+    lens: *const usize,
+    rows: usize,
     records: *const Record,
     count: usize,
     tiles: usize,
 ) -> *mut Made {
-    made(work::row(lent(words, len), Table::new(lent(records, count)), tiles))
-}
-
-/// The opening of a row without a tile.
-///
-/// # Safety
-/// There are so many words and so many records.
-#[no_mangle]
-pub unsafe extern "C" fn opening(words: *const u64, len: usize, records: *const Record, count: usize) -> *mut Made {
-    made(Opening(work::row(lent(words, len), Table::new(lent(records, count)), 0)))
+    let lens = lent(lens, rows);
+    let rows = Rows::new(lent(words, lens.iter().sum()), lens, Table::new(lent(records, count)), tiles);
+    if tiles == 0 {
+        made(Opening(rows))
+    } else {
+        made(rows)
+    }
 }
 
 /// A search by the key of this number, for each of the values in turn.

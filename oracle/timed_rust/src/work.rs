@@ -6,7 +6,7 @@ use reference::{
     cpu::{self, RGBA},
     painter::{
         row::Frame,
-        timed::{ClipPainter, TimedRow},
+        timed::{ClipPainter, TimedRows},
     },
     pixel_segment::{double_area_multiplier, of_word},
     Table,
@@ -26,6 +26,12 @@ fn segments_of(words: &[u64]) -> Vec<Segment> {
     words.iter().map(|&word| of_word(word)).collect()
 }
 
+/// Slices of these lengths, one behind the other.
+fn cut(words: &[u64], lens: &[usize]) -> Vec<Vec<Segment>> {
+    let mut left = segments_of(words).into_iter();
+    lens.iter().map(|&len| left.by_ref().take(len).collect()).collect()
+}
+
 /// The bits of planes one behind the other.
 fn bits(planes: &[[f32; 256]]) -> Vec<u64> {
     planes.iter().flatten().map(|number| number.to_bits().into()).collect()
@@ -40,9 +46,7 @@ pub struct Parts {
 
 impl Parts {
     pub fn new(words: &[u64], lens: &[usize], cover: i8, rule: u32) -> Self {
-        let mut left = segments_of(words).into_iter();
-        let parts = lens.iter().map(|&len| left.by_ref().take(len).collect()).collect();
-        Self { parts, cover: [cover; 16], rule, painter: ClipPainter::default() }
+        Self { parts: cut(words, lens), cover: [cover; 16], rule, painter: ClipPainter::default() }
     }
 }
 
@@ -60,30 +64,32 @@ impl Work for Parts {
     }
 }
 
-pub struct Row {
-    row: TimedRow,
+pub struct Rows {
+    rows: TimedRows,
     tiles: usize,
 }
 
-pub fn row(words: &[u64], table: Table, tiles: usize) -> Row {
-    let frame = Frame { clear: [1.0; 4], previous_clear: None, channels: RGBA };
-    Row { row: TimedRow::new(segments_of(words), table, frame), tiles }
+impl Rows {
+    pub fn new(words: &[u64], lens: &[usize], table: Table, tiles: usize) -> Self {
+        let frame = Frame { clear: [1.0; 4], previous_clear: None, channels: RGBA };
+        Self { rows: TimedRows::new(cut(words, lens), table, frame), tiles }
+    }
 }
 
-impl Work for Row {
+impl Work for Rows {
     fn run(&mut self) {
-        black_box(&mut self.row).run(black_box(0), black_box(self.tiles));
+        black_box(&mut self.rows).run(black_box(self.tiles));
     }
 
     fn answers(&mut self) -> Vec<u64> {
-        self.row.painter.planes = Some(Vec::new());
+        self.rows.painter.planes = Some(Vec::new());
         self.run();
-        bits(&self.row.painter.planes.take().unwrap())
+        bits(&self.rows.painter.planes.take().unwrap())
     }
 }
 
 /// A row with no tile: its answers are the queue.
-pub struct Opening(pub Row);
+pub struct Opening(pub Rows);
 
 impl Work for Opening {
     fn run(&mut self) {
@@ -92,7 +98,7 @@ impl Work for Opening {
 
     fn answers(&mut self) -> Vec<u64> {
         self.run();
-        let carries = self.0.row.queue();
+        let carries = self.0.rows.queue();
         carries
             .iter()
             .flat_map(|carry| [carry.id.into()].into_iter().chain(carry.cover.map(|byte| byte as u64)))
