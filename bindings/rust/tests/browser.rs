@@ -39,7 +39,8 @@ fn written(page: &str) -> PathBuf {
 fn dumped(page: &str) -> String {
     let file = written(page);
     let (url, folder) = (format!("file://{}", file.display()), format!("--user-data-dir={}.profile", file.display()));
-    let words = ["--headless", "--no-sandbox", "--disable-gpu", "--virtual-time-budget=5000", "--dump-dom", &folder, &url];
+    let words =
+        ["--headless", "--no-sandbox", "--disable-gpu", "--virtual-time-budget=5000", "--dump-dom", &folder, &url];
     let output = Command::new("chromium").args(words).output().expect("chromium is on the path");
     String::from_utf8(output.stdout).unwrap()
 }
@@ -51,7 +52,8 @@ fn loaded(page: &str, script: &str) -> String {
 
 /// What a script answers in a page that is `width` pixels wide: in a frame of a page, since no window is so narrow.
 fn asked(name: &str, page: &str, width: u32, script: &str) -> String {
-    let answer = format!("addEventListener('load', () => setTimeout(() => parent.postMessage(String({script}), '*'), 50));");
+    let answer =
+        format!("addEventListener('load', () => setTimeout(() => parent.postMessage(String({script}), '*'), 50));");
     let file = written(&page.replace("</body>", &format!("<script>{answer}</script></body>")));
     let frame = format!(
         "<body><script>addEventListener('message', (event) => {{ const told = document.createElement('output'); \
@@ -60,7 +62,11 @@ fn asked(name: &str, page: &str, width: u32, script: &str) -> String {
         file.display()
     );
     let page = dumped(&frame);
-    texts(&page, "<output>").first().unwrap_or_else(|| panic!("{name}: no answer")).replace("&gt;", ">").replace("&lt;", "<")
+    texts(&page, "<output>")
+        .first()
+        .unwrap_or_else(|| panic!("{name}: no answer"))
+        .replace("&gt;", ">")
+        .replace("&lt;", "<")
 }
 
 fn job(name: &str) -> (Vec<u8>, Vec<String>) {

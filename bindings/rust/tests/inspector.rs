@@ -166,7 +166,12 @@ fn the_part_drawing_in_two_frames() {
             kept += usize::from(is_kept);
         }
         let worked = Ok((inputs[1].clone(), shots[1].clone()));
-        rows.push(PlateRow { name: format!("row {row}"), source: String::new(), address: format!("row-{row}.html"), worked });
+        rows.push(PlateRow {
+            name: format!("row {row}"),
+            source: String::new(),
+            address: format!("row-{row}.html"),
+            worked,
+        });
     }
     let page = plate::page("part", MANUAL, &rows, true, "");
     assert_eq!(page.matches("class=\"m none\" href").count(), kept);
@@ -181,7 +186,8 @@ fn a_map_has_each_tile() {
         let worked = Input::of_job(&text).map(|input| (input.clone(), frames::worked(&[input]).remove(0)));
         let row = PlateRow { name: name.clone(), source: name.clone(), address: "row.html".to_string(), worked };
         let page = plate::page(&name, MANUAL, &[row], false, "");
-        let of = |word: &str| printed.lines().filter(|line| line.split(' ').nth(1) == Some(word) && *line != NAMES).count();
+        let of =
+            |word: &str| printed.lines().filter(|line| line.split(' ').nth(1) == Some(word) && *line != NAMES).count();
         for word in ["paint", "solid", "none"] {
             assert_eq!(page.matches(&format!("class=\"m {word}\" href")).count(), of(word), "{name}: {word}");
         }

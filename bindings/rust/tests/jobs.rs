@@ -80,3 +80,30 @@ fn the_tours_pages_are_the_inspectors() {
     }
 }
 
+/// And a page for each mistake, right beside wrong, of the traces that docs/tour/make stored.
+#[test]
+fn the_tours_pages_right_beside_wrong_are_of_its_traces() {
+    let tour = PathBuf::from(env!("CARGO_MANIFEST_DIR")).join("../../docs/tour");
+    let read = |name: String| fs::read_to_string(tour.join(name)).unwrap();
+    for name in ["carry_not_handed_on", "covered_carry_lost", "first_equal_key"] {
+        let (right, wrong) = (read(format!("traces/{name}.right")), read(format!("traces/{name}.wrong")));
+        let page = view::beside::page(name, "../../TOUR.md", &right, &wrong);
+        assert!(read(format!("pages/{name}.html")) == page, "{name}: docs/tour/make makes another page");
+        assert!(page.contains("class=\"block differs\"") && page.contains("<tr class=\"differs\">"), "{name}");
+        assert!(
+            read("../TOUR.md".to_string()).contains(&format!("(tour/pages/{name}.html)")),
+            "{name}: the tour links it"
+        );
+    }
+}
+
+/// The tour's job of the part drawing is what `outline` writes.
+#[test]
+fn the_tours_job_is_the_outlines() {
+    use support::outline::{job_text, text};
+    let plate = PathBuf::from(env!("CARGO_MANIFEST_DIR")).join("../../docs/tour/plate");
+    let figure = text::read(&fs::read_to_string(plate.join("part.outline")).unwrap()).unwrap();
+    let segments = figure.segments().unwrap();
+    let job = job_text::job_text(&figure, 2, 6..10, figure.row(&segments, 2)).unwrap();
+    assert!(fs::read_to_string(plate.join("row_2.job")).unwrap() == job, "docs/tour/make makes another job");
+}

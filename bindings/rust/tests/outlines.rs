@@ -60,7 +60,8 @@ fn doubled_area(outline: &[Point]) -> i64 {
 /// How often a polygon goes around a point, by the edges to its left.
 fn winding(outline: &[Point], x: i64, y: i64) -> i64 {
     let side = |at: usize| {
-        let [(ax, ay), (bx, by)] = [at, (at + 1) % outline.len()].map(|at| (i64::from(outline[at].x), i64::from(outline[at].y)));
+        let [(ax, ay), (bx, by)] =
+            [at, (at + 1) % outline.len()].map(|at| (i64::from(outline[at].x), i64::from(outline[at].y)));
         let cross = (bx - ax) * (y - ay) - (by - ay) * (x - ax);
         match (ay <= y, by <= y) {
             (true, false) if cross < 0 => 1,
@@ -81,7 +82,7 @@ fn star(seed: &mut u32) -> Vec<Point> {
         point((x + far * angle.cos()) as i32, (y + far * angle.sin()) as i32)
     };
     let mut corners: Vec<Point> = (0..corners).map(corner).collect();
-    if draw(seed) % 2 == 0 {
+    if draw(seed).is_multiple_of(2) {
         corners.reverse();
     }
     corners
@@ -92,7 +93,7 @@ fn tangle(seed: &mut u32) -> Vec<Point> {
     let corners = 3 + draw(seed) % 6;
     let place = |seed: &mut u32, first: i32, size: u32| {
         let at = first + (draw(seed) % size) as i32;
-        if draw(seed) % 4 == 0 {
+        if draw(seed).is_multiple_of(4) {
             at.div_euclid(16) * 16
         } else {
             at
@@ -139,7 +140,8 @@ fn doubled_areas_sum_up_to_the_area() {
 fn is_met(outline: &[Point], column: i64, row: i64) -> bool {
     let [left, top] = [16 * column, 16 * row];
     (0..outline.len()).any(|at| {
-        let [(ax, ay), (bx, by)] = [at, (at + 1) % outline.len()].map(|at| (i64::from(outline[at].x), i64::from(outline[at].y)));
+        let [(ax, ay), (bx, by)] =
+            [at, (at + 1) % outline.len()].map(|at| (i64::from(outline[at].x), i64::from(outline[at].y)));
         let side = |x: i64, y: i64| ((bx - ax) * (y - ay) - (by - ay) * (x - ax)).signum();
         let sides = [side(left, top), side(left + 16, top), side(left, top + 16), side(left + 16, top + 16)];
         let is_apart = sides == [1; 4] || sides == [-1; 4];
@@ -163,7 +165,11 @@ fn windings_at_pixel_centres_agree_with_full_and_empty_pixels() {
                     }
                     let winding = winding(&outline, 16 * x as i64 + 8, 16 * y as i64 + 8);
                     let is_inside = if rule == FillRule::NonZero { winding != 0 } else { winding % 2 != 0 };
-                    assert_eq!(coverage, if is_inside { 1.0 } else { 0.0 }, "polygon {at}: column {x}, row {y}, {rule:?}");
+                    assert_eq!(
+                        coverage,
+                        if is_inside { 1.0 } else { 0.0 },
+                        "polygon {at}: column {x}, row {y}, {rule:?}"
+                    );
                     counts[usize::from(is_inside)] += 1;
                 }
             }
@@ -200,16 +206,22 @@ fn what_is_refused_says_where() {
     let read = |lines: &str| text::read(&format!("plate 1 2\n{lines}"));
     let segments = |lines: &str| read(lines).and_then(|figure| figure.segments()).unwrap_err().to_string();
     let layer = "layer 1 nonzero draw 000000 256\n";
-    assert!(segments(&format!("{layer}from 0 0\nline 0 100\nline -300 50\n")).starts_with("line 5: the point -300 50 of layer 1: refused 11"));
-    assert!(segments(&format!("{layer}from 0 -300\nline 0 100\nline 9 9\n")).starts_with("line 3: the point 0 -300 of layer 1: refused 11"));
+    assert!(segments(&format!("{layer}from 0 0\nline 0 100\nline -300 50\n"))
+        .starts_with("line 5: the point -300 50 of layer 1: refused 11"));
+    assert!(segments(&format!("{layer}from 0 -300\nline 0 100\nline 9 9\n"))
+        .starts_with("line 3: the point 0 -300 of layer 1: refused 11"));
     assert!(segments(&format!("{layer}from 0 0\nline 1048400 100\nline 9 1048576\n")).contains("refused 11"));
-    assert!(segments("layer 2000000 nonzero draw 000000 256\n".replace("2000000", "1999999999").as_str()).contains("within two million"));
+    assert!(segments("layer 2000000 nonzero draw 000000 256\n".replace("2000000", "1999999999").as_str())
+        .contains("within two million"));
     let fault = |lines: &str| read(lines).unwrap_err().to_string();
     assert_eq!(fault("line 1 2\n"), "line 2: no layer or shape was begun");
     assert_eq!(fault("layer 1 odd draw 0 0\n"), "line 2: a rule is nonzero or evenodd");
     assert_eq!(fault(&format!("{layer}put ring 0 0\n")), "line 3: there is no shape `ring`");
     assert_eq!(fault(&format!("{layer}{layer}")), "line 3: layer 1 stands twice");
-    assert_eq!(fault(&format!("{layer}from 1\n")), "line 3: 2 whole numbers, each within two million of 0, stand there");
+    assert_eq!(
+        fault(&format!("{layer}from 1\n")),
+        "line 3: 2 whole numbers, each within two million of 0, stand there"
+    );
     assert_eq!(text::read("# nothing\n").unwrap_err().to_string(), "line 1: no line `plate ROWS TILES`");
 }
 

@@ -47,7 +47,9 @@ fn made(words: &[&str], manual: &str) -> Result<String, String> {
             histories::page(letter, manual).ok_or("the histories are A to H".to_string())
         }
         ["beside", name, right, wrong] => Ok(beside::page(name, manual, &string_of(right)?, &string_of(wrong)?)),
-        ["plate", folder, files @ ..] if !files.is_empty() => plate_pages(folder, files, manual).map(|()| String::new()),
+        ["plate", folder, files @ ..] if !files.is_empty() => {
+            plate_pages(folder, files, manual).map(|()| String::new())
+        }
         [file] => Ok(view::page(file, manual, &bytes_of(file)?, None)),
         [_, "then", ..] => frames_page(words, manual),
         [file, range] => {
@@ -74,7 +76,7 @@ fn range_of(text: &str) -> Option<Range<i32>> {
 /// The files of `A then B then C`.
 fn files_of<'a>(words: &[&'a str]) -> Result<Vec<&'a str>, String> {
     let is_then = |(at, word): (usize, &&str)| (at % 2 == 1) == (*word == "then");
-    if words.len() % 2 == 0 || !words.iter().enumerate().all(is_then) {
+    if words.len().is_multiple_of(2) || !words.iter().enumerate().all(is_then) {
         return Err(USE.to_string());
     }
     Ok(words.iter().copied().step_by(2).collect())
@@ -88,7 +90,8 @@ fn frames_page(words: &[&str], manual: &str) -> Result<String, String> {
     let inputs = frames::with_flags(files.iter().map(input).collect::<Result<_, _>>()?);
     let name = |(at, file): (usize, &&str)| format!("Frame {}: {file}", at + 1);
     let names: Vec<String> = files.iter().enumerate().map(name).collect();
-    let story = "A layer whose record and segments are those of the frame before counts as unchanged, as in the program \
+    let story =
+        "A layer whose record and segments are those of the frame before counts as unchanged, as in the program \
                  <code>trace</code>.";
     Ok(frames::page(&files.join(" then "), manual, story, &names, &inputs))
 }
@@ -114,9 +117,11 @@ fn plate_pages(folder: &str, files: &[&str], manual: &str) -> Result<(), String>
 fn note(files: &[&str], is_figure: bool) -> String {
     match (is_figure, files.len()) {
         (true, 1) => "A figure of outlines, worked row by row; nothing was kept before.".to_string(),
-        (true, _) => "The last of its frames: a layer whose outlines are those of the frame before counts as unchanged, and \
+        (true, _) => {
+            "The last of its frames: a layer whose outlines are those of the frame before counts as unchanged, and \
                       a tile of which nothing changed is kept."
-            .to_string(),
+                .to_string()
+        }
         _ => "Rows by their job texts, in the order in which they were named; nothing was kept before.".to_string(),
     }
 }

@@ -85,7 +85,11 @@ fn side(tile: &Traced, other: &Traced) -> String {
 fn words(words: &[String]) -> String {
     match words.len() {
         0 => "<small>none</small>".to_string(),
-        count => format!("{count}<small>{}</small>", words.iter().take(8).map(|word| short(word)).collect::<String>()),
+        count => {
+            let first: String = words.iter().take(8).map(|word| short(word)).collect();
+            let rest = if count > 8 { format!("and {} more", count - 8) } else { String::new() };
+            format!("{count}<small>{first}{rest}</small>")
+        }
     }
 }
 
@@ -106,7 +110,11 @@ fn queue(queue: &Queue) -> String {
     let one = |(id, covers): &(u32, [i32; 16])| {
         let cover = Cover(covers.map(|cover| cover as i8));
         let color = colors::hex(colors::at(*id as usize));
-        format!("<div class=\"carry\">layer {id} {}{}</div>", pictures::bars(&cover, widest, &color), pictures::cover_told(&cover))
+        format!(
+            "<div class=\"carry\">layer {id} {}{}</div>",
+            pictures::bars(&cover, widest, &color),
+            pictures::cover_told(&cover)
+        )
     };
     queue.iter().map(one).collect()
 }
@@ -121,7 +129,8 @@ fn paintings(own: &[Painting], others: &[Painting]) -> String {
         let other = others.iter().filter(|other| other.id == painting.id).nth(before);
         let color = colors::hex(colors::at(painting.id as usize));
         let differs = |x: usize, y: usize| other.is_none_or(|other| other.weights[y][x] != painting.weights[y][x]);
-        let picture = pictures::weights(&painting.weights, &color, &format!("weights of layer {}", painting.id), differs);
+        let picture =
+            pictures::weights(&painting.weights, &color, &format!("weights of layer {}", painting.id), differs);
         format!("<div class=\"carry\">layer {}, mark {} {picture}</div>", painting.id, escaped(&painting.mark))
     };
     own.iter().enumerate().map(one).collect()

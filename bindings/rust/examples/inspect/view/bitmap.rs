@@ -10,7 +10,8 @@ fn bitmap(width: usize, pixels: &[[u8; 3]]) -> Vec<u8> {
     let line = (3 * width).div_ceil(4) * 4;
     let size = 54 + line * height;
     let mut bytes = b"BM".to_vec();
-    let words = [size as u32, 0, 54, 40, width as u32, height as u32, 1 | 24 << 16, 0, (line * height) as u32, 0, 0, 0, 0];
+    let words =
+        [size as u32, 0, 54, 40, width as u32, height as u32, 1 | 24 << 16, 0, (line * height) as u32, 0, 0, 0, 0];
     words.iter().for_each(|word| bytes.extend(word.to_le_bytes()));
     for row in pixels.chunks(width).rev() {
         row.iter().for_each(|&[r, g, b]| bytes.extend([b, g, r]));

@@ -3,7 +3,11 @@
 
 use tile_rows::{Func, Plane, Refusal};
 
-use super::{super::support::driven::{Entry, Tile}, colors, input::Input};
+use super::{
+    super::support::driven::{Entry, Tile},
+    colors,
+    input::Input,
+};
 
 /// What the painter does with a listed layer.
 #[derive(Clone, Copy, Debug, PartialEq, Eq)]

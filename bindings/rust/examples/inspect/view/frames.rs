@@ -129,14 +129,22 @@ fn reason(input: &Input, tile: &Tile, before: CachedTile, is_later: bool) -> Str
         tile.list.iter().filter(|entry| entry.listed.is_changed).map(|entry| entry.listed.id.to_string()).collect();
     let count = before.layer_count();
     let is_same = count == Some(tile.list.len() as u32);
-    let words = |ids: &[String]| if ids.len() == 1 { format!("layer {}", ids[0]) } else { format!("layers {}", ids.join(", ")) };
+    let words = |ids: &[String]| {
+        if ids.len() == 1 {
+            format!("layer {}", ids[0])
+        } else {
+            format!("layers {}", ids.join(", "))
+        }
+    };
     match tile.decision {
         Decision::None if changed.is_empty() && is_same => {
             "kept by the first pass: as many layers as before, none of them changed, the same clear colour".to_string()
         }
-        Decision::None => "kept by the full-cover pass: from the top down to the layer that hides all below it nothing is \
+        Decision::None => {
+            "kept by the full-cover pass: from the top down to the layer that hides all below it nothing is \
                            changed"
-            .to_string(),
+                .to_string()
+        }
         _ if !is_later || count.is_none() => "drawn: nothing was kept of it".to_string(),
         _ if !changed.is_empty() => format!("drawn: {} changed", words(&changed)),
         _ if !is_same => format!("drawn: {} layers were listed before, now {}", count.unwrap_or(0), tile.list.len()),
@@ -220,7 +228,8 @@ pub fn with_flags(frames: Vec<Input>) -> Vec<Input> {
         let next = match flagged.last() {
             None => input,
             Some(before) => {
-                let same: Vec<u32> = input.known.iter().map(|known| known.layer.id).filter(|&id| is_same(before, &input, id)).collect();
+                let same: Vec<u32> =
+                    input.known.iter().map(|known| known.layer.id).filter(|&id| is_same(before, &input, id)).collect();
                 input.with_unchanged(|id| same.contains(&id))
             }
         };
@@ -230,9 +239,7 @@ pub fn with_flags(frames: Vec<Input>) -> Vec<Input> {
 }
 
 fn is_same(before: &Input, input: &Input, id: u32) -> bool {
-    let record = |input: &Input| {
-        input.known(id).map(|known| tile_rows::Layer { is_unchanged: false, ..known.layer })
-    };
+    let record = |input: &Input| input.known(id).map(|known| tile_rows::Layer { is_unchanged: false, ..known.layer });
     let segments = |input: &Input| {
         let own = input.segments.iter().filter(|segment| segment.layer_id() == id);
         let mut words: Vec<_> = own.map(|segment| format!("{:?}", segment.fields())).collect();

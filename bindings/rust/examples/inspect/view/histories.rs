@@ -44,7 +44,15 @@ fn segments(pieces: &[Piece]) -> Vec<PixelSegment> {
     let mut all = Vec::new();
     for piece in pieces {
         for &(tile_x, local_x, cover) in piece.edges {
-            let fields = Fields { layer_id: piece.layer.id, tile_x, tile_y: 0, local_x, local_y: 0, double_area_multiplier: 32, cover };
+            let fields = Fields {
+                layer_id: piece.layer.id,
+                tile_x,
+                tile_y: 0,
+                local_x,
+                local_y: 0,
+                double_area_multiplier: 32,
+                cover,
+            };
             all.extend((0..16).map(|local_y| PixelSegment::new(Fields { local_y, ..fields }).expect("in its ranges")));
         }
     }
@@ -58,62 +66,90 @@ fn frame(pieces: &[Piece], tiles: Range<i32>) -> Input {
     Input::of_layers(&layers, segments(pieces), tiles)
 }
 
-/// The frames of a history, and what happens in it.
-pub fn history(letter: char) -> Option<(&'static str, Vec<Input>)> {
-    let [red, green, blue] = [draw(1, RED, "red"), draw(2, GREEN, "green"), draw(0, BLUE, "blue")];
-    let (story, sets): (&str, Vec<(Vec<Piece>, Range<i32>)>) = match letter {
+/// What happens in a history, and the layers and tiles of each of its frames.
+type Story = (&'static str, Vec<(Vec<Piece>, Range<i32>)>);
+
+fn red() -> Piece {
+    draw(1, RED, "red")
+}
+
+fn green() -> Piece {
+    draw(2, GREEN, "green")
+}
+
+fn blue() -> Piece {
+    draw(0, BLUE, "blue")
+}
+
+/// Two frames of one tile.
+fn two(first: &[Piece], second: &[Piece]) -> Vec<(Vec<Piece>, Range<i32>)> {
+    vec![(first.to_vec(), 0..1), (second.to_vec(), 0..1)]
+}
+
+/// The histories of two frames.
+fn story(letter: char) -> Option<Story> {
+    let (red, green, clipped_green) = (red(), green(), clipped(2, GREEN, "green"));
+    Some(match letter {
         'A' => (
             "An exchange: the label above leaves while a layer comes in below, where nobody can see it. As many layers are \
              listed as before, and what hides all below it is unchanged.",
-            vec![(vec![red, green], 0..1), (vec![blue, unchanged(red)], 0..1)],
+            two(&[red, green], &[blue(), unchanged(red)]),
         ),
         'B' => (
-            "A widened clip: it becomes full, and so is masked off. The Rust keeps the tile; since W-208 a listed clip that is \
-             changed repaints it here.",
-            vec![
-                (vec![clip(1, 1, RIGHT_HALF), clipped(2, RED, "red")], 0..1),
-                (vec![clip(1, 1, FULL), unchanged(clipped(2, RED, "red"))], 0..1),
-            ],
+            "A widened clip: it becomes full, and so is masked off. The Rust keeps the tile; since W-208 a listed clip that \
+             is changed repaints it here.",
+            two(
+                &[clip(1, 1, RIGHT_HALF), clipped(2, RED, "red")],
+                &[clip(1, 1, FULL), unchanged(clipped(2, RED, "red"))],
+            ),
         ),
         'C' => (
             "A hidden change: the label above becomes a clipped draw without a clip, and is masked off.",
-            vec![(vec![red, green], 0..1), (vec![unchanged(red), clipped(2, GREEN, "green")], 0..1)],
+            two(&[red, green], &[unchanged(red), clipped_green]),
         ),
         'D' => (
             "A clip that became a draw: the clipped label loses its clip, and is unchanged itself.",
-            vec![
-                (vec![clip(0, 9, FULL), red, clipped(2, GREEN, "green")], 0..1),
-                (vec![blue, unchanged(red), unchanged(clipped(2, GREEN, "green"))], 0..1),
-            ],
+            two(&[clip(0, 9, FULL), red, clipped_green], &[blue(), unchanged(red), unchanged(clipped_green)]),
         ),
-        'E' => (
-            "A clip that left, while a hidden layer came in.",
-            vec![
-                (vec![red, clip(2, 9, FULL), clipped(3, GREEN, "green")], 0..1),
-                (vec![blue, unchanged(red), unchanged(clipped(3, GREEN, "green"))], 0..1),
-            ],
-        ),
+        'E' => {
+            let third = clipped(3, GREEN, "green");
+            let told = "A clip that left, while a hidden layer came in.";
+            (told, two(&[red, clip(2, 9, FULL), third], &[blue(), unchanged(red), unchanged(third)]))
+        }
+        _ => return later_story(letter),
+    })
+}
+
+/// Those whose flags are true of a frame, but not of the tile's last work.
+fn later_story(letter: char) -> Option<Story> {
+    let (red, green, turned) = (red(), green(), draw(1, BLUE, "blue"));
+    let third = Piece { edges: ENDS_IN_0, ..draw(3, BLUE, "blue") };
+    Some(match letter {
         'F' => (
-            "A frame without the tile: the layer turns blue in a frame whose crop leaves tile 1 out; in the next it is unchanged.",
-            {
-                let turned = draw(1, BLUE, "blue");
-                vec![(vec![red], 0..2), (vec![turned], 0..1), (vec![unchanged(turned)], 0..2)]
-            },
+            "A frame without the tile: the layer turns blue in a frame whose crop leaves tile 1 out; in the next it is \
+             unchanged.",
+            vec![(vec![red], 0..2), (vec![turned], 0..1), (vec![unchanged(turned)], 0..2)],
         ),
         'G' => (
             "A row that is opened at another tile: layer 3 ends in tile 0; opened at tile 1 the row lists it there with a \
              carry of zeros, so that the count stays 2.",
-            {
-                let third = Piece { edges: ENDS_IN_0, ..draw(3, BLUE, "blue") };
-                vec![(vec![red, green, third], 0..2), (vec![unchanged(red), unchanged(third)], 1..2)]
-            },
+            vec![(vec![red, green, third], 0..2), (vec![unchanged(red), unchanged(third)], 1..2)],
         ),
         'H' => (
             "A label that comes back: it is unchanged since the frame before the last, and counts as unchanged.",
-            vec![(vec![red, green], 0..1), (vec![unchanged(red)], 0..1), (vec![unchanged(red), unchanged(green)], 0..1)],
+            vec![
+                (vec![red, green], 0..1),
+                (vec![unchanged(red)], 0..1),
+                (vec![unchanged(red), unchanged(green)], 0..1),
+            ],
         ),
         _ => return None,
-    };
+    })
+}
+
+/// The frames of a history, and what happens in it.
+pub fn history(letter: char) -> Option<(&'static str, Vec<Input>)> {
+    let (story, sets) = story(letter)?;
     Some((story, sets.iter().map(|(pieces, tiles)| frame(pieces, tiles.clone())).collect()))
 }
 

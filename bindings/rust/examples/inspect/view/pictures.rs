@@ -42,7 +42,10 @@ pub fn cover_told(cover: &Cover) -> String {
         let one = |row: usize| format!("<th>{row}</th><td>{}</td>", cover.0[row]);
         format!("<tr>{}{}</tr>", one(row), one(row + 8))
     };
-    format!("<table class=\"covers\"><caption>cover of each pixel row</caption>{}</table>", (0..8).map(line).collect::<String>())
+    format!(
+        "<table class=\"covers\"><caption>cover of each pixel row</caption>{}</table>",
+        (0..8).map(line).collect::<String>()
+    )
 }
 
 /// A bar for each pixel row, from the middle to the right where the cover is above 0, to the left where it is below.
@@ -76,14 +79,7 @@ pub fn arrow(color: &str, told: &str) -> String {
 
 /// Coverages as 16 × 16 pixels, and a frame around each pixel that has a segment of its own. What the page's script works
 /// d from stands in it: the segments, the cover from the left, the rule; and the weights that it must come to.
-pub fn coverage(
-    plane: &Plane,
-    part: &[PixelSegment],
-    color: &str,
-    label: &str,
-    cover: &Cover,
-    rule: &str,
-) -> String {
+pub fn coverage(plane: &Plane, part: &[PixelSegment], color: &str, label: &str, cover: &Cover, rule: &str) -> String {
     let (runs, weights) = runs_of(plane);
     let incoming = cover.0.map(|row| row.to_string()).join(" ");
     let mut svg = format!(

@@ -43,13 +43,15 @@ fn counts(rows: &[PlateRow]) -> String {
     let shots = || rows.iter().filter_map(|row| row.worked.as_ref().ok()).map(|(_, shot)| shot);
     let tiles = || shots().flat_map(|shot| &shot.tiles);
     let of = |word: &str| tiles().filter(|kept| kept.tile.decision.word() == word).count();
-    let refused = rows.iter().filter(|row| row.worked.is_err()).count() + shots().filter(|shot| shot.refusal.is_some()).count();
+    let refused =
+        rows.iter().filter(|row| row.worked.is_err()).count() + shots().filter(|shot| shot.refusal.is_some()).count();
     let wrong = tiles().filter(|kept| kept.is_wrong()).count();
     let listed: usize = tiles().map(|kept| kept.tile.list.len()).sum();
     let shown: usize = tiles().map(|kept| kept.tile.shown()).sum();
     let octets: u32 = tiles().map(|kept| kept.tile.octets()).sum();
     let names = ["tiles", "paint", "solid", "kept", "kept wrongly", "refused rows", "listed", "shown", "octets"];
-    let numbers = [tiles().count(), of("paint"), of("solid"), of("none"), wrong, refused, listed, shown, octets as usize];
+    let numbers =
+        [tiles().count(), of("paint"), of("solid"), of("none"), wrong, refused, listed, shown, octets as usize];
     let cell = |(name, number): (&str, usize)| format!("<div><b>{number}</b> {name}</div>");
     format!("<div class=\"counts\">{}</div>\n", names.into_iter().zip(numbers).map(cell).collect::<String>())
 }

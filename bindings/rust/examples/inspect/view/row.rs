@@ -54,7 +54,8 @@ fn told(input: &Input, driven: &Driven, tiles: &[Tile]) -> String {
     let mut text = format!("<h1>Row {}, {}</h1>\n", input.row, tiles_in_words(&input.tiles));
     let past = input.tiles.end - input.due.end.max(input.tiles.start);
     if past > 0 && !input.due.is_empty() {
-        writeln!(text, "<p>The row has {} of them.</p>", tiles_in_words(&input.due)).expect("a string takes every text");
+        writeln!(text, "<p>The row has {} of them.</p>", tiles_in_words(&input.due))
+            .expect("a string takes every text");
     }
     let left_out = driven.tiles.len() - tiles.len();
     if left_out > 0 {
@@ -69,12 +70,8 @@ fn told(input: &Input, driven: &Driven, tiles: &[Tile]) -> String {
     let refused = driven.refusal.map(|refusal| (next, refusal));
     let scene = Scene::new(input, driven, tiles, opening, refused);
     if let Some((tile, refusal)) = refused {
-        writeln!(
-            text,
-            "<p class=\"refusal\">The row ends at tile {tile}: refused {}.</p>",
-            refusal.number()
-        )
-        .expect("a string takes every text");
+        writeln!(text, "<p class=\"refusal\">The row ends at tile {tile}: refused {}.</p>", refusal.number())
+            .expect("a string takes every text");
     }
     text += &Lanes { input, tiles, refused }.strip();
     text += &words::strip(input);

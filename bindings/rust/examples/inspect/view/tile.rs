@@ -90,12 +90,8 @@ impl<'a> Scene<'a> {
             search::told(&self.input.segments, start, number)
         );
         if !tile.list.is_empty() {
-            write!(
-                text,
-                "<table class=\"list\">\n{HEAD}<th>{}</th><th>to the right</th></tr></thead>\n",
-                term("mark")
-            )
-            .expect("a string takes every text");
+            write!(text, "<table class=\"list\">\n{HEAD}<th>{}</th><th>to the right</th></tr></thead>\n", term("mark"))
+                .expect("a string takes every text");
             let cuts = composed::cuts(self.input, tile);
             for at in (0..tile.list.len()).rev() {
                 text += &self.entry(tile, at, &cuts);
@@ -158,8 +154,14 @@ impl<'a> Scene<'a> {
         let rule = self.input.known(id).map(|known| known.layer.rule).unwrap_or_default();
         let told = if entry.painted.is_some() { "painted" } else { "its own; not painted" };
         let color = pictures::ink(composed::color_of(self.input, id));
-        let picture =
-            pictures::coverage(&plane, part, &color, &format!("coverages of layer {id}"), &entry.listed.cover, rule_word(rule));
+        let picture = pictures::coverage(
+            &plane,
+            part,
+            &color,
+            &format!("coverages of layer {id}"),
+            &entry.listed.cover,
+            rule_word(rule),
+        );
         format!("{picture}<small>{told}</small><small class=\"pixel\" aria-live=\"polite\"></small>")
     }
 }
@@ -171,7 +173,7 @@ fn bracket(ids: &[u32], cuts: &[Cut], at: usize) -> &'static str {
         last.map(|last| (clip, last))
     };
     let spans = (0..ids.len()).filter(|&place| matches!(cuts[place], Cut::Clip(_))).filter_map(span);
-    let Some((clip, last)) = spans.into_iter().filter(|&(clip, last)| (clip..=last).contains(&at)).last() else {
+    let Some((clip, last)) = spans.rev().find(|&(clip, last)| (clip..=last).contains(&at)) else {
         return "";
     };
     match (at == clip, at == last, cuts[at] == Cut::By(ids[clip])) {
@@ -185,7 +187,9 @@ fn bracket(ids: &[u32], cuts: &[Cut], at: usize) -> &'static str {
 fn cut_in_words(cut: Cut) -> String {
     match cut {
         Cut::By(clip) => format!("<small>cut by layer {clip}</small>"),
-        Cut::Lacks => "<small>it needs a clip, and the painter's clip has ended: it paints nothing (P7)</small>".to_string(),
+        Cut::Lacks => {
+            "<small>it needs a clip, and the painter's clip has ended: it paints nothing (P7)</small>".to_string()
+        }
         Cut::Clip(last) => format!("<small>the painter's clip after it reaches up to layer {last}</small>"),
         Cut::Free | Cut::Hidden => String::new(),
     }

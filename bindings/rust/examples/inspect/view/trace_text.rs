@@ -57,7 +57,11 @@ impl Reader {
             ["list:", _] | ["decision:", ..] => self.block = "",
             ["painted", "layer", id, "mark", mark, ..] => {
                 let id = id.trim_end_matches(':').parse().unwrap_or_default();
-                tile.paintings.push(Painting { id, mark: mark.trim_end_matches(',').to_string(), ..Painting::default() });
+                tile.paintings.push(Painting {
+                    id,
+                    mark: mark.trim_end_matches(',').to_string(),
+                    ..Painting::default()
+                });
                 (self.block, self.row) = ("painted", 0);
             }
             ["line:", ..] => tile.line = line.trim().trim_start_matches("line: ").to_string(),

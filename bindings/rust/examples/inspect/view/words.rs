@@ -32,8 +32,11 @@ pub fn strip(input: &Input) -> String {
     while start < row.len() {
         let tile = i32::from(row[start].tile_x());
         let end = part(row, tile).1;
-        write!(text, "<div class=\"part\" data-tile=\"{tile}\"><b>tile {tile}: [{start}..{end})</b><ol start=\"{start}\">")
-            .expect("a string takes every text");
+        write!(
+            text,
+            "<div class=\"part\" data-tile=\"{tile}\"><b>tile {tile}: [{start}..{end})</b><ol start=\"{start}\">"
+        )
+        .expect("a string takes every text");
         row[start..end].iter().for_each(|word| text += &one(word));
         text += "</ol></div>\n";
         start = end;

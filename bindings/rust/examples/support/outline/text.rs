@@ -176,7 +176,7 @@ impl Reader {
         let ([mut x], [y]) = (numbers(x)?, numbers(y)?);
         for (place, letter) in letters.chars().enumerate() {
             let name = if letter == ' ' { "space".to_string() } else { letter.to_string() };
-            let is_due = place >= first && (place - first) % step == 0;
+            let is_due = place >= first && (place - first).is_multiple_of(step);
             x += if is_due { self.put_shape(&name, x, y)? } else { self.shape(&name)?.advance };
         }
         Ok(())
