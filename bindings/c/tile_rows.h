@@ -22,6 +22,9 @@
 extern "C" {
 #endif
 
+/* The number of the exports that stand here; ffi_version tells the number of those that are linked. */
+#define TILE_ROWS_VERSION 2
+
 /* 0 or the number of the refusal: that of the first tile, which leaves all lent memory as it was, `done` too. Else
    `words` and `counts` are the state after the tiles worked, and `done` tells how many these are (0 is possible), how
    many planes they used, which queue holds the carries (0 the first, 1 the second), why the batch ended (0 all tiles that
@@ -199,6 +202,12 @@ void ffi_gpu_fields(
     int16_t *double_area,
     int8_t *cover);
 
+/* Whether the words do not descend by tile y, tile x and layer. */
+bool ffi_gpu_does_ascend(const uint64_t *row, size_t row_len);
+
+/* Whether they are a row: they ascend, and each has the stored tile y, which is its own plus 1. */
+bool ffi_gpu_is_row(const uint64_t *row, size_t row_len, uint64_t stored_tile_y);
+
 /* How a segment compares with another: 0 less, 1 equal, 2 greater. */
 uint8_t ffi_gpu_cmp(uint64_t word, uint64_t other);
 
@@ -231,6 +240,12 @@ bool ffi_gpu_search_last_by_tile_y_not_negative(
     bool wanted,
     size_t *place);
 
+/* `ffi_gpu_is_empty` of the library. */
+bool ffi_gpu_is_empty(const int8_t covers[4], uint32_t rule);
+
+/* `ffi_gpu_is_full` of the library. */
+bool ffi_gpu_is_full(const int8_t covers[4], uint32_t rule);
+
 /* 0 and the covers of the part added to those in `covers`, or 9. */
 uint32_t ffi_gpu_carry(const uint64_t *part, size_t part_len, int8_t covers[4]);
 
@@ -241,7 +256,8 @@ uint32_t ffi_gpu_paint_part(
     uint32_t rule,
     float *plane, size_t plane_len);
 
-/* 0 and the state before the first tile in `words` and `covers`, or the number of the refusal. */
+/* 0 and the state before the first tile in `words` and `covers`, or the number of the refusal. The layer and the number
+   of its rule are judged as a layer record is, by 4. */
 uint32_t ffi_gpu_open_layer_row(
     int32_t tile_y,
     int32_t from,
@@ -259,6 +275,19 @@ uint32_t ffi_gpu_work_tile(
     int32_t tile,
     const uint64_t *row, size_t row_len,
     float *plane, size_t plane_len);
+
+/* A range of up to `tiles` tiles from `tile` on: 0, the coverages of each tile in the next 64 numbers of `planes`, the
+   state past them, and in `done` how many tiles were worked, why the range ended (0 all that were asked for, 1 the row's
+   end, 2 no plane is left, 3 the next tile would be refused) and by which number the next tile would be refused, else 0.
+   Or the number by which the first tile's own call would be refused; every lent number is then as it was, `done` too. */
+uint32_t ffi_gpu_work_tiles(
+    uint32_t words[6],
+    int8_t covers[4],
+    int32_t tile,
+    size_t tiles,
+    const uint64_t *row, size_t row_len,
+    float *planes, size_t planes_len,
+    size_t done[3]);
 
 /* `ffi_color_eq` of the library. */
 bool ffi_color_eq(const float color[4], const float other[4]);
@@ -382,6 +411,9 @@ uint32_t ffi_stand(
     uint32_t *layers, size_t layers_len,
     float *colors, size_t colors_len,
     size_t *standing);
+
+/* The number of these exports. It is another wherever a name, a parameter, a result or the layout of lent memory is. */
+uint32_t ffi_version();
 
 /* `ffi_pack` of the library. */
 uint32_t ffi_pack(

@@ -6,6 +6,9 @@
 //! refusal ([`Refusal::judge`](crate::Refusal::judge)), or 0; a refused call leaves what it was lent as it was.
 //! The contracts stand in crates/ffi/src. Fill rules, modes and fills are numbers here, as in a layer record.
 
+/// The number of the exports that stand here; [`version`] tells the number of those that are linked.
+pub const VERSION: u32 = 2;
+
 /// The declarations themselves, for the comparison with the Rust.
 #[doc(hidden)]
 pub mod raw {
@@ -161,6 +164,8 @@ pub mod raw {
             double_area: *mut i16,
             cover: *mut i8,
         );
+        pub fn ffi_gpu_does_ascend(row: *const u64, row_len: usize) -> bool;
+        pub fn ffi_gpu_is_row(row: *const u64, row_len: usize, stored_tile_y: u64) -> bool;
         pub fn ffi_gpu_cmp(word: u64, other: u64) -> u8;
         pub fn ffi_gpu_search_last_by_tile_y(
             segments: *const u64,
@@ -200,6 +205,8 @@ pub mod raw {
             wanted: bool,
             place: *mut usize,
         ) -> bool;
+        pub fn ffi_gpu_is_empty(covers: *const [i8; 4], rule: u32) -> bool;
+        pub fn ffi_gpu_is_full(covers: *const [i8; 4], rule: u32) -> bool;
         pub fn ffi_gpu_carry(part: *const u64, part_len: usize, covers: *mut [i8; 4]) -> u32;
         pub fn ffi_gpu_paint_part(
             part: *const u64,
@@ -228,6 +235,17 @@ pub mod raw {
             row_len: usize,
             plane: *mut f32,
             plane_len: usize,
+        ) -> u32;
+        pub fn ffi_gpu_work_tiles(
+            words: *mut [u32; 6],
+            covers: *mut [i8; 4],
+            tile: i32,
+            tiles: usize,
+            row: *const u64,
+            row_len: usize,
+            planes: *mut f32,
+            planes_len: usize,
+            done: *mut [usize; 3],
         ) -> u32;
         pub fn ffi_color_eq(color: *const [f32; 4], other: *const [f32; 4]) -> bool;
         pub fn ffi_is_opaque(fill: u32, blend_mode: u32, color: *const [f32; 4]) -> bool;
@@ -366,6 +384,7 @@ pub mod raw {
             colors_len: usize,
             standing: *mut usize,
         ) -> u32;
+        pub fn ffi_version() -> u32;
         pub fn ffi_pack(
             layer_id: u32,
             tile_x: i16,
@@ -883,6 +902,22 @@ pub fn gpu_fields(
     }
 }
 
+/// Whether the words do not descend by tile y, tile x and layer.
+#[inline]
+pub fn gpu_does_ascend(row: &[u64]) -> bool {
+    // SAFETY: the references are those that the export takes, a slice with its own length; it is proved to keep
+    // to them for every value, and nothing of them is held after the call.
+    unsafe { raw::ffi_gpu_does_ascend(row.as_ptr(), row.len()) }
+}
+
+/// Whether they are a row: they ascend, and each has the stored tile y, which is its own plus 1.
+#[inline]
+pub fn gpu_is_row(row: &[u64], stored_tile_y: u64) -> bool {
+    // SAFETY: the references are those that the export takes, a slice with its own length; it is proved to keep
+    // to them for every value, and nothing of them is held after the call.
+    unsafe { raw::ffi_gpu_is_row(row.as_ptr(), row.len(), stored_tile_y) }
+}
+
 /// How a segment compares with another: 0 less, 1 equal, 2 greater.
 #[inline]
 pub fn gpu_cmp(word: u64, other: u64) -> u8 {
@@ -939,6 +974,22 @@ pub fn gpu_search_last_by_tile_y_not_negative(segments: &[u64], wanted: bool, pl
     unsafe { raw::ffi_gpu_search_last_by_tile_y_not_negative(segments.as_ptr(), segments.len(), wanted, place) }
 }
 
+/// `ffi_gpu_is_empty` of the library.
+#[inline]
+pub fn gpu_is_empty(covers: &[i8; 4], rule: u32) -> bool {
+    // SAFETY: the references are those that the export takes, a slice with its own length; it is proved to keep
+    // to them for every value, and nothing of them is held after the call.
+    unsafe { raw::ffi_gpu_is_empty(covers, rule) }
+}
+
+/// `ffi_gpu_is_full` of the library.
+#[inline]
+pub fn gpu_is_full(covers: &[i8; 4], rule: u32) -> bool {
+    // SAFETY: the references are those that the export takes, a slice with its own length; it is proved to keep
+    // to them for every value, and nothing of them is held after the call.
+    unsafe { raw::ffi_gpu_is_full(covers, rule) }
+}
+
 /// 0 and the covers of the part added to those in `covers`, or 9.
 #[inline]
 pub fn gpu_carry(part: &[u64], covers: &mut [i8; 4]) -> u32 {
@@ -955,7 +1006,8 @@ pub fn gpu_paint_part(part: &[u64], covers: &[i8; 4], rule: u32, plane: &mut [f3
     unsafe { raw::ffi_gpu_paint_part(part.as_ptr(), part.len(), covers, rule, plane.as_mut_ptr(), plane.len()) }
 }
 
-/// 0 and the state before the first tile in `words` and `covers`, or the number of the refusal.
+/// 0 and the state before the first tile in `words` and `covers`, or the number of the refusal. The layer and the number
+/// of its rule are judged as a layer record is, by 4.
 #[allow(clippy::too_many_arguments)]
 #[inline]
 pub fn gpu_open_layer_row(
@@ -979,6 +1031,37 @@ pub fn gpu_work_tile(words: &mut [u32; 6], covers: &mut [i8; 4], tile: i32, row:
     // SAFETY: the references are those that the export takes, a slice with its own length; it is proved to keep
     // to them for every value, and nothing of them is held after the call.
     unsafe { raw::ffi_gpu_work_tile(words, covers, tile, row.as_ptr(), row.len(), plane.as_mut_ptr(), plane.len()) }
+}
+
+/// A range of up to `tiles` tiles from `tile` on: 0, the coverages of each tile in the next 64 numbers of `planes`, the
+/// state past them, and in `done` how many tiles were worked, why the range ended (0 all that were asked for, 1 the row's
+/// end, 2 no plane is left, 3 the next tile would be refused) and by which number the next tile would be refused, else 0.
+/// Or the number by which the first tile's own call would be refused; every lent number is then as it was, `done` too.
+#[inline]
+pub fn gpu_work_tiles(
+    words: &mut [u32; 6],
+    covers: &mut [i8; 4],
+    tile: i32,
+    tiles: usize,
+    row: &[u64],
+    planes: &mut [f32],
+    done: &mut [usize; 3],
+) -> u32 {
+    // SAFETY: the references are those that the export takes, a slice with its own length; it is proved to keep
+    // to them for every value, and nothing of them is held after the call.
+    unsafe {
+        raw::ffi_gpu_work_tiles(
+            words,
+            covers,
+            tile,
+            tiles,
+            row.as_ptr(),
+            row.len(),
+            planes.as_mut_ptr(),
+            planes.len(),
+            done,
+        )
+    }
 }
 
 /// `ffi_color_eq` of the library.
@@ -1314,6 +1397,14 @@ pub fn stand(
             standing,
         )
     }
+}
+
+/// The number of these exports. It is another wherever a name, a parameter, a result or the layout of lent memory is.
+#[inline]
+pub fn version() -> u32 {
+    // SAFETY: the references are those that the export takes, a slice with its own length; it is proved to keep
+    // to them for every value, and nothing of them is held after the call.
+    unsafe { raw::ffi_version() }
 }
 
 /// `ffi_pack` of the library.
