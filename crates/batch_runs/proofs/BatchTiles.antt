@@ -5,15 +5,16 @@ use mathlib.Core.Bool.{Bool, true, false, cond, _||_}
 use mathlib.Core.List.{List, [], _∷_, _++_}
 use mathlib.Core.Option as option
 use mathlib.Core.Option.{Option}
-use Prim.Native.Nat.{ℕ, zero, suc, _+_, _-_, _*_, _≤_, _<_}
+use Prim.Native.Nat.{ℕ, zero, suc, _+_, _-_, _*_, _≤_, _<_, min}
 use native.Mathlib.Omega.{arith}
-use borrow.Author.Tests.{eq-eqb, ne-eqb, le-ltb, ltb-false}
-use lib.Dec.{ltb}
+use borrow.Author.Tests.{eq-eqb, ne-eqb, le-ltb, leb-true}
+use lib.Dec.{ltb, leb}
 use lib.Ieee.{Float}
 use lib.IntN.{ℤ, pos}
 use lib.ListN.{length, take, drop, length-drop, length-map}
 use lib.Seq.{sets, length-sets, length-take-le}
 use Rattle.laws.specs.Answer.{Answer, refused, given}
+use Rattle.laws.proofs.Bools.{right}
 use Rattle.refusals.specs.Refusal.{Judgement, pass, refuse, unless}
 use Rattle.refusals.proofs.Judging.{passed}
 use Rattle.segment_rows.specs.Search.{tilePart}
@@ -24,6 +25,7 @@ use Rattle.cached_tile.specs.Kept.{tagOutOfRange}
 use Rattle.queue_statements.specs.Queue.{idsIn}
 use Rattle.queue_statements.proofs.Columns.{take-ids}
 use Rattle.tile_layers.specs.Listing.{incomingOf}
+use Rattle.tile_layers.proofs.Ordering.{list-ascends}
 use Rattle.row_carries.proofs.Carried.{queue-ascends}
 use Rattle.row_carries.proofs.Parts.{tile-ordered}
 use Rattle.row_statements.specs.Lent.{Columns, isQueueShort, isListShort}
@@ -41,28 +43,30 @@ use Rattle.row_statements.specs.declared.Painted.{Painted}
 use Rattle.row_statements.proofs.PaintSteps.{paint-due, right-paint}
 use Rattle.row_statements.proofs.WorkSteps.{work-due, right-work}
 use Rattle.row_statements.proofs.Runs.{workResult, work-gives, work-named, paintResult, paint-gives, paint-named, as-held}
-use Rattle.row_statements.proofs.Works.{Listable, list-passed}
+use Rattle.row_statements.proofs.Works.{Listable, list-passed, is-next}
 use Rattle.row_statements.proofs.Run.{accepted, is-open}
 use Rattle.row_lines.specs.Shown.{shownIn}
 use Rattle.row_lines.specs.Lines.{isPaint}
 use Rattle.row_lines.specs.Calls.{shownBy, paintedBy}
 use Rattle.row_lines.proofs.Accepted.{AllPass, shown-pass}
 use Rattle.row_lines.proofs.Calls.{tilesPast}
-use Rattle.batch_statements.specs.BatchLent.{planeAt}
-use Rattle.batch_statements.specs.Batch.{BatchRow, BatchAt, batchRow, BatchGiven, ownList, workAt, turnBy, turnOf, nextBy, tilesFrom, PlanesAt, paintedPast, paintAt, paintsFrom}
+use Rattle.batch_statements.specs.BatchLent.{planeAt, hasRoom}
+use Rattle.batch_statements.specs.Batch.{BatchRow, BatchAt, batchRow, BatchEnd, rowEnd, noRoom, BatchGiven, endedAt, TurnGiven, ownList, workAt, turnBy, turnOf, nextBy, tilesFrom, PlanesAt, paintedPast, paintAt, paintsFrom}
+use Rattle.batch_statements.specs.declared.Room as room
 use Rattle.batch_runs.specs.BatchCalls.{worksHere, workGivenAs, paintsHere, paintedAs, PaintCalls, TileCalls}
 use Rattle.batch_statements.proofs.ShownFew.{shown-few}
+use Rattle.batch_statements.proofs.ListedFew.{listed-few}
 
 pub run-append : {o : OpenRow} {h h′ h″ : Held} {es fs : List Event} → Run o h es h′ → Run o h′ fs h″ → Run o h (es ++ fs) h″
 run-append Run.none r = r
 run-append (Run.next s rest) r = Run.next s (run-append rest r)
 
 -- calls that go on with a run, tile after tile, and end so
-pub record DrivenTo (o : OpenRow) (c : BatchRow) (planes k : ℕ) (h : Held) (s : BatchAt) (g : BatchGiven) : Type 0 where
+pub record DrivenTo (o : OpenRow) (c : BatchRow) (r : room.Room) (k : ℕ) (h : Held) (s : BatchAt) (g : BatchGiven) : Type 0 where
   pub events : List Event
   pub after : Held
   pub runs : Run o h events after
-  pub calls : TileCalls c planes k s events g
+  pub calls : TileCalls c r k s events g
   pub state : after .state ≡ g .at .state
   pub queue : after .queue ≡ g .at .lent .queue
   pub more : s .worked ≤ g .at .worked
@@ -271,18 +275,26 @@ module _ (o : OpenRow) (is-open : IsOpen o) (keeps : Bool) (clear : Color) (prev
         chosen true ids all = all
         chosen false ids all = tt
 
-    painted-few : {t : TileAnswer} → workAnswer (told .answer) ≡ given t → length (paintedBy t lentBack) ≤ 256
+    painted-few : {t : TileAnswer} → workAnswer (told .answer) ≡ given t → length (paintedBy t lentBack) ≤ min 256 (o .table .count)
     painted-few {t} e =
         let d = outcomeOn o n (works .kept) clear previous in
         let ids = idsIn (incomingOf (layersOn o n)) in
         let shown : length (shownBy t lentBack) ≤ length ids = rw (shown-is e) (shown-few (d .skipped) (d .unmasked) ids) in
         let many : length ids ≡ length (layersOn o n) = length-map (incomingOf (layersOn o n)) (λ x. x .id) ∙ length-map (layersOn o n) (λ x. record { id = x .id; cover = x .cover }) in
         let chosen = few (isPaint (t .decision)) (shownBy t lentBack) in
-        omega (arith, chosen, shown, many, listable e .few)
+        let up = list-ascends (queueOn o n) (partOf n) (queue-ascends (is-open .in-order) (tableOn o) (o .from) n) (tile-ordered (is-open .in-order) (o .from + n)) in
+        omega (arith, chosen, shown, many, listed-few (o .table) (layersOn o n) (is-open .in-table) up (listable e))
       where
         few : (b : Bool) (ids : List ℕ) → length (cond b ids []) ≤ length ids
         few true ids = omega arith
         few false ids = omega arith
+
+    -- its tile is the one that is due
+    pub due-tile : {t : TileAnswer} → workAnswer (told .answer) ≡ given t → s .tile ≡ pos (o .from + n)
+    due-tile e =
+        let below = unless (tagOutOfRange (works .kept)) 6 (listVerdict (tableOn o) (layersOn o n)) in
+        let first = passed (isQueueShort (s .lent .other) || isListShort (ownList over)) 1 (unless (isNotDue o n (s .tile)) 2 below) (given-verdict e .0) in
+        is-next (record { tileY = 0; from = 0; to = o .to; next = o .from + n; left = 0; taken = 0; clip = option.none }) (s .tile) (passed (isNotDue o n (s .tile)) 2 below (first .1) .0) .is-tile
 
     -- what the caller holds past the tile
     abbrev heldPast : Held
@@ -299,74 +311,90 @@ module _ (o : OpenRow) (is-open : IsOpen o) (keeps : Bool) (clear : Color) (prev
   abbrev atTile : BatchAt → ℤ → BatchAt
   atTile s tile = record { state = s .state; tile = tile; first = s .first; worked = s .worked; used = s .used; lent = s .lent }
 
-  abbrev Drives : ℕ → ℕ → Type 0
-  Drives planes k =
-      (n : ℕ) (clip : Option ℕ) (h : Held) (s : BatchAt) → Holds o (tilesPast n clip) h → s .state ≡ h .state → s .lent .queue ≡ h .queue → s .tile ≡ tileOf n → planes * 256 ≤ length (s .lent .planes)
-      → DrivenTo o over planes k h s (tilesFrom over planes k s)
+  -- planes and how many must be free, of the room that is lent
+  pub record Roomy (r : room.Room) (planes : List Float) : Type 0 where
+    pub long : r .planes * 256 ≤ length planes
+    pub needed : r .needed ≡ min 256 (o .table .count)
 
-  module _ (planes k : ℕ) (go : Drives planes k) (n : ℕ) (clip : Option ℕ) (h : Held) (s₀ : BatchAt) (holds : Holds o (tilesPast n clip) h) (es : s₀ .state ≡ h .state) (eq : s₀ .lent .queue ≡ h .queue) (long : planes * 256 ≤ length (s₀ .lent .planes)) where
-    abbrev s : BatchAt
-    s = atTile s₀ (tileOf n)
+  abbrev Drives : room.Room → ℕ → Type 0
+  Drives r k =
+      (n : ℕ) (clip : Option ℕ) (h : Held) (s : BatchAt) → Holds o (tilesPast n clip) h → s .state ≡ h .state → s .lent .queue ≡ h .queue → Roomy r (s .lent .planes)
+      → DrivenTo o over r k h s (tilesFrom over r k s)
 
-    whole : {b : Bool} → ltb planes (s .used + 256) ≡ b → tilesFrom over planes (suc k) s ≡ cond b (record { at = s; end = pass }) (nextBy over (turnOf over s .end) (turnOf over s) (tilesFrom over planes k (turnOf over s .at)))
+  module _ (r : room.Room) (k : ℕ) (go : Drives r k) (n : ℕ) (clip : Option ℕ) (h : Held) (holds : Holds o (tilesPast n clip) h) where
+    -- where it ends without a call
+    stood : (s : BatchAt) {e : BatchEnd} → s .state ≡ h .state → s .lent .queue ≡ h .queue → TileCalls over r (suc k) s [] (endedAt s e) → DrivenTo o over r (suc k) h s (endedAt s e)
+    stood s es eq calls = record { events = []; after = h; runs = Run.none; calls = calls; state = sym es; queue = sym eq; more = omega arith; taken = λ took. took; still = λ none. refl }
+
+    whole : (s : BatchAt) {a b : Bool} → leb (s .state .to) (s .state .next) ≡ a → hasRoom r (s .worked) (s .used) ≡ b → tilesFrom over r (suc k) s ≡ cond a (endedAt s rowEnd) (cond b (nextBy over (turnOf over s .verdict) s (tilesFrom over r k (turnOf over s .at))) (endedAt s noRoom))
     unfolding tilesFrom
-    whole e = ap (λ (x : Bool). cond x (record { at = s; end = pass }) (nextBy over (turnOf over s .end) (turnOf over s) (tilesFrom over planes k (turnOf over s .at)))) e
+    whole s ea eb = ap₂ (λ (x y : Bool). cond x (endedAt s rowEnd) (cond y (nextBy over (turnOf over s .verdict) s (tilesFrom over r k (turnOf over s .at))) (endedAt s noRoom))) ea eb
 
-    full : ltb planes (s .used + 256) ≡ true → DrivenTo o over planes (suc k) h s (tilesFrom over planes (suc k) s)
-    full e = subst (DrivenTo o over planes (suc k) h s) (sym (whole e)) (record { events = []; after = h; runs = Run.none; calls = TileCalls.full e; state = sym es; queue = sym eq; more = omega arith; taken = λ took. took; still = λ none. refl })
+    module _ (s : BatchAt) (es : s .state ≡ h .state) (eq : s .lent .queue ≡ h .queue) (left : leb (s .state .to) (s .state .next) ≡ false) (room : hasRoom r (s .worked) (s .used) ≡ true) where
+      turned : {g : TurnGiven} → turnOf over s ≡ g → tilesFrom over r (suc k) s ≡ nextBy over (g .verdict) s (tilesFrom over r k (g .at))
+      turned {g} t = whole s left room ∙ ap (λ (x : TurnGiven). nextBy over (x .verdict) s (tilesFrom over r k (x .at))) t
 
-    turned : {g : BatchGiven} → turnOf over s ≡ g → ltb planes (s .used + 256) ≡ false → tilesFrom over planes (suc k) s ≡ nextBy over (g .end) g (tilesFrom over planes k (g .at))
-    turned {g} t e = whole e ∙ ap (λ (x : BatchGiven). nextBy over (x .end) x (tilesFrom over planes k (x .at))) t
+      refused-there : {m : ℕ} → workAnswer (told n clip h s holds es eq .answer) ≡ refused m → DrivenTo o over r (suc k) h s (tilesFrom over r (suc k) s)
+      refused-there {m} ea =
+          let w = told n clip h s holds es eq in
+          let back = lentBack n clip h s holds es eq in
+          let t = turn-is n clip h s holds es eq ∙ ap (λ (a : Answer TileAnswer). turnBy over a s (workGivenAs w back)) ea in
+          let held = refused-held (w .answer) (stateIn (w .state)) h (s .lent .queue) back ea in
+          subst (DrivenTo o over r (suc k) h s) (sym (turned t))
+          (record {
+            events = Event.work (works n clip h s holds es eq) w back ∷ [];
+            after = heldAfter (w .answer) (stateIn (w .state)) h (s .lent .queue) back;
+            runs = Run.next (Step.work {c = works n clip h s holds es eq} (same n clip h s holds es eq) (work-given n clip h s holds es eq)) Run.none;
+            calls = TileCalls.turned-down left room ea;
+            state = ap (λ (x : Held). x .state) held ∙ refused-state n clip h s holds es eq ea;
+            queue = ap (λ (x : Held). x .queue) held ∙ sym eq;
+            more = omega arith;
+            taken = λ took some. ap (λ (x : Held). x .taken) held ∙ took some;
+            still = λ none. ap (λ (x : Held). x .taken) held;
+          })
 
-    by-answer : (a : Answer TileAnswer) → workAnswer (told n clip h s holds es eq .answer) ≡ a → ltb planes (s .used + 256) ≡ false → DrivenTo o over planes (suc k) h s (tilesFrom over planes (suc k) s)
-    by-answer (refused m) ea e =
-        let r = told n clip h s holds es eq in
-        let back = lentBack n clip h s holds es eq in
-        let t = turn-is n clip h s holds es eq ∙ ap (λ (a : Answer TileAnswer). turnBy over a s (workGivenAs r back)) ea in
-        let held = refused-held (r .answer) (stateIn (r .state)) h (s .lent .queue) back ea in
-        subst (DrivenTo o over planes (suc k) h s) (sym (turned t e))
-        (record {
-          events = Event.work (works n clip h s holds es eq) r back ∷ [];
-          after = heldAfter (r .answer) (stateIn (r .state)) h (s .lent .queue) back;
-          runs = Run.next (Step.work {c = works n clip h s holds es eq} (same n clip h s holds es eq) (work-given n clip h s holds es eq)) Run.none;
-          calls = TileCalls.turned-down e ea;
-          state = ap (λ (x : Held). x .state) held ∙ refused-state n clip h s holds es eq ea;
-          queue = ap (λ (x : Held). x .queue) held ∙ sym eq;
-          more = omega arith;
-          taken = λ took some. ap (λ (x : Held). x .taken) held ∙ took some;
-          still = λ none. ap (λ (x : Held). x .taken) held;
-        })
-    by-answer (given t) ea e =
-        let r = told n clip h s holds es eq in
-        let back = lentBack n clip h s holds es eq in
-        let turn = turn-is n clip h s holds es eq ∙ ap (λ (a : Answer TileAnswer). turnBy over a s (workGivenAs r back)) ea in
-        let free = ltb-false planes (s .used + 256) e in
-        let room : (s .used + length (paintedBy t back)) * 256 ≤ length (s .lent .planes) = let few = painted-few n clip h s holds es eq ea in omega (arith, few, free, long) in
-        let painted = paintings (paintedBy t back) n option.none (heldPast n clip h s holds es eq) (s .used) (s .lent .planes) (s .lent .painted) (holds-past n clip h s holds es eq ea) room (painted-pass n clip h s holds es eq ea) in
-        let s′ = turnBy over (given t) s (workGivenAs r back) .at in
-        let next : pos (o .from + n + 1) ≡ tileOf (suc n) = ap pos (omega arith) in
-        let rest = go (suc n) (painted .clip) (painted .after) s′ (painted .holds) (sym (painted .state-is)) (sym (painted .queue-is)) next (let same = painted .planes-long in omega (arith, same, long)) in
-        let held = given-held (r .answer) (stateIn (r .state)) h (s .lent .queue) back ea in
-        subst (DrivenTo o over planes (suc k) h s) (sym (turned turn e))
-        (record {
-          events = Event.work (works n clip h s holds es eq) r back ∷ (painted .events ++ rest .events);
-          after = rest .after;
-          runs = Run.next (Step.work {c = works n clip h s holds es eq} (same n clip h s holds es eq) (work-given n clip h s holds es eq)) (subst (λ (x : Held). Run o x (painted .events ++ rest .events) (rest .after)) (sym held) (run-append (painted .runs) (rest .runs)));
-          calls = TileCalls.next e ea (painted .calls) (rest .calls);
-          state = rest .state;
-          queue = rest .queue;
-          more = omega (arith, rest .more);
-          taken = λ took. rest .taken (λ some. painted .taken-is);
-          still = λ none. absurd (omega (arith, rest .more, none));
-        })
+    -- an accepted work is that on the tile that is due
+    module _ (s₀ : BatchAt) (es : s₀ .state ≡ h .state) (eq : s₀ .lent .queue ≡ h .queue) (left : leb (s₀ .state .to) (s₀ .state .next) ≡ false) (room : hasRoom r (s₀ .worked) (s₀ .used) ≡ true) (roomy : Roomy r (s₀ .lent .planes)) where
+      abbrev s : BatchAt
+      s = atTile s₀ (tileOf n)
 
-    by-room : (b : Bool) → ltb planes (s .used + 256) ≡ b → DrivenTo o over planes (suc k) h s (tilesFrom over planes (suc k) s)
-    by-room true e = full e
-    by-room false e = by-answer (workAnswer (told n clip h s holds es eq .answer)) refl e
+      accepted-there : {t : TileAnswer} → workAnswer (told n clip h s holds es eq .answer) ≡ given t → DrivenTo o over r (suc k) h s (tilesFrom over r (suc k) s)
+      accepted-there {t} ea =
+          let w = told n clip h s holds es eq in
+          let back = lentBack n clip h s holds es eq in
+          let turn = turn-is n clip h s holds es eq ∙ ap (λ (a : Answer TileAnswer). turnBy over a s (workGivenAs w back)) ea in
+          let free = leb-true (s .used + r .needed) (r .planes) (right (ltb (s .worked) (r .tiles)) (leb (s .used + r .needed) (r .planes)) room) in
+          let here : (s .used + length (paintedBy t back)) * 256 ≤ length (s .lent .planes) = let few = painted-few n clip h s holds es eq ea in omega (arith, few, free, roomy .long, roomy .needed) in
+          let painted = paintings (paintedBy t back) n option.none (heldPast n clip h s holds es eq) (s .used) (s .lent .planes) (s .lent .painted) (holds-past n clip h s holds es eq ea) here (painted-pass n clip h s holds es eq ea) in
+          let s′ = turnBy over (given t) s (workGivenAs w back) .at in
+          let rest = go (suc n) (painted .clip) (painted .after) s′ (painted .holds) (sym (painted .state-is)) (sym (painted .queue-is)) (record { long = let same = painted .planes-long in omega (arith, same, roomy .long); needed = roomy .needed }) in
+          let held = given-held (w .answer) (stateIn (w .state)) h (s .lent .queue) back ea in
+          subst (DrivenTo o over r (suc k) h s) (sym (turned s es eq left room turn))
+          (record {
+            events = Event.work (works n clip h s holds es eq) w back ∷ (painted .events ++ rest .events);
+            after = rest .after;
+            runs = Run.next (Step.work {c = works n clip h s holds es eq} (same n clip h s holds es eq) (work-given n clip h s holds es eq)) (subst (λ (x : Held). Run o x (painted .events ++ rest .events) (rest .after)) (sym held) (run-append (painted .runs) (rest .runs)));
+            calls = TileCalls.next left room ea (painted .calls) (rest .calls);
+            state = rest .state;
+            queue = rest .queue;
+            more = omega (arith, rest .more);
+            taken = λ took. rest .taken (λ some. painted .taken-is);
+            still = λ none. absurd (omega (arith, rest .more, none));
+          })
 
-  pub driven : (planes k : ℕ) → Drives planes k
+      by-answer : (a : Answer TileAnswer) → workAnswer (told n clip h s₀ holds es eq .answer) ≡ a → DrivenTo o over r (suc k) h s₀ (tilesFrom over r (suc k) s₀)
+      by-answer (refused m) ea = refused-there s₀ es eq left room ea
+      by-answer (given t) ea =
+          let due = due-tile n clip h s₀ holds es eq ea in
+          subst (λ (tile : ℤ). DrivenTo o over r (suc k) h (atTile s₀ tile) (tilesFrom over r (suc k) (atTile s₀ tile))) (sym due)
+          (accepted-there (subst (λ (tile : ℤ). workAnswer (told n clip h (atTile s₀ tile) holds es eq .answer) ≡ given t) due ea))
+
+    by-room : (s : BatchAt) → s .state ≡ h .state → s .lent .queue ≡ h .queue → Roomy r (s .lent .planes) → (a b : Bool) → leb (s .state .to) (s .state .next) ≡ a → hasRoom r (s .worked) (s .used) ≡ b → DrivenTo o over r (suc k) h s (tilesFrom over r (suc k) s)
+    by-room s es eq roomy true b ea eb = subst (DrivenTo o over r (suc k) h s) (sym (whole s ea eb)) (stood s es eq (TileCalls.row-end ea))
+    by-room s es eq roomy false false ea eb = subst (DrivenTo o over r (suc k) h s) (sym (whole s ea eb)) (stood s es eq (TileCalls.full ea eb))
+    by-room s es eq roomy false true ea eb = by-answer s es eq ea eb roomy (workAnswer (told n clip h s holds es eq .answer)) refl
+
+  pub driven : (r : room.Room) (k : ℕ) → Drives r k
   unfolding tilesFrom
-  driven planes zero n clip h s holds es eq et long = record { events = []; after = h; runs = Run.none; calls = TileCalls.none; state = sym es; queue = sym eq; more = omega arith; taken = λ took. took; still = λ none. refl }
-  driven planes (suc k) n clip h s holds es eq et long =
-      subst (λ (t : ℤ). DrivenTo o over planes (suc k) h (atTile s t) (tilesFrom over planes (suc k) (atTile s t))) (sym et)
-      (by-room planes k (driven planes k) n clip h s holds es eq long (ltb planes (s .used + 256)) refl)
+  driven r zero n clip h s holds es eq roomy = record { events = []; after = h; runs = Run.none; calls = TileCalls.none; state = sym es; queue = sym eq; more = omega arith; taken = λ took. took; still = λ none. refl }
+  driven r (suc k) n clip h s holds es eq roomy = by-room r k (driven r k) n clip h holds s es eq roomy (leb (s .state .to) (s .state .next)) (hasRoom r (s .worked) (s .used)) refl refl

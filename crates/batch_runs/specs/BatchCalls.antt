@@ -4,12 +4,11 @@ use mathlib.Core.Path.{_≡_}
 use mathlib.Core.Bool.{true, false}
 use mathlib.Core.List.{List, [], _∷_, _++_}
 use Prim.Native.Nat.{ℕ, zero, suc, _+_, _*_}
-use lib.Dec.{ltb}
+use lib.Dec.{leb}
 use lib.Ieee.{Float}
 use lib.IntN.{ℤ}
 use lib.Seq.{sets}
 use Rattle.laws.specs.Answer.{refused, given}
-use Rattle.refusals.specs.Refusal.{pass, refuse}
 use Rattle.row_statements.specs.Lent.{Columns}
 use Rattle.row_statements.specs.State.{stateIn}
 use Rattle.row_statements.specs.TileWork.{WorkLent, WorkGiven, TileAnswer, workAnswer}
@@ -19,8 +18,9 @@ use Rattle.row_statements.specs.Run.{Event}
 use Rattle.row_statements.specs.declared.TileWorked.{TileWorked}
 use Rattle.row_statements.specs.declared.Painted.{Painted}
 use Rattle.row_lines.specs.Calls.{paintedBy}
-use Rattle.batch_statements.specs.BatchLent.{keptAt, planeAt}
-use Rattle.batch_statements.specs.Batch.{BatchRow, BatchAt, BatchGiven, PlanesAt, ownList, turnBy}
+use Rattle.batch_statements.specs.BatchLent.{keptAt, planeAt, hasRoom}
+use Rattle.batch_statements.specs.Batch.{BatchRow, BatchAt, BatchGiven, asked, rowEnd, noRoom, nextRefused, endedAt, PlanesAt, ownList, turnBy}
+use Rattle.batch_statements.specs.declared.Room as room
 
 -- ---- what a caller chooses
 
@@ -64,17 +64,20 @@ pub data PaintCalls (tile : ℤ) (queue : Columns) : PlanesAt → List ℕ → L
 abbrev pub startPlanes : BatchAt → TileWorked → PlanesAt
 startPlanes s r = record { state = stateIn (r .state); used = s .used; planes = s .lent .planes; painted = s .lent .painted }
 
--- tile after tile, k that are left, while 256 of the planes are free, up to the first that is refused; and how that ends
-pub data TileCalls (c : BatchRow) (planes : ℕ) : ℕ → BatchAt → List Event → BatchGiven → Type 0 where
-  none : {s : BatchAt} → TileCalls c planes zero s [] (record { at = s; end = pass })
-  full : {k : ℕ} {s : BatchAt} → ltb planes (s .used + 256) ≡ true → TileCalls c planes (suc k) s [] (record { at = s; end = pass })
-  turned-down : {k number : ℕ} {s : BatchAt} {r : TileWorked} {back : WorkLent} →
-      ltb planes (s .used + 256) ≡ false →
-      workAnswer (r .answer) ≡ refused number →
-      TileCalls c planes (suc k) s (Event.work (worksHere c s) r back ∷ []) (record { at = s; end = refuse number })
-  next : {k : ℕ} {s : BatchAt} {r : TileWorked} {back : WorkLent} {t : TileAnswer} {p : PlanesAt} {ps es : List Event} {g : BatchGiven} →
-      ltb planes (s .used + 256) ≡ false →
-      workAnswer (r .answer) ≡ given t →
-      PaintCalls (s .tile) (s .lent .queue) (startPlanes s r) (paintedBy t back) ps p →
-      TileCalls c planes k (turnBy c (given t) s (workGivenAs r back) .at) es g →
-      TileCalls c planes (suc k) s (Event.work (worksHere c s) r back ∷ (ps ++ es)) g
+-- tile after tile, k that are left, in the room that is lent, up to the first that is refused; and how that ends
+pub data TileCalls (c : BatchRow) (r : room.Room) : ℕ → BatchAt → List Event → BatchGiven → Type 0 where
+  none : {s : BatchAt} → TileCalls c r zero s [] (endedAt s asked)
+  row-end : {k : ℕ} {s : BatchAt} → leb (s .state .to) (s .state .next) ≡ true → TileCalls c r (suc k) s [] (endedAt s rowEnd)
+  full : {k : ℕ} {s : BatchAt} → leb (s .state .to) (s .state .next) ≡ false → hasRoom r (s .worked) (s .used) ≡ false → TileCalls c r (suc k) s [] (endedAt s noRoom)
+  turned-down : {k number : ℕ} {s : BatchAt} {w : TileWorked} {back : WorkLent} →
+      leb (s .state .to) (s .state .next) ≡ false →
+      hasRoom r (s .worked) (s .used) ≡ true →
+      workAnswer (w .answer) ≡ refused number →
+      TileCalls c r (suc k) s (Event.work (worksHere c s) w back ∷ []) (endedAt s (nextRefused number))
+  next : {k : ℕ} {s : BatchAt} {w : TileWorked} {back : WorkLent} {t : TileAnswer} {p : PlanesAt} {ps es : List Event} {g : BatchGiven} →
+      leb (s .state .to) (s .state .next) ≡ false →
+      hasRoom r (s .worked) (s .used) ≡ true →
+      workAnswer (w .answer) ≡ given t →
+      PaintCalls (s .tile) (s .lent .queue) (startPlanes s w) (paintedBy t back) ps p →
+      TileCalls c r k (turnBy c (given t) s (workGivenAs w back) .at) es g →
+      TileCalls c r (suc k) s (Event.work (worksHere c s) w back ∷ (ps ++ es)) g

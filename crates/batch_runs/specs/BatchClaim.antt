@@ -1,10 +1,9 @@
--- A batch in a run of demand 3: called with the state, the row, the table and the carries that the caller holds after any calls, and judged to pass, it
--- stands for calls that go on with the run, and leaves what they leave. So everything that the claim of row_statements says holds of each of them: it
--- gives what is due of it, worked from the whole row. A batch that 1 to 5 refuse leaves everything as it was, and is no call.
+-- A batch in a run of demand 3: called with the state, the row, the table and the carries that the caller holds after any calls, it stands for calls that
+-- go on with the run, and leaves what they leave, whatever it answers. So everything that the claim of row_statements says holds of each of them: it gives
+-- what is due of it, worked from the whole row. A refused batch is the first tile's refused call, and leaves everything as it was.
 use mathlib.Core.Path.{_≡_}
 use mathlib.Core.List.{List, _++_}
 use Prim.Native.Nat.{ℕ, zero, suc}
-use Rattle.refusals.specs.Refusal.{pass}
 use Rattle.segment_rows.specs.Rows.{Words}
 use Rattle.row_statements.specs.Lent.{Columns}
 use Rattle.row_statements.specs.Opening.{OpenCall, openOf, OpensRow}
@@ -13,8 +12,8 @@ use Rattle.row_statements.specs.Run.{openRow, heldFirst, Held, Event, Run}
 use Rattle.row_statements.specs.Claim.{AllRight}
 use Rattle.row_statements.specs.declared.RowState.{RowState}
 use Rattle.row_statements.specs.declared.Opened.the-variants as opened
-use Rattle.batch_statements.specs.BatchLent.{BatchLent, planesIn}
-use Rattle.batch_statements.specs.Batch.{BatchCall, batchStart, batchVerdict, batchOf}
+use Rattle.batch_statements.specs.BatchLent.{BatchLent, roomIn}
+use Rattle.batch_statements.specs.Batch.{BatchCall, batchStart, batchOf}
 use Rattle.batch_runs.specs.BatchCalls.{TileCalls}
 
 -- how it is called
@@ -23,7 +22,6 @@ pub record CalledIn (o : OpenRow) (h : Held) (c : BatchCall) (m : BatchLent) : T
   pub row : c .over .row ≡ o .row
   pub table : c .over .table ≡ o .table
   pub queue : m .queue ≡ h .queue
-  pub passes : batchVerdict c m ≡ pass
 
 -- the queue that the last worked tile took in: the other of the two; where no tile was worked, what was held
 abbrev pub takenBy : ℕ → Columns → Columns → Columns
@@ -35,7 +33,7 @@ pub record IsRun (o : OpenRow) (h : Held) (c : BatchCall) (m : BatchLent) : Type
   pub events : List Event
   pub after : Held
   pub runs : Run o h events after
-  pub calls : TileCalls (c .over) (planesIn m) (c .tiles) (batchStart c m) events (batchOf c m)
+  pub calls : TileCalls (c .over) (roomIn (c .over .keeps) (c .over .table .count) m) (c .tiles) (batchStart c m) events (batchOf c m)
   pub state : after .state ≡ batchOf c m .at .state
   pub queue : after .queue ≡ batchOf c m .at .lent .queue
   pub taken : after .taken ≡ takenBy (batchOf c m .at .worked) (h .taken) (batchOf c m .at .lent .other)
