@@ -26,7 +26,7 @@ use Rattle.listing_statements.specs.declared.TileDecided.{TileDecided}
 use Rattle.kept_count.specs.Keeping.{CountGiven, countAnswer, KeepsCount}
 use Rattle.kept_count.specs.declared.CountKept.{CountKept}
 use Rattle.batch_statements.specs.BatchLent.{BatchLent}
-use Rattle.batch_statements.specs.Batch.{BatchCall, batchOf, GivesBatch}
+use Rattle.batch_statements.specs.Batch.{BatchCall, batchOf, GivesBatch, answerIn}
 use Rattle.batch_statements.specs.declared.Batch.{Batch}
 use Rattle.ffi_numbers.specs.Numbers.{refusalNumber, judgedNumber, valueOr, isFound, placeNumber}
 use Rattle.ffi_numbers.specs.Cached.{isSome, givenOr, colorOr, writtenOr, settledBytes}
@@ -103,12 +103,12 @@ decided {old = old} decides told =
     }
 
 -- a batch of tiles, the same
-pub batched : (call : State → BatchCall) (lent : BatchLent) {s t : State} {b : Batch} {old new : BatchNumbers} {r : ℕ} {back : BatchLent} → s ≡ t → GivesBatch (batchOf (call s) lent) b back → (r ≡ judgedNumber (judgementIn (b .verdict))) × (new ≡ numbersBy (judgementIn (b .verdict)) (stateIn (b .state)) (b .worked) (b .used) (b .first) old) → BatchTold (batchOf (call t) lent) old r new back
+pub batched : (call : State → BatchCall) (lent : BatchLent) {s t : State} {b : Batch} {old new : BatchNumbers} {r : ℕ} {back : BatchLent} → s ≡ t → GivesBatch (batchOf (call s) lent) b back → (r ≡ refusalNumber (answerIn (b .answer))) × (new ≡ numbersBy (answerIn (b .answer)) (stateIn (b .state)) (b .worked) (b .used) (b .first) old) → BatchTold (batchOf (call t) lent) old r new back
 batched call lent {b = b} {old = old} {back = back} e given told =
     let gives = subst (λ (x : State). GivesBatch (batchOf (call x) lent) b back) e given in
     record {
-      number = told .0 ∙ ap judgedNumber (gives .end);
-      numbers = told .1 ∙ λ i. numbersBy (gives .end i) (gives .state i) (gives .worked i) (gives .used i) (gives .first i) old;
+      number = told .0 ∙ ap refusalNumber (gives .answer);
+      numbers = told .1 ∙ λ i. numbersBy (gives .answer i) (gives .state i) (gives .worked i) (gives .used i) (gives .first i) old;
       lent-is = gives .lent-is;
     }
 

@@ -1,24 +1,28 @@
 -- Demand 3 for callers of the batch export: an accepted opening and any list of batches, works and paintings after it, told by numbers and lent slices
 -- alone; so also a batch and then paintings of its last tile by single calls. The premise of each batch is the export's own contract, at the numbers that
--- the call before it left. A batch that 1 to 5 do not refuse stands for works and paintings,
--- each of which gives what is due of it (batch_runs/specs/BatchCalls, row_statements/specs/Claim); one that they refuse tells its number, and all is as
--- it was. A caller that sets the three numbers to 0 before a batch finds by the third which queue holds the carries, however the batch ended.
+-- the call before it left. Every batch stands for works and paintings, each of which gives what is due of it (batch_runs/specs/BatchCalls,
+-- row_statements/specs/Claim); a refused one is the first tile's refused work, tells its number, and all is as it was. A caller that sets the five numbers to
+-- 0 before a batch finds by the third which queue holds the carries, however the batch ended.
 -- proofs/Batches proves it.
 use mathlib.Core.Path.{_≡_}
+use mathlib.Core.Bool.{true, false}
 use mathlib.Core.List.{List, [], _∷_}
-use Prim.Native.Nat.{ℕ, zero, suc, _<_}
+use Prim.Native.Nat.{ℕ, zero, suc, _*_, _≤_, _<_}
+use lib.Dec.{leb}
 use lib.ListN.{getD}
-use Rattle.refusals.specs.Refusal.{Judgement, pass, refuse}
+use Rattle.laws.specs.Answer.{Answer, refused, given}
+use Rattle.refusals.specs.Refusal.{pass}
 use Rattle.segment_rows.specs.Rows.{Words}
 use Rattle.styling.specs.declared.Color.{Color}
 use Rattle.layer_workbench.specs.declared.PreviousClear.{PreviousClear}
 use Rattle.row_statements.specs.Lent.{Columns}
 use Rattle.row_statements.specs.Opening.{OpenCall, openOf}
+use Rattle.row_statements.specs.TileWork.{workLent, argsVerdict}
 use Rattle.row_statements.specs.Due.{OpenRow, Past, atFirst}
 use Rattle.row_statements.specs.Run.{openRow, Event}
 use Rattle.row_statements.specs.Claim.{TileFacts, pastAfter, AllRight}
-use Rattle.batch_statements.specs.BatchLent.{BatchLent, planesIn}
-use Rattle.batch_statements.specs.Batch.{BatchCall, batchStart, batchVerdict, batchOf}
+use Rattle.batch_statements.specs.BatchLent.{BatchLent, roomIn, hasRoom}
+use Rattle.batch_statements.specs.Batch.{BatchEnd, BatchCall, batchStart, batchOf, batchAnswer, ownList, callAt}
 use Rattle.batch_runs.specs.BatchCalls.{TileCalls}
 use Rattle.ffi_numbers.specs.Rows.{StateNumbers, stateFrom, OpenTold}
 use Rattle.ffi_batch.specs.Batches.{BatchNumbers, batchNumbers, BatchTold}
@@ -62,7 +66,7 @@ pub record MadeWith (o : OpenRow) (k : HeldNumbers) (b : BatchMade) : Type 0 whe
   pub row : b .call .over .row ≡ o .row
   pub table : b .call .over .table ≡ o .table
   pub queue : b .lent .queue ≡ k .queue
-  pub numbers : b .old ≡ batchNumbers (k .words) (k .counts) (0 ∷ 0 ∷ 0 ∷ [])
+  pub numbers : b .old ≡ batchNumbers (k .words) (k .counts) (0 ∷ 0 ∷ 0 ∷ 0 ∷ 0 ∷ [])
   pub told : BatchTold (batchOf (b .call) (b .lent)) (b .old) (b .number) (b .new) (b .back)
 
 -- a batch, or a work or a painting by itself (specs/Calls)
@@ -82,15 +86,17 @@ abbrev pub pastEvents : OpenRow → List Event → Past → Past
 pastEvents o [] p = p
 pastEvents o (e ∷ es) p = pastEvents o es (pastAfter o e p)
 
--- the calls that a batch stands for, by its verdict of 1 to 5
-abbrev pub StandsFor : Judgement → BatchMade → List Event → Type 0
-StandsFor pass b es = TileCalls (b .call .over) (planesIn (b .lent)) (b .call .tiles) (batchStart (b .call) (b .lent)) es (batchOf (b .call) (b .lent))
-StandsFor (refuse n) b es = (es ≡ []) × ((b .number ≡ n) × ((b .new ≡ b .old) × (b .back ≡ b .lent)))
+-- what is told of a batch beside its calls, by its answer: a refused one tells its number and leaves all as it was, another tells 0
+abbrev pub TellsAnswer : Answer BatchEnd → BatchMade → Type 0
+TellsAnswer (refused n) b = (b .number ≡ n) × ((b .new ≡ b .old) × (b .back ≡ b .lent))
+TellsAnswer (given end) b = b .number ≡ 0
 
+-- the calls that it stands for
 pub record RightBatch (o : OpenRow) (p : Past) (b : BatchMade) : Type 0 where
   pub events : List Event
-  pub calls : StandsFor (batchVerdict (b .call) (b .lent)) b events
+  pub calls : TileCalls (b .call .over) (roomIn (b .call .over .keeps) (b .call .over .table .count) (b .lent)) (b .call .tiles) (batchStart (b .call) (b .lent)) events (batchOf (b .call) (b .lent))
   pub right : AllRight o p events
+  pub tells : TellsAnswer (batchAnswer (batchOf (b .call) (b .lent))) b
 
 pub data AllBatches (o : OpenRow) : Past → List RowTold → Type 0 where
   none : {p : Past} → AllBatches o p []
@@ -107,13 +113,16 @@ BatchesClaim =
     Batches (openRow c) (heldOpened new back) ts k →
     ((n : ℕ) → TileFacts (openRow c) n) × AllBatches (openRow c) atFirst ts
 
--- ---- it is not empty: after an opening that left a tile, any number of tiles can be asked for, and 1 to 5 pass
+-- ---- it is not empty: after an opening that left a tile, any number of tiles can be asked for, there is room for all of them, and 1 to 6 do not refuse the
+-- first
 
 pub record PassingBatch (o : OpenRow) (k : HeldNumbers) (tiles : ℕ) : Type 0 where
   pub made : BatchMade
   pub with-held : MadeWith o k made
   pub asks : made .call .tiles ≡ tiles
-  pub passes : batchVerdict (made .call) (made .lent) ≡ pass
+  pub left : leb (made .call .state .to) (made .call .state .next) ≡ false
+  pub room : (worked used : ℕ) → worked < tiles → used ≤ worked * 256 → hasRoom (roomIn (made .call .over .keeps) (made .call .over .table .count) (made .lent)) worked used ≡ true
+  pub passes : argsVerdict (callAt (made .call .over) (batchStart (made .call) (made .lent))) (workLent (made .lent .other) (ownList (made .call .over))) ≡ pass
 
 abbrev pub BatchesExist : Type 0
 BatchesExist =

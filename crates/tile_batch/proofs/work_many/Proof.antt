@@ -189,8 +189,8 @@ loop-again c =
       c .before .before .before .before .before .before .before .before .before .before .before .before .before .before .before .before .before .before .before .before .turn .kept .1 .1 .1 .1 .1 .1 .1 .1 .1 .1 .1 .1 .1 .1 .0 ∙ v .12,
       c .before .before .before .before .before .before .before .before .before .before .before .before .before .before .before .before .before .before .before .before .turn .kept .1 .1 .1 .1 .1 .1 .1 .1 .1 .1 .1 .1 .1 .1 .1 .0 ∙ v .13,
       λ e.
-      let one-more : c .before .before .before .before .before .before .before .before .before .before .before .before .before .before .before .before .before .before .before .before .turn .result .state .next ≡ l .at .state .next + 1 = ap (λ (x : State). x .next) (given .state) ∙ past-by (c .before .before .before .before .before .before .before .before .before .before .before .before .before .before .before .before .before .before .before .before) .one-more (sym (given .verdict) ∙ e) in
-      rw one-more (next-start _ (l .at .state .next) (a .row .now) (v .0 .stands .words) (v .0 .stands .ascends) (start-is (c .before .before .before .before .before .before .before .before .before .before .before .before .before .before .before .before .before .before .before .before .before .before .before .before .before .before .before .before .before .before .before .before .before .before .before .before .before .before .before)) (own-is (c .before .before .before .before .before .before .before .before .before .before .before .before .before .before .before .before .before .before .before .before .before .before .before .before .before .before .before .before .before .before .before .before .before .before .before))),
+          let one-more : c .before .before .before .before .before .before .before .before .before .before .before .before .before .before .before .before .before .before .before .before .turn .result .state .next ≡ l .at .state .next + 1 = ap (λ (x : State). x .next) (given .state) ∙ past-by (c .before .before .before .before .before .before .before .before .before .before .before .before .before .before .before .before .before .before .before .before) .one-more (sym (given .verdict) ∙ e) in
+          rw one-more (next-start _ (l .at .state .next) (a .row .now) (v .0 .stands .words) (v .0 .stands .ascends) (start-is (c .before .before .before .before .before .before .before .before .before .before .before .before .before .before .before .before .before .before .before .before .before .before .before .before .before .before .before .before .before .before .before .before .before .before .before .before .before .before .before)) (own-is (c .before .before .before .before .before .before .before .before .before .before .before .before .before .before .before .before .before .before .before .before .before .before .before .before .before .before .before .before .before .before .before .before .before .before .before))),
     )
 
 same-length : tie.Need-same-length Inv-loop μ-loop
