@@ -37,6 +37,9 @@ pub mod loads;
 pub mod memory;
 pub mod models;
 pub mod openings;
+#[path = "../../../bindings/rust/examples/support/outline/mod.rs"]
+#[allow(dead_code)] // the job texts are the example's own
+pub mod outline;
 pub mod paintings;
 pub mod plates;
 pub mod random;

@@ -10,7 +10,7 @@ use crate::{
     loads::Asked,
     random::Random,
     timed_rows::{accepted, bits, task, Ours, CLEAR},
-    timed_scenes::{bands, clips, dense, draws, level, load, Row},
+    timed_scenes::{bands, clips, dense, draws, level, load, part, Row},
     timing::Bench,
 };
 
@@ -171,6 +171,13 @@ pub fn print(bench: &mut Bench) {
             let name = format!("batch {planes}: {name}, {} painted", answers.len() / 256);
             line(bench, &name, (1, Some(*aim)), row, planes, &answers);
         }
+    }
+    for number in 0..6 {
+        let row = part(number);
+        let answers = check(&row, 256);
+        let painted = answers.len() / 256;
+        let name = format!("a real plate, row {number}: 20 tiles, {} segments, {painted} painted", row.words.len());
+        line(bench, &name, (1, None), &row, 256, &answers);
     }
 }
 

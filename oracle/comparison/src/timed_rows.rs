@@ -12,7 +12,7 @@ use crate::{
     loads::Asked,
     memory::carries,
     random::Random,
-    timed_scenes::{bands, clips, dense, draws, left_of, load, Row},
+    timed_scenes::{bands, clips, dense, draws, left_of, load, part, Row},
     timing::Bench,
 };
 
@@ -123,6 +123,10 @@ pub fn print(bench: &mut Bench) {
         print_row(bench, &format!("row: 32 tiles, {layers} {name}"), &bands(random, draws(layers, alpha)));
     }
     print_row(bench, "row: 32 tiles, 64 with clips", &bands(random, clips(64)));
+    for number in 0..6 {
+        let row = part(number);
+        print_row(bench, &format!("a real plate, row {number}: 20 tiles, {} segments", row.words.len()), &row);
+    }
 }
 
 fn print_row(bench: &mut Bench, name: &str, row: &Row) {

@@ -1,11 +1,13 @@
 //! The rows that are timed.
 
 use reference::plain::Record;
+use tile_rows::Func;
 
 use crate::{
     given::Fields,
     jobs::words_of,
     loads::{made, Asked},
+    outline,
     random::Random,
     scene::word,
 };
@@ -40,6 +42,31 @@ pub fn clips(layers: u32) -> Vec<Record> {
 pub fn load(asked: Asked, rule: u32) -> Row {
     let words = words_of(&made(asked));
     Row { tiles: asked.tiles as usize, words, records: (0..8).map(|id| draw(id, rule, 1.0)).collect() }
+}
+
+/// A tile row of the tour's part drawing, as row 0: outlines with a clip, callouts and labels of letters.
+pub fn part(row: i16) -> Row {
+    let text = include_str!("../../../docs/tour/plate/part.outline");
+    let figure = outline::text::read(text).expect("the figure is one");
+    let segments = figure.segments().expect("its points are in range");
+    let repacked = |segment: &tile_rows::PixelSegment| {
+        let tile_rows::Fields { layer_id, tile_x, local_x, local_y, double_area_multiplier, cover, .. } =
+            segment.fields();
+        word(Fields { layer_id, tile_x, tile_y: 0, local_x, local_y, double_area_multiplier, cover })
+    };
+    let words = figure.row(&segments, row).iter().map(repacked).collect();
+    Row { tiles: figure.tiles as usize, words, records: figure.layers.iter().map(record).collect() }
+}
+
+fn record(layer: &outline::Layer) -> Record {
+    let rule = layer.rule.code();
+    match layer.func {
+        Func::Clip { span } => Record { func: 1, span, ..draw(layer.id, rule, 0.0) },
+        Func::Draw(style) => {
+            let (clipped, color) = (u32::from(style.is_clipped), style.fill.color().numbers());
+            Record { clipped, color, ..draw(layer.id, rule, 1.0) }
+        }
+    }
 }
 
 /// Layers that are carried through every tile and painted there, with so many pairs of segments in each tile that take
