@@ -16,3 +16,4 @@ pub mod Bounds
 pub mod Revisions
 pub mod RevisionEdges
 pub mod FourHigh
+pub mod Batches

@@ -17,6 +17,7 @@ ghost use Rattle.listing_statements.specs.Succession.{Succession};
 ghost use Rattle.listing_statements.specs.Edges.{DecidingEdges};
 ghost use Rattle.listing_runs.specs.Claim.{ListingClaim};
 ghost use Rattle.listing_runs.specs.Example.{CallsRan};
+ghost use Rattle.batch_statements.specs.Batch.{BatchRefused};
 ghost use Rattle.batch_runs.specs.BatchClaim.{BatchClaim};
 ghost use Rattle.ffi_sets.specs.Edges.{PlaceEdges};
 ghost use Rattle.ffi_sets.specs.SetCalls.{SetCallsClaim};
@@ -66,11 +67,20 @@ ghost use Rattle.claims.specs.Bounds.{CoverBounds};
 ghost use Rattle.claims.specs.Revisions.{Revisions};
 ghost use Rattle.claims.specs.RevisionEdges.{RevisionEdges};
 ghost use Rattle.claims.specs.FourHigh.{RowsApart};
+ghost use Rattle.claims.specs.Batches.{ListsFew};
 
 // Demand 3: any accepted opening and any list of calls after it, refused ones included. By works and paintings; with
 // listings and decidings; by numbers, for callers of the exports; in batches.
 pub fn demand_3() -> bool
     ensures { λ r. ⌜ Claim × ListingClaim × CallsClaim × ListingCallsClaim × BatchClaim × BatchesClaim ⌝ }
+{
+    true
+}
+
+// Demand 1 of batches: a refused one leaves the state and every lent slice as they were, and is refused as its first
+// tile is. No tile needs more planes than a batch has free before it.
+pub fn batches() -> bool
+    ensures { λ r. ⌜ BatchRefused × ListsFew ⌝ }
 {
     true
 }
