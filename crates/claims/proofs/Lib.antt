@@ -15,4 +15,4 @@ pub mod Sets
 pub mod Bounds
 pub mod Revisions
 pub mod RevisionEdges
-pub mod Batches
+pub mod FewListed

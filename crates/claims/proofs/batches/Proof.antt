@@ -1,6 +1,6 @@
 -- `batches` meets its contract: the theorems, cited. Assumes nothing.
 use Rattle.batch_statements.proofs.Refused.{batch-refused}
-use Rattle.claims.proofs.Batches.{lists-few}
+use Rattle.claims.proofs.FewListed.{lists-few}
 use Rattle.claims.proofs.batches.Statement.{statement}
 use Rattle.claims.proofs.batches.Tie as tie
 
