@@ -1,10 +1,10 @@
 // Covers, carries and painted parts.
+use crate::stored::lists;
+use crate::stored::numbers;
+use crate::stored::rooms;
+use crate::stored::text;
+use crate::stored::text::Cursor;
 use ffi::covers;
-use stored_answers::lists;
-use stored_answers::numbers;
-use stored_answers::rooms;
-use stored_answers::text;
-use stored_answers::text::Cursor;
 
 // COVER of 16 bytes: whether it is empty by each rule, and full.
 pub fn cover(text: &[u8], at: usize) -> Cursor {

@@ -1,14 +1,14 @@
 // Deciding about a tile from a lent list.
+use crate::stored::entries;
+use crate::stored::lists;
+use crate::stored::numbers;
+use crate::stored::rooms;
+use crate::stored::stand;
+use crate::stored::text;
+use crate::stored::text::Cursor;
 use crate::works;
 use crate::works::Given;
 use ffi::deciding;
-use stored_answers::entries;
-use stored_answers::lists;
-use stored_answers::numbers;
-use stored_answers::rooms;
-use stored_answers::stand;
-use stored_answers::text;
-use stored_answers::text::Cursor;
 
 // DECIDE of how many layers, how many entries stand here, n, how many ids the column has, by how much those after them
 // exceed their places, whether the flags are too few, whether the masks are; what a tile is given, whose number plays

@@ -1,12 +1,12 @@
 // Tiles kept from frame to frame: whether a count may stay, and the histories in which the Rust keeps a tile.
 use crate::rows;
+use crate::stored::lists;
+use crate::stored::numbers;
+use crate::stored::rooms;
+use crate::stored::text;
+use crate::stored::text::Cursor;
 use crate::tiles;
 use ffi::counts;
-use stored_answers::lists;
-use stored_answers::numbers;
-use stored_answers::rooms;
-use stored_answers::text;
-use stored_answers::text::Cursor;
 
 // STAYS of how many layers were listed at the last work, how many are listed today, whether a tile is given, its 8
 // bytes; ids and kinds of the last list, ids and kinds of today's: the refusal, whether the count may stay (no after a

@@ -1,13 +1,13 @@
 // Listing a tile, without a decision.
+use crate::stored::entries;
+use crate::stored::lists;
+use crate::stored::numbers;
+use crate::stored::rooms;
+use crate::stored::stand;
+use crate::stored::stand::Stand;
+use crate::stored::text;
+use crate::stored::text::Cursor;
 use ffi::listing;
-use stored_answers::entries;
-use stored_answers::lists;
-use stored_answers::numbers;
-use stored_answers::rooms;
-use stored_answers::stand;
-use stored_answers::stand::Stand;
-use stored_answers::text;
-use stored_answers::text::Cursor;
 ghost use Prim.Native.Nat.{_≤_};
 
 // LIST of the state's 6 words and 2 counts, the tile, how many layers, how many words, how many carries, how many ids

@@ -7,13 +7,14 @@ mod kept;
 mod listings;
 mod paints;
 mod rows;
+mod stored;
 mod tiles;
 mod words;
 mod works;
 
-use stored_answers::rooms;
-use stored_answers::text;
-use stored_answers::text::Cursor;
+use crate::stored::rooms;
+use crate::stored::text;
+use crate::stored::text::Cursor;
 
 // One case of a kind.
 fn replay(

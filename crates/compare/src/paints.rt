@@ -1,12 +1,12 @@
 // Painting layers of the tile just worked.
+use crate::stored::lists;
+use crate::stored::numbers;
+use crate::stored::rooms;
+use crate::stored::stand;
+use crate::stored::stand::Stand;
+use crate::stored::text;
+use crate::stored::text::Cursor;
 use ffi::painting;
-use stored_answers::lists;
-use stored_answers::numbers;
-use stored_answers::rooms;
-use stored_answers::stand;
-use stored_answers::stand::Stand;
-use stored_answers::text;
-use stored_answers::text::Cursor;
 
 // How many paintings, and each: the layer; then the refusal, the state, the mark, which was 5, and the 256 coverages,
 // which were 2.

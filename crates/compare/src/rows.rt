@@ -1,13 +1,13 @@
 // Rows of tiles.
+use crate::stored::lists;
+use crate::stored::numbers;
+use crate::stored::rooms;
+use crate::stored::stand;
+use crate::stored::stand::Stand;
+use crate::stored::text;
+use crate::stored::text::Cursor;
 use crate::works;
 use ffi::rows;
-use stored_answers::lists;
-use stored_answers::numbers;
-use stored_answers::rooms;
-use stored_answers::stand;
-use stored_answers::stand::Stand;
-use stored_answers::text;
-use stored_answers::text::Cursor;
 
 // OPEN or ROW of tile y, from, to, how many layers, how many words; the layers' words, the layers' colours, the row:
 // the refusal, the state's 6 words and 2 counts, which were 5 each, and the carries: ids, then covers; then how many

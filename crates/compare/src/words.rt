@@ -1,9 +1,9 @@
 // Packed words: packing, fields, order, rows in order, searches.
+use crate::stored::lists;
+use crate::stored::numbers;
+use crate::stored::text;
+use crate::stored::text::Cursor;
 use ffi::words;
-use stored_answers::lists;
-use stored_answers::numbers;
-use stored_answers::text;
-use stored_answers::text::Cursor;
 
 // PACK layer, tile x, tile y, local x, local y, multiplier, cover: the refusal, and what the lent word then is, which
 // was 5.

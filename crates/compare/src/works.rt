@@ -1,13 +1,13 @@
 // The work on a tile, and its paintings.
 use crate::paints;
+use crate::stored::lists;
+use crate::stored::numbers;
+use crate::stored::rooms;
+use crate::stored::stand;
+use crate::stored::stand::Stand;
+use crate::stored::text;
+use crate::stored::text::Cursor;
 use ffi::working;
-use stored_answers::lists;
-use stored_answers::numbers;
-use stored_answers::rooms;
-use stored_answers::stand;
-use stored_answers::stand::Stand;
-use stored_answers::text;
-use stored_answers::text::Cursor;
 ghost use Prim.Native.Nat.{_≤_};
 
 // What a tile is given: its number, whether a cached tile is given and its 8 bytes, the clear colour, whether one of

@@ -1,10 +1,18 @@
 // Worked examples of the requests, run: a line for each, with what it gave.
+mod bounds;
+mod four_high;
+mod paintings;
+mod printing;
+mod rows;
+mod segment_sets;
+mod standing;
+
 fn main() {
-    segment_set_examples::print_cases();
-    painting_examples::planes::print_cases();
-    row_examples::print_cases();
-    cover_bounds_examples::print_cases();
-    revision_examples::print_cases();
-    four_high_examples::print_cases();
-    painting_examples::languages::print_cases();
+    crate::segment_sets::print_cases();
+    crate::paintings::planes::print_cases();
+    crate::rows::print_cases();
+    crate::bounds::print_cases();
+    crate::standing::print_cases();
+    crate::four_high::print_cases();
+    crate::paintings::languages::print_cases();
 }

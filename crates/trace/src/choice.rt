@@ -1,8 +1,8 @@
 // What the arguments choose: `tile N` one tile, `layer N` the paintings of one layer, and the parts of a tile by their
 // names. A choice holds for every file, wherever it stands. Any other word names a file.
+use crate::tiles::chosen;
+use crate::tiles::chosen::Chosen;
 use decimal::Signed;
-use tile_trace::chosen;
-use tile_trace::chosen::Chosen;
 
 // Which number a word asks for: that of a tile, of a layer, or none.
 pub const NO_NUMBER: u32 = 0;
@@ -44,7 +44,7 @@ fn is_word(word: &[u8], name: &[u8]) -> bool {
     let mut ok = word.len() == name.len();
     let mut i: usize = 0;
     while i < word.len() {
-        ok = ok & (word[i] == trace_text::byte_at(name, i));
+        ok = ok & (word[i] == crate::text::byte_at(name, i));
         i += 1;
     }
     ok

@@ -1,16 +1,16 @@
 // A frame traced: a job read, and its row opened and worked tile by tile, with the cached tiles that the frame before
 // left.
+use crate::changes::cached;
+use crate::changes::changes;
 use crate::choice;
 use crate::choice::Choice;
-use frame_changes::cached;
-use frame_changes::changes;
+use crate::tiles::lent::Queue;
+use crate::tiles::lent::Table;
+use crate::tiles::painting;
 use job_statements::Reading;
 use job_text_statements::Head;
 use row_statements::Opened;
 use row_statements::RowState;
-use tile_trace::lent::Queue;
-use tile_trace::lent::Table;
-use tile_trace::painting;
 
 // What a frame leaves for the next: its layer table and its row, and the cached tiles, eight bytes each.
 pub struct Frame {
@@ -64,7 +64,7 @@ fn trace_tiles(
     let mut left = n;
     while 0 < left {
         left -= 1;
-        let step = tile_trace::trace_tile(
+        let step = crate::tiles::trace_tile(
             choice::chosen_of(choice, at.next),
             at,
             later,

@@ -2,8 +2,11 @@
 // reads one job from standard input, as the row program does. Else its arguments name job files, each a picture of its
 // own; with the word `then` before it a file is the next frame of the one before, and is worked with the cached tiles
 // that it left. Other words choose a tile, a layer or parts of a tile: see the module `choice`.
+mod changes;
 pub mod choice;
 pub mod frame;
+mod text;
+mod tiles;
 
 use choice::Choice;
 use frame::Frame;
@@ -24,8 +27,8 @@ fn trace_file(choice: Choice, path: &[u8], before: Frame) -> Frame {
         os::fail(path);
         return before;
     }
-    trace_text::print(path);
-    trace_text::print(b"\n");
+    crate::text::print(path);
+    crate::text::print(b"\n");
     let after = trace_text_of(choice, fd, before);
     libc::close(fd);
     after

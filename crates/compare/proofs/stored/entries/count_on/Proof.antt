@@ -1,0 +1,32 @@
+-- `entries::count_on` is safe and ends. Assumes nothing.
+use mathlib.Core.Path.{_≡_, refl, _∙_}
+use Prim.Native.Nat.{_-_}
+use native.Mathlib.Omega.{arith}
+use borrow.Author.Needs.{needs}
+use lib.ListN.{length, length-set}
+use Rattle.compare.proofs.stored.entries.count_on.Statement.{statement}
+use Rattle.compare.proofs.stored.entries.count_on.Tie as tie
+
+abbrev Inv-loop : tie.InvT-loop
+Inv-loop out₀ n first i₀ out i = length out ≡ length out₀
+
+abbrev μ-loop : tie.MeasureT-loop
+μ-loop out₀ n first i₀ out i = length out₀ - i
+
+loop-again : tie.Need-loop-again Inv-loop μ-loop
+loop-again c = length-set (c .before .before .before .loop .out) (c .before .before .before .loop .i) _ ∙ c .before .before .before .loop .inv
+
+same-length : tie.Need-same-length Inv-loop μ-loop
+same-length c = c .before .loop .inv
+
+pub count-on-spec : {M : Type 1} → statement M
+count-on-spec =
+    tie.close
+    (tie.spec
+    Inv-loop
+    μ-loop
+    (λ c. refl) (λ c κs. search needs) (λ c κs. search needs) (λ c. omega arith) (λ c. omega arith)
+    (λ c. omega arith) (λ c. omega arith)
+    loop-again
+    same-length
+    (λ c. tt))

@@ -1,0 +1,22 @@
+-- `lists::expect_flags` is safe and ends. Assumes nothing.
+use Prim.Native.Nat.{_-_}
+use native.Mathlib.Omega.{arith}
+use borrow.Author.Needs.{needs}
+use lib.ListN.{length}
+use Rattle.compare.proofs.stored.lists.expect_flags.Statement.{statement}
+use Rattle.compare.proofs.stored.lists.expect_flags.Tie as tie
+
+abbrev Inv-loop : tie.InvT-loop
+Inv-loop text found n at₀ same₀ i₀ at same i = Unit {0}
+
+abbrev μ-loop : tie.MeasureT-loop
+μ-loop text found n at₀ same₀ i₀ at same i = length found - i
+
+pub expect-flags-spec : {M : Type 1} → statement M
+expect-flags-spec =
+    tie.close
+    (tie.spec
+    Inv-loop
+    μ-loop
+    (λ c. tt) (λ c. omega arith) (λ c κs. search needs) (λ c. omega arith) (λ c. omega arith) (λ c. tt)
+    (λ c. tt))

@@ -1,1 +1,0 @@
--- The texts of a trace have no definitions of their own: they are tested by stored outputs.
