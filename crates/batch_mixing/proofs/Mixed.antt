@@ -1,11 +1,6 @@
 -- The walk over the layers of a solid tile, step by step. Assumes nothing.
-use mathlib.Core.Path.{_≡_, refl, ap, sym, _∙_}
-use mathlib.Core.Bool.{Bool, true, false, cond}
-use mathlib.Core.List.{List, [], _∷_}
-use Prim.Native.Nat.{ℕ, zero, suc, _+_, _-_, _*_, _≤_, _<_}
-use native.Mathlib.Omega.{arith}
-use lib.ListN.{length, drop, take, getD}
-use lib.Seq.{sets, length-take-le, getD-take}
+use Rattle.laws.proofs.Prelude.{_≡_, refl, ap, sym, _∙_, Bool, true, false, cond, List, [], _∷_, ℕ, zero, suc, _+_, _-_, _*_, _≤_, _<_, arith, length}
+use Rattle.laws.proofs.Prelude.{drop, take, getD, sets, length-take-le, getD-take}
 use Rattle.row_lines.specs.Shown.{shownIn}
 use Rattle.shown_layers.proofs.Rest.{walk-next, walk-end}
 use Rattle.batch_statements.specs.BatchLent.{WordsAt, wordsAt, mixesFrom}

@@ -1,9 +1,5 @@
 -- What the walk over the layers of a solid tile asks and gives: the first shown ones are passed over, the others are noted.
-use mathlib.Core.Bool.{Bool, true, false}
-use mathlib.Core.List.{List, [], _∷_}
-use Prim.Native.Nat.{ℕ, zero, suc, _+_, _*_, _≤_}
-use lib.ListN.{length, drop}
-use lib.Seq.{sets}
+use Rattle.laws.specs.Prelude.{Bool, true, false, List, [], _∷_, ℕ, zero, suc, _+_, _*_, _≤_, length, drop, sets}
 use Rattle.pass_statements.specs.Decision.{TileDecision, none, solid, paint}
 use Rattle.batch_statements.specs.BatchLent.{WordsAt, wordsAt, mixesFrom}
 use Rattle.batch_mixing.specs.declared.Mixing.{Mixing}

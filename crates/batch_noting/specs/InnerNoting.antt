@@ -1,10 +1,5 @@
 -- What the noting of a tile asks.
-use mathlib.Core.Path.{_≡_}
-use mathlib.Core.Bool.{Bool, true}
-use mathlib.Core.List.{List}
-use Prim.Native.Nat.{ℕ, _+_, _*_, _≤_}
-use lib.Ieee.{Float}
-use lib.ListN.{length}
+use Rattle.laws.specs.Prelude.{_≡_, Bool, true, List, ℕ, _+_, _*_, _≤_, Float, length}
 
 -- room for what is noted of the tile of number i, beside its layers
 pub record NoteRoom (keeps : Bool) (i : ℕ) (kept told : List ℕ) (bottoms : List Float) : Type 0 where

@@ -1,14 +1,5 @@
 -- The shown layers of a tile, one after the other: how many are shown, and that nothing else moves where the tile is not painted. Assumes nothing.
-use mathlib.Core.Path.{_≡_, refl}
-use mathlib.Core.Bool.{Bool, true, false}
-use mathlib.Core.List.{List, [], _∷_}
-use mathlib.Core.Option.{Option}
-use Prim.Native.Nat.{ℕ, _+_, _*_}
-use native.Mathlib.Omega.{arith}
-use lib.Ieee.{Float}
-use lib.ListN.{length}
-use lib.Seq.{sets}
-use Rattle.laws.specs.Lists.{over}
+use Rattle.laws.proofs.Prelude.{_≡_, refl, Bool, true, false, List, [], _∷_, Option, ℕ, _+_, _*_, arith, Float, length, sets, over}
 use Rattle.styling.specs.declared.Layer.{Layer}
 use Rattle.queue_statements.specs.Queue.{Carry}
 use Rattle.row_statements.specs.State.{withClip}

@@ -1,12 +1,6 @@
 -- A plane that is lent out of the planes, and comes back written. Assumes nothing.
-use mathlib.Core.Path.{_≡_, ap, sym, _∙_}
-use mathlib.Core.List.{List, _++_, append-assoc}
-use Prim.Native.Nat.{ℕ, _+_, _-_, _*_, _≤_}
-use native.Mathlib.Omega.{arith}
-use lib.Ieee.{Float}
-use lib.ListN.{length, take, drop, length-drop}
-use lib.Seq.{sets, sets-eq, drop-drop, length-take-le}
-use Rattle.laws.specs.Lists.{over}
+use Rattle.laws.proofs.Prelude.{_≡_, ap, sym, _∙_, List, _++_, append-assoc, ℕ, _+_, _-_, _*_, _≤_, arith, Float, length, take, drop, length-drop}
+use Rattle.laws.proofs.Prelude.{sets, sets-eq, drop-drop, length-take-le, over}
 use Rattle.batch_statements.specs.BatchLent.{planeAt}
 
 -- a plane that was lent out of the planes, and came back with coverages over what it held

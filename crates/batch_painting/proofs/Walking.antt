@@ -1,16 +1,7 @@
 -- The shown layers of a tile, painted in one walk: each step is a layer that is painted into the next plane or passed over, and what is left of the
 -- walk gives what the whole list gives. Assumes nothing.
-use mathlib.Core.Path.{_≡_, refl, ap, sym, subst, _∙_}
-use mathlib.Core.Bool.{Bool, true, false, cond}
-use mathlib.Core.List.{List, [], _∷_}
-use mathlib.Core.Option.{Option, none}
-use Prim.Native.Nat.{ℕ, _+_, _*_, _≤_, _<_}
-use native.Mathlib.Omega.{arith}
-use lib.Ieee.{Float}
-use lib.IntN.{ℤ}
-use lib.ListN.{length, take, getD}
-use lib.Seq.{sets}
-use Rattle.laws.specs.Lists.{over}
+use Rattle.laws.proofs.Prelude.{_≡_, refl, ap, sym, subst, _∙_, Bool, true, false, cond, List, [], _∷_, Option, none, ℕ, _+_, _*_, _≤_, _<_, arith}
+use Rattle.laws.proofs.Prelude.{Float, ℤ, length, take, getD, sets, over}
 use Rattle.styling.specs.declared.Layer.{Layer}
 use Rattle.queue_statements.specs.Queue.{Carry, queueOf}
 use Rattle.tile_layers.specs.Listing.{layersIn}

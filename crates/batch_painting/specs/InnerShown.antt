@@ -1,15 +1,6 @@
 -- What the walk over a tile's shown layers asks and gives: each is counted and, where the tile is painted, painted into the next plane.
 -- tile_batch/proofs has that these are the paintings of batch_statements/specs/Batch.
-use mathlib.Core.Path.{_≡_}
-use mathlib.Core.Bool.{Bool, true, false, cond}
-use mathlib.Core.List.{List, [], _∷_}
-use mathlib.Core.Option.{none}
-use Prim.Native.Nat.{ℕ, _+_, _*_, _≤_}
-use lib.Ieee.{Float}
-use lib.IntN.{ℤ}
-use lib.ListN.{length}
-use lib.Seq.{sets}
-use Rattle.laws.specs.Lists.{over}
+use Rattle.laws.specs.Prelude.{_≡_, Bool, true, false, cond, List, [], _∷_, none, ℕ, _+_, _*_, _≤_, Float, ℤ, length, sets, over}
 use Rattle.styling.specs.declared.Layer.{Layer}
 use Rattle.queue_statements.specs.Queue.{Carry, queueOf}
 use Rattle.painter.specs.Clip.{clipIn}

@@ -1,15 +1,7 @@
 -- A batch in a run is a list of calls of that run, so that what it gives is what is due; and there is such a batch. Assumes nothing.
-use mathlib.Core.Path.{_≡_, refl, ap, sym, subst, _∙_}
-use mathlib.Core.Bool.{true, false, _||_}
-use mathlib.Core.List.{List, [], _++_}
-use Prim.Native.Nat.{ℕ, zero, suc, _+_, _*_, _/_, _≤_, _<_, min}
-use native.Mathlib.Omega.{arith}
-use borrow.Author.Tests.{eq-eqb, le-ltb, lt-ltb, le-leb, lt-leb}
-use lib.Dec.{ltb, leb}
-use lib.Ieee.{Float, binary32, ofBits}
-use lib.IntN.{pos}
-use lib.ListN.{length, replicate, length-replicate}
-use Rattle.laws.proofs.Bools.{both}
+use Rattle.laws.proofs.Prelude.{_≡_, refl, ap, sym, subst, _∙_, true, false, _||_, List, [], _++_, ℕ, zero, suc, _+_, _*_, _/_, _≤_, _<_, min, arith}
+use Rattle.laws.proofs.Prelude.{eq-eqb, le-ltb, lt-ltb, le-leb, lt-leb, ltb, leb, Float, binary32, ofBits, pos, length, replicate, length-replicate}
+use Rattle.laws.proofs.Prelude.{both}
 use Rattle.refusals.specs.Refusal.{pass}
 use Rattle.pixel_segment.specs.Field.{cpu}
 use Rattle.segment_rows.specs.Rows.{isRow}

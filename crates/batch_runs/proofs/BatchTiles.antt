@@ -1,20 +1,9 @@
 -- The calls that a batch stands for, tile after tile, go on with a run: none of the paintings is refused, and what the batch leaves is what they leave.
 -- Assumes nothing.
-use mathlib.Core.Path.{_≡_, refl, ap, ap₂, sym, subst, _∙_}
-use mathlib.Core.Bool.{Bool, true, false, cond, _||_}
-use mathlib.Core.List.{List, [], _∷_, _++_}
+use Rattle.laws.proofs.Prelude.{_≡_, refl, ap, ap₂, sym, subst, _∙_, Bool, true, false, cond, _||_, List, [], _∷_, _++_, Option, ℕ, zero, suc, _+_}
+use Rattle.laws.proofs.Prelude.{_-_, _*_, _≤_, _<_, min, arith, eq-eqb, ne-eqb, le-ltb, leb-true, ltb, leb, Float, ℤ, pos, length, take, drop}
+use Rattle.laws.proofs.Prelude.{length-drop, length-map, sets, length-sets, length-take-le, Answer, refused, given, right}
 use mathlib.Core.Option as option
-use mathlib.Core.Option.{Option}
-use Prim.Native.Nat.{ℕ, zero, suc, _+_, _-_, _*_, _≤_, _<_, min}
-use native.Mathlib.Omega.{arith}
-use borrow.Author.Tests.{eq-eqb, ne-eqb, le-ltb, leb-true}
-use lib.Dec.{ltb, leb}
-use lib.Ieee.{Float}
-use lib.IntN.{ℤ, pos}
-use lib.ListN.{length, take, drop, length-drop, length-map}
-use lib.Seq.{sets, length-sets, length-take-le}
-use Rattle.laws.specs.Answer.{Answer, refused, given}
-use Rattle.laws.proofs.Bools.{right}
 use Rattle.refusals.specs.Refusal.{Judgement, pass, refuse, unless}
 use Rattle.refusals.proofs.Judging.{passed}
 use Rattle.segment_rows.specs.Search.{tilePart}

@@ -1,14 +1,6 @@
 -- The public calls that a batch stands for: the work on each tile, and where it is painted the painting of each shown layer, ascending. What is noted is
 -- read from what the calls answered and left in lent memory, as a caller reads it. proofs/BatchTiles has that a batch in a run is such calls.
-use mathlib.Core.Path.{_≡_}
-use mathlib.Core.Bool.{true, false}
-use mathlib.Core.List.{List, [], _∷_, _++_}
-use Prim.Native.Nat.{ℕ, zero, suc, _+_, _*_}
-use lib.Dec.{leb}
-use lib.Ieee.{Float}
-use lib.IntN.{ℤ}
-use lib.Seq.{sets}
-use Rattle.laws.specs.Answer.{refused, given}
+use Rattle.laws.specs.Prelude.{_≡_, true, false, List, [], _∷_, _++_, ℕ, zero, suc, _+_, _*_, leb, Float, ℤ, sets, refused, given}
 use Rattle.row_statements.specs.Lent.{Columns}
 use Rattle.row_statements.specs.State.{stateIn}
 use Rattle.row_statements.specs.TileWork.{WorkLent, WorkGiven, TileAnswer, workAnswer}

@@ -1,18 +1,7 @@
 -- A tile lists at most as many layers as the table has records: the ids of both ascend strictly, and each listed one is in the table. So the layers that
 -- are shown, painted or mixed are at most as many as the planes that must be free before the tile. Assumes nothing.
-use mathlib.Core.Path.{_≡_, ap, sym, _∙_}
-use mathlib.Core.Bool.{Bool, true, false, _&&_}
-use mathlib.Core.Logic.{⊎-elim}
-use mathlib.Core.List.{List, [], _∷_, map}
-use Prim.Native.Nat.{ℕ, suc, _≤_, _<_, min}
-use native.Mathlib.Omega.{arith}
-use lib.Dec.{leb}
-use lib.ListN.{length, length-map}
-use borrow.Author.Tests.{le-leb}
-use Rattle.laws.specs.Answer.{Answer, refused, given, isGiven}
-use Rattle.laws.specs.Lists.{all}
-use Rattle.laws.proofs.Bools.{both, left, right}
-use Rattle.laws.proofs.Orders.{eq-or-ne}
+use Rattle.laws.proofs.Prelude.{_≡_, ap, sym, _∙_, Bool, true, false, _&&_, ⊎-elim, List, [], _∷_, map, ℕ, suc, _≤_, _<_, min, arith, leb, length}
+use Rattle.laws.proofs.Prelude.{length-map, le-leb, Answer, refused, given, isGiven, all, both, left, right, eq-or-ne}
 use Rattle.styling.specs.Ascending.{strictlyAscendsFrom, strictlyAscends}
 use Rattle.styling.specs.declared.Layer.{Layer}
 use Rattle.styling.proofs.Ascents.{ascends-head, ascends-tail, ascends-weaken}

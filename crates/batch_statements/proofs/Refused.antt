@@ -1,10 +1,5 @@
 -- A batch that worked no tile stands where it began; so a refused one leaves everything as it was, and is refused as its first tile is. Assumes nothing.
-use mathlib.Core.Path.{_≡_, refl, ap, sym, _∙_}
-use mathlib.Core.Bool.{Bool, true, false, cond}
-use Prim.Native.Nat.{ℕ, zero, suc, _+_, _≤_, _<_}
-use native.Mathlib.Omega.{arith}
-use lib.Dec.{leb}
-use Rattle.laws.specs.Answer.{Answer, refused, given}
+use Rattle.laws.proofs.Prelude.{_≡_, refl, ap, sym, _∙_, Bool, true, false, cond, ℕ, zero, suc, _+_, _≤_, _<_, arith, leb, Answer, refused, given}
 use Rattle.row_statements.specs.TileWork.{TileAnswer}
 use Rattle.batch_statements.specs.BatchLent.{BatchLent, hasRoom}
 use Rattle.batch_statements.specs.Batch.{BatchRow, BatchAt, BatchEnd, BatchGiven, BatchCall, endedAt, workAt, tilePast, TurnGiven, turnBy, turnOf, nextBy, tilesFrom, batchStart, batchOf, answerOf, batchAnswer, BatchRefused}

@@ -1,9 +1,5 @@
 -- How many layers of a tile can be shown. Assumes nothing.
-use mathlib.Core.Bool.{Bool, true, false}
-use mathlib.Core.List.{List, [], _∷_}
-use Prim.Native.Nat.{ℕ, _≤_}
-use native.Mathlib.Omega.{arith}
-use lib.ListN.{length, drop, length-drop}
+use Rattle.laws.proofs.Prelude.{Bool, true, false, List, [], _∷_, ℕ, _≤_, arith, length, drop, length-drop}
 use Rattle.row_lines.specs.Shown.{flagged, shownIn}
 
 -- as many ids are shown as are listed, at most

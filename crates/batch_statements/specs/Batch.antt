@@ -3,17 +3,8 @@
 -- layers that it mixes are noted. Every tile is told by what the public operations give (`workOf`, `paintOf`), each called with what the one before it left,
 -- so that a batch has no verdict of its own: it is refused where its first tile is, by that number, and nothing is worked or written then; else it is accepted,
 -- and tells why it ended. Where it calls nothing (no tile is asked for, none is left, or there is no room for one), it judges nothing.
-use mathlib.Core.Path.{_≡_}
-use mathlib.Core.Bool.{Bool, true, false, not, cond}
-use mathlib.Core.List.{List, [], _∷_}
-use Prim.Native.Nat.{ℕ, zero, suc, _+_, _*_}
-use lib.Dec.{leb}
-use lib.Ieee.{Float}
-use lib.IntN.{ℤ, pos}
-use lib.ListN.{length, replicate}
-use lib.Seq.{sets}
-use Rattle.laws.specs.Answer.{Answer, refused, given}
-use Rattle.laws.specs.Integer.{plus}
+use Rattle.laws.specs.Prelude.{_≡_, Bool, true, false, not, cond, List, [], _∷_, ℕ, zero, suc, _+_, _*_, leb, Float, ℤ, pos, length, replicate, sets}
+use Rattle.laws.specs.Prelude.{Answer, refused, given, plus}
 use Rattle.refusals.specs.Refusal.{Judgement, pass, refuse, numberOf}
 use Rattle.styling.specs.declared.Color.{Color}
 use Rattle.layer_workbench.specs.declared.PreviousClear.{PreviousClear}

@@ -1,13 +1,7 @@
 -- The memory that a batch is lent: two queues, and for each tile the bytes of its cached tile, six numbers and a colour; for each plane 256 coverages
 -- and two words. How the bytes of a tile, its numbers and a plane lie in it, and whether there is room for a further tile. Stands for 'lent arrays with
 -- counts', of many tiles at once; that memory ends is no refusal.
-use mathlib.Core.Bool.{Bool, true, false, cond, _&&_}
-use mathlib.Core.List.{List, [], _∷_}
-use Prim.Native.Nat.{ℕ, _+_, _*_, _/_, min}
-use lib.Dec.{ltb, leb}
-use lib.Ieee.{Float}
-use lib.ListN.{length, take, drop}
-use lib.Seq.{sets}
+use Rattle.laws.specs.Prelude.{Bool, true, false, cond, _&&_, List, [], _∷_, ℕ, _+_, _*_, _/_, min, ltb, leb, Float, length, take, drop, sets}
 use Rattle.cached_tile.specs.Kept.{noTile}
 use Rattle.cached_tile.specs.declared.kept.Kept as kept
 use Rattle.ffi_numbers.specs.Cached.{keptOf, tileBytes}

@@ -1,11 +1,6 @@
 -- Laws of the tests between two tiles. Assumes nothing.
-use mathlib.Core.Path.{_≡_, refl, ap, sym, _∙_}
-use mathlib.Core.Bool.{Bool, true, false, cond, _&&_}
-use Prim.Native.Nat.{ℕ, zero, suc, _+_, _-_, _≤_, _<_}
-use native.Mathlib.Omega.{arith}
-use borrow.Author.Tests.{le-leb, lt-leb, leb-true, leb-false}
-use lib.Dec.{ltb, leb}
-use Rattle.laws.specs.Answer.{given}
+use Rattle.laws.proofs.Prelude.{_≡_, refl, ap, sym, _∙_, Bool, true, false, cond, _&&_, ℕ, zero, suc, _+_, _-_, _≤_, _<_, arith, le-leb, lt-leb}
+use Rattle.laws.proofs.Prelude.{leb-true, leb-false, ltb, leb, given}
 use Rattle.batch_statements.specs.BatchLent.{hasRoom}
 use Rattle.row_statements.specs.State.{State}
 use Rattle.batch_statements.specs.Batch.{asked, rowEnd, noRoom, nextRefused, refusedAt, answerOf}

@@ -1,8 +1,5 @@
 -- Where the code of a batch stands between two tiles, whether it works another, and why it ends.
-use mathlib.Core.Path.{_≡_}
-use mathlib.Core.Bool.{Bool, true, false, cond, _&&_}
-use Prim.Native.Nat.{ℕ}
-use lib.Dec.{ltb, leb}
+use Rattle.laws.specs.Prelude.{_≡_, Bool, true, false, cond, _&&_, ℕ, ltb, leb}
 use Rattle.refusals.specs.Refusal.{Judgement, pass, refuse, judgementIn}
 use Rattle.refusals.specs.declared.Verdict.the-variants.{Pass}
 use Rattle.row_statements.specs.State.{State, stateIn}

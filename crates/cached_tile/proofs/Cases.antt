@@ -1,11 +1,5 @@
 -- P8 and P12, and the other cases of document 01 on cached tiles, as theorems over the definitions. Assumes nothing.
-use mathlib.Core.Path.{_≡_, refl}
-use mathlib.Core.Bool.{true, false}
-use mathlib.Core.List.{List, [], _∷_}
-use mathlib.Core.Option.{some, none}
-use Prim.Native.Nat.{ℕ}
-use borrow.Author.Tests.{eq-eqb}
-use Rattle.laws.specs.Answer.{refused, given}
+use Rattle.laws.proofs.Prelude.{_≡_, refl, true, false, List, [], _∷_, some, none, ℕ, eq-eqb, refused, given}
 use Rattle.cached_tile.specs.declared.CachedTile.{CachedTile}
 use Rattle.cached_tile.specs.declared.kept.Kept.{Kept}
 use Rattle.cached_tile.specs.Tile.{layerCountOf, updateCount, updateColor}

@@ -1,14 +1,7 @@
 -- A cached tile through the work of a tile, and settling. Stands for 'any tile work updates the count where a cached tile is given; paint
 -- clears tag 1; solid is settled by a second call with the four display bytes, which says write or keep. .. Without a cached tile settling
 -- says write', and for refusal 6, 'cached tag above 3', which asks that a tile is given.
-use mathlib.Core.Path.{_≡_}
-use mathlib.Core.Bool.{Bool, true, false, cond, _&&_}
-use mathlib.Core.List.{List}
-use mathlib.Core.Option.{Option, none}
-use Prim.Native.Nat.{ℕ}
-use lib.Dec.{ltb, eqb}
-use lib.ListN.{getD}
-use Rattle.laws.specs.Answer.{Answer, refused, given}
+use Rattle.laws.specs.Prelude.{_≡_, Bool, true, false, cond, _&&_, List, Option, none, ℕ, ltb, eqb, getD, Answer, refused, given}
 use Rattle.cached_tile.specs.declared.CachedTile.{CachedTile}
 use Rattle.cached_tile.specs.declared.kept.Kept.{Kept}
 use Rattle.cached_tile.specs.declared.kept.Counted.{Counted}

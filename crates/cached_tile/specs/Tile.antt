@@ -1,14 +1,8 @@
 -- A cached tile and the Rust's methods on it. Stands for 'a cached tile is a tag byte (1 solid kept, 2 count kept), three count bytes
 -- lowest first, four colour bytes' and for 'update_layer_count stores the low 24 bits; a cleared tag leaves its bytes' (P8). Every tag
 -- byte has its answer, as in the Rust: above 3 nothing is kept, setting a bit leaves the others, and dropping one leaves only the other.
-use mathlib.Core.Path.{_≡_}
-use mathlib.Core.Bool.{Bool, cond, _||_}
-use mathlib.Core.List.{List, [], _∷_}
-use mathlib.Core.Option.{Option, some, none}
-use Prim.Native.Nat.{ℕ, _+_, _*_, _/_, _%_}
-use lib.Bits.{bitAnd, bitOr}
-use lib.Dec.{eqb}
-use lib.ListN.{getD}
+use Rattle.laws.specs.Prelude.{_≡_, Bool, cond, _||_, List, [], _∷_, Option, some, none, ℕ, _+_, _*_, _/_, _%_, bitAnd, eqb, getD}
+use lib.Bits.{bitOr}
 use Rattle.cached_tile.specs.declared.CachedTile.{CachedTile}
 use Rattle.cached_tile.specs.declared.LayerCount.{LayerCount}
 use Rattle.cached_tile.specs.declared.LayerCount.the-variants.{Count, Absent}

@@ -1,10 +1,5 @@
 -- The flag of what adding answers says whether a carry is given. Assumes nothing.
-use mathlib.Core.Path.{_≡_, refl, _∙_, sym, ap}
-use mathlib.Core.Bool.{Bool, true, false, cond}
-use mathlib.Core.List.{List}
-use Prim.Native.Nat.{ℕ}
-use lib.IntN.{ℤ}
-use Rattle.laws.specs.Answer.{refused, given, isGiven}
+use Rattle.laws.proofs.Prelude.{_≡_, refl, _∙_, sym, ap, Bool, true, false, cond, List, ℕ, ℤ, refused, given, isGiven}
 use Rattle.cover_statements.specs.Carry.{addOf}
 use Rattle.cover.specs.Adding.{Adding}
 use Rattle.cover.specs.declared.carry.Carried.{Carried}

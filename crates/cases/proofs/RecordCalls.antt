@@ -1,15 +1,5 @@
 -- What the calls with carry records give, computed: P11's carry, and the mark and the plane of P7's draw. Assumes nothing.
-use mathlib.Core.Path.{_≡_, refl, ap, _∙_}
-use mathlib.Core.Bool.{true}
-use mathlib.Core.List.{List, [], _∷_}
-use mathlib.Core.Option.{some}
-use Prim.Native.Nat.{ℕ}
-use lib.Dec.{eqb}
-use lib.Ieee.{Float}
-use lib.IntN.{pos}
-use lib.ListN.{length, replicate}
-use Rattle.laws.specs.Answer.{Answer, isGiven}
-use Rattle.laws.specs.Lists.{all, over}
+use Rattle.laws.proofs.Prelude.{_≡_, refl, ap, _∙_, true, List, [], _∷_, some, ℕ, eqb, Float, pos, length, replicate, Answer, isGiven, all, over}
 use Rattle.refusals.specs.Refusal.{Judgement, pass}
 use Rattle.pixel_segment.specs.Field.{coverOf, tileOf}
 use Rattle.segment_rows.specs.Rows.{ascendsFrom}

@@ -1,13 +1,5 @@
 -- The worked cases hold, and so do the edges beside them. What computes is proved by computing. Assumes nothing.
-use mathlib.Core.Path.{_≡_, refl}
-use mathlib.Core.Bool.{Bool, true, false, cond, _&&_}
-use mathlib.Core.List.{List, [], _∷_}
-use Prim.Native.Nat.{ℕ}
-use borrow.Author.Tests.{eq-eqb}
-use lib.Ieee.{odd, ofBits}
-use lib.IntN.{ℤ, pos}
-use Rattle.laws.specs.Integer.{plus}
-use Rattle.laws.specs.Answer.{refused, given}
+use Rattle.laws.proofs.Prelude.{_≡_, refl, Bool, true, false, cond, _&&_, List, [], _∷_, ℕ, eq-eqb, odd, ofBits, ℤ, pos, plus, refused, given}
 use Rattle.cached_tile.specs.Kept.{keep, settleOf, settledKept}
 use Rattle.cached_tile.proofs.Counts.{count-kept}
 use Rattle.cover_statements.specs.Area.{doubledArea}

@@ -1,16 +1,6 @@
 -- The tile of P7 as it lies in lent memory: painting may be asked of it, and what painting then says is about its three layers. Assumes nothing.
-use mathlib.Core.Path.{_≡_, refl, _∙_}
-use mathlib.Core.Bool.{true}
-use mathlib.Core.List.{List, [], _∷_}
-use mathlib.Core.Option.{Option, some, none}
-use Prim.Native.Nat.{ℕ, _≤_}
-use native.Mathlib.Nat.{not-suc-le-zero}
-use borrow.Author.Tests.{leb-true}
-use lib.Ieee.{Float, eq, ofBits}
-use lib.IntN.{ℤ, pos}
-use lib.ListN.{length, replicate}
-use Rattle.laws.specs.Lists.{over, all}
-use Rattle.laws.proofs.Every.{every-at}
+use Rattle.laws.proofs.Prelude.{_≡_, refl, _∙_, true, List, [], _∷_, Option, some, none, ℕ, _≤_, not-suc-le-zero, leb-true, Float, eq, ofBits, ℤ, pos}
+use Rattle.laws.proofs.Prelude.{length, replicate, over, all, every-at}
 use Rattle.styling.specs.Ascending.{strictlyAscendsFrom}
 use Rattle.layer_table.specs.Lookup.{lookup}
 use Rattle.layer_table.specs.Record.{inRange}

@@ -1,11 +1,5 @@
 -- How the program reads an answer.
-use mathlib.Core.Bool.{Bool, true, false}
-use mathlib.Core.List.{[], _∷_}
-use mathlib.Core.Option.{Option, some, none}
-use Prim.Native.Nat.{ℕ}
-use lib.Dec.{eqb}
-use lib.Ieee.{Float, eq}
-use Rattle.laws.specs.Answer.{Answer, refused, given}
+use Rattle.laws.specs.Prelude.{Bool, true, false, [], _∷_, Option, some, none, ℕ, eqb, Float, eq, Answer, refused, given}
 use Rattle.cached_tile.specs.Kept.{Writing, write, keep}
 use Rattle.cached_tile.specs.declared.CachedTile.{CachedTile}
 use Rattle.segment_rows.specs.Search.{Place, found, absent}

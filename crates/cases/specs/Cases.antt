@@ -1,13 +1,6 @@
 -- The worked cases P1 to P12, one table in the scope's order, about the definitions that the contracts cite. proofs/Table proves it; the program
 -- runs the cases.
-use mathlib.Core.Path.{_≡_}
-use mathlib.Core.Bool.{true, false}
-use mathlib.Core.List.{List, [], _∷_}
-use mathlib.Core.Option.{some, none}
-use Prim.Native.Nat.{ℕ, _%_, _^_, _≤_}
-use lib.IntN.{ℤ, pos}
-use lib.ListN.{replicate}
-use Rattle.laws.specs.Answer.{refused, given}
+use Rattle.laws.specs.Prelude.{_≡_, true, false, List, [], _∷_, some, none, ℕ, _%_, _^_, _≤_, ℤ, pos, replicate, refused, given}
 use Rattle.cached_tile.specs.Kept.{write, keep, settleOf, settledKept}
 use Rattle.cached_tile.specs.Tile.{layerCountOf, updateCount, updateColor}
 use Rattle.cached_tile.specs.declared.CachedTile.{CachedTile}

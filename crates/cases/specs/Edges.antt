@@ -1,13 +1,6 @@
 -- Cases that the scope does not number: both sides of what packing and adding refuse, covers that are not full for one row, and what an update of
 -- a cached tile leaves. proofs/Table proves them.
-use mathlib.Core.Path.{_≡_}
-use mathlib.Core.Bool.{true, false}
-use mathlib.Core.List.{List, [], _∷_}
-use mathlib.Core.Option.{some, none}
-use Prim.Native.Nat.{ℕ}
-use lib.IntN.{pos}
-use lib.ListN.{replicate}
-use Rattle.laws.specs.Answer.{refused, given}
+use Rattle.laws.specs.Prelude.{_≡_, true, false, List, [], _∷_, some, none, ℕ, pos, replicate, refused, given}
 use Rattle.cached_tile.specs.Tile.{layerCountOf, updateCount, updateColor}
 use Rattle.cover_statements.specs.Carry.{addOf}
 use Rattle.cover_statements.specs.Cover.{isFull}

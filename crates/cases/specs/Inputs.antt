@@ -1,8 +1,5 @@
 -- What the cases are about: words, a tile's three layers, cached tiles.
-use mathlib.Core.Bool.{true, false}
-use mathlib.Core.List.{List, [], _∷_}
-use Prim.Native.Nat.{ℕ}
-use lib.IntN.{ℤ, pos}
+use Rattle.laws.specs.Prelude.{true, false, List, [], _∷_, ℕ, ℤ, pos}
 use Rattle.cached_tile.specs.declared.CachedTile.{CachedTile}
 use Rattle.cached_tile.specs.declared.kept.Kept.{Kept}
 use Rattle.pixel_segment.specs.Field.{cpu, tileOf, tileXOf, tileYOf}

@@ -1,9 +1,5 @@
 -- The numbers of the cases, as they are read.
-use mathlib.Core.List.{List}
-use Prim.Native.Nat.{ℕ}
-use lib.Ieee.{Float, binary32, ofBits}
-use lib.IntN.{ℤ, subℕ}
-use lib.ListN.{replicate}
+use Rattle.laws.specs.Prelude.{List, ℕ, Float, binary32, ofBits, ℤ, subℕ, replicate}
 
 -- the whole number -n
 abbrev pub neg : ℕ → ℤ

@@ -1,11 +1,6 @@
 -- The calls with a queue of carry records, as the program makes them: P11 as the work on tile 2, and the painting of P7's draw. What they give is
 -- `workOf` and `paintOf` of these calls, with the columns that the records stand for.
-use mathlib.Core.Bool.{false}
-use mathlib.Core.List.{List, [], _∷_}
-use mathlib.Core.Option.{some, none}
-use Prim.Native.Nat.{ℕ}
-use lib.IntN.{pos}
-use lib.ListN.{replicate}
+use Rattle.laws.specs.Prelude.{false, List, [], _∷_, some, none, ℕ, pos, replicate}
 use Rattle.styling.specs.declared.Color.{Color}
 use Rattle.cached_tile.specs.declared.kept.Kept.{Kept}
 use Rattle.layer_workbench.specs.declared.PreviousClear.the-variants.{Absent}

@@ -1,13 +1,5 @@
 -- Painting a layer of P7's tile, as the program does it: what it asks, and what is seen of a plane that held zeros.
-use mathlib.Core.Path.{_≡_}
-use mathlib.Core.Bool.{true}
-use mathlib.Core.List.{List, []}
-use mathlib.Core.Option.{Option}
-use Prim.Native.Nat.{ℕ}
-use lib.Ieee.{Float}
-use lib.ListN.{replicate}
-use Rattle.laws.specs.Answer.{given}
-use Rattle.laws.specs.Lists.{over, all}
+use Rattle.laws.specs.Prelude.{_≡_, true, List, [], Option, ℕ, Float, replicate, given, over, all}
 use Rattle.layer_table.specs.Lookup.{lookup}
 use Rattle.styling.specs.declared.Layer.{Layer}
 use Rattle.painter.specs.Clip.{clipIn, clipAfter}

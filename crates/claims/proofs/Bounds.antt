@@ -1,6 +1,5 @@
 -- The claims of specs/Bounds, cited. Assumes nothing.
-use Prim.Native.Nat.{ℕ}
-use lib.IntN.{ℤ}
+use Rattle.laws.proofs.Prelude.{ℕ, ℤ}
 use Rattle.cover_bounds_statements.proofs.Bounds as bounds
 use Rattle.cover_bounds_statements.proofs.Cases as cases
 use Rattle.cover_bounds_statements.proofs.Intervals as intervals

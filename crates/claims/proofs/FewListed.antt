@@ -1,10 +1,5 @@
 -- The claims of specs/Batches: what 1 to 9 leave of a tile's list. Assumes nothing.
-use mathlib.Core.Path.{_≡_, refl, ap, _∙_}
-use mathlib.Core.Bool.{true}
-use Prim.Native.Nat.{ℕ, _≤_, min}
-use native.Mathlib.Omega.{arith}
-use lib.ListN.{length}
-use Rattle.laws.specs.Answer.{given}
+use Rattle.laws.proofs.Prelude.{_≡_, refl, ap, _∙_, true, ℕ, _≤_, min, arith, length, given}
 use Rattle.refusals.specs.Refusal.{Judgement, pass, refuse}
 use Rattle.refusals.proofs.Judging.{both-passed}
 use Rattle.segment_rows.specs.Search.{tilePart}

@@ -1,7 +1,5 @@
 -- The claims of specs/Loads, cited. Assumes nothing.
-use mathlib.Core.Path.{_≡_, refl}
-use mathlib.Core.Bool.{true, not}
-use Rattle.laws.specs.Lists.{all}
+use Rattle.laws.proofs.Prelude.{_≡_, refl, true, not, all}
 use Rattle.decimal.specs.Parse.{parseℕ, moreDigits}
 use Rattle.load_statements.specs.Input.{parseField, ask}
 use Rattle.load_statements.proofs.Examples as examples

@@ -5,7 +5,7 @@ use Rattle.segment_set_statements.proofs.Undoing as undoing
 use Rattle.segment_set_statements.proofs.Sames as sames
 use Rattle.segment_set_statements.proofs.Alikes as alikes
 use Rattle.segment_set_statements.proofs.Each as each
-use mathlib.Core.Path.{refl, sym, ap}
+use Rattle.laws.proofs.Prelude.{refl, sym, ap}
 use Rattle.refusals.specs.Refusal.{Judgement}
 use Rattle.segment_set_statements.specs.Set.{state, nothing, freshState, settled}
 use Rattle.ffi_numbers.specs.Numbers.{judgedNumber}

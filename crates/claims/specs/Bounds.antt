@@ -1,12 +1,6 @@
 -- Covers known within bounds: every d that a choice gives lies between the lowest and the highest d, which choices give; narrower bounds give an interval
 -- inside; and each bound of a weight is the weight of some number of the interval. Stands for W-211.
-use mathlib.Core.Path.{_≡_}
-use mathlib.Core.Bool.{true}
-use mathlib.Core.List.{List}
-use Prim.Native.Nat.{ℕ, _≤_, _<_}
-use lib.IntN.{ℤ, pos, negsuc, natAbs}
-use lib.ListN.{length}
-use Rattle.laws.specs.Integer.{AtMost}
+use Rattle.laws.specs.Prelude.{_≡_, true, List, ℕ, _≤_, _<_, ℤ, pos, negsuc, natAbs, length, AtMost}
 use Rattle.pixel_segment.specs.Field.{widthOf}
 use Rattle.pixel_segment.specs.Layout.{Layout}
 use Rattle.styling.specs.declared.FillRule.{FillRule}

@@ -1,9 +1,6 @@
 -- A tile four pixels high is rows 0 to 3 of one 16 high with the same segments. Stands for W-213, 'carry and coverage are held to the same working from the
 -- whole row as at 16'.
-use mathlib.Core.Path.{_≡_}
-use mathlib.Core.List.{List}
-use Prim.Native.Nat.{ℕ}
-use lib.ListN.{take}
+use Rattle.laws.specs.Prelude.{_≡_, List, ℕ, take}
 use Rattle.pixel_segment.specs.Field.{cpu, gpu}
 use Rattle.styling.specs.declared.FillRule.{FillRule}
 use Rattle.cover_statements.specs.WholeRow.{rowPlane}

@@ -1,12 +1,5 @@
 -- Layer records: colours, what is opaque, and looking a layer up. Stands for document 01, 'compared by ==, so NaN equals nothing and both zeros agree'.
-use mathlib.Core.Path.{_≡_}
-use mathlib.Core.Bool.{true, _&&_, false}
-use mathlib.Core.Logic.{_⊎_}
-use mathlib.Core.List.{List}
-use Prim.Native.Nat.{ℕ}
-use lib.Dec.{eqb}
-use lib.Ieee.{eq, ofBits, binary32, Float, nan, ofInt}
-use lib.IntN.{pos}
+use Rattle.laws.specs.Prelude.{_≡_, true, _&&_, false, _⊎_, List, ℕ, eqb, eq, ofBits, binary32, Float, nan, ofInt, pos}
 use Rattle.layer_table.specs.declared.Words.{Words}
 use Rattle.styling.specs.Color.{sameColor}
 use Rattle.styling.specs.declared.Color.{Color}

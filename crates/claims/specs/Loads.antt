@@ -1,11 +1,6 @@
 -- Loads that can be made again. Stands for W-204: the line that asks is read exactly as it prints and has at most 20 bytes, so that the first 21 bytes of an
 -- input decide; every load is read back and its row ascends; and no row of a load is refused but by 9. With the first draws and texts, worked.
-use mathlib.Core.Path.{_≡_}
-use mathlib.Core.Bool.{Bool, true, false, not}
-use mathlib.Core.List.{List, [], _∷_}
-use mathlib.Core.Option.{some, none}
-use Prim.Native.Nat.{ℕ, suc, _≤_, _<_}
-use Rattle.laws.specs.Lists.{tabulate, all}
+use Rattle.laws.specs.Prelude.{_≡_, Bool, true, false, not, List, [], _∷_, some, none, ℕ, suc, _≤_, _<_, tabulate, all}
 use Rattle.lines.specs.Bytes.{bytes}
 use Rattle.lines.specs.Text.{linesText}
 use Rattle.job_text_statements.specs.Job.{segmentValues}

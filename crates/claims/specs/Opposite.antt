@@ -1,13 +1,8 @@
 -- A word with another cover, and the opposite of a word: every other field, order and range stay. Stands for W-210.
-use mathlib.Core.List.{List}
-use mathlib.Core.Path.{_≡_}
-use Prim.Native.Nat.{ℕ, _<_, _≤_, _^_, _-_, _/_, _*_, _+_, _%_}
-use lib.IntN.{ℤ, natAbs, negℤ}
-use lib.ListN.{length}
+use Rattle.laws.specs.Prelude.{List, _≡_, ℕ, _<_, _≤_, _^_, _-_, _/_, _*_, _+_, _%_, ℤ, natAbs, negℤ, length, minus, plus}
 use Rattle.pixel_segment.specs.Layout.{Layout}
 use Rattle.pixel_segment.specs.Field.{fieldOf, widthOf, coverOf, sum}
 use Rattle.pixel_segment.specs.Pack.{withCover, wordOf}
-use Rattle.laws.specs.Integer.{minus, plus}
 use Rattle.pixel_segment.specs.Order.{orderKey}
 use Rattle.pixel_segment.specs.Opposite.{oppositeOf}
 

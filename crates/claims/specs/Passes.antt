@@ -1,8 +1,5 @@
 -- The passes in document 01's own words, of the definitions that the contracts cite.
-use mathlib.Core.List.{List, [], map}
-use mathlib.Core.Path.{_≡_}
-use mathlib.Core.Bool.{true, not, _||_, Bool, false}
-use Prim.Native.Nat.{ℕ, _<_}
+use Rattle.laws.specs.Prelude.{List, [], map, _≡_, true, not, _||_, Bool, false, ℕ, _<_}
 use Rattle.pass_statements.specs.declared.item.Item.{Item}
 use Rattle.pass_statements.specs.Rules.{ClipAt, isFollowed, isUnmasked, isAscending, DrawAt, isUnder, latestBelow, Alike, isFree, needsClip, Over}
 use Rattle.pass_statements.specs.Covered.{itemAt, coveredOf}

@@ -1,14 +1,6 @@
 -- Planes and marks. Stands for W-209: planes row by row, which are the planes by columns with their two places exchanged, for draws and clips; octets and
 -- marks go on meaning columns.
-use mathlib.Core.Path.{_≡_}
-use mathlib.Core.List.{List, []}
-use mathlib.Core.Bool.{cond, true}
-use mathlib.Core.Option.{Option}
-use Prim.Native.Nat.{ℕ, _<_, _/_, _^_, _*_, _+_, _%_}
-use lib.ListN.{getD}
-use lib.Ieee.{Float, nan}
-use lib.IntN.{ℤ, pos, _*ℤ_}
-use lib.Count.{ones}
+use Rattle.laws.specs.Prelude.{_≡_, List, [], cond, true, Option, ℕ, _<_, _/_, _^_, _*_, _+_, _%_, getD, Float, nan, ℤ, pos, _*ℤ_, ones, over}
 use Rattle.cover_statements.specs.Plane.{placeOf, sizeOf, columnOf, rowOf, inPlaces, exchange, byColumns, exchangeBack, pixelOf, planeOf}
 use Rattle.styling.specs.declared.FillRule.{FillRule}
 use Rattle.cover_statements.specs.WholeRow.{rowPlane, leftCover, partOf}
@@ -21,7 +13,6 @@ use Rattle.styling.specs.declared.Layer.{Layer}
 use Rattle.painter.specs.Painting.{planeIn, planeByColumns, Paints, needsIn}
 use Rattle.styling.specs.declared.Style.{Style}
 use Rattle.styling.specs.declared.Func.the-variants.{Draw, Clip}
-use Rattle.laws.specs.Lists.{over}
 use Rattle.painter.specs.Clip.{lacksClip, aliveAt}
 use Rattle.painter.specs.declared.painting.Painting as painting
 

@@ -1,9 +1,5 @@
 -- A changed clip repaints. Stands for W-208.
-use mathlib.Core.List.{List}
-use mathlib.Core.Bool.{Bool, true, false, not}
-use mathlib.Core.Path.{_≡_}
-use Prim.Native.Nat.{ℕ}
-use lib.ListN.{length}
+use Rattle.laws.specs.Prelude.{List, Bool, true, false, not, _≡_, ℕ, length}
 use Rattle.styling.specs.declared.Layer.{Layer}
 use Rattle.pass_statements.specs.Entry.{Entry}
 use Rattle.pass_statements.specs.Rules.{ChangedClipAt, ClipAt, withMark, DrawAt, isUnmasked}

@@ -1,9 +1,5 @@
 -- Which records stand, and both sides of the edges of 4, 15 and 1, on a few records. Stands for W-212.
-use mathlib.Core.Path.{_≡_}
-use mathlib.Core.Bool.{true, false}
-use mathlib.Core.List.{List, [], _∷_}
-use Prim.Native.Nat.{ℕ}
-use lib.Ieee.{Float, nan}
+use Rattle.laws.specs.Prelude.{_≡_, true, false, List, [], _∷_, ℕ, Float, nan}
 use Rattle.refusals.specs.Refusal.{pass, refuse}
 use Rattle.revision_statements.specs.Sent.{Sent, isGood, sentRoom}
 use Rattle.revision_statements.specs.Standing.{standingOf}

@@ -1,11 +1,6 @@
 -- Which layer record stands, without the steps of adding. Stands for W-212: of each layer the highest revision; a withdrawal that stands leaves the layer
 -- out; every entry is one of the records given; ids ascend; order carries no meaning; rows begin from that table.
-use mathlib.Core.Path.{_≡_}
-use mathlib.Core.Bool.{true, false}
-use mathlib.Core.List.{List, _∷_, _++_}
-use Prim.Native.Nat.{ℕ, _<_}
-use lib.Ieee.{Float}
-use Rattle.laws.specs.Answer.{given}
+use Rattle.laws.specs.Prelude.{_≡_, true, false, List, _∷_, _++_, ℕ, _<_, Float, given}
 use Rattle.styling.specs.Ascending.{strictlyAscends}
 use Rattle.revision_statements.specs.Sent.{Sent, sentOf, hasProperties, idOf}
 use Rattle.revision_statements.specs.Standing.{sentIds, standingOf}

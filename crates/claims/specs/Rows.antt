@@ -1,18 +1,11 @@
 -- Rows and their parts, found by last-key search: at every tile height. Stands for document 01, 'a tile's segments are handed on as a part of the row,
 -- found by search', 'on a sorted slice a key is called absent only if no element has it', and for the rows of a plate.
-use mathlib.Core.List.{List}
-use mathlib.Core.Path.{_≡_}
-use mathlib.Core.Bool.{true}
-use Prim.Native.Nat.{ℕ, _<_, _+_, _%_}
-use lib.ListN.{length, getD}
-use lib.Dec.{eqb, ltb}
+use Rattle.laws.specs.Prelude.{List, _≡_, true, ℕ, _<_, _+_, _%_, length, getD, eqb, ltb, countBy, filter}
 use Rattle.segment_rows.specs.Rows.{Ordered, Words, isRow, ascends}
 use Rattle.segment_rows.specs.Search.{searchOf, absent, lastPlace, tilePartIn, leftPartIn, layerPartIn}
-use Rattle.laws.specs.Sum.{countBy}
 use Rattle.pixel_segment.specs.Order.{isLt, isEq, orderKey}
 use Rattle.pixel_segment.specs.Layout.{Keyed}
 use Rattle.pixel_segment.specs.Field.{tileOf, tileXOf, layerIdOf, cpu, tileYOf}
-use Rattle.laws.specs.Lists.{filter}
 use Rattle.plate.specs.Sorted.{RowsOf}
 use Rattle.plate.specs.Rows.{rowPart}
 

@@ -1,10 +1,7 @@
 -- Runs: after every accepted opening every list of choices is that of some run's calls, with the verdicts that are due; runs of works and paintings are
 -- runs of calls, by values and by numbers; the driver's lines are those of some run; a state written as numbers is read again. So the claims over runs
 -- are empty for no opening.
-use mathlib.Core.Path.{_≡_}
-use mathlib.Core.List.{List, [], map}
-use Prim.Native.Nat.{ℕ, _+_, _≤_}
-use Rattle.laws.specs.Integer.{plus}
+use Rattle.laws.specs.Prelude.{_≡_, List, [], map, ℕ, _+_, _≤_, plus}
 use Rattle.segment_rows.specs.Rows.{Words}
 use Rattle.row_statements.specs.Lent.{Columns}
 use Rattle.row_statements.specs.State.{State}

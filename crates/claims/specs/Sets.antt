@@ -1,10 +1,5 @@
 -- Kept sets of segments. Stands for W-207: after any edits all of the set equals a fresh working of its held words.
-use mathlib.Core.List.{List, _∷_}
-use mathlib.Core.Path.{_≡_}
-use mathlib.Core.Bool.{cond, false}
-use Prim.Native.Nat.{ℕ, _+_, _<_, _*_, _/_, _%_, _≤_}
-use lib.IntN.{ℤ, _+ℤ_, pos, natAbs}
-use lib.ListN.{length, take}
+use Rattle.laws.specs.Prelude.{List, _∷_, _≡_, cond, false, ℕ, _+_, _<_, _*_, _/_, _%_, _≤_, ℤ, _+ℤ_, pos, natAbs, length, take}
 use Rattle.segment_set_statements.specs.Set.{Beginning, SetState, heldOf, takeVerdict, letOut, takenIn, loadsFrom, beginVerdict, freshState, beginning}
 use Rattle.segment_set_statements.specs.Edits.{Edits, takeAll}
 use Rattle.segment_set_statements.specs.Alike.{OrderLaw}

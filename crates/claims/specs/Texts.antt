@@ -1,12 +1,6 @@
 -- The job text: what is read is exactly what prints so, and every word reads back as the text's numbers. Stands for document 01, 'The row program', and for
 -- W-203.
-use mathlib.Core.Path.{_≡_}
-use mathlib.Core.Option.{some}
-use mathlib.Core.List.{List, [], _∷_}
-use mathlib.Core.Bool.{true}
-use Prim.Native.Nat.{ℕ, _<_, _≤_}
-use lib.IntN.{ℤ, _+ℤ_, pos, negsuc}
-use lib.ListN.{length, getD}
+use Rattle.laws.specs.Prelude.{_≡_, some, List, [], _∷_, true, ℕ, _<_, _≤_, ℤ, _+ℤ_, pos, negsuc, length, getD, plus, minus}
 use Rattle.job_text_statements.specs.Job.{Job, WellFormed, render, Prints}
 use Rattle.job_text_statements.specs.Parse.{parse}
 use Rattle.job_lines.specs.declared.segment.SegmentLine.{SegmentLine}
@@ -14,7 +8,6 @@ use Rattle.job_lines.specs.Rules.{segmentRule}
 use Rattle.job_statements.specs.Row.{isTileY, segmentWord, rowTile}
 use Rattle.lines.specs.Bytes.{bytes}
 use Rattle.lines.specs.Text.{lineText}
-use Rattle.laws.specs.Integer.{plus, minus}
 use Rattle.pixel_segment.specs.Pack.{ReadsBack}
 use Rattle.pixel_segment.specs.Field.{cpu}
 

@@ -1,13 +1,7 @@
 -- Doubled areas, weights and coverages. Stands for document 01, 'the weight is a whole number from 0 to 512', 'exact in binary32', 'SVG 2's fill-rule', and
 -- for W-201 and W-205.
-use mathlib.Core.List.{List}
-use mathlib.Core.Path.{_≡_}
-use mathlib.Core.Bool.{cond, true, false}
-use Prim.Native.Nat.{ℕ, _+_, _≤_, _*_, _<_}
-use lib.IntN.{ℤ, natAbs, _+ℤ_, pos, _*ℤ_}
-use lib.Ieee.Exact.{HasValue}
-use lib.Ieee.{fits, binary32, mul, ofInt, ofBits}
-use lib.Dec.{ltb}
+use Rattle.laws.specs.Prelude.{List, _≡_, cond, true, false, ℕ, _+_, _≤_, _*_, _<_, ℤ, natAbs, _+ℤ_, pos, _*ℤ_, HasValue, fits, binary32, mul, ofInt}
+use Rattle.laws.specs.Prelude.{ofBits, ltb, modℤ}
 use Rattle.pixel_segment.specs.Field.{widthOf}
 use Rattle.cover_statements.specs.Carry.{loadIn}
 use Rattle.cover_statements.specs.Area.{doubledArea}
@@ -16,7 +10,6 @@ use Rattle.styling.specs.declared.FillRule.{FillRule}
 use Rattle.cover_statements.specs.Cover.{Agrees, fullAt}
 use Rattle.cover_statements.specs.Coverage.{coverageOf, isAbove}
 use Rattle.styling.specs.declared.FillRule.the-variants.{EvenOdd}
-use Rattle.laws.specs.Integer.{modℤ}
 
 pub record Weights : Type 0 where
   -- where number 9 does not apply, |d| is at most 8,001

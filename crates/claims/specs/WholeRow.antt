@@ -1,10 +1,5 @@
 -- What a row says of its tiles, worked from the whole row: openings, carries, lists, planes. Stands for document 01, 'Working from the whole row'.
-use mathlib.Core.List.{List, map}
-use mathlib.Core.Path.{_≡_}
-use mathlib.Core.Bool.{true}
-use Prim.Native.Nat.{ℕ, _+_, _<_, suc}
-use lib.IntN.{_+ℤ_, ℤ, pos}
-use lib.ListN.{length, getD, replicate}
+use Rattle.laws.specs.Prelude.{List, map, _≡_, true, ℕ, _+_, _<_, suc, _+ℤ_, ℤ, pos, length, getD, replicate, tabulate, modℤ, refused}
 use Rattle.cover_statements.specs.WholeRow.{leftCover, partOf, FromRow, rowPlane}
 use Rattle.cover_statements.specs.Carry.{coverIn, carryOf}
 use Rattle.styling.specs.declared.FillRule.{FillRule}
@@ -12,7 +7,6 @@ use Rattle.cover_statements.specs.Plane.{planeOf}
 use Rattle.cover_statements.specs.Cover.{coverAt, isEmpty}
 use Rattle.queue_statements.specs.Queue.{heldIn, idsIn, hasId, Carry, noCarry}
 use Rattle.queue_statements.specs.Opening.{openQueue, ofLayer}
-use Rattle.laws.specs.Lists.{tabulate}
 use Rattle.pixel_segment.specs.Field.{cpu, layerIdOf}
 use Rattle.styling.specs.Ascending.{strictlyAscends}
 use Rattle.segment_rows.specs.Rows.{Ordered}
@@ -22,10 +16,8 @@ use Rattle.row_carries.specs.Carries.{queueAfter, InOrder, isUnlisted, layersAt
 use Rattle.segment_rows.specs.Search.{leftPart, layerPart, tilePart}
 use Rattle.layer_carrying.specs.Carrying.{ruleIn}
 use Rattle.styling.specs.declared.FillRule.the-variants.{NonZero, EvenOdd}
-use Rattle.laws.specs.Integer.{modℤ}
 use Rattle.cover_statements.specs.Coverage.{coverageOf}
 use Rattle.layer_table.specs.Lookup.{lookup}
-use Rattle.laws.specs.Answer.{refused}
 use Rattle.pass_statements.specs.Covered.{itemAt}
 use Rattle.row_carries.specs.Covering.{itemsAt, listedIdAt, CoveredUnder}
 use Rattle.styling.specs.declared.Color.{Color}

@@ -1,16 +1,9 @@
 -- Packed words over any table of seven widths, and at every tile height: each field of a word reads back, packing is exact, and order is that of tile y,
 -- tile x and layer. Stands for document 01, 'consts.rs, cpu/pixel_segment.rs', and for W-203 and W-213.
-use mathlib.Core.List.{List, _∷_, []}
-use mathlib.Core.Path.{_≡_}
-use mathlib.Core.Bool.{true}
-use Prim.Native.Nat.{ℕ, _≤_, _<_, _%_, _^_, _/_, _-_}
-use lib.ListN.{length, getD}
-use lib.IntN.{ℤ}
+use Rattle.laws.specs.Prelude.{List, _∷_, [], _≡_, true, ℕ, _≤_, _<_, _%_, _^_, _/_, _-_, length, getD, ℤ, modℤ, plus, minus, given}
 use Rattle.pixel_segment.specs.Field.{fieldOf, widthOf, coverOf, cpu, widthsAt, gpu, tileYOf, tileXOf, layerIdOf}
 use Rattle.pixel_segment.specs.Pack.{join, wordOf, storedOf, FieldsInRange, ReadsBack, packOf, Same, isPackable}
 use Rattle.pixel_segment.specs.Layout.{Layout, Keyed, Compared}
-use Rattle.laws.specs.Integer.{modℤ, plus, minus}
-use Rattle.laws.specs.Answer.{given}
 use Rattle.pixel_segment.specs.Order.{orderKey, compareOf, thenBy}
 use Rattle.pixel_segment.specs.Edges.{Edges}
 use Rattle.pixel_segment_gpu.specs.Edges as gpuEdges

@@ -1,17 +1,9 @@
 -- The covers of each pixel row summed onto those that come in, in the pass that judges number 9: at word i, the sums so far. None is above the
 -- load of its row, so none outgrows its type where the loads stay within 127. Over any widths whose local y stays below the height n. Assumes
 -- nothing.
-use mathlib.Core.Path.{_≡_, refl, sym, ap, _∙_}
-use mathlib.Core.Bool.{cond}
-use mathlib.Core.List.{List, map}
-use Prim.Native.Nat.{ℕ, _+_, _≤_, _<_}
-use native.Mathlib.Nat.{add-assoc, add-zero}
-use native.Mathlib.Omega.{arith}
-use lib.IntN.{ℤ, pos, natAbs, _+ℤ_, +ℤ-idr, +ℤ-assoc}
-use lib.ListN.{length, getD, drop, set, length-set, List·getD-map}
-use Rattle.laws.proofs.Keyed.{addOne, entry-one}
-use Rattle.laws.proofs.Rows.{is-tabulate}
-use Rattle.laws.proofs.Sums.{abs-add, abs-cond, sum-step, sum-end}
+use Rattle.laws.proofs.Prelude.{_≡_, refl, sym, ap, _∙_, cond, List, map, ℕ, _+_, _≤_, _<_, add-assoc, add-zero, arith, ℤ, pos, natAbs, _+ℤ_, +ℤ-idr}
+use Rattle.laws.proofs.Prelude.{+ℤ-assoc, length, getD, drop, set, length-set, List·getD-map, addOne, entry-one, is-tabulate, abs-add, abs-cond}
+use Rattle.laws.proofs.Prelude.{sum-step, sum-end}
 use Rattle.pixel_segment.specs.Field.{localYOf, coverOf}
 use Rattle.cover_statements.specs.Carry.{inRow, absCover, coverIn, carryOf}
 use Rattle.cover_statements.specs.Cover.{coverAt}

@@ -1,10 +1,5 @@
 -- What adding to a cover answers and gives back.
-use mathlib.Core.Path.{_≡_}
-use mathlib.Core.Bool.{Bool, cond}
-use mathlib.Core.List.{List}
-use Prim.Native.Nat.{ℕ}
-use lib.IntN.{ℤ}
-use Rattle.laws.specs.Answer.{Answer, refused, given}
+use Rattle.laws.specs.Prelude.{_≡_, Bool, cond, List, ℕ, ℤ, Answer, refused, given}
 use Rattle.cover_statements.specs.Carry.{isLight, carryOf, addOf}
 use Rattle.cover.specs.declared.carry.Carried.{Carried}
 

@@ -1,20 +1,10 @@
 -- Laws of covers within bounds, for every table of seven widths: the lowest and the highest d are the least and the greatest of all choices and are
 -- reached; every choice has its weights inside, and is light where the heavier bounds are; equal bounds tell all exactly; narrower bounds give an
 -- interval inside. Assumes nothing.
-use mathlib.Core.Path.{_≡_, refl, sym, ap, _∙_}
-use mathlib.Core.Bool.{true}
-use mathlib.Core.List.{List}
-use Prim.Native.Nat.{ℕ, _+_, _-_, _^_, _≤_, _<_}
-use native.Mathlib.Omega.{arith}
-use borrow.Author.Tests.{le-leb}
-use lib.IntN.{ℤ, pos, natAbs}
-use lib.ListN.{length}
-use Rattle.laws.specs.Integer.{plus, minus, isWithin, AtMost}
-use Rattle.laws.specs.Lists.{tabulate}
-use Rattle.laws.proofs.Every.{every-intro}
-use Rattle.laws.proofs.Parts.{whole, equal, most-of}
-use Rattle.laws.proofs.Ranges.{within, is-within}
-use Rattle.laws.proofs.Rows.{getD-tabulate}
+use Rattle.laws.proofs.Prelude.{_≡_, refl, sym, ap, _∙_, true, List, ℕ, _+_, _-_, _^_, _≤_, _<_, arith, le-leb, ℤ, pos, natAbs, length, plus, minus}
+use Rattle.laws.proofs.Prelude.{isWithin, AtMost, tabulate, every-intro, whole, equal, is-within, getD-tabulate}
+use Rattle.laws.proofs.Parts.{most-of}
+use Rattle.laws.proofs.Ranges.{within}
 use Rattle.pixel_segment.specs.Field.{widthOf}
 use Rattle.styling.specs.declared.FillRule.{FillRule}
 use Rattle.cover_statements.specs.Carry.{loadIn, lightAt, isLight}

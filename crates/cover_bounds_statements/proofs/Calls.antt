@@ -1,19 +1,6 @@
 -- What a verdict that passes tells of a call; that its planes say what they should; and d by columns. Assumes nothing.
-use mathlib.Core.Path.{_≡_, ap, ap₂, _∙_}
-use mathlib.Core.Bool.{Bool, true, false, not, _&&_, _||_}
-use mathlib.Core.List.{List}
-use Prim.Native.Nat.{ℕ, _+_, _*_, _/_, _%_, _≤_, _<_}
-use native.Mathlib.Omega.{arith}
-use borrow.Author.Tests.{ltb-false, not-false}
-use lib.Dec.{ltb}
-use lib.IntN.{ℤ, pos, negsuc}
-use lib.ListN.{length}
-use lib.Signed.{leZ}
-use Rattle.laws.specs.Integer.{plus, minus}
-use Rattle.laws.specs.Lists.{every, all}
-use Rattle.laws.proofs.Bools.{left, right}
-use Rattle.laws.proofs.Every.{every-at}
-use Rattle.laws.proofs.Parts.{le-true, true-le, whole}
+use Rattle.laws.proofs.Prelude.{_≡_, ap, ap₂, _∙_, Bool, true, false, not, _&&_, _||_, List, ℕ, _+_, _*_, _/_, _%_, _≤_, _<_, arith, ltb-false}
+use Rattle.laws.proofs.Prelude.{not-false, ltb, ℤ, pos, negsuc, length, leZ, plus, minus, every, all, left, right, every-at, le-true, true-le, whole}
 use Rattle.laws.proofs.Ranges.{within}
 use Rattle.refusals.specs.Refusal.{pass, unless}
 use Rattle.refusals.proofs.Judging.{passed, or-left, or-right}

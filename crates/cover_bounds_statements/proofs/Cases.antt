@@ -1,10 +1,5 @@
 -- Intervals of d worked out: the least and the greatest weight by NonZero, and by EvenOdd. Assumes nothing.
-use mathlib.Core.Path.{_≡_, refl, sym}
-use mathlib.Core.Bool.{true}
-use Prim.Native.Nat.{ℕ}
-use lib.IntN.{ℤ, pos, negsuc}
-use lib.Signed.{leZ}
-use Rattle.laws.proofs.Parts.{le-true}
+use Rattle.laws.proofs.Prelude.{_≡_, refl, sym, true, ℕ, ℤ, pos, negsuc, leZ, le-true}
 use Rattle.styling.specs.declared.FillRule.the-variants.{NonZero, EvenOdd}
 use Rattle.cover_bounds_statements.specs.Interval.{leastWeight, greatestWeight}
 use Rattle.cover_bounds_statements.specs.InnerEnds.{hasMultiple, leastByEnds, greatestByEnds}

@@ -1,18 +1,8 @@
 -- Laws of chosen covers, for every table of seven widths: the words of a part with other covers, d in the order of the covers, and the loads of a
 -- choice within those of the heavier bounds. Assumes nothing.
-use mathlib.Core.Path.{_≡_, sym, ap, ap₂, _∙_}
-use mathlib.Core.Bool.{Bool, true, false, cond}
-use mathlib.Core.List.{List}
-use mathlib.Core.Logic.{⊎-elim}
-use Prim.Native.Nat.{ℕ, _+_, _*_, _≤_, _<_}
-use native.Mathlib.Omega.{arith}
-use borrow.Author.Tests.{le-leb, lt-leb}
-use lib.Dec.{leb}
-use lib.IntN.{ℤ, pos, natAbs, _+ℤ_, _*ℤ_}
-use lib.ListN.{length, getD}
-use Rattle.laws.proofs.Orders.{le-or-lt}
-use Rattle.laws.proofs.Parts.{whole, sum-most, times-most}
-use Rattle.laws.proofs.Rows.{length-tabulate, getD-tabulate}
+use Rattle.laws.proofs.Prelude.{_≡_, sym, ap, ap₂, _∙_, Bool, true, false, cond, List, ⊎-elim, ℕ, _+_, _*_, _≤_, _<_, arith, le-leb, lt-leb, leb, ℤ}
+use Rattle.laws.proofs.Prelude.{pos, natAbs, _+ℤ_, _*ℤ_, length, getD, le-or-lt, whole, length-tabulate, getD-tabulate, AtMost}
+use Rattle.laws.proofs.Parts.{sum-most, times-most}
 use Rattle.laws.proofs.Sums.{sumℤ-le, sumℕ-each}
 use Rattle.pixel_segment.specs.Field.{localXOf, localYOf, multiplierOf, coverOf, doubleAreaOf}
 use Rattle.pixel_segment.specs.Pack.{withCover}
@@ -22,7 +12,6 @@ use Rattle.cover_statements.specs.Carry.{inRow, absCover, loadIn}
 use Rattle.cover_statements.specs.InnerCell.{cellOf}
 use Rattle.cover_bounds_statements.specs.Chosen.{chosen, chosenArea, HeldCovers, heavier, Ordered}
 use Rattle.pixel_segment.specs.Layout.{Layout}
-use Rattle.laws.specs.Integer.{AtMost}
 
 -- ---- the words
 

@@ -1,22 +1,13 @@
 -- The least and the greatest weight of an interval by its ends are those of the walk, by both rules. EvenOdd sees the interval by the remainder of
 -- its first number and by its length: a number that leaves a given remainder is within reach or it is not, and where it is not the weights go
 -- straight from end to end, or down and up again. Assumes nothing.
-use mathlib.Core.Path.{_≡_, refl, sym, ap, subst, _∙_}
-use mathlib.Core.Bool.{Bool, true, false, cond, _||_}
-use mathlib.Core.Logic.{_⊎_, inl, inr, ⊎-elim, ⊎-swap}
-use Prim.Native.Nat.{ℕ, _+_, _-_, _%_, _≤_, _<_, min, max}
-use native.Mathlib.Nat.{add-zero, mod-lt, mod-eq-of-lt}
-use native.Mathlib.Omega.{arith}
-use borrow.Author.Tests.{eqb-true, eqb-false, leb-true, leb-false}
-use lib.Dec.{eqb, leb, lit<}
-use lib.IntN.{ℤ, pos, natAbs, _+ℤ_, +ℤ-idr}
-use lib.Signed.{leZ}
-use Rattle.laws.specs.Integer.{plus, minus, modℤ, AtMost}
-use Rattle.laws.proofs.Bools.{both, left, right, clash, either}
+use Rattle.laws.proofs.Prelude.{_≡_, refl, sym, ap, subst, _∙_, Bool, true, false, cond, _||_, _⊎_, inl, inr, ⊎-elim, ℕ, _+_, _-_, _%_, _≤_, _<_, min}
+use Rattle.laws.proofs.Prelude.{max, add-zero, mod-lt, mod-eq-of-lt, arith, eqb-true, eqb-false, leb-true, leb-false, eqb, leb, lit<, ℤ, pos, natAbs}
+use Rattle.laws.proofs.Prelude.{_+ℤ_, +ℤ-idr, leZ, plus, minus, modℤ, AtMost, both, left, right, clash, either, remainder, le-or-lt, whole, added}
+use Rattle.laws.proofs.Prelude.{difference, le-true, true-le}
+use mathlib.Core.Logic.{⊎-swap}
 use Rattle.refusals.proofs.Judging.{or-left, or-right}
-use Rattle.laws.proofs.Mod.{remainder, moved}
-use Rattle.laws.proofs.Orders.{le-or-lt}
-use Rattle.laws.proofs.Parts.{whole, added, difference, le-true, true-le}
+use Rattle.laws.proofs.Mod.{moved}
 use Rattle.weight_table.specs.Rest.{restWeight}
 use Rattle.styling.specs.declared.FillRule.{FillRule}
 use Rattle.styling.specs.declared.FillRule.the-variants.{NonZero, EvenOdd}

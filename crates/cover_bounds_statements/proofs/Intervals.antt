@@ -1,16 +1,8 @@
 -- Laws of the walk over an interval: its least and its greatest weight are each met by a number of the interval, and no number's weight lies
 -- outside them; and whatever is so is the least or the greatest weight. Assumes nothing.
-use mathlib.Core.Path.{_≡_, refl, ap, subst}
-use mathlib.Core.Bool.{true}
-use mathlib.Core.Logic.{⊎-elim}
-use Prim.Native.Nat.{ℕ, zero, suc, _≤_}
-use native.Mathlib.Omega.{arith}
-use native.Mathlib.Nat.{eq-or-lt-of-le}
-use lib.IntN.{ℤ, pos, _+ℤ_, +ℤ-idr}
-use Rattle.laws.specs.Integer.{isWithin, AtMost}
-use Rattle.laws.proofs.Orders.{le-or-lt}
-use Rattle.laws.proofs.Parts.{added, taken, equal}
-use Rattle.laws.proofs.Ranges.{within, is-within}
+use Rattle.laws.proofs.Prelude.{_≡_, refl, ap, subst, true, ⊎-elim, ℕ, zero, suc, _≤_, arith, eq-or-lt-of-le, ℤ, pos, _+ℤ_, +ℤ-idr, isWithin, AtMost}
+use Rattle.laws.proofs.Prelude.{le-or-lt, added, taken, equal, is-within}
+use Rattle.laws.proofs.Ranges.{within}
 use Rattle.styling.specs.declared.FillRule.{FillRule}
 use Rattle.cover_statements.specs.Weight.{weightOf}
 use Rattle.cover_bounds_statements.specs.Interval.{leastOver, greatestOver, distance, leastWeight, greatestWeight, LeastFrom, GreatestFrom}

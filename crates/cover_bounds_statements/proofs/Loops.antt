@@ -1,17 +1,9 @@
 -- The loops of the code, as laws over plain lists: a test of every index, a list given by its places that is written at the front of a lent one, and
 -- the cells of chosen words summed up. Assumes nothing.
-use mathlib.Core.Path.{_≡_, refl, sym, ap, ap₂, _∙_}
-use mathlib.Core.Bool.{Bool, true, _&&_, and-comm}
-use mathlib.Core.List.{List}
-use Prim.Native.Nat.{ℕ, _+_, _*_, _≤_, _<_}
-use native.Mathlib.Numerals.{add-one}
-use native.Mathlib.Omega.{arith}
-use borrow.Author.Tests.{eq-eqb}
-use lib.IntN.{ℤ, natAbs, _+ℤ_}
-use lib.ListN.{length, getD, set, length-set, replicate, length-replicate}
-use Rattle.laws.specs.Lists.{tabulate, every, over}
-use Rattle.laws.proofs.Rows.{filled, filled-more, filled-all, length-tabulate, getD-tabulate}
-use Rattle.laws.proofs.Sums.{sum-step}
+use Rattle.laws.proofs.Prelude.{_≡_, refl, sym, ap, ap₂, _∙_, Bool, true, _&&_, List, ℕ, _+_, _*_, _≤_, _<_, add-one, arith, eq-eqb, ℤ, natAbs, _+ℤ_}
+use Rattle.laws.proofs.Prelude.{length, getD, set, length-set, replicate, length-replicate, tabulate, every, over, filled, filled-more, filled-all}
+use Rattle.laws.proofs.Prelude.{length-tabulate, getD-tabulate, sum-step}
+use mathlib.Core.Bool.{and-comm}
 use Rattle.pixel_segment.specs.Field.{cpu, localXOf, localYOf, coverOf, doubleAreaOf}
 use Rattle.cover_statements.specs.Carry.{inRow, absCover, loadIn}
 use Rattle.cover_statements.specs.InnerCell.{cellOf, noCells, Accumulated}

@@ -1,11 +1,6 @@
 -- The promise of bounding a part, from what the code leaves: a refused call leaves the planes, an accepted one writes them from d by columns.
 -- Assumes nothing.
-use mathlib.Core.Path.{_≡_, sym, ap, ap₂, _∙_}
-use mathlib.Core.List.{List}
-use Prim.Native.Nat.{ℕ, _<_}
-use native.Mathlib.Omega.{arith}
-use lib.IntN.{ℤ}
-use Rattle.laws.specs.Lists.{over}
+use Rattle.laws.proofs.Prelude.{_≡_, sym, ap, ap₂, _∙_, List, ℕ, _<_, arith, ℤ, over}
 use Rattle.refusals.specs.Refusal.{Judgement, pass, refuse, judgementIn}
 use Rattle.refusals.specs.declared.Verdict.{Verdict}
 use Rattle.pixel_segment.specs.Field.{cpu}

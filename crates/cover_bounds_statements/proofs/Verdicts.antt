@@ -1,6 +1,5 @@
 -- The calls of specs/Verdicts. Assumes nothing.
-use mathlib.Core.Path.{refl}
-use Rattle.laws.specs.Integer.{isWithin}
+use Rattle.laws.proofs.Prelude.{refl, isWithin}
 use Rattle.pixel_segment.specs.Field.{tileOf, coverOf}
 use Rattle.pixel_segment.specs.Pack.{withCover}
 use Rattle.cover_statements.specs.Carry.{isLight}

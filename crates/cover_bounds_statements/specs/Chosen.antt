@@ -1,15 +1,8 @@
 -- Covers chosen within bounds: a part with each word's own cover replaced, and d of a pixel then. Stands for W-211, 'each segment comes with a lowest and
 -- a highest cover in place of its own, each carry with a lowest and highest byte per row', and for 'any row chosen within the bounds'. The field
 -- widths `ws` are a parameter; a cover is said of each segment's place in the part, and a carry of each pixel row.
-use mathlib.Core.Path.{_≡_}
-use mathlib.Core.Bool.{Bool, true, cond}
-use mathlib.Core.List.{List}
-use Prim.Native.Nat.{ℕ, _-_, _^_, _≤_, _<_}
-use lib.Dec.{leb}
-use lib.IntN.{ℤ, natAbs}
-use lib.ListN.{length, getD}
-use Rattle.laws.specs.Integer.{plus, minus, isWithin, AtMost}
-use Rattle.laws.specs.Lists.{tabulate}
+use Rattle.laws.specs.Prelude.{_≡_, Bool, true, cond, List, ℕ, _-_, _^_, _≤_, _<_, leb, ℤ, natAbs, length, getD, plus, minus, isWithin, AtMost}
+use Rattle.laws.specs.Prelude.{tabulate}
 use Rattle.pixel_segment.specs.Field.{widthOf}
 use Rattle.pixel_segment.specs.Pack.{withCover}
 use Rattle.cover_statements.specs.Area.{doubledArea}

@@ -1,11 +1,6 @@
 -- How the code finds the least and the greatest weight of an interval: by its ends, and by whether it has a number of weight 0 or 512 in between.
 -- proofs/Ends shows that these are the weights of the walk.
-use mathlib.Core.Bool.{Bool, cond, _&&_, _||_}
-use Prim.Native.Nat.{ℕ, _+_, min, max}
-use lib.Dec.{eqb, leb}
-use lib.IntN.{ℤ, pos, _+ℤ_}
-use lib.Signed.{leZ}
-use Rattle.laws.specs.Integer.{modℤ}
+use Rattle.laws.specs.Prelude.{Bool, cond, _&&_, _||_, ℕ, _+_, min, max, eqb, leb, ℤ, pos, _+ℤ_, leZ, modℤ}
 use Rattle.styling.specs.declared.FillRule.{FillRule}
 use Rattle.styling.specs.declared.FillRule.the-variants.{NonZero, EvenOdd}
 use Rattle.cover_statements.specs.Weight.{weightOf}

@@ -1,12 +1,5 @@
 -- How the code writes the planes: from d of all pixels by columns, at the lowest and at the highest covers.
-use mathlib.Core.Path.{_≡_}
-use mathlib.Core.Bool.{true}
-use mathlib.Core.List.{List}
-use Prim.Native.Nat.{ℕ, _+_, _*_, _≤_, _<_}
-use lib.IntN.{ℤ}
-use lib.ListN.{length}
-use lib.Signed.{leZ}
-use Rattle.laws.specs.Lists.{over}
+use Rattle.laws.specs.Prelude.{_≡_, true, List, ℕ, _+_, _*_, _≤_, _<_, ℤ, length, leZ, over}
 use Rattle.pixel_segment.specs.Field.{cpu}
 use Rattle.styling.specs.declared.FillRule.{FillRule}
 use Rattle.styling.specs.declared.FillRule.the-variants.{NonZero, EvenOdd}

@@ -1,10 +1,6 @@
 -- The least and the greatest weight over all whole numbers of an interval, both ends included. Stands for W-211, 'the least and greatest weight over all
 -- whole numbers between them, under both rules': a walk from the lowest number upward, one number after the other.
-use mathlib.Core.Path.{_≡_}
-use mathlib.Core.Bool.{true}
-use Prim.Native.Nat.{ℕ, zero, suc, _≤_, min, max}
-use lib.IntN.{ℤ, pos, _+ℤ_, _-ℤ_}
-use Rattle.laws.specs.Integer.{plus, isWithin}
+use Rattle.laws.specs.Prelude.{_≡_, true, ℕ, zero, suc, _≤_, min, max, ℤ, pos, _+ℤ_, _-ℤ_, plus, isWithin}
 use Rattle.styling.specs.declared.FillRule.{FillRule}
 use Rattle.cover_statements.specs.Weight.{weightOf}
 

@@ -1,8 +1,5 @@
 -- The promise of bounding a part: the answer, each of the six lent planes, and what those of an accepted call say.
-use mathlib.Core.Path.{_≡_}
-use mathlib.Core.List.{List}
-use Prim.Native.Nat.{ℕ}
-use Rattle.laws.specs.Lists.{over}
+use Rattle.laws.specs.Prelude.{_≡_, List, ℕ, over}
 use Rattle.refusals.specs.Refusal.{Judgement, pass, refuse, judgementIn}
 use Rattle.refusals.specs.declared.Verdict.{Verdict}
 use Rattle.styling.specs.declared.FillRule.the-variants.{NonZero, EvenOdd}

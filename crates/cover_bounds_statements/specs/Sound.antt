@@ -1,12 +1,6 @@
 -- What the planes of an accepted call say. Stands for W-211, 'any row chosen within the bounds has its weights inside; with equal bounds the two are
 -- the ordinary weight'.
-use mathlib.Core.Path.{_≡_}
-use mathlib.Core.Bool.{true}
-use mathlib.Core.List.{List}
-use Prim.Native.Nat.{ℕ, _≤_, _<_}
-use lib.IntN.{ℤ}
-use lib.ListN.{length}
-use Rattle.laws.specs.Integer.{isWithin}
+use Rattle.laws.specs.Prelude.{_≡_, true, List, ℕ, _≤_, _<_, ℤ, length, isWithin}
 use Rattle.pixel_segment.specs.Field.{cpu}
 use Rattle.styling.specs.declared.FillRule.{FillRule}
 use Rattle.cover_statements.specs.Carry.{isLight}

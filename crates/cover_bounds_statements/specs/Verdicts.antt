@@ -1,10 +1,6 @@
 -- Calls worked out: by which number each is refused, where more than one applies. Stands for W-211's refusals and for 'the lowest that applies', in the
 -- order 1, 3, 14, 9. proofs/Verdicts has them.
-use mathlib.Core.Path.{_≡_}
-use mathlib.Core.List.{List, [], _∷_}
-use Prim.Native.Nat.{ℕ}
-use lib.IntN.{ℤ, pos, negsuc}
-use lib.ListN.{replicate}
+use Rattle.laws.specs.Prelude.{_≡_, List, [], _∷_, ℕ, ℤ, pos, negsuc, replicate}
 use Rattle.refusals.specs.Refusal.{pass, refuse}
 use Rattle.pixel_segment.specs.Field.{cpu}
 use Rattle.pixel_segment.specs.Pack.{wordOf}

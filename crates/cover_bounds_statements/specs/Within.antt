@@ -2,15 +2,7 @@
 -- least and the greatest weight of the numbers between them by both rules. Refused by 1 where a plane is below 256 numbers or the bounds are
 -- below two bytes a segment, by 3 for a segment of another layer or tile, by 14 where a lowest is above its highest or a segment's bound is outside
 -- -32 to 31, and by 9. No table is lent, so 8 cannot apply. A refusal leaves the planes as they were.
-use mathlib.Core.Bool.{Bool, not, _&&_, _||_}
-use mathlib.Core.List.{List}
-use Prim.Native.Nat.{ℕ, _+_, _*_, _/_}
-use lib.Dec.{ltb}
-use lib.IntN.{ℤ, pos, negsuc}
-use lib.ListN.{length}
-use lib.Signed.{leZ}
-use Rattle.laws.specs.Integer.{isWithin}
-use Rattle.laws.specs.Lists.{every, all}
+use Rattle.laws.specs.Prelude.{Bool, not, _&&_, _||_, List, ℕ, _+_, _*_, _/_, ltb, ℤ, pos, negsuc, length, leZ, isWithin, every, all}
 use Rattle.refusals.specs.Refusal.{Judgement, pass, unless}
 use Rattle.pixel_segment.specs.Field.{cpu}
 use Rattle.styling.specs.declared.FillRule.{FillRule}

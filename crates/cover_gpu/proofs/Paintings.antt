@@ -1,12 +1,5 @@
 -- What painting answers in each case: uses at 4 of the laws over the height. Assumes nothing.
-use mathlib.Core.Path.{_≡_, sym, _∙_}
-use mathlib.Core.Bool.{true, false}
-use mathlib.Core.List.{List}
-use Prim.Native.Nat.{ℕ, _≤_, _<_}
-use lib.Ieee.{Float}
-use lib.IntN.{ℤ}
-use lib.ListN.{length}
-use Rattle.laws.specs.Lists.{over}
+use Rattle.laws.proofs.Prelude.{_≡_, sym, _∙_, true, false, List, ℕ, _≤_, _<_, Float, ℤ, length, over}
 use Rattle.pixel_segment.specs.Field.{gpu}
 use Rattle.styling.specs.declared.FillRule.{FillRule}
 use Rattle.cover_statements.specs.Carry.{isLight}

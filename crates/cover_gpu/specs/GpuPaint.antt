@@ -1,11 +1,6 @@
 -- Painting a part in a tile four pixels high: its 64 coverages written into a lent plane. Refused by 1 where the plane is below 64 numbers, then by
 -- 9. Stands for W-213, 'planes have 64 numbers' and 'numbers 1, 2 and 11 go by these sizes'. There is no mark: octets are not part of this profile.
-use mathlib.Core.Path.{_≡_}
-use mathlib.Core.List.{List}
-use Prim.Native.Nat.{ℕ}
-use lib.Ieee.{Float}
-use lib.IntN.{ℤ}
-use Rattle.laws.specs.Answer.{Answer, refused, given}
+use Rattle.laws.specs.Prelude.{_≡_, List, ℕ, Float, ℤ, Answer, refused, given}
 use Rattle.pixel_segment.specs.Field.{gpu}
 use Rattle.styling.specs.declared.FillRule.{FillRule}
 use Rattle.cover_statements.specs.Paint.{judgedPart, paintedPlane}

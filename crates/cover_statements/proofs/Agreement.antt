@@ -1,14 +1,6 @@
 -- Covers that agree by a rule: sums of them agree, they are empty or full together, and an empty one agrees with 0. Assumes nothing.
-use mathlib.Core.Path.{_≡_, refl, sym, ap, _∙_}
-use mathlib.Core.Bool.{true}
-use Prim.Native.Nat.{ℕ}
-use native.Mathlib.Omega.{arith}
-use borrow.Author.Tests.{eqb-true}
-use lib.Dec.{eqb, lit<}
-use lib.IntN.{ℤ, pos, natAbs, _+ℤ_}
+use Rattle.laws.proofs.Prelude.{_≡_, refl, sym, ap, _∙_, true, ℕ, arith, eqb-true, eqb, lit<, ℤ, pos, natAbs, _+ℤ_, whole, equal, modℤ}
 use Rattle.laws.proofs.Mod.{agree-add}
-use Rattle.laws.proofs.Parts.{whole, equal}
-use Rattle.laws.specs.Integer.{modℤ}
 use Rattle.styling.specs.declared.FillRule.{FillRule}
 use Rattle.styling.specs.declared.FillRule.the-variants.{NonZero, EvenOdd}
 use Rattle.cover_statements.specs.Cover.{emptyAt, fullAt, Agrees}

@@ -1,21 +1,8 @@
 -- Laws of the doubled area, over any widths. Assumes nothing.
-use mathlib.Core.Path.{_≡_, refl, sym, ap, _∙_}
-use mathlib.Core.Bool.{Bool, true, false, cond, not, _&&_}
-use mathlib.Core.List.{List, [], _∷_}
-use mathlib.Core.Logic.{⊎-elim}
-use Prim.Native.Nat.{ℕ, _+_, _*_, _^_, _/_, _≤_, _<_}
-use native.Mathlib.Nat.{mul-le-mul-right, mod-lt}
-use native.Mathlib.Omega.{arith}
-use borrow.Author.Tests.{ltb-true, eqb-true, eq-eqb, ne-eqb, lt-ltb, le-ltb}
-use lib.Dec.{eqb, ltb, lit<}
-use lib.IntN.{ℤ, pos, natAbs, _+ℤ_, _*ℤ_, +ℤ-idl, +ℤ-idr}
-use lib.ListN.{getD}
-use Rattle.laws.proofs.Bools.{left}
-use Rattle.laws.proofs.Every.{all-intro}
-use Rattle.laws.proofs.Orders.{le-or-lt, eq-or-ne}
-use Rattle.laws.proofs.Parts.{added, times, abs-times}
-use Rattle.laws.proofs.Sums.{abs-add, sum-abs, sum-none, sumℕ-le, sumℤ-split}
-use Rattle.laws.specs.Sum.{sumℤ}
+use Rattle.laws.proofs.Prelude.{_≡_, refl, sym, ap, _∙_, Bool, true, false, cond, not, _&&_, List, [], _∷_, ⊎-elim, ℕ, _+_, _*_, _^_, _/_, _≤_, _<_}
+use Rattle.laws.proofs.Prelude.{mul-le-mul-right, mod-lt, arith, ltb-true, eqb-true, eq-eqb, ne-eqb, lt-ltb, le-ltb, eqb, ltb, lit<, ℤ, pos, natAbs}
+use Rattle.laws.proofs.Prelude.{_+ℤ_, _*ℤ_, +ℤ-idl, +ℤ-idr, getD, left, all-intro, le-or-lt, eq-or-ne, added, times, abs-times, abs-add, sumℤ}
+use Rattle.laws.proofs.Sums.{sum-abs, sum-none, sumℕ-le, sumℤ-split}
 use Rattle.pixel_segment.specs.Field.{localXOf, coverOf, multiplierOf, doubleAreaOf, widthOf, shiftOf}
 use Rattle.cover_statements.specs.Area.{isBefore, isOwn, coverBefore, ownArea, doubledArea}
 use Rattle.cover_statements.specs.Carry.{inRow, absCover, loadIn}

@@ -1,16 +1,7 @@
 -- Laws of the carry and of number 9. Assumes nothing.
-use mathlib.Core.Path.{_≡_, sym, _∙_}
-use mathlib.Core.Bool.{true}
-use mathlib.Core.List.{List, []}
-use Prim.Native.Nat.{ℕ, _+_, _≤_, _<_}
-use native.Mathlib.Omega.{arith}
-use borrow.Author.Tests.{leb-true}
-use lib.IntN.{ℤ, pos, natAbs, _+ℤ_, +ℤ-idr}
-use lib.Seq.{ext-getD}
-use lib.ListN.{length}
-use Rattle.laws.proofs.Every.{every-at}
-use Rattle.laws.proofs.Sums.{abs-add, sum-abs}
-use Rattle.laws.proofs.Rows.{length-tabulate, getD-tabulate}
+use Rattle.laws.proofs.Prelude.{_≡_, sym, _∙_, true, List, [], ℕ, _+_, _≤_, _<_, arith, leb-true, ℤ, pos, natAbs, _+ℤ_, +ℤ-idr, ext-getD, length}
+use Rattle.laws.proofs.Prelude.{every-at, abs-add, length-tabulate, getD-tabulate}
+use Rattle.laws.proofs.Sums.{sum-abs}
 use Rattle.pixel_segment.specs.Field.{coverOf}
 use Rattle.cover_statements.specs.Carry.{inRow, coverIn, loadIn, lightAt, isLight, carryOf}
 use Rattle.cover_statements.specs.Cover.{coverAt, noCover}

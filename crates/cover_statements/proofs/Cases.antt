@@ -1,13 +1,6 @@
 -- Document 01's cases of covers and coverages, P6, P9, P10 and P11, and both sides of the edge of number 9, over the definitions that the
 -- contracts cite. Assumes nothing.
-use mathlib.Core.Path.{_≡_, refl}
-use mathlib.Core.Bool.{true, false}
-use mathlib.Core.List.{List, [], _∷_}
-use Prim.Native.Nat.{ℕ}
-use lib.Ieee.{binary32, odd, ofBits}
-use lib.IntN.{ℤ, pos, negsuc}
-use lib.ListN.{replicate}
-use Rattle.laws.specs.Answer.{refused, given}
+use Rattle.laws.proofs.Prelude.{_≡_, refl, true, false, List, [], _∷_, ℕ, binary32, odd, ofBits, ℤ, pos, negsuc, replicate, refused, given}
 use Rattle.pixel_segment.specs.Field.{cpu, coverOf}
 use Rattle.pixel_segment.specs.Pack.{wordOf}
 use Rattle.styling.specs.declared.FillRule.the-variants.{NonZero, EvenOdd}

@@ -1,17 +1,6 @@
 -- Laws of the cells: a cell's segments are its pixel's own. Over any widths whose local y stays below the height n. Assumes nothing.
-use mathlib.Core.Path.{_≡_, sym, ap, _∙_}
-use mathlib.Core.Bool.{Bool, cond}
-use mathlib.Core.List.{List}
-use Prim.Native.Nat.{ℕ, _*_, _/_, _%_, _<_}
-use native.Mathlib.Nat.{div-add-mod'}
-use borrow.Author.Tests.{eqb-true, eq-eqb}
-use lib.Arith.{digits-div, digits-mod}
-use lib.Dec.{eqb}
-use lib.IntN.{ℤ, pos, _+ℤ_}
-use Rattle.laws.proofs.Bools.{both, left, right, same}
-use Rattle.laws.proofs.Rows.{getD-tabulate}
-use Rattle.laws.proofs.Sums.{sum-ext}
-use Rattle.laws.specs.Sum.{sumℤ}
+use Rattle.laws.proofs.Prelude.{_≡_, sym, ap, _∙_, Bool, cond, List, ℕ, _*_, _/_, _%_, _<_, div-add-mod', eqb-true, eq-eqb, digits-div, digits-mod}
+use Rattle.laws.proofs.Prelude.{eqb, ℤ, pos, _+ℤ_, both, left, right, same, getD-tabulate, sum-ext, sumℤ}
 use Rattle.pixel_segment.specs.Field.{localXOf, localYOf}
 use Rattle.cover_statements.specs.Area.{isOwn}
 use Rattle.cover_statements.specs.Carry.{inRow}

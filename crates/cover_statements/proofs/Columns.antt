@@ -1,22 +1,10 @@
 -- The doubled areas of a tile, one column after another: the columns passed hold d, the others their own double areas, and each row's sum is the
 -- cover that comes in with what lies left of the column. Over any widths whose local y stays below the height n and whose multiplier has six bits.
 -- Assumes nothing.
-use mathlib.Core.Path.{_≡_, sym, ap, _∙_}
-use mathlib.Core.Bool.{cond}
-use mathlib.Core.List.{List}
-use mathlib.Core.Logic.{⊎-elim}
-use Prim.Native.Nat.{ℕ, _+_, _*_, _/_, _%_, _≤_, _<_}
+use Rattle.laws.proofs.Prelude.{_≡_, sym, ap, _∙_, cond, List, ⊎-elim, ℕ, _+_, _*_, _/_, _%_, _≤_, _<_, arith, eq-eqb, ne-eqb, lt-ltb, le-ltb}
+use Rattle.laws.proofs.Prelude.{digits-lt, digits-div, digits-mod, eqb, ltb, ℤ, pos, _+ℤ_, _*ℤ_, +ℤ-assoc, +ℤ-idr, length, eq-or-ne, is-tabulate}
+use Rattle.laws.proofs.Prelude.{length-tabulate, abs-add, sumℤ}
 use native.Mathlib.Nat.{le-of-eq, le-trans}
-use native.Mathlib.Omega.{arith}
-use borrow.Author.Tests.{eq-eqb, ne-eqb, lt-ltb, le-ltb}
-use lib.Arith.{digits-lt, digits-div, digits-mod}
-use lib.Dec.{eqb, ltb}
-use lib.IntN.{ℤ, pos, _+ℤ_, _*ℤ_, +ℤ-assoc, +ℤ-idr}
-use lib.ListN.{length}
-use Rattle.laws.proofs.Orders.{eq-or-ne}
-use Rattle.laws.proofs.Rows.{is-tabulate, length-tabulate}
-use Rattle.laws.proofs.Sums.{abs-add}
-use Rattle.laws.specs.Sum.{sumℤ}
 use Rattle.pixel_segment.specs.Field.{localYOf, coverOf, doubleAreaOf, widthOf}
 use Rattle.cover_statements.specs.Area.{isOwn, coverBefore, ownArea, doubledArea, areasOf}
 use Rattle.cover_statements.specs.InnerCell.{cellOf, cellsOf, Accumulated, Shadable, Shaded}

@@ -1,14 +1,8 @@
 -- Laws of the coverages: a coverage is its weight over 512, binary32 holds it, the code's product is it, and which are above 0. What is said of
 -- all 513 weights is one test that antt computes. Assumes nothing.
-use mathlib.Core.Path.{_≡_, refl}
-use mathlib.Core.Bool.{Bool, true, false, Bool·beq}
-use Prim.Native.Nat.{ℕ, _*_, _≤_}
-use native.Mathlib.Omega.{arith}
-use lib.Dec.{ltb}
-use lib.Ieee.{binary32, fits, odd, mul, ofInt, ofBits, lt}
-use lib.Ieee.Exact.{HasValue, odd-sign}
-use lib.IntN.{pos}
-use Rattle.laws.proofs.Every.{every-at}
+use Rattle.laws.proofs.Prelude.{_≡_, refl, Bool, true, false, Bool·beq, ℕ, _*_, _≤_, arith, ltb, binary32, fits, odd, mul, ofInt, ofBits, lt}
+use Rattle.laws.proofs.Prelude.{HasValue, pos, every-at}
+use lib.Ieee.Exact.{odd-sign}
 use Rattle.cover_statements.specs.Coverage.{coverageOf, isAbove}
 use Rattle.cover_statements.proofs.Floats.{bool-is, sameFloat, float-is}
 

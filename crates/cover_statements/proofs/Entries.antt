@@ -1,17 +1,10 @@
 -- Laws of covers in a lent list: reading what was written, and elsewhere what was there. Assumes nothing.
-use mathlib.Core.Path.{_≡_, refl, sym, ap, _∙_}
-use mathlib.Core.List.{List, _++_, append-assoc}
-use mathlib.Core.Logic.{inl, inr, ⊎-elim}
-use Prim.Native.Nat.{ℕ, suc, _+_, _*_, _-_, _≤_, _<_}
-use native.Mathlib.Nat.{mul-le-mul-right, suc-mul}
-use native.Mathlib.Numerals.{add-one}
-use native.Mathlib.Omega.{arith}
-use lib.IntN.{ℤ, pos}
-use lib.ListN.{length, getD, take, drop, set, length-set, length-take, length-drop, length-append, replicate, length-replicate, List·getD-append}
-use lib.Seq.{take-all, drop-drop, getD-take, getD-drop, ext-getD, length-take-le, getD-append-add, paste, paste-zero, paste-suc, length-paste}
-use Rattle.laws.proofs.Orders.{le-or-lt}
-use Rattle.laws.proofs.Rows.{filled, filled-more}
-use Rattle.laws.specs.Lists.{over}
+use Rattle.laws.proofs.Prelude.{_≡_, refl, sym, ap, _∙_, List, _++_, append-assoc, inl, inr, ⊎-elim, ℕ, suc, _+_, _*_, _-_, _≤_, _<_}
+use Rattle.laws.proofs.Prelude.{mul-le-mul-right, add-one, arith, ℤ, pos, length, getD, take, drop, set, length-set, length-take, length-drop}
+use Rattle.laws.proofs.Prelude.{length-append, replicate, length-replicate, List·getD-append, take-all, drop-drop, getD-take, getD-drop, ext-getD}
+use Rattle.laws.proofs.Prelude.{length-take-le, getD-append-add, paste, le-or-lt, filled, filled-more, over}
+use native.Mathlib.Nat.{suc-mul}
+use lib.Seq.{paste-zero, paste-suc, length-paste}
 use Rattle.cover_statements.specs.Entry.{coverEntry, putEntry}
 use Rattle.cover_statements.proofs.Filled.{filled-whole}
 

@@ -1,12 +1,6 @@
 -- A buffer of n zeros that is filled from the front with a list of n. Assumes nothing.
-use mathlib.Core.Path.{_≡_, refl, ap, ap₂, _∙_}
-use mathlib.Core.List.{List, _++_, append-nil}
-use Prim.Native.Nat.{ℕ, zero, suc}
-use native.Mathlib.Omega.{arith}
-use lib.ListN.{length, getD, replicate, drop-of-length-le}
-use lib.Seq.{take-all}
-use Rattle.laws.proofs.Rows.{filled}
-use Rattle.laws.specs.Lists.{over}
+use Rattle.laws.proofs.Prelude.{_≡_, refl, ap, ap₂, _∙_, List, _++_, append-nil, ℕ, zero, suc, arith, length, getD, replicate, drop-of-length-le}
+use Rattle.laws.proofs.Prelude.{take-all, filled, over}
 
 pub filled-whole {ℓ} : {A : Type ℓ} (d s : List A) (n : ℕ) → length d ≡ n → length s ≡ n → filled d s n ≡ s
 filled-whole d s n e h =

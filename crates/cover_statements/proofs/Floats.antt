@@ -1,12 +1,7 @@
 -- A test of two floats that they are the same data, for tests that antt computes: IEEE 754's == would not tell the two zeros apart.
 -- Assumes nothing.
-use mathlib.Core.Path.{_≡_, refl, ap}
-use mathlib.Core.Bool.{Bool, true, false, Bool·beq, _&&_, false≢true}
-use borrow.Author.Tests.{eqb-true}
-use lib.Dec.{eqb}
-use lib.Ieee.{Float, nan, inf, fin}
-use lib.IntN.{ℤ, pos, negsuc}
-use Rattle.laws.proofs.Bools.{left, right}
+use Rattle.laws.proofs.Prelude.{_≡_, refl, ap, Bool, true, false, Bool·beq, _&&_, false≢true, eqb-true, eqb, Float, nan, inf, fin, ℤ, pos, negsuc}
+use Rattle.laws.proofs.Prelude.{left, right}
 
 abbrev sameInt : ℤ → ℤ → Bool
 sameInt (pos m) (pos n) = eqb m n

@@ -1,18 +1,7 @@
 -- Laws that join a tile's part and a carry with the whole row, over any widths and any height. Assumes nothing.
-use mathlib.Core.Path.{_≡_, sym, ap, _∙_}
-use mathlib.Core.Bool.{Bool, true, false, cond, not, _&&_}
-use mathlib.Core.List.{List, []}
-use Prim.Native.Nat.{ℕ, _+_, _<_}
-use native.Mathlib.Omega.{arith}
-use borrow.Author.Tests.{le-ltb}
-use lib.Dec.{eqb, ltb}
-use lib.Ieee.{Float}
-use lib.IntN.{ℤ, pos, _+ℤ_, _*ℤ_, +ℤ-idl, +ℤ-idr}
-use lib.ListN.{length, getD}
-use Rattle.laws.proofs.Every.{all-at, all-intro}
-use Rattle.laws.proofs.Filtered.{filter-none}
-use Rattle.laws.proofs.Sums.{sum-filter, sumℤ-split}
-use Rattle.laws.specs.Lists.{every}
+use Rattle.laws.proofs.Prelude.{_≡_, sym, ap, _∙_, Bool, true, false, cond, not, _&&_, List, [], ℕ, _+_, _<_, arith, le-ltb, eqb, ltb, Float, ℤ, pos}
+use Rattle.laws.proofs.Prelude.{_+ℤ_, _*ℤ_, +ℤ-idl, +ℤ-idr, length, getD, all-at, all-intro, filter-none, sum-filter, every}
+use Rattle.laws.proofs.Sums.{sumℤ-split}
 use Rattle.pixel_segment.specs.Field.{tileXOf, layerIdOf, coverOf}
 use Rattle.styling.specs.declared.FillRule.{FillRule}
 use Rattle.cover_statements.specs.Area.{doubledArea, coverBefore, ownArea}

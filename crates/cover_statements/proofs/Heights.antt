@@ -1,9 +1,5 @@
 -- What the fields of a word are at both heights, by the layout: a column, a pixel row, a cover and a double area. Assumes nothing.
-use mathlib.Core.Path.{_≡_, refl}
-use Prim.Native.Nat.{ℕ, _<_}
-use native.Mathlib.Omega.{arith}
-use mir.Syntax.{w8}
-use mir.Val.{SFits}
+use Rattle.laws.proofs.Prelude.{_≡_, refl, ℕ, _<_, arith, w8, SFits}
 use Rattle.pixel_segment.specs.Field.{cpu, widthsOf, widthOf, localXOf, localYOf, coverOf, doubleAreaOf}
 use Rattle.pixel_segment.specs.declared.consts.Layout.{Layout}
 use Rattle.pixel_segment.specs.declared.consts.Layout.the-variants.{Cpu, Gpu}

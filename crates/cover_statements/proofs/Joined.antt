@@ -1,19 +1,9 @@
 -- Two lists of segments joined: specs/Joined's claim. Assumes nothing.
-use mathlib.Core.Path.{_≡_, ap, ap₂, sym, _∙_}
-use mathlib.Core.Bool.{Bool, cond}
-use mathlib.Core.List.{List, _++_}
-use Prim.Native.Nat.{ℕ, _+_, _<_}
-use native.Mathlib.Omega.{arith}
-use native.Mathlib.Nat.{zero-add, add-comm, add-assoc}
-use borrow.Author.Tests.{le-leb}
-use lib.Dec.{eqb, leb}
-use lib.IntN.{ℤ, pos, natAbs, _+ℤ_, +ℤ-idl}
-use Rattle.laws.specs.Answer.{refused, given}
-use Rattle.laws.specs.Lists.{tabulate, every}
-use Rattle.laws.specs.Sum.{countBy}
-use Rattle.laws.proofs.Every.{every-intro}
-use Rattle.laws.proofs.Rows.{is-tabulate}
-use Rattle.laws.proofs.Sums.{sum-append, sumℤ-append, sumℤ-same, sumℕ-same}
+use Rattle.laws.proofs.Prelude.{_≡_, ap, ap₂, sym, _∙_, Bool, cond, List, _++_, ℕ, _+_, _<_, arith, zero-add, add-assoc, le-leb, eqb, leb, ℤ, pos}
+use Rattle.laws.proofs.Prelude.{natAbs, _+ℤ_, +ℤ-idl, refused, given, tabulate, every, countBy, every-intro, is-tabulate, sum-append, sumℤ-same}
+use Rattle.laws.proofs.Prelude.{sumℕ-same}
+use native.Mathlib.Nat.{add-comm}
+use Rattle.laws.proofs.Sums.{sumℤ-append}
 use Rattle.cover_statements.specs.Carry.{inRow, coverIn, absCover, loadIn, lightAt, isLight, carryOf}
 use Rattle.pixel_segment.specs.Field.{coverOf}
 use Rattle.cover_statements.specs.Cover.{coverAt, noCover}

@@ -1,24 +1,12 @@
 -- Number 9 judged in the pass that sums up: at word i, the loads of each row so far and the tables of cells so far. No load is above 127, and no
 -- entry of a table is above m times the load of its row (m is 1 for covers and 63 for double areas), so no sum outgrows its type. Over any
 -- widths whose local y stays below the height n. Assumes nothing.
-use mathlib.Core.Path.{_≡_, refl, sym, ap, _∙_}
-use mathlib.Core.Bool.{true, false, cond}
-use mathlib.Core.List.{List}
-use mathlib.Core.Logic.{⊎-elim}
-use Prim.Native.Nat.{ℕ, _+_, _*_, _%_, _≤_, _<_}
-use native.Mathlib.Nat.{add-assoc, add-zero, mul-add, mul-le-mul-left}
-use native.Mathlib.Omega.{arith}
-use borrow.Author.Tests.{eq-eqb, ne-eqb, le-leb, lt-leb}
-use lib.Arith.{digits-lt, digits-mod}
-use lib.Dec.{eqb}
-use lib.IntN.{ℤ, pos, natAbs, _+ℤ_, +ℤ-idl, +ℤ-idr, +ℤ-assoc}
-use lib.ListN.{length, getD, drop, set, length-set, length-replicate}
-use Rattle.laws.proofs.Every.{every-intro, every-fails}
-use Rattle.laws.proofs.Keyed.{addOne, entry-one}
-use Rattle.laws.proofs.Orders.{eq-or-ne}
-use Rattle.laws.proofs.Rows.{is-tabulate}
-use Rattle.laws.proofs.Sums.{abs-add, sum-step, sum-end}
-use Rattle.laws.specs.Sum.{sumℤ}
+use Rattle.laws.proofs.Prelude.{_≡_, refl, sym, ap, _∙_, true, false, cond, List, ⊎-elim, ℕ, _+_, _*_, _%_, _≤_, _<_, add-assoc, add-zero}
+use Rattle.laws.proofs.Prelude.{mul-le-mul-left, arith, eq-eqb, ne-eqb, le-leb, lt-leb, digits-lt, digits-mod, eqb, ℤ, pos, natAbs, _+ℤ_, +ℤ-idl}
+use Rattle.laws.proofs.Prelude.{+ℤ-idr, +ℤ-assoc, length, getD, drop, set, length-set, length-replicate, every-intro, addOne, entry-one, eq-or-ne}
+use Rattle.laws.proofs.Prelude.{is-tabulate, abs-add, sum-step, sum-end, sumℤ}
+use native.Mathlib.Nat.{mul-add}
+use Rattle.laws.proofs.Every.{every-fails}
 use Rattle.pixel_segment.specs.Field.{localXOf, localYOf}
 use Rattle.cover_statements.specs.Carry.{inRow, absCover, loadIn}
 use Rattle.cover_statements.specs.InnerCell.{cellOf, cellsOf, noCells}

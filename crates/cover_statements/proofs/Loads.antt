@@ -1,23 +1,11 @@
 -- Laws of the judging of number 9: the absolute covers of each row, capped at 128, one segment after another. Over any widths whose local y
 -- stays below the height n. Assumes nothing.
-use mathlib.Core.Path.{_≡_, refl, sym, ap, ap₂, _∙_}
-use mathlib.Core.Bool.{Bool, true, false, cond, _&&_}
-use mathlib.Core.List.{List, map}
-use mathlib.Core.Logic.{⊎-elim}
-use Prim.Native.Nat.{ℕ, zero, suc, _+_, _≤_, _<_, min}
-use native.Mathlib.Omega.{arith}
-use borrow.Author.Tests.{le-leb, lt-leb, leb-true, eq-eqb, ne-eqb}
-use lib.Dec.{leb, eqb}
-use lib.IntN.{ℤ, pos, natAbs}
-use lib.ListN.{length, getD, drop, set, length-set, length-map, replicate, length-replicate, List·getD-map}
-use lib.Seq.{getD-set-same, getD-set-other}
-use Rattle.laws.proofs.Bools.{not-true, clash}
-use Rattle.laws.proofs.Every.{all-at, all-intro}
-use Rattle.laws.proofs.Orders.{le-or-lt, eq-or-ne}
-use Rattle.laws.proofs.Rows.{filled, filled-more, is-tabulate, length-tabulate, getD-tabulate}
-use Rattle.laws.proofs.Sums.{sum-step, sum-end}
-use Rattle.laws.specs.Lists.{every, tabulate}
-use Rattle.laws.specs.Sum.{sumℕ}
+use Rattle.laws.proofs.Prelude.{_≡_, refl, sym, ap, ap₂, _∙_, Bool, true, false, cond, _&&_, List, map, ⊎-elim, ℕ, zero, suc, _+_, _≤_, _<_, min}
+use Rattle.laws.proofs.Prelude.{arith, le-leb, lt-leb, leb-true, eq-eqb, ne-eqb, leb, eqb, ℤ, pos, natAbs, length, getD, drop, set, length-set}
+use Rattle.laws.proofs.Prelude.{length-map, replicate, length-replicate, List·getD-map, getD-set-same, getD-set-other, clash, all-at, all-intro}
+use Rattle.laws.proofs.Prelude.{le-or-lt, eq-or-ne, filled, filled-more, is-tabulate, length-tabulate, getD-tabulate, sum-step, sum-end, every}
+use Rattle.laws.proofs.Prelude.{tabulate, sumℕ}
+use Rattle.laws.proofs.Bools.{not-true}
 use Rattle.pixel_segment.specs.Field.{localYOf}
 use Rattle.cover_statements.proofs.Carries.{light}
 use Rattle.cover_statements.proofs.Filled.{filled-whole, getD-default}

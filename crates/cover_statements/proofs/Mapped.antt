@@ -1,13 +1,8 @@
 -- A loop that writes what f says of each element of a list at the front of a lent list, in its order: at element k, those before it. The lent
 -- list may be the list itself. Assumes nothing.
-use mathlib.Core.Path.{_≡_, refl, sym, ap, ap₂, _∙_}
-use mathlib.Core.List.{List, _++_, map}
-use Prim.Native.Nat.{ℕ, suc, _+_, _≤_, _<_}
-use native.Mathlib.Omega.{arith}
-use lib.ListN.{length, getD, set, take, drop, length-set, length-map, List·getD-map}
-use lib.Seq.{drop-cons, getD-at, length-take-le}
-use Rattle.laws.proofs.Rows.{filled, filled-more, filled-all}
-use Rattle.laws.specs.Lists.{over}
+use Rattle.laws.proofs.Prelude.{_≡_, refl, sym, ap, ap₂, _∙_, List, _++_, map, ℕ, suc, _+_, _≤_, _<_, arith, length, getD, set, take, drop}
+use Rattle.laws.proofs.Prelude.{length-set, length-map, List·getD-map, drop-cons, length-take-le, filled, filled-more, filled-all, over}
+use lib.Seq.{getD-at}
 use Rattle.cover_statements.proofs.Filled.{filled-whole}
 
 pub record Mapping {A B : Type 0} (f : A → B) (source : List A) (old : List B) (k : ℕ) (new : List B) : Type 0 where

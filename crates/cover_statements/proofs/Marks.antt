@@ -1,18 +1,13 @@
 -- Laws of the mark: its size, one more octet below, its bits, that its ones are the used octets, and that it is the mark of the plane by columns.
 -- Assumes nothing.
-use mathlib.Core.Path.{_≡_, refl, sym, ap, ap₂, _∙_}
-use mathlib.Core.Bool.{Bool, true, false, _||_}
-use mathlib.Core.List.{List, [], _∷_}
-use Prim.Native.Nat.{ℕ, zero, suc, _+_, _-_, _*_, _/_, _%_, _^_, _<_, _≤_}
-use native.Mathlib.Nat.{lt-of-lt-of-le, pow-suc, zero-div, div-one, zero-mul}
+use Rattle.laws.proofs.Prelude.{_≡_, refl, sym, ap, ap₂, _∙_, Bool, true, false, _||_, List, [], _∷_, ℕ, zero, suc, _+_, _-_, _*_, _/_, _%_, _^_, _<_}
+use Rattle.laws.proofs.Prelude.{_≤_, lt-of-lt-of-le, div-one, arith, ones, Float, nan, odd, ofBits, lt, length, getD, drop, length-drop, pow-mono}
+use Rattle.laws.proofs.Prelude.{drop-cons, length-tabulate, getD-tabulate, is-tabulate}
+use native.Mathlib.Nat.{pow-suc, zero-div, zero-mul}
 use native.Mathlib.Numerals.{one-add}
-use native.Mathlib.Omega.{arith}
-use lib.Count.{ones, ones-cat}
-use lib.Ieee.{Float, nan, odd, ofBits, lt}
-use lib.ListN.{length, getD, drop, length-drop}
-use lib.Pow.{pow-mono, shr-shr}
-use lib.Seq.{drop-cons, drop-length}
-use Rattle.laws.proofs.Rows.{length-tabulate, getD-tabulate, is-tabulate}
+use lib.Count.{ones-cat}
+use lib.Pow.{shr-shr}
+use lib.Seq.{drop-length}
 use Rattle.cover_statements.specs.Coverage.{coverageOf, isAbove}
 use Rattle.cover_statements.specs.Plane.{inPlaces, exchange}
 use Rattle.cover_statements.specs.Mark.{aboveAt, some, isOctetUsed, usedOctets, bit, binaryNumber, countTrue, markOf, someAbove, markByColumns, octetsOf}

@@ -1,23 +1,13 @@
 -- Segments run the other way: of a part of mild covers, each word the other's opposite, covers, carries and d are negated exactly; loads, whether a
 -- cover is empty or full, weights, coverages and planes are the same. Assumes nothing.
-use mathlib.Core.Path.{_≡_, refl, ap, ap₂, sym, _∙_}
-use mathlib.Core.Bool.{Bool, true, cond, _&&_}
-use mathlib.Core.List.{List, [], _∷_, map}
-use Prim.Native.Nat.{ℕ, zero, suc, _+_, _-_, _%_, _<_, min}
-use native.Mathlib.Nat.{mod-self, mod-eq-of-lt}
-use native.Mathlib.Omega.{arith}
-use borrow.Author.Tests.{eqb-true, eq-eqb}
-use lib.Dec.{eqb, ltb, leb, lit<}
-use lib.IntN.{ℤ, pos, negℤ, natAbs, _+ℤ_, _*ℤ_, negℤ-+ℤ}
-use lib.ListN.{List·getD-map}
-use Rattle.laws.specs.Integer.{modℤ}
-use Rattle.laws.specs.Lists.{tabulate, every}
-use Rattle.laws.specs.Sum.{sumℤ}
-use Rattle.laws.proofs.Bools.{left, right, same}
-use Rattle.laws.proofs.Filtered.{all-kept}
-use Rattle.laws.proofs.Maps.{all-map, filter-map, map-tabulate}
-use Rattle.laws.proofs.Mod.{remainder, opposite}
-use Rattle.laws.proofs.Parts.{difference, abs-neg, times-neg}
+use Rattle.laws.proofs.Prelude.{_≡_, refl, ap, ap₂, sym, _∙_, Bool, true, cond, _&&_, List, [], _∷_, map, ℕ, zero, suc, _+_, _-_, _%_, _<_, min}
+use Rattle.laws.proofs.Prelude.{mod-eq-of-lt, arith, eqb-true, eq-eqb, eqb, ltb, leb, lit<, ℤ, pos, negℤ, natAbs, _+ℤ_, _*ℤ_, List·getD-map, modℤ}
+use Rattle.laws.proofs.Prelude.{tabulate, every, sumℤ, left, right, same, all-kept, all-map, filter-map, remainder, difference}
+use native.Mathlib.Nat.{mod-self}
+use lib.IntN.{negℤ-+ℤ}
+use Rattle.laws.proofs.Maps.{map-tabulate}
+use Rattle.laws.proofs.Mod.{opposite}
+use Rattle.laws.proofs.Parts.{abs-neg, times-neg}
 use Rattle.laws.proofs.Sums.{cond-neg}
 use Rattle.weight_table.specs.Rest.{restWeight}
 use Rattle.pixel_segment.specs.Field.{localXOf, coverOf, doubleAreaOf}

@@ -1,13 +1,8 @@
 -- A plane written a row after another, and a row a number after another: 16 numbers a row, over any height. Assumes nothing.
-use mathlib.Core.Path.{_≡_, refl, sym, ap, ap₂, _∙_}
-use mathlib.Core.List.{List, _++_}
-use Prim.Native.Nat.{ℕ, _+_, _*_, _≤_, _<_}
-use native.Mathlib.Numerals.{add-one}
-use native.Mathlib.Omega.{arith}
-use lib.ListN.{length, take, drop, set, length-drop, length-set}
-use lib.Seq.{ext-getD, getD-take, getD-drop, take-all, take-at, drop-at, take-add, drop-drop, length-take-le, paste, paste-zero, paste-suc, length-paste}
-use Rattle.laws.proofs.Rows.{filled, filled-all, length-tabulate, getD-tabulate}
-use Rattle.laws.specs.Lists.{over, tabulate}
+use Rattle.laws.proofs.Prelude.{_≡_, refl, sym, ap, ap₂, _∙_, List, _++_, ℕ, _+_, _*_, _≤_, _<_, add-one, arith, length, take, drop, set, length-drop}
+use Rattle.laws.proofs.Prelude.{length-set, ext-getD, getD-take, getD-drop, take-all, take-at, drop-at, take-add, drop-drop, length-take-le, paste}
+use Rattle.laws.proofs.Prelude.{filled, filled-all, length-tabulate, getD-tabulate, over, tabulate}
+use lib.Seq.{paste-zero, paste-suc, length-paste}
 use Rattle.cover_statements.specs.Plane.{sizeOf, inPlaces}
 use Rattle.cover_statements.proofs.Planes.{places-length, pixel-at}
 

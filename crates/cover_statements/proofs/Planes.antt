@@ -1,18 +1,8 @@
 -- Laws of planes: the place of a pixel, the exchange of its two places, and the doubled areas that become a plane, over any widths and any height.
 -- Assumes nothing.
-use mathlib.Core.Path.{_≡_, sym, ap, ap₂, _∙_}
-use mathlib.Core.Bool.{true}
-use mathlib.Core.List.{List}
-use Prim.Native.Nat.{ℕ, _+_, _*_, _/_, _%_, _<_}
-use native.Mathlib.Nat.{mod-lt, div-add-mod', div-lt-iff-lt-mul}
-use native.Mathlib.Omega.{arith}
-use lib.Arith.{digits-lt, digits-div, digits-mod}
-use lib.Dec.{lit<}
-use lib.Ieee.{Float}
-use lib.IntN.{ℤ, pos}
-use lib.ListN.{length, getD, length-map, List·getD-map}
-use lib.Seq.{ext-getD}
-use Rattle.laws.proofs.Rows.{length-tabulate, getD-tabulate, is-tabulate}
+use Rattle.laws.proofs.Prelude.{_≡_, sym, ap, ap₂, _∙_, true, List, ℕ, _+_, _*_, _/_, _%_, _<_, mod-lt, div-add-mod', div-lt-iff-lt-mul, arith}
+use Rattle.laws.proofs.Prelude.{digits-lt, digits-div, digits-mod, lit<, Float, ℤ, pos, length, getD, length-map, List·getD-map, ext-getD}
+use Rattle.laws.proofs.Prelude.{length-tabulate, getD-tabulate, is-tabulate}
 use Rattle.pixel_segment.specs.Field.{widthOf}
 use Rattle.styling.specs.declared.FillRule.{FillRule}
 use Rattle.cover_statements.specs.Area.{doubledArea, areasOf}

@@ -1,18 +1,6 @@
 -- Laws of a part without segments: all columns of its plane are the same, so one column of weights gives the plane and the mark. Assumes nothing.
-use mathlib.Core.Path.{_≡_, refl, sym, ap, _∙_}
-use mathlib.Core.Bool.{Bool, true, false, cond}
-use mathlib.Core.List.{List, []}
-use mathlib.Core.Logic.{⊎-elim}
-use Prim.Native.Nat.{ℕ, _+_, _*_, _/_, _%_, _<_}
-use native.Mathlib.Omega.{arith}
-use lib.Dec.{eqb}
-use lib.Ieee.{Float, nan}
-use lib.IntN.{ℤ, pos, _*ℤ_}
-use lib.ListN.{length, getD, length-map}
-use Rattle.laws.proofs.Orders.{eq-or-ne}
-use Rattle.laws.proofs.Parts.{abs-times}
-use Rattle.laws.proofs.Rows.{is-tabulate}
-use Rattle.laws.specs.Lists.{over, tabulate}
+use Rattle.laws.proofs.Prelude.{_≡_, refl, sym, ap, _∙_, Bool, true, false, cond, List, [], ⊎-elim, ℕ, _+_, _*_, _/_, _%_, _<_, arith, eqb, Float}
+use Rattle.laws.proofs.Prelude.{nan, ℤ, pos, _*ℤ_, length, getD, length-map, eq-or-ne, abs-times, is-tabulate, over, tabulate}
 use Rattle.styling.specs.declared.FillRule.{FillRule}
 use Rattle.cover_statements.specs.Carry.{isLight}
 use Rattle.cover_statements.specs.Cover.{coverAt}

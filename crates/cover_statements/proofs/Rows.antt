@@ -1,22 +1,8 @@
 -- The doubled areas of a tile, one pixel row after another: the pixels passed hold d, the others their own double areas, and the row's sum is the
 -- cover that comes in with what lies left of the column. Over any widths whose local y stays below the height n. Assumes nothing.
-use mathlib.Core.Path.{_≡_, refl, sym, ap, _∙_}
-use mathlib.Core.Bool.{Bool, true, false, _&&_, _||_}
-use mathlib.Core.List.{List}
-use mathlib.Core.Logic.{⊎-elim}
-use Prim.Native.Nat.{ℕ, _+_, _*_, _/_, _%_, _≤_, _<_}
-use native.Mathlib.Nat.{div-add-mod'}
-use native.Mathlib.Omega.{arith}
-use borrow.Author.Tests.{eq-eqb, ne-eqb, lt-ltb, le-ltb}
-use lib.Arith.{digits-lt, digits-div, digits-mod}
-use lib.Dec.{eqb, ltb}
-use lib.IntN.{ℤ, pos, natAbs, _+ℤ_, _*ℤ_, +ℤ-assoc, +ℤ-idr}
-use lib.ListN.{length, set, length-set}
-use lib.Seq.{getD-set-same, getD-set-other}
-use Rattle.laws.proofs.Orders.{eq-or-ne}
-use Rattle.laws.proofs.Rows.{is-tabulate}
-use Rattle.laws.proofs.Sums.{abs-add}
-use Rattle.laws.specs.Sum.{sumℤ}
+use Rattle.laws.proofs.Prelude.{_≡_, refl, sym, ap, _∙_, Bool, true, false, _&&_, _||_, List, ⊎-elim, ℕ, _+_, _*_, _/_, _%_, _≤_, _<_, div-add-mod'}
+use Rattle.laws.proofs.Prelude.{arith, eq-eqb, ne-eqb, lt-ltb, le-ltb, digits-lt, digits-div, digits-mod, eqb, ltb, ℤ, pos, natAbs, _+ℤ_, _*ℤ_}
+use Rattle.laws.proofs.Prelude.{+ℤ-assoc, +ℤ-idr, length, set, length-set, getD-set-same, getD-set-other, eq-or-ne, is-tabulate, abs-add, sumℤ}
 use Rattle.pixel_segment.specs.Field.{localYOf, coverOf, doubleAreaOf, widthOf}
 use Rattle.cover_statements.specs.Area.{isOwn, coverBefore, ownArea, doubledArea, areasOf}
 use Rattle.cover_statements.specs.InnerCell.{Accumulated}

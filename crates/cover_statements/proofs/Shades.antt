@@ -1,19 +1,8 @@
 -- A column's double areas become its doubled areas, one pixel row after another, over any height. Assumes nothing.
-use mathlib.Core.Path.{_≡_, refl, sym, ap, ap₂, _∙_}
-use mathlib.Core.Bool.{Bool, false, _&&_}
-use mathlib.Core.List.{List}
-use mathlib.Core.Logic.{⊎-elim}
-use Prim.Native.Nat.{ℕ, _+_, _*_, _/_, _%_, _<_}
-use native.Mathlib.Nat.{le-refl, div-add-mod'}
-use native.Mathlib.Omega.{arith}
-use borrow.Author.Tests.{eqb-true, ltb-true, eq-eqb, lt-ltb, le-ltb}
-use lib.Arith.{digits-lt, digits-div, digits-mod}
-use lib.Dec.{eqb, ltb}
-use lib.IntN.{ℤ, pos, _+ℤ_, _*ℤ_}
-use lib.ListN.{length, set, length-set}
-use lib.Seq.{getD-set-same, getD-set-other}
-use Rattle.laws.proofs.Bools.{both, left, right, same, not-right}
-use Rattle.laws.proofs.Orders.{eq-or-ne}
+use Rattle.laws.proofs.Prelude.{_≡_, refl, sym, ap, ap₂, _∙_, Bool, false, _&&_, List, ⊎-elim, ℕ, _+_, _*_, _/_, _%_, _<_, div-add-mod', arith}
+use Rattle.laws.proofs.Prelude.{eqb-true, ltb-true, eq-eqb, lt-ltb, le-ltb, digits-lt, digits-div, digits-mod, eqb, ltb, ℤ, pos, _+ℤ_, _*ℤ_, length}
+use Rattle.laws.proofs.Prelude.{set, length-set, getD-set-same, getD-set-other, both, left, right, same, not-right, eq-or-ne}
+use native.Mathlib.Nat.{le-refl}
 use Rattle.cover_statements.specs.InnerCell.{Shaded}
 use Rattle.cover_statements.specs.Cover.{coverAt}
 use Rattle.cover_statements.proofs.Areas.{below-next}

@@ -1,10 +1,5 @@
 -- d summed up by rows and by columns, over any widths whose local y stays below the height, and at both heights. Assumes nothing.
-use mathlib.Core.Path.{_≡_, refl}
-use mathlib.Core.List.{List}
-use Prim.Native.Nat.{ℕ, zero, suc, _+_, _≤_, _<_}
-use native.Mathlib.Numerals.{add-one}
-use native.Mathlib.Omega.{arith}
-use lib.IntN.{ℤ}
+use Rattle.laws.proofs.Prelude.{_≡_, refl, List, ℕ, zero, suc, _+_, _≤_, _<_, add-one, arith, ℤ}
 use Rattle.pixel_segment.specs.Field.{localYOf, widthsOf}
 use Rattle.cover_statements.specs.Cover.{coverAt}
 use Rattle.cover_statements.specs.Height.{heightOf}

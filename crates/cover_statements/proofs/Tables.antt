@@ -1,19 +1,8 @@
 -- A table of sums, an entry for each value of a key, as a loop over a part makes it: at word i, the table so far. The sums are whole numbers,
 -- and the absolute values still to come bound them, so that no sum outgrows its type on the way. Assumes nothing.
-use mathlib.Core.Path.{_≡_, refl, sym, ap, _∙_}
-use mathlib.Core.Bool.{cond}
-use mathlib.Core.List.{List}
-use Prim.Native.Nat.{ℕ, _+_, _≤_, _<_}
-use native.Mathlib.Omega.{arith}
-use borrow.Author.Tests.{eq-eqb}
-use lib.Dec.{eqb}
-use lib.IntN.{ℤ, pos, natAbs, _+ℤ_, +ℤ-assoc, +ℤ-idr}
-use lib.ListN.{length, getD, drop, set, length-set}
-use Rattle.laws.proofs.Keyed.{entry-one}
-use Rattle.laws.proofs.Rows.{is-tabulate}
-use Rattle.laws.proofs.Sums.{abs-add, abs-cond, sum-step, sum-end}
-use Rattle.laws.specs.Lists.{tabulate}
-use Rattle.laws.specs.Sum.{sumℤ, sumℕ}
+use Rattle.laws.proofs.Prelude.{_≡_, refl, sym, ap, _∙_, cond, List, ℕ, _+_, _≤_, _<_, arith, eq-eqb, eqb, ℤ, pos, natAbs, _+ℤ_, +ℤ-assoc, +ℤ-idr}
+use Rattle.laws.proofs.Prelude.{length, getD, drop, set, length-set, entry-one, is-tabulate, abs-add, abs-cond, sum-step, sum-end, tabulate, sumℤ}
+use Rattle.laws.proofs.Prelude.{sumℕ}
 
 abbrev pub at : List ℤ → ℕ → ℤ
 at table k = getD table k (pos 0)

@@ -1,15 +1,6 @@
 -- A loop that tests every element of a list, with no early exit: at element i, whether those before it pass. Assumes nothing.
-use mathlib.Core.Path.{_≡_, refl, sym, ap, _∙_}
-use mathlib.Core.Bool.{Bool, true, false, _&&_, and-assoc}
-use mathlib.Core.List.{List}
-use Prim.Native.Nat.{ℕ, suc, _+_, _≤_, _<_}
-use native.Mathlib.Numerals.{add-one}
-use native.Mathlib.Omega.{arith}
-use lib.ListN.{length, getD, drop, drop-of-length-le}
-use lib.Seq.{drop-cons}
-use Rattle.laws.proofs.Bools.{same}
-use Rattle.laws.proofs.Every.{every-intro, every-at, all-at, all-intro}
-use Rattle.laws.specs.Lists.{all, every}
+use Rattle.laws.proofs.Prelude.{_≡_, refl, sym, ap, _∙_, Bool, true, false, _&&_, and-assoc, List, ℕ, suc, _+_, _≤_, _<_, add-one, arith, length}
+use Rattle.laws.proofs.Prelude.{getD, drop, drop-of-length-le, drop-cons, same, every-intro, every-at, all-at, all-intro, all, every}
 
 pub record Testing {A : Type 0} (p : A → Bool) (l : List A) (n : ℕ) (ok : Bool) (i : ℕ) : Type 0 where
   pub long : length l ≡ n

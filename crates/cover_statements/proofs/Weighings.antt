@@ -1,13 +1,5 @@
 -- Laws of weights in the places of doubled areas: they are 0 to 512, and their coverages are the coverages of the areas. Assumes nothing.
-use mathlib.Core.Path.{_≡_, refl, ap, _∙_}
-use mathlib.Core.List.{List, [], _∷_, map}
-use Prim.Native.Nat.{ℕ, _<_}
-use native.Mathlib.Omega.{arith}
-use lib.Ieee.{Float}
-use lib.IntN.{ℤ, pos}
-use lib.ListN.{length, getD, length-map}
-use lib.Seq.{drop-cons}
-use Rattle.laws.proofs.Drops.{map-at}
+use Rattle.laws.proofs.Prelude.{_≡_, refl, ap, _∙_, List, [], _∷_, map, ℕ, _<_, arith, Float, ℤ, pos, length, getD, length-map, drop-cons, map-at}
 use Rattle.styling.specs.declared.FillRule.{FillRule}
 use Rattle.cover_statements.specs.Cover.{coverAt}
 use Rattle.cover_statements.specs.Coverage.{coverageOf}

@@ -1,17 +1,9 @@
 -- Laws of the weights. Assumes nothing.
-use mathlib.Core.Path.{_≡_, refl, ap, _∙_}
-use mathlib.Core.Bool.{Bool, true, false, cond}
-use mathlib.Core.Logic.{⊎-elim}
-use Prim.Native.Nat.{ℕ, _+_, _*_, _-_, _/_, _%_, _≤_, _<_}
+use Rattle.laws.proofs.Prelude.{_≡_, refl, ap, _∙_, Bool, true, false, cond, ⊎-elim, ℕ, _+_, _*_, _-_, _/_, _%_, _≤_, _<_, arith, eqb-true, eq-eqb}
+use Rattle.laws.proofs.Prelude.{ne-eqb, leb-true, le-leb, lit<, ℤ, pos, negsuc, natAbs, _+ℤ_, _*ℤ_, +ℤ-idr, remainder, unique, eq-or-ne, whole, times}
+use Rattle.laws.proofs.Prelude.{difference, plus, minus, modℤ}
 use native.Mathlib.Nat.{mul-comm}
-use native.Mathlib.Omega.{arith}
-use borrow.Author.Tests.{eqb-true, eq-eqb, ne-eqb, leb-true, le-leb}
-use lib.Dec.{lit<}
-use lib.IntN.{ℤ, pos, negsuc, natAbs, _+ℤ_, _*ℤ_, +ℤ-idr}
-use Rattle.laws.proofs.Mod.{remainder, unique, agree-add, agree}
-use Rattle.laws.proofs.Orders.{eq-or-ne}
-use Rattle.laws.proofs.Parts.{whole, times, difference}
-use Rattle.laws.specs.Integer.{plus, minus, modℤ}
+use Rattle.laws.proofs.Mod.{agree-add, agree}
 use Rattle.weight_table.specs.Rest.{restWeight}
 use Rattle.styling.specs.declared.FillRule.{FillRule}
 use Rattle.styling.specs.declared.FillRule.the-variants.{NonZero, EvenOdd}

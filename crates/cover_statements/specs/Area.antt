@@ -1,12 +1,6 @@
 -- The doubled area d that a pixel sees: 32 × (incoming cover of its row + covers of the part's segments in its row with local x below its
 -- column) + double areas of its own segments. `incoming` says the incoming cover of each pixel row.
-use mathlib.Core.Bool.{Bool, _&&_}
-use mathlib.Core.List.{List}
-use Prim.Native.Nat.{ℕ, _*_, _/_, _%_}
-use lib.Dec.{eqb, ltb}
-use lib.IntN.{ℤ, pos, _+ℤ_, _*ℤ_}
-use Rattle.laws.specs.Lists.{tabulate}
-use Rattle.laws.specs.Sum.{sumℤ}
+use Rattle.laws.specs.Prelude.{Bool, _&&_, List, ℕ, _*_, _/_, _%_, eqb, ltb, ℤ, pos, _+ℤ_, _*ℤ_, tabulate, sumℤ}
 use Rattle.pixel_segment.specs.Field.{localXOf, coverOf, doubleAreaOf}
 use Rattle.cover_statements.specs.Carry.{inRow}
 

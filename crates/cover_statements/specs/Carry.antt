@@ -1,15 +1,7 @@
 -- The covers of a part of a row, added to an incoming cover; and when that is refused. A part is a list of packed words: one layer's segments in
 -- one tile. The field widths `ws` and the tile's height n are parameters. Stands for 'a carry is incoming cover plus segment covers' and for
 -- number 9, 'a layer and pixel row with absolute incoming cover plus absolute segment covers above 127'.
-use mathlib.Core.Bool.{Bool, cond}
-use mathlib.Core.List.{List}
-use mathlib.Core.Path.{_≡_}
-use Prim.Native.Nat.{ℕ, _+_}
-use lib.Dec.{eqb, leb}
-use lib.IntN.{ℤ, natAbs, _+ℤ_}
-use Rattle.laws.specs.Answer.{Answer, refused, given}
-use Rattle.laws.specs.Lists.{tabulate, every}
-use Rattle.laws.specs.Sum.{sumℤ, sumℕ}
+use Rattle.laws.specs.Prelude.{Bool, cond, List, _≡_, ℕ, _+_, eqb, leb, ℤ, natAbs, _+ℤ_, Answer, refused, given, tabulate, every, sumℤ, sumℕ}
 use Rattle.pixel_segment.specs.Field.{localYOf, coverOf}
 use Rattle.cover_statements.specs.Cover.{coverAt}
 

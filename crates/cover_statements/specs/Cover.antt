@@ -1,14 +1,6 @@
 -- A cover, a whole number for each pixel row of a tile: when it is empty and when it is full by a rule. Stands for P6, for 'a carry is
 -- dropped when empty: NonZero, all zero; EvenOdd, all multiples of 32', and for W-205, 'full when each row's absolute value is 16 or more'.
-use mathlib.Core.Path.{_≡_}
-use mathlib.Core.Bool.{Bool}
-use mathlib.Core.List.{List}
-use Prim.Native.Nat.{ℕ}
-use lib.Dec.{eqb, leb}
-use lib.IntN.{ℤ, pos, natAbs}
-use lib.ListN.{getD, replicate}
-use Rattle.laws.specs.Integer.{modℤ}
-use Rattle.laws.specs.Lists.{all}
+use Rattle.laws.specs.Prelude.{_≡_, Bool, List, ℕ, eqb, leb, ℤ, pos, natAbs, getD, replicate, modℤ, all}
 use Rattle.styling.specs.declared.FillRule.{FillRule}
 use Rattle.styling.specs.declared.FillRule.the-variants.{NonZero, EvenOdd}
 

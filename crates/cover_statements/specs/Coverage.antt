@@ -1,8 +1,5 @@
 -- The coverage of a weight: the weight divided by 512, exactly, as a binary32 number (IEEE 754-2019).
-use mathlib.Core.Bool.{Bool, false}
-use Prim.Native.Nat.{ℕ}
-use lib.IntN.{ℤ}
-use lib.Ieee.{Float, binary32, odd, ofBits, lt}
+use Rattle.laws.specs.Prelude.{Bool, false, ℕ, ℤ, Float, binary32, odd, ofBits, lt}
 use Rattle.styling.specs.declared.FillRule.{FillRule}
 use Rattle.cover_statements.specs.Weight.{weightOf}
 

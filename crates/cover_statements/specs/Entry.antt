@@ -1,9 +1,5 @@
 -- Covers one after the other in a lent list, n numbers each: the queue of carries, and a list's incoming covers.
-use mathlib.Core.List.{List, _++_}
-use Prim.Native.Nat.{ℕ, _*_}
-use lib.IntN.{ℤ}
-use lib.ListN.{take, drop}
-use Rattle.laws.specs.Lists.{over}
+use Rattle.laws.specs.Prelude.{List, _++_, ℕ, _*_, ℤ, take, drop, over}
 
 -- the cover at a place
 unfoldable pub coverEntry : ℕ → ℕ → List ℤ → List ℤ

@@ -1,13 +1,6 @@
 -- How the code works d out: the double areas and the covers of each cell, which is a pixel at column × n + row, and then a column after the other.
-use mathlib.Core.Bool.{Bool, true, cond, _&&_}
-use mathlib.Core.List.{List}
-use mathlib.Core.Path.{_≡_}
-use Prim.Native.Nat.{ℕ, _+_, _*_, _/_, _%_, _≤_, _<_}
-use lib.Dec.{eqb, ltb}
-use lib.IntN.{ℤ, pos, natAbs, _+ℤ_, _*ℤ_}
-use lib.ListN.{length, replicate}
-use Rattle.laws.specs.Lists.{tabulate}
-use Rattle.laws.specs.Sum.{sumℤ}
+use Rattle.laws.specs.Prelude.{Bool, true, cond, _&&_, List, _≡_, ℕ, _+_, _*_, _/_, _%_, _≤_, _<_, eqb, ltb, ℤ, pos, natAbs, _+ℤ_, _*ℤ_, length}
+use Rattle.laws.specs.Prelude.{replicate, tabulate, sumℤ}
 use Rattle.pixel_segment.specs.Field.{localXOf, localYOf, coverOf, doubleAreaOf}
 use Rattle.cover_statements.specs.Area.{areasOf}
 use Rattle.cover_statements.specs.Carry.{isLight}

@@ -1,12 +1,5 @@
 -- How the code judges number 9: the absolute covers of each pixel row, where 128 stands for every number above 127.
-use mathlib.Core.Bool.{Bool}
-use mathlib.Core.List.{List, map}
-use mathlib.Core.Path.{_≡_}
-use Prim.Native.Nat.{ℕ, _+_, _≤_, min}
-use lib.Dec.{leb}
-use lib.IntN.{ℤ, natAbs}
-use lib.ListN.{getD}
-use Rattle.laws.specs.Lists.{tabulate, all}
+use Rattle.laws.specs.Prelude.{Bool, List, map, _≡_, ℕ, _+_, _≤_, min, leb, ℤ, natAbs, getD, tabulate, all}
 use Rattle.cover_statements.specs.Carry.{loadIn}
 
 -- no load is above 128

@@ -1,12 +1,6 @@
 -- How d is worked out a pixel row after the other: in the cells of `InnerCell`, each row from its first column to its last. Over any widths `ws`
 -- and any height n; a column after the other is `Shadable` and `Shaded` there.
-use mathlib.Core.Path.{_≡_}
-use mathlib.Core.Bool.{Bool, true, cond, _&&_, _||_}
-use mathlib.Core.List.{List}
-use Prim.Native.Nat.{ℕ, _+_, _*_, _/_, _%_, _<_}
-use lib.Dec.{eqb, ltb}
-use lib.IntN.{ℤ}
-use lib.ListN.{length}
+use Rattle.laws.specs.Prelude.{_≡_, Bool, true, cond, _&&_, _||_, List, ℕ, _+_, _*_, _/_, _%_, _<_, eqb, ltb, ℤ, length}
 use Rattle.pixel_segment.specs.Field.{coverOf}
 use Rattle.cover_statements.specs.Area.{ownArea, doubledArea}
 use Rattle.cover_statements.specs.Carry.{isLight}

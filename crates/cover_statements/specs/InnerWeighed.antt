@@ -1,14 +1,6 @@
 -- How the code works coverages out: in the place of each doubled area its weight, then the coverages of the weights, a row of the plane after the
 -- other; and where no segment lies in the tile, one column for all. Weights are signed numbers here, for they take the places of doubled areas.
-use mathlib.Core.Path.{_≡_}
-use mathlib.Core.List.{List, map}
-use Prim.Native.Nat.{ℕ, _+_, _*_, _≤_, _<_}
-use lib.Ieee.{Float, nan}
-use lib.IntN.{ℤ, pos, natAbs, _*ℤ_}
-use lib.ListN.{length, getD}
-use lib.Seq.{paste}
-use Rattle.laws.specs.Integer.{minus}
-use Rattle.laws.specs.Lists.{tabulate}
+use Rattle.laws.specs.Prelude.{_≡_, List, map, ℕ, _+_, _*_, _≤_, _<_, Float, nan, ℤ, pos, natAbs, _*ℤ_, length, getD, paste, minus, tabulate}
 use Rattle.styling.specs.declared.FillRule.{FillRule}
 use Rattle.cover_statements.specs.Cover.{coverAt}
 use Rattle.cover_statements.specs.Coverage.{coverageOf}

@@ -1,13 +1,6 @@
 -- Two lists of segments joined, one after the other. Stands for W-210: 'the cover of two joined segment lists is the sum of their covers, in either
 -- order, where the absolute sums stay within 127'. The cover of a list is what adding it to no cover answers, which number 9 judges.
-use mathlib.Core.Path.{_≡_}
-use mathlib.Core.List.{List, _++_}
-use Prim.Native.Nat.{ℕ, _≤_, _<_}
-use lib.Dec.{eqb}
-use lib.IntN.{ℤ, _+ℤ_}
-use Rattle.laws.specs.Answer.{Answer, given}
-use Rattle.laws.specs.Lists.{tabulate}
-use Rattle.laws.specs.Sum.{countBy}
+use Rattle.laws.specs.Prelude.{_≡_, List, _++_, ℕ, _≤_, _<_, eqb, ℤ, _+ℤ_, Answer, given, tabulate, countBy}
 use Rattle.cover_statements.specs.Carry.{loadIn, addOf}
 use Rattle.cover_statements.specs.Cover.{coverAt, noCover}
 

@@ -1,16 +1,7 @@
 -- Which octets of a plane a draw uses, and the mark that says so. Octet h (0 or 1) of a column is its rows 8h to 8h + 7; bit 2 × column + h of
 -- the mark is set when some coverage of it is above 0. The octet count is the number of used octets.
-use mathlib.Core.Bool.{Bool, false, cond, _||_}
-use mathlib.Core.Path.{_≡_}
-use mathlib.Core.List.{List, [], _∷_}
-use Prim.Native.Nat.{ℕ, zero, suc, _+_, _*_, _/_, _%_}
-use lib.Count.{ones}
-use lib.Dec.{ltb}
-use lib.ListN.{length, getD}
-use lib.Ieee.{Float, nan}
-use mir.Val.{boolByte}
-use Rattle.laws.specs.Answer.{Answer, refused, given}
-use Rattle.laws.specs.Lists.{tabulate}
+use Rattle.laws.specs.Prelude.{Bool, false, cond, _||_, _≡_, List, [], _∷_, ℕ, zero, suc, _+_, _*_, _/_, _%_, ones, ltb, length, getD, Float, nan}
+use Rattle.laws.specs.Prelude.{boolByte, Answer, refused, given, tabulate}
 use Rattle.cover_statements.specs.Coverage.{isAbove}
 use Rattle.cover_statements.specs.Plane.{placeOf, sizeOf}
 use Rattle.cover_statements.specs.declared.marking.Marked.{Marked}

@@ -1,14 +1,5 @@
 -- Painting a part: its 256 coverages written into a lent plane, and their mark. Refused by 1 where the plane is below 256 numbers, then by 9.
-use mathlib.Core.Bool.{cond, _&&_}
-use mathlib.Core.List.{List}
-use mathlib.Core.Path.{_≡_}
-use Prim.Native.Nat.{ℕ}
-use lib.Dec.{leb, ltb}
-use lib.Ieee.{Float}
-use lib.IntN.{ℤ}
-use lib.ListN.{length}
-use Rattle.laws.specs.Answer.{Answer, refused, given}
-use Rattle.laws.specs.Lists.{over}
+use Rattle.laws.specs.Prelude.{cond, _&&_, List, _≡_, ℕ, leb, ltb, Float, ℤ, length, Answer, refused, given, over}
 use Rattle.styling.specs.declared.FillRule.{FillRule}
 use Rattle.cover_statements.specs.Carry.{isLight}
 use Rattle.cover_statements.specs.Cover.{coverAt}

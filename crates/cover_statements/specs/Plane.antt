@@ -1,11 +1,6 @@
 -- A plane: a coverage for each pixel of a tile that is 16 pixels wide and n high. Stands for W-209, 'coverage and mask planes are stored at
 -- row × 16 + column', and for 'the new plane is the old one with its two places exchanged'.
-use mathlib.Core.List.{List, map}
-use Prim.Native.Nat.{ℕ, _+_, _*_, _/_, _%_}
-use lib.Ieee.{Float}
-use lib.IntN.{ℤ}
-use lib.ListN.{getD}
-use Rattle.laws.specs.Lists.{tabulate}
+use Rattle.laws.specs.Prelude.{List, map, ℕ, _+_, _*_, _/_, _%_, Float, ℤ, getD, tabulate}
 use Rattle.styling.specs.declared.FillRule.{FillRule}
 use Rattle.cover_statements.specs.Area.{doubledArea}
 use Rattle.cover_statements.specs.Coverage.{areaCoverage}

@@ -1,9 +1,6 @@
 -- The two ways in which d is summed up in the cells of a part: a pixel row after the other, and a column after the other. Stands for W-213, 'facts
 -- about fields and sums are shown over the tile height, with 4 and 16 as its uses'.
-use mathlib.Core.Path.{_≡_}
-use mathlib.Core.List.{List}
-use Prim.Native.Nat.{ℕ, _+_, _<_}
-use lib.IntN.{ℤ}
+use Rattle.laws.specs.Prelude.{_≡_, List, ℕ, _+_, _<_, ℤ}
 use Rattle.pixel_segment.specs.Field.{localYOf, widthsOf}
 use Rattle.pixel_segment.specs.declared.consts.Layout.{Layout}
 use Rattle.cover_statements.specs.Area.{areasOf}

@@ -1,9 +1,5 @@
 -- The weight of d, a whole number from 0 to 512, by each rule; and which windings are inside, as SVG 2 says of 'fill-rule'.
-use mathlib.Core.Bool.{Bool, not}
-use Prim.Native.Nat.{ℕ, _%_, min}
-use lib.Dec.{eqb}
-use lib.IntN.{ℤ, natAbs}
-use Rattle.laws.specs.Integer.{modℤ}
+use Rattle.laws.specs.Prelude.{Bool, not, ℕ, _%_, min, eqb, ℤ, natAbs, modℤ}
 use Rattle.weight_table.specs.Rest.{restWeight}
 use Rattle.styling.specs.declared.FillRule.{FillRule}
 use Rattle.styling.specs.declared.FillRule.the-variants.{NonZero, EvenOdd}

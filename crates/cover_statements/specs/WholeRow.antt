@@ -1,13 +1,7 @@
 -- Working from the whole row: a layer's incoming cover is the exact sum of its covers in a pixel row over all tiles to the left, -1 included; d,
 -- weight, coverage and plane follow from it and from the tile's own segments. A tile is given by its stored number, which is its own plus 1, so
 -- tile -1 is 0.
-use mathlib.Core.Bool.{Bool, _&&_}
-use mathlib.Core.List.{List}
-use Prim.Native.Nat.{ℕ, _<_}
-use lib.Dec.{eqb, ltb}
-use lib.Ieee.{Float}
-use lib.IntN.{ℤ}
-use Rattle.laws.specs.Lists.{filter}
+use Rattle.laws.specs.Prelude.{Bool, _&&_, List, ℕ, _<_, eqb, ltb, Float, ℤ, filter}
 use Rattle.pixel_segment.specs.Field.{tileXOf, layerIdOf}
 use Rattle.styling.specs.declared.FillRule.{FillRule}
 use Rattle.cover_statements.specs.Area.{doubledArea}

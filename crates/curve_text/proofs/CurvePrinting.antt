@@ -1,12 +1,6 @@
 -- The curve printed: how long its lines are, and its names before them.
 -- Assumes nothing.
-use mathlib.Core.Path.{_≡_, ap}
-use mathlib.Core.List.{List}
-use Prim.Native.Nat.{ℕ, _*_, _<_, _≤_}
-use native.Mathlib.Omega.{arith}
-use lib.IntN.{ℤ, pos}
-use lib.ListN.{length, length-append}
-use Rattle.laws.specs.Lists.{tabulate}
+use Rattle.laws.proofs.Prelude.{_≡_, ap, List, ℕ, _*_, _<_, _≤_, arith, ℤ, pos, length, length-append, tabulate}
 use Rattle.styling.specs.declared.FillRule.the-variants.{EvenOdd}
 use Rattle.cover_statements.specs.Weight.{weightOf}
 use Rattle.cover_statements.proofs.Weights.{weight-le}

@@ -1,5 +1,5 @@
 -- The cases of specs/Examples and how long the curve is, computed. Assumes nothing.
-use mathlib.Core.Path.{refl}
+use Rattle.laws.proofs.Prelude.{refl}
 use Rattle.decimal.specs.Decimal.{decimal, decimalIn}
 use Rattle.lines.specs.Text.{lineText, linesText, blockText}
 use Rattle.curve_text.specs.Curve.{curveLine, curveText, CurveFills}

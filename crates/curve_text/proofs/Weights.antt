@@ -1,11 +1,6 @@
 -- What the curve says of every d, and where it is greatest.
 -- Assumes nothing.
-use mathlib.Core.Path.{_≡_, refl, ap}
-use Prim.Native.Nat.{ℕ, _%_, _<_}
-use native.Mathlib.Omega.{arith}
-use lib.IntN.{ℤ, pos, negsuc}
-use Rattle.laws.specs.Integer.{modℤ}
-use Rattle.laws.proofs.Parts.{difference}
+use Rattle.laws.proofs.Prelude.{_≡_, refl, ap, ℕ, _%_, _<_, arith, ℤ, pos, negsuc, modℤ, difference}
 use Rattle.styling.specs.declared.FillRule.the-variants.{EvenOdd}
 use Rattle.weight_table.specs.Rest.{restWeight}
 use Rattle.cover_statements.specs.Weight.{weightOf}

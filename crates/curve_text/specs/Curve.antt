@@ -1,11 +1,6 @@
 -- The even-odd curve as text. Stands for 'a line of names, `rest weight`, then 1,024 lines: the remainder of d by 1,024 and its EvenOdd
 -- weight, ascending'. Its form is that of a block of a job text.
-use mathlib.Core.Path.{_≡_}
-use mathlib.Core.List.{List, [], _∷_}
-use Prim.Native.Nat.{ℕ}
-use lib.IntN.{ℤ, pos}
-use lib.ListN.{length}
-use Rattle.laws.specs.Lists.{tabulate}
+use Rattle.laws.specs.Prelude.{_≡_, List, [], _∷_, ℕ, ℤ, pos, length, tabulate}
 use Rattle.styling.specs.declared.FillRule.the-variants.{EvenOdd}
 use Rattle.cover_statements.specs.Weight.{weightOf}
 use Rattle.lines.specs.Bytes.{bytes}

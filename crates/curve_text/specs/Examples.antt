@@ -1,6 +1,5 @@
 -- Lines of the curve as they are printed: the names and the first three, and the one of greatest weight. Stands for W-201.
-use mathlib.Core.Path.{_≡_}
-use Rattle.laws.specs.Lists.{tabulate}
+use Rattle.laws.specs.Prelude.{_≡_, tabulate}
 use Rattle.lines.specs.Bytes.{bytes}
 use Rattle.lines.specs.Text.{lineText, blockText}
 use Rattle.curve_text.specs.Curve.{curveNames, curveLine}

@@ -1,11 +1,6 @@
 -- `decimal` by its two laws: one digit, and one more digit after a number above 0.
 -- Assumes nothing.
-use mathlib.Core.Path.{_≡_, sym, ap, _∙_}
-use mathlib.Core.List.{List, [], _∷_, _++_}
-use Prim.Native.Nat.{ℕ, zero, suc, _+_, _*_, _/_, _%_, _<_, _≤_}
-use native.Mathlib.Decide.{decLt}
-use native.Mathlib.Omega.{arith}
-use borrow.Author.Tests.{lt-ltb, le-ltb}
+use Rattle.laws.proofs.Prelude.{_≡_, sym, ap, _∙_, List, [], _∷_, _++_, ℕ, zero, suc, _+_, _*_, _/_, _%_, _<_, _≤_, decLt, arith, lt-ltb, le-ltb}
 use Rattle.decimal.specs.Decimal.{decimalIn, decimal}
 
 one-in : (k n : ℕ) → n < 10 → decimalIn (suc k) n ≡ (48 + n) ∷ []

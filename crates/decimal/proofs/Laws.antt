@@ -1,15 +1,8 @@
 -- Reading is the inverse of printing: `parseℕ` and `parseℤ` read exactly what `decimal` and `decimalℤ` print, and so two prints agree
 -- only where the numbers do.
 -- Assumes nothing.
-use mathlib.Core.Path.{_≡_, refl, sym, ap, _∙_}
-use mathlib.Core.Bool.{false}
-use mathlib.Core.List.{List, [], _∷_, _++_, append-assoc}
-use Prim.Native.Nat.{ℕ, zero, suc, _+_, _-_, _/_, _%_, _<_, _≤_}
-use native.Mathlib.Decide.{decLt}
-use native.Mathlib.Omega.{arith}
-use borrow.Author.Tests.{eq-eqb, ne-eqb, eqb-true}
-use lib.Dec.{eqb}
-use lib.IntN.{ℤ, pos, negsuc, natAbs}
+use Rattle.laws.proofs.Prelude.{_≡_, refl, sym, ap, _∙_, false, List, [], _∷_, _++_, append-assoc, ℕ, zero, suc, _+_, _-_, _/_, _%_, _<_, _≤_, decLt}
+use Rattle.laws.proofs.Prelude.{arith, eq-eqb, ne-eqb, eqb-true, eqb, ℤ, pos, negsuc, natAbs}
 use Rattle.decimal.specs.Decimal.{decimal, decimalℤ, isDigit, Stops}
 use Rattle.decimal.specs.Parse.{Parsed, parsed, failed, appendDigit, moreDigits, parseℕ, positive, negative, startsWith, parseℤ}
 use Rattle.decimal.proofs.Digits.{decimal-one, decimal-more, decimal-append, by-digits}

@@ -1,15 +1,7 @@
 -- Printing a number: its last digit after the print of the others.
 -- Assumes nothing.
-use mathlib.Core.Path.{_≡_, refl, sym, ap, _∙_}
-use mathlib.Core.List.{List, [], _∷_, _++_}
-use Prim.Native.Nat.{ℕ, zero, suc, _+_, _/_, _%_, _^_, _<_, _≤_}
-use native.Mathlib.Nat.{add-zero}
-use native.Mathlib.Decide.{decLt}
-use native.Mathlib.Omega.{arith}
-use lib.ListN.{length, set, length-append}
-use lib.Seq.{sets}
-use mir.Syntax.{w32}
-use mir.Val.{Fits}
+use Rattle.laws.proofs.Prelude.{_≡_, refl, sym, ap, _∙_, List, [], _∷_, _++_, ℕ, zero, suc, _+_, _/_, _%_, _^_, _<_, _≤_, add-zero, decLt, arith}
+use Rattle.laws.proofs.Prelude.{length, set, length-append, sets, w32, Fits}
 use Rattle.decimal.specs.Decimal.{decimal}
 use Rattle.decimal.specs.Print.{Printing}
 use Rattle.decimal.proofs.Digits.{decimal-one, decimal-more}

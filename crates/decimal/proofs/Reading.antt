@@ -1,14 +1,8 @@
 -- What holds while the digits of a number are read: the digits of n are passed, and what is left to read from place i on is what was
 -- to be read at the start.
 -- Assumes nothing.
-use mathlib.Core.Path.{_≡_, refl, sym, ap, _∙_}
-use mathlib.Core.Bool.{true, false}
-use mathlib.Core.List.{List}
-use Prim.Native.Nat.{ℕ, _+_, _-_, _*_, _<_, _≤_}
-use native.Mathlib.Numerals.{add-one}
-use native.Mathlib.Omega.{arith}
-use lib.ListN.{length, drop, getD, drop-of-length-le}
-use lib.Seq.{drop-cons}
+use Rattle.laws.proofs.Prelude.{_≡_, refl, sym, ap, _∙_, true, false, List, ℕ, _+_, _-_, _*_, _<_, _≤_, add-one, arith, length, drop, getD}
+use Rattle.laws.proofs.Prelude.{drop-of-length-le, drop-cons}
 use Rattle.decimal.specs.declared.Unsigned.the-variants.{Natural, Missing}
 use Rattle.decimal.specs.Decimal.{isDigit}
 use Rattle.decimal.specs.Parse.{appendDigit, moreDigits, parseℕ}

@@ -1,20 +1,9 @@
 -- Printing a number with its sign: its opposite in the machine's integers, and the two ways that the sign parts.
 -- Assumes nothing.
-use mathlib.Core.Path.{_≡_, refl, ap, _∙_}
-use mathlib.Core.Bool.{true, false, true≢false}
-use mathlib.Core.List.{List, _∷_}
-use Prim.Native.Nat.{ℕ, _+_, _≤_}
-use native.Mathlib.Omega.{arith}
-use borrow.Author.Tests.{ltb-true}
-use lib.Dec.{T}
-use lib.IntN.{ℤ, pos, negsuc, natAbs, _-ℤ_}
-use lib.ListN.{set}
-use lib.Signed.{ltZ, nonNeg}
-use mir.Facts.{toZ-ofZ, sfits-widen}
-use mir.Syntax.{w32, w64}
-use mir.Val.{SFits, Fits, toZ, ofZ}
-use Rattle.laws.proofs.Machine.{sfits, within, unsigned}
-use Rattle.laws.proofs.Parts.{whole, taken, lt-true, lt-false}
+use Rattle.laws.proofs.Prelude.{_≡_, refl, ap, _∙_, true, false, List, _∷_, ℕ, _+_, _≤_, arith, ltb-true, T, ℤ, pos, negsuc, natAbs, _-ℤ_, set, ltZ}
+use Rattle.laws.proofs.Prelude.{nonNeg, toZ-ofZ, sfits-widen, w32, w64, SFits, Fits, toZ, ofZ, sfits, within, unsigned, whole, taken, lt-true}
+use Rattle.laws.proofs.Prelude.{lt-false}
+use mathlib.Core.Bool.{true≢false}
 use Rattle.decimal.specs.Decimal.{decimal, decimalℤ}
 use Rattle.decimal.specs.Print.{Printing}
 use Rattle.decimal.proofs.Print.{joined, byte, ten}

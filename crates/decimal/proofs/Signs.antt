@@ -1,22 +1,11 @@
 -- Each answer of `read_signed`, from the tests that lead to it.
 -- Assumes nothing.
-use mathlib.Core.Path.{_≡_, refl, sym, ap, _∙_}
-use mathlib.Core.List.{List}
-use Prim.Native.Nat.{ℕ, zero, suc, _+_, _<_, _≤_}
-use native.Mathlib.Numerals.{add-one}
-use native.Mathlib.Omega.{arith}
-use borrow.Author.Tests.{ne-eqb}
-use lib.IntN.{ℤ, pos, negsuc, negℤ, _-ℤ_, +ℤ-idl}
-use lib.ListN.{length, drop, getD, drop-of-length-le}
-use lib.Seq.{drop-cons}
-use mir.Syntax.{w32}
-use mir.Val.{SFits, toZ, ofZ}
-use mir.Facts.{toZ-ofZ}
+use Rattle.laws.proofs.Prelude.{_≡_, refl, sym, ap, _∙_, List, ℕ, zero, suc, _+_, _<_, _≤_, add-one, arith, ne-eqb, ℤ, pos, negsuc, negℤ, _-ℤ_}
+use Rattle.laws.proofs.Prelude.{+ℤ-idl, length, drop, getD, drop-of-length-le, drop-cons, w32, SFits, toZ, ofZ, toZ-ofZ, small}
 use mir.ValLaws.{toZ-pos}
 use Rattle.decimal.specs.declared.Unsigned.the-variants.{Natural, Missing}
 use Rattle.decimal.specs.declared.Signed.{Signed}
 use Rattle.decimal.specs.declared.Signed.the-variants.{Integer, Malformed}
-use Rattle.laws.proofs.Machine.{small}
 use Rattle.decimal.specs.Decimal.{Short}
 use Rattle.decimal.specs.Parse.{parsed, parseℕ, positive, negative, parseℤ}
 use Rattle.decimal.specs.Read.{UnsignedRead, SignedRead, signedLeft, afterSigned}

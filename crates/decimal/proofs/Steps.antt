@@ -1,14 +1,7 @@
 -- What one byte does to the reading of a number.
 -- Assumes nothing.
-use mathlib.Core.Path.{_≡_, sym, _∙_}
-use mathlib.Core.Bool.{Bool, true, false, not}
-use mathlib.Core.Logic.{⊎-elim}
-use mathlib.Core.List.{List, _∷_}
-use Prim.Native.Nat.{ℕ, _-_, _<_, _≤_}
-use native.Mathlib.Omega.{arith}
-use borrow.Author.Tests.{lt-ltb, le-ltb, le-leb, leb-true, not-true, not-false}
-use lib.Dec.{leb}
-use Rattle.laws.proofs.Bools.{left, right, either}
+use Rattle.laws.proofs.Prelude.{_≡_, sym, _∙_, Bool, true, false, not, ⊎-elim, List, _∷_, ℕ, _-_, _<_, _≤_, arith, lt-ltb, le-ltb, le-leb, leb-true}
+use Rattle.laws.proofs.Prelude.{not-true, not-false, leb, left, right, either}
 use Rattle.decimal.specs.Decimal.{isDigit}
 use Rattle.decimal.specs.Parse.{parsed, failed, appendDigit, moreDigits, parseℕ}
 

@@ -1,11 +1,6 @@
 -- Whole numbers as text, as a printer writes them. Stands for 'whole numbers without leading zeros, a minus only before a number that is
 -- not 0': what no number prints to is no number's text.
-use mathlib.Core.Path.{_≡_}
-use mathlib.Core.Bool.{Bool, false, _&&_, cond}
-use mathlib.Core.List.{List, [], _∷_, _++_}
-use Prim.Native.Nat.{ℕ, zero, suc, _+_, _/_, _%_, _<_}
-use lib.Dec.{ltb, leb}
-use lib.IntN.{ℤ, pos, negsuc, natAbs}
+use Rattle.laws.specs.Prelude.{_≡_, Bool, false, _&&_, cond, List, [], _∷_, _++_, ℕ, zero, suc, _+_, _/_, _%_, _<_, ltb, leb, ℤ, pos, negsuc, natAbs}
 
 -- the digits of n, of which there are at most k
 unfoldable pub decimalIn : ℕ → ℕ → List ℕ

@@ -1,10 +1,5 @@
 -- Reading a whole number from the front of a text, byte by byte. proofs/Laws says what this is: the inverse of `decimal` and `decimalℤ`.
-use mathlib.Core.Bool.{Bool, false, _&&_, cond}
-use mathlib.Core.List.{List, [], _∷_}
-use Prim.Native.Nat.{ℕ, zero, suc, _+_, _-_, _*_}
-use lib.Dec.{ltb, eqb}
-use lib.IntN.{ℤ, pos, negsuc}
-use lib.ListN.{drop}
+use Rattle.laws.specs.Prelude.{Bool, false, _&&_, cond, List, [], _∷_, ℕ, zero, suc, _+_, _-_, _*_, ltb, eqb, ℤ, pos, negsuc, drop}
 use Rattle.decimal.specs.Decimal.{isDigit}
 
 -- what was read and the text after it, or nothing

@@ -1,9 +1,5 @@
 -- What the readers of numbers promise.
-use mathlib.Core.Path.{_≡_}
-use mathlib.Core.List.{List, _++_}
-use Prim.Native.Nat.{ℕ, _<_, _≤_}
-use lib.IntN.{ℤ}
-use lib.ListN.{length, drop}
+use Rattle.laws.specs.Prelude.{_≡_, List, _++_, ℕ, _<_, _≤_, ℤ, length, drop}
 use Rattle.decimal.specs.declared.Unsigned.{Unsigned}
 use Rattle.decimal.specs.declared.Unsigned.the-variants.{Natural, Missing}
 use Rattle.decimal.specs.declared.Signed.{Signed}

@@ -1,12 +1,5 @@
 -- What is told of an answer by numbers is told of an equal one. Assumes nothing.
-use mathlib.Core.Path.{_≡_, ap, subst, _∙_}
-use mathlib.Core.Bool.{Bool}
-use mathlib.Core.List.{List}
-use mathlib.Core.Option.{Option}
-use Prim.Native.Nat.{ℕ}
-use lib.Ieee.{Float}
-use lib.IntN.{ℤ}
-use Rattle.laws.specs.Answer.{Answer}
+use Rattle.laws.proofs.Prelude.{_≡_, ap, subst, _∙_, Bool, List, Option, ℕ, Float, ℤ, Answer}
 use Rattle.refusals.specs.Refusal.{Judgement, judgementIn}
 use Rattle.cached_tile.specs.declared.SolidColor.{SolidColor}
 use Rattle.cached_tile.specs.declared.kept.Kept.{Kept}

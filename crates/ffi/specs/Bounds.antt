@@ -1,6 +1,5 @@
 -- Covers known within bounds, told by numbers: the refusal or 0, and the six lent planes.
-use mathlib.Core.Path.{_≡_}
-use Prim.Native.Nat.{ℕ}
+use Rattle.laws.specs.Prelude.{_≡_, ℕ}
 use Rattle.refusals.specs.Refusal.{Judgement, pass, refuse}
 use Rattle.refusals.specs.declared.Verdict.{Verdict}
 use Rattle.cover_bounds_statements.specs.Within.{BoundsCall, BoundPlanes, boundsVerdict}

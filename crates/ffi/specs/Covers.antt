@@ -1,12 +1,5 @@
 -- A plane after a part was painted.
-use mathlib.Core.Bool.{cond, _&&_}
-use mathlib.Core.List.{List}
-use Prim.Native.Nat.{ℕ}
-use lib.Dec.{leb}
-use lib.IntN.{ℤ}
-use lib.Ieee.{Float}
-use lib.ListN.{length}
-use Rattle.laws.specs.Lists.{over}
+use Rattle.laws.specs.Prelude.{cond, _&&_, List, ℕ, leb, ℤ, Float, length, over}
 use Rattle.styling.specs.declared.FillRule.{FillRule}
 use Rattle.cover_statements.specs.Carry.{isLight}
 use Rattle.cover_statements.specs.Paint.{partPlane}

@@ -1,11 +1,6 @@
 -- Deciding about a tile as numbers: the cached tile's bytes; the decision, of a solid tile how many shown layers lie before those to mix, how many
 -- layers are skipped; and of a solid tile the bottom colour.
-use mathlib.Core.Path.{_≡_}
-use mathlib.Core.Bool.{Bool}
-use mathlib.Core.List.{List, [], _∷_}
-use Prim.Native.Nat.{ℕ}
-use lib.Ieee.{Float}
-use Rattle.laws.specs.Answer.{Answer, refused, given}
+use Rattle.laws.specs.Prelude.{_≡_, Bool, List, [], _∷_, ℕ, Float, Answer, refused, given}
 use Rattle.cached_tile.specs.declared.kept.Kept.{Kept}
 use Rattle.pass_statements.specs.Decision.{codeOf}
 use Rattle.listing_statements.specs.Deciding as deciding

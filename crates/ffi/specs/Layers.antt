@@ -1,9 +1,5 @@
 -- Colours as four numbers, and a draw as the numbers of a layer record.
-use mathlib.Core.Bool.{Bool, false, cond}
-use mathlib.Core.List.{List}
-use Prim.Native.Nat.{ℕ}
-use lib.Ieee.{Float, nan}
-use lib.ListN.{getD}
+use Rattle.laws.specs.Prelude.{Bool, false, cond, List, ℕ, Float, nan, getD}
 use Rattle.styling.specs.declared.Color.{Color}
 use Rattle.styling.specs.declared.Func.{Func}
 use Rattle.styling.specs.declared.Func.the-variants.{Draw}

@@ -1,8 +1,5 @@
 -- Listing a tile as numbers: the state, and how many layers are listed.
-use mathlib.Core.Path.{_≡_}
-use mathlib.Core.List.{List}
-use Prim.Native.Nat.{ℕ}
-use Rattle.laws.specs.Answer.{Answer, refused, given}
+use Rattle.laws.specs.Prelude.{_≡_, List, ℕ, Answer, refused, given}
 use Rattle.row_statements.specs.State.{State}
 use Rattle.listing_statements.specs.Listing.{ListLent, ListGiven}
 use Rattle.ffi_numbers.specs.Numbers.{refusalNumber}

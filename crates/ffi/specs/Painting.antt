@@ -1,9 +1,5 @@
 -- Painting a layer as numbers: what it answers, and what it leaves.
-use mathlib.Core.Path.{_≡_}
-use mathlib.Core.List.{List}
-use Prim.Native.Nat.{ℕ}
-use lib.Ieee.{Float}
-use Rattle.laws.specs.Answer.{Answer, refused, given}
+use Rattle.laws.specs.Prelude.{_≡_, List, ℕ, Float, Answer, refused, given}
 use Rattle.row_statements.specs.State.{State}
 use Rattle.row_statements.specs.Painting.{PaintGiven}
 use Rattle.ffi_numbers.specs.Numbers.{refusalNumber}

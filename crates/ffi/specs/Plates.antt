@@ -1,6 +1,5 @@
 -- A vertical crop by numbers.
-use mathlib.Core.Bool.{Bool, true, false}
-use Prim.Native.Nat.{ℕ}
+use Rattle.laws.specs.Prelude.{Bool, true, false, ℕ}
 use Rattle.plate.specs.declared.Crop.{Crop}
 use Rattle.plate.specs.declared.Crop.the-variants.{Absent, Rows}
 

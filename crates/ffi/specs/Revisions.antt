@@ -1,8 +1,5 @@
 -- Which layer record stands, told by numbers: the refusal or 0, how many layers stand, and the lent table.
-use mathlib.Core.Path.{_≡_}
-use mathlib.Core.List.{List}
-use Prim.Native.Nat.{ℕ}
-use lib.Ieee.{Float}
+use Rattle.laws.specs.Prelude.{_≡_, List, ℕ, Float}
 use Rattle.refusals.specs.Refusal.{Judgement}
 use Rattle.revision_statements.specs.Sent.{Sent}
 use Rattle.revision_statements.specs.Standing.{standingOf}

@@ -1,10 +1,6 @@
 -- The work on a tile as numbers: the decision (0 none, 1 solid, 2 paint), of a solid tile how many shown layers lie before those to mix, how many
 -- layers are listed, how many are skipped; and of a solid tile the bottom colour.
-use mathlib.Core.Path.{_≡_}
-use mathlib.Core.List.{List, [], _∷_}
-use Prim.Native.Nat.{ℕ}
-use lib.Ieee.{Float}
-use Rattle.laws.specs.Answer.{Answer, refused, given}
+use Rattle.laws.specs.Prelude.{_≡_, List, [], _∷_, ℕ, Float, Answer, refused, given}
 use Rattle.cached_tile.specs.declared.kept.Kept.{Kept}
 use Rattle.pass_statements.specs.Decision.{TileDecision, none, solid, paint, codeOf}
 use Rattle.row_statements.specs.State.{State}

@@ -1,9 +1,5 @@
 -- A batch of tiles as numbers: the state's, and how many tiles were worked, how many planes used, which queue holds the carries, and why it ended.
-use mathlib.Core.Path.{_≡_}
-use mathlib.Core.Bool.{Bool, true, false}
-use mathlib.Core.List.{List, [], _∷_}
-use Prim.Native.Nat.{ℕ}
-use Rattle.laws.specs.Answer.{Answer, refused, given}
+use Rattle.laws.specs.Prelude.{_≡_, Bool, true, false, List, [], _∷_, ℕ, Answer, refused, given}
 use Rattle.row_statements.specs.State.{State}
 use Rattle.batch_statements.specs.BatchLent.{BatchLent, sided}
 use Rattle.batch_statements.specs.Batch.{BatchEnd, asked, rowEnd, noRoom, nextRefused, BatchGiven, batchAnswer}

@@ -1,11 +1,6 @@
 -- The claim of specs/Batches: between batches the caller holds by numbers what it holds in a run, and each batch goes on with the run. Assumes nothing.
-use mathlib.Core.Path.{_≡_, refl, ap, sym, subst, _∙_}
-use mathlib.Core.Bool.{Bool, true, false}
-use mathlib.Core.List.{List, [], _∷_}
-use Prim.Native.Nat.{ℕ, zero, suc, _+_, _<_}
-use native.Mathlib.Omega.{arith}
-use lib.ListN.{getD}
-use Rattle.laws.specs.Answer.{Answer, refused, given}
+use Rattle.laws.proofs.Prelude.{_≡_, refl, ap, sym, subst, _∙_, Bool, true, false, List, [], _∷_, ℕ, zero, suc, _+_, _<_, arith, getD, Answer}
+use Rattle.laws.proofs.Prelude.{refused, given}
 use Rattle.row_statements.specs.Lent.{Columns}
 use Rattle.row_statements.specs.Due.{OpenRow, Past, atFirst}
 use Rattle.row_statements.specs.Run.{openRow, Held, Event, Run}

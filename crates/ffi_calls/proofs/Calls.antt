@@ -1,5 +1,5 @@
 -- The claim of specs/Calls: calls of works and paintings are calls of specs/ListingCalls, and what is right of them there is right here. Assumes nothing.
-use mathlib.Core.List.{List, [], _∷_, map}
+use Rattle.laws.proofs.Prelude.{List, [], _∷_, map}
 use Rattle.row_statements.specs.Due.{OpenRow, Past}
 use Rattle.listing_runs.specs.Run.{HeldList}
 use Rattle.ffi_calls.specs.Calls.{HeldNumbers, NumbersTold, Calls, pastTold, AllTold, CallsClaim}

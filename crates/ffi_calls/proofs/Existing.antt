@@ -1,11 +1,6 @@
 -- The claim of specs/Example: a call tells what its contract says of any numbers that are lent, so that calls by numbers exist for every list of
 -- choices. Assumes nothing.
-use mathlib.Core.Path.{_≡_, refl, ap, sym, subst, _∙_}
-use mathlib.Core.Bool.{Bool, true, false}
-use mathlib.Core.List.{List, [], _∷_}
-use Prim.Native.Nat.{ℕ}
-use lib.Ieee.{Float, ofBits, binary32}
-use lib.ListN.{replicate}
+use Rattle.laws.proofs.Prelude.{_≡_, refl, ap, sym, subst, _∙_, Bool, true, false, List, [], _∷_, ℕ, Float, ofBits, binary32, replicate}
 use Rattle.refusals.specs.Refusal.{Judgement, pass, refuse}
 use Rattle.cached_tile.specs.declared.kept.Kept as kept
 use Rattle.row_statements.specs.TileWork.{WorkCall, WorkLent, workVerdict, workOf}

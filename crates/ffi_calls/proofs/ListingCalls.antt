@@ -1,9 +1,6 @@
 -- The claim of specs/ListingCalls: between calls the caller holds by numbers what it holds in a run, each call keeps that, and what is held makes each
 -- call tell what is due. Assumes nothing.
-use mathlib.Core.Path.{_≡_, refl, ap, ap₂, subst, _∙_}
-use mathlib.Core.List.{List}
-use Prim.Native.Nat.{ℕ}
-use lib.Ieee.{Float}
+use Rattle.laws.proofs.Prelude.{_≡_, refl, ap, ap₂, subst, _∙_, List, ℕ, Float}
 use Rattle.refusals.specs.Refusal.{Judgement, refuse}
 use Rattle.layer_carrying.specs.Carrying.{handedOn}
 use Rattle.row_statements.specs.Lent.{layersOf}

@@ -1,12 +1,6 @@
 -- One call by numbers: it tells what is due of it, and what the caller then holds by numbers is what it holds after the step of a run with the answer
 -- that these numbers are of. Assumes nothing.
-use mathlib.Core.Path.{_≡_, refl, ap, ap₂, sym, subst, _∙_}
-use mathlib.Core.Bool.{Bool}
-use mathlib.Core.List.{List, _∷_}
-use Prim.Native.Nat.{ℕ, zero, suc, _-_, _<_}
-use native.Mathlib.Omega.{arith}
-use lib.Ieee.{Float}
-use lib.ListN.{length}
+use Rattle.laws.proofs.Prelude.{_≡_, refl, ap, ap₂, sym, subst, _∙_, Bool, List, _∷_, ℕ, zero, suc, _-_, _<_, arith, Float, length}
 use Rattle.refusals.specs.Refusal.{Judgement, pass, refuse}
 use Rattle.refusals.proofs.Naming.{Named}
 use Rattle.row_statements.specs.Lent.{Columns}

@@ -4,13 +4,7 @@
 -- row_statements/specs/Claim); a refused one is the first tile's refused work, tells its number, and all is as it was. A caller that sets the five numbers to
 -- 0 before a batch finds by the third which queue holds the carries, however the batch ended.
 -- proofs/Batches proves it.
-use mathlib.Core.Path.{_≡_}
-use mathlib.Core.Bool.{true, false}
-use mathlib.Core.List.{List, [], _∷_}
-use Prim.Native.Nat.{ℕ, zero, suc, _*_, _≤_, _<_}
-use lib.Dec.{leb}
-use lib.ListN.{getD}
-use Rattle.laws.specs.Answer.{Answer, refused, given}
+use Rattle.laws.specs.Prelude.{_≡_, true, false, List, [], _∷_, ℕ, zero, suc, _*_, _≤_, _<_, leb, getD, Answer, refused, given}
 use Rattle.refusals.specs.Refusal.{pass}
 use Rattle.segment_rows.specs.Rows.{Words}
 use Rattle.styling.specs.declared.Color.{Color}

@@ -3,13 +3,7 @@
 -- (listing_runs/specs/Due). Beside the numbers the caller holds the lists that accepted listings and works left, one a tile, each of as many entries
 -- as the call told, and a deciding names one of them by its tile. Stands for W-206's 'what holds along a row holds for lists decided as the listing
 -- call left them'. proofs/ListingCalls proves it.
-use mathlib.Core.Path.{_≡_}
-use mathlib.Core.Bool.{Bool}
-use mathlib.Core.List.{List, [], _∷_}
-use Prim.Native.Nat.{ℕ, zero, suc, _<_}
-use lib.Ieee.{Float}
-use lib.ListN.{getD}
-use Rattle.laws.specs.Answer.{refused}
+use Rattle.laws.specs.Prelude.{_≡_, Bool, List, [], _∷_, ℕ, zero, suc, _<_, Float, getD, refused}
 use Rattle.refusals.specs.Refusal.{refuse}
 use Rattle.segment_rows.specs.Rows.{Words}
 use Rattle.row_statements.specs.Lent.{Columns}

@@ -1,10 +1,5 @@
 -- The claim of specs/FourHighCalls. Assumes nothing.
-use mathlib.Core.Path.{_≡_, refl, sym, ap, subst, _∙_}
-use mathlib.Core.Bool.{Bool, true, false, not}
-use mathlib.Core.List.{List, [], _∷_}
-use Prim.Native.Nat.{ℕ, suc, _+_, _≤_}
-use native.Mathlib.Omega.{arith}
-use Rattle.laws.specs.Integer.{plus}
+use Rattle.laws.proofs.Prelude.{_≡_, refl, sym, ap, subst, _∙_, Bool, true, false, not, List, [], _∷_, ℕ, suc, _+_, _≤_, arith, plus}
 use Rattle.refusals.specs.Refusal.{Judgement, pass, refuse, unless}
 use Rattle.pixel_segment.specs.Field.{gpu}
 use Rattle.segment_rows.specs.Rows.{isRow}

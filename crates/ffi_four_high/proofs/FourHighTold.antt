@@ -1,8 +1,5 @@
 -- What is told by numbers of an opening, a work and a range of one layer's row. Assumes nothing.
-use mathlib.Core.Path.{_≡_, ap, subst, _∙_}
-use mathlib.Core.List.{List}
-use Prim.Native.Nat.{ℕ}
-use lib.Ieee.{Float}
+use Rattle.laws.proofs.Prelude.{_≡_, ap, subst, _∙_, List, ℕ, Float}
 use Rattle.refusals.specs.Refusal.{judgementIn}
 use Rattle.layer_row_gpu.specs.LayerState.{LayerState, layerStateIn}
 use Rattle.layer_row_gpu.specs.OpenLayer.{LayerCall, OpensLayer}

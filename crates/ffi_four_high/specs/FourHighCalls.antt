@@ -2,10 +2,7 @@
 -- numbers and lent slices alone. Every call tells what is due of it (layer_row_gpu/specs/LayerDue), which is worked from the whole row. The premise of
 -- each call is the export's own contract, at the numbers that the call before it left. A work paints its tile, so there is no painting beside it.
 -- proofs/FourHighCalls proves it, and that such calls exist after every opening.
-use mathlib.Core.Path.{_≡_}
-use mathlib.Core.List.{List, [], _∷_, map}
-use Prim.Native.Nat.{ℕ, _+_}
-use lib.Ieee.{Float}
+use Rattle.laws.specs.Prelude.{_≡_, List, [], _∷_, map, ℕ, _+_, Float}
 use Rattle.refusals.specs.Refusal.{refuse}
 use Rattle.layer_row_gpu.specs.OpenLayer.{LayerCall}
 use Rattle.layer_row_gpu.specs.LayerState.{LayerState}

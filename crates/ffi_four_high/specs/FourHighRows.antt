@@ -1,11 +1,6 @@
 -- One layer's row of tiles four pixels high as numbers, six words and the four bytes of a cover; its opening, its works and its ranges by them. Stands for
 -- W-213, for callers that know no struct.
-use mathlib.Core.Path.{_≡_}
-use mathlib.Core.List.{List, [], _∷_}
-use Prim.Native.Nat.{ℕ}
-use lib.Ieee.{Float}
-use lib.IntN.{ℤ}
-use lib.ListN.{getD}
+use Rattle.laws.specs.Prelude.{_≡_, List, [], _∷_, ℕ, Float, ℤ, getD}
 use Rattle.refusals.specs.Refusal.{Judgement, pass, refuse}
 use Rattle.styling.specs.Codes.{ruleCode, ruleOf}
 use Rattle.layer_row_gpu.specs.LayerState.{LayerState}

@@ -1,10 +1,5 @@
 -- A cached tile as its eight bytes: the tag, the count's three, lowest first, and the colour's four.
-use mathlib.Core.Bool.{Bool, true, false, cond}
-use mathlib.Core.List.{List, [], _∷_}
-use mathlib.Core.Option.{Option, some, none}
-use Prim.Native.Nat.{ℕ}
-use lib.ListN.{getD}
-use Rattle.laws.specs.Answer.{Answer, refused, given}
+use Rattle.laws.specs.Prelude.{Bool, true, false, cond, List, [], _∷_, Option, some, none, ℕ, getD, Answer, refused, given}
 use Rattle.cached_tile.specs.declared.CachedTile.{CachedTile}
 use Rattle.cached_tile.specs.declared.SolidColor.{SolidColor}
 use Rattle.cached_tile.specs.declared.kept.Kept.{Kept}

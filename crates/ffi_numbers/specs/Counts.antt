@@ -1,9 +1,5 @@
 -- Whether a tile may keep its count, told by numbers: the refusal or 0, whether the count stays, and the cached tile's bytes.
-use mathlib.Core.Path.{_≡_}
-use mathlib.Core.Bool.{Bool}
-use mathlib.Core.List.{List}
-use Prim.Native.Nat.{ℕ}
-use Rattle.laws.specs.Answer.{Answer, refused, given}
+use Rattle.laws.specs.Prelude.{_≡_, Bool, List, ℕ, Answer, refused, given}
 use Rattle.cached_tile.specs.declared.kept.Kept.{Kept}
 use Rattle.kept_count.specs.Keeping.{CountGiven}
 use Rattle.ffi_numbers.specs.Numbers.{refusalNumber}

@@ -1,7 +1,5 @@
 -- Answers as numbers, for callers that know no enum.
-use mathlib.Core.Bool.{Bool, true, false}
-use Prim.Native.Nat.{ℕ}
-use Rattle.laws.specs.Answer.{Answer, refused, given}
+use Rattle.laws.specs.Prelude.{Bool, true, false, ℕ, Answer, refused, given}
 use Rattle.refusals.specs.Refusal.{Judgement, pass, refuse}
 use Rattle.segment_rows.specs.Search.{Place, found, absent}
 

@@ -1,12 +1,5 @@
 -- A row's state as numbers, six words and two counts, and its opening by them. Stands for 'a state passed by value' for callers that know no struct.
-use mathlib.Core.Path.{_≡_}
-use mathlib.Core.Bool.{cond}
-use mathlib.Core.List.{List, [], _∷_}
-use mathlib.Core.Option.{Option, some, none}
-use Prim.Native.Nat.{ℕ}
-use lib.Dec.{eqb}
-use lib.ListN.{getD}
-use Rattle.laws.specs.Answer.{Answer, refused, given}
+use Rattle.laws.specs.Prelude.{_≡_, cond, List, [], _∷_, Option, some, none, ℕ, eqb, getD, Answer, refused, given}
 use Rattle.row_statements.specs.Lent.{Columns}
 use Rattle.row_statements.specs.State.{State}
 use Rattle.row_statements.specs.Opening.{OpenGiven}

@@ -1,14 +1,6 @@
 -- Any list of calls by numbers is that of edits. Assumes nothing.
-use mathlib.Core.Path.{_≡_, refl, sym, ap, subst, _∙_}
-use mathlib.Core.Bool.{Bool, true, false, not}
-use mathlib.Core.List.{List, [], _∷_}
-use Prim.Native.Nat.{ℕ, zero, suc, _+_}
-use native.Mathlib.Omega.{arith}
-use lib.Dec.{leb, ltb}
-use lib.IntN.{ℤ}
-use lib.ListN.{length, getD}
-use borrow.Author.Tests.{le-ltb}
-use Rattle.laws.specs.Lists.{all}
+use Rattle.laws.proofs.Prelude.{_≡_, refl, sym, ap, subst, _∙_, Bool, true, false, not, List, [], _∷_, ℕ, zero, suc, _+_, arith, leb, ltb, ℤ, length}
+use Rattle.laws.proofs.Prelude.{getD, le-ltb, all}
 use Rattle.refusals.specs.Refusal.{Judgement, pass, refuse, unless, numberOf, judgementIn}
 use Rattle.refusals.specs.declared.Refusal.{Refusal}
 use Rattle.refusals.specs.declared.Refusal.the-variants.{Room, Row, Covers, NotHeld, Slots}

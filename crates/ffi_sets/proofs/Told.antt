@@ -1,8 +1,5 @@
 -- What is told of an edit by numbers, from what the operation gives. Assumes nothing.
-use mathlib.Core.Path.{_≡_, ap, _∙_}
-use mathlib.Core.List.{List}
-use Prim.Native.Nat.{ℕ}
-use lib.IntN.{ℤ}
+use Rattle.laws.proofs.Prelude.{_≡_, ap, _∙_, List, ℕ, ℤ}
 use Rattle.refusals.specs.Refusal.{Judgement, judgementIn}
 use Rattle.segment_set_statements.specs.Set.{SetState, Beginning, Gives, beginVerdict, beginOf}
 use Rattle.segment_set_statements.specs.declared.Edited.{Edited}

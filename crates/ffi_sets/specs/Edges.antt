@@ -1,9 +1,5 @@
 -- Worked cases of the layer and the tile in lent memory: a set begun with nothing in one slot, the incoming cover 16 in each row. Stands for W-207.
-use mathlib.Core.Path.{_≡_}
-use mathlib.Core.List.{List, [], _∷_}
-use Prim.Native.Nat.{ℕ}
-use lib.IntN.{ℤ, pos, negsuc}
-use lib.ListN.{replicate}
+use Rattle.laws.specs.Prelude.{_≡_, List, [], _∷_, ℕ, ℤ, pos, negsuc, replicate}
 use Rattle.refusals.specs.Refusal.{Judgement, pass, refuse}
 use Rattle.segment_set_statements.specs.Set.{Beginning, beginning, beginVerdict, beginOf, takeVerdict}
 use Rattle.ffi_sets.specs.Sets.{SetLent, setPlace, setNumbers, setLent, stateFrom, begunLent}

@@ -1,11 +1,7 @@
 -- Demand 3 for callers of a kept set's exports: a beginning that tells 0 and any list of edits after it, refused ones included, told by numbers and
 -- lent memory alone. The premise of each call is the export's own contract, at the memory that the call before it left; between calls other slots
 -- may be lent, longer ones say. Stands for W-207. proofs/Calls proves it.
-use mathlib.Core.Path.{_≡_}
-use mathlib.Core.Bool.{not}
-use mathlib.Core.List.{List, [], _∷_}
-use Prim.Native.Nat.{ℕ, zero, suc}
-use lib.IntN.{ℤ}
+use Rattle.laws.specs.Prelude.{_≡_, not, List, [], _∷_, ℕ, zero, suc, ℤ}
 use Rattle.refusals.specs.Refusal.{Judgement, pass, unless}
 use Rattle.segment_set_statements.specs.Set.{heldOf, isOf, isWordHeld, Beginning, beginning, beginVerdict}
 use Rattle.segment_set_statements.specs.Kept.{Holds}

@@ -1,11 +1,7 @@
 -- A kept set of segments as numbers in lent memory: the layer and the tile that it is of, which its beginning alone writes and each edit reads; its
 -- carry, its loads and how many slots are held; the slots and d. Every content is a set's: of a layer or a tile that no segment has, each edit is
 -- refused by 3. Stands for W-207, for callers that know no struct.
-use mathlib.Core.Path.{_≡_}
-use mathlib.Core.List.{List, [], _∷_}
-use Prim.Native.Nat.{ℕ}
-use lib.IntN.{ℤ, pos}
-use lib.ListN.{getD}
+use Rattle.laws.specs.Prelude.{_≡_, List, [], _∷_, ℕ, ℤ, pos, getD}
 use Rattle.refusals.specs.Refusal.{Judgement, pass, refuse}
 use Rattle.segment_set_statements.specs.Set.{SetState, state, Beginning, beginVerdict, beginOf, takeVerdict, takeOf, letVerdict, letOf}
 use Rattle.segment_set_statements.specs.declared.SegmentSet.{SegmentSet}

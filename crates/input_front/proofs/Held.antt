@@ -1,10 +1,5 @@
 -- What a buffer holds of an input, by the room that it has. Assumes nothing.
-use mathlib.Core.Path.{_≡_, sym, ap, _∙_}
-use mathlib.Core.List.{List}
-use Prim.Native.Nat.{ℕ}
-use native.Mathlib.Omega.{arith}
-use lib.ListN.{length, take, length-take}
-use lib.Seq.{take-all}
+use Rattle.laws.proofs.Prelude.{_≡_, sym, ap, _∙_, List, ℕ, arith, length, take, length-take, take-all}
 use Rattle.input_front.specs.Front.{HoldsFront}
 
 pub held : {buffer whole part : List ℕ} {n : ℕ} (room : ℕ) → HoldsFront buffer n whole → part ≡ take n buffer → length buffer ≡ room → part ≡ take room whole

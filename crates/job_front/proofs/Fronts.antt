@@ -1,16 +1,7 @@
 -- The first 65,537 bytes of an input decide the job that it is: a longer text is none, and so is its front.
 -- Assumes nothing.
-use mathlib.Core.Path.{_≡_, sym, ap, subst, _∙_}
-use mathlib.Core.Logic.{⊎-elim}
-use mathlib.Core.List.{List}
-use mathlib.Core.Option.{none}
-use Prim.Native.Nat.{ℕ, _≤_, _<_}
-use native.Mathlib.Omega.{arith}
-use borrow.Author.Tests.{lt-ltb}
-use lib.Ieee.{Float}
-use lib.ListN.{length, take}
-use lib.Seq.{length-take-le, take-all}
-use Rattle.laws.proofs.Orders.{le-or-lt}
+use Rattle.laws.proofs.Prelude.{_≡_, sym, ap, subst, _∙_, ⊎-elim, List, none, ℕ, _≤_, _<_, arith, lt-ltb, Float, length, take, length-take-le}
+use Rattle.laws.proofs.Prelude.{take-all, le-or-lt}
 use Rattle.job_text_statements.specs.Parse.{parseBlocks, parse}
 use Rattle.job_statements.specs.Read.{JobOutcome, outcomeBy, jobOutcome, Left, JobRead}
 use Rattle.job_statements.specs.declared.Reading.{Reading}

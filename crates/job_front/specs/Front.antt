@@ -1,9 +1,6 @@
 -- How much of an input the programs read that take a job: one byte more than 'a job of at most 65,536 bytes' of document 01 has. It is enough to
 -- tell a longer text, which is malformed.
-use mathlib.Core.Path.{_≡_}
-use mathlib.Core.List.{List}
-use Prim.Native.Nat.{ℕ}
-use lib.ListN.{take}
+use Rattle.laws.specs.Prelude.{_≡_, List, ℕ, take}
 use Rattle.job_text_statements.specs.Parse.{parse}
 
 abbrev pub inputRoom : ℕ

@@ -1,17 +1,8 @@
 -- What the rules on a line say of its numbers, as bounds on their parts.
 -- Assumes nothing.
-use mathlib.Core.Path.{_≡_}
-use mathlib.Core.Bool.{true, not, _&&_, _||_}
-use Prim.Native.Nat.{_+_, _≤_, _<_}
-use native.Mathlib.Omega.{arith}
-use lib.IntN.{ℤ, pos, _-ℤ_}
-use mir.Syntax.{w32}
-use mir.Val.{SFits}
-use Rattle.laws.specs.Integer.{plus, minus, isWithin}
-use Rattle.laws.proofs.Bools.{left, right}
+use Rattle.laws.proofs.Prelude.{_≡_, true, not, _&&_, _||_, _+_, _≤_, _<_, arith, ℤ, pos, _-ℤ_, w32, SFits, plus, minus, isWithin, left, right, whole}
+use Rattle.laws.proofs.Prelude.{added, taken, sfits}
 use Rattle.laws.proofs.Ranges.{within}
-use Rattle.laws.proofs.Parts.{whole, added, taken}
-use Rattle.laws.proofs.Machine.{sfits}
 use Rattle.pixel_segment.specs.Field.{cpu}
 use Rattle.pixel_segment.specs.Pack.{isPackable}
 use Rattle.pixel_segment.proofs.Ranges.{cpu-layout, in-range}

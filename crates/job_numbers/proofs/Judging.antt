@@ -1,14 +1,7 @@
 -- Loops over lines: a test of each, and a sum over them.
 -- Assumes nothing.
-use mathlib.Core.Path.{_≡_, refl, ap, ap₂, _∙_}
-use mathlib.Core.Bool.{Bool, true, _&&_}
-use Prim.Native.Nat.{ℕ, _+_, _<_, _≤_}
-use native.Mathlib.Numerals.{add-one}
-use native.Mathlib.Omega.{arith}
-use Rattle.laws.specs.Lists.{tabulate, every, all}
-use Rattle.laws.proofs.Bools.{same}
-use Rattle.laws.proofs.Every.{every-intro, every-at, all-intro, all-at}
-use Rattle.laws.proofs.Rows.{length-tabulate, getD-tabulate}
+use Rattle.laws.proofs.Prelude.{_≡_, refl, ap, ap₂, _∙_, Bool, true, _&&_, ℕ, _+_, _<_, _≤_, add-one, arith, tabulate, every, all, same, every-intro}
+use Rattle.laws.proofs.Prelude.{every-at, all-intro, all-at, length-tabulate, getD-tabulate}
 
 module _ {A : Type 0} (p : A → Bool) (f : ℕ → A) where
   -- a test of each index is one of each element

@@ -1,10 +1,7 @@
 -- What reading leaves of a few lines, as numbers: P1 and P2 as lines of a text, row numbers that refusal 2 later turns down, a negative layer
 -- id, and alphas.
 -- Assumes nothing.
-use mathlib.Core.Path.{_≡_, refl}
-use mathlib.Core.List.{List, [], _∷_, flatten}
-use lib.Ieee.{odd, ofBits, binary32}
-use lib.IntN.{pos, negsuc}
+use Rattle.laws.proofs.Prelude.{_≡_, refl, List, [], _∷_, flatten, odd, ofBits, binary32, pos, negsuc}
 use Rattle.job_lines.specs.declared.segment.SegmentLine.{SegmentLine}
 use Rattle.job_text_statements.specs.Parse.{layerLineOf, segmentOf}
 use Rattle.job_statements.specs.Table.{alphaOf, tableWords}

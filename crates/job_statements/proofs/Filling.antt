@@ -1,12 +1,7 @@
 -- What holds while a lent list is filled from the front, an entry a turn, with f 0, f 1, ..: laws of use for any such loop.
 -- Assumes nothing.
-use mathlib.Core.Path.{_≡_, refl, sym, ap, _∙_}
-use mathlib.Core.List.{List}
-use Prim.Native.Nat.{ℕ, _+_, _<_, _≤_}
-use native.Mathlib.Omega.{arith}
-use lib.ListN.{length, getD, set}
-use Rattle.laws.specs.Lists.{tabulate, over}
-use Rattle.laws.proofs.Rows.{length-tabulate, getD-tabulate, filled, length-filled, filled-more, filled-all}
+use Rattle.laws.proofs.Prelude.{_≡_, refl, sym, ap, _∙_, List, ℕ, _+_, _<_, _≤_, arith, length, getD, set, tabulate, over, length-tabulate}
+use Rattle.laws.proofs.Prelude.{getD-tabulate, filled, length-filled, filled-more, filled-all}
 
 module _ {A : Type 0} (n : ℕ) (f : ℕ → A) where
   pub record Filling (old : List A) (k : ℕ) (new : List A) : Type 0 where

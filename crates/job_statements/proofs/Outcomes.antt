@@ -1,19 +1,7 @@
 -- What each outcome leaves, from the test of the lent arrays and from what the writers leave.
 -- Assumes nothing.
-use mathlib.Core.Path.{_≡_, refl, _∙_}
-use mathlib.Core.Bool.{true, false, _&&_}
-use mathlib.Core.List.{List}
-use mathlib.Core.Option.{Option, some, none}
-use Prim.Native.Nat.{ℕ, _*_, _/_, _≤_}
-use native.Mathlib.Omega.{arith}
-use borrow.Author.Tests.{leb-true}
-use lib.Dec.{leb}
-use lib.Ieee.{Float}
-use lib.IntN.{ℤ}
-use lib.ListN.{length}
-use Rattle.laws.specs.Lists.{over, all}
-use Rattle.laws.proofs.Bools.{left, right}
-use Rattle.laws.proofs.Rows.{length-tabulate}
+use Rattle.laws.proofs.Prelude.{_≡_, refl, _∙_, true, false, _&&_, List, Option, some, none, ℕ, _*_, _/_, _≤_, arith, leb-true, leb, Float, ℤ, length}
+use Rattle.laws.proofs.Prelude.{over, all, left, right, length-tabulate}
 use Rattle.decimal.proofs.Steps.{cases}
 use Rattle.job_text_statements.specs.declared.Head.{Head}
 use Rattle.job_text_statements.specs.Job.{Job, isAllowed}

@@ -1,17 +1,6 @@
 -- The words of a line: packing gives each of them, and each reads back as the numbers of the text. Assumes nothing.
-use mathlib.Core.Path.{_≡_, refl, _∙_}
-use mathlib.Core.Bool.{Bool, true, false, cond, _&&_}
-use Prim.Native.Nat.{ℕ, _+_, _<_, _≤_}
-use native.Mathlib.Omega.{arith}
-use lib.IntN.{ℤ, pos, _+ℤ_}
-use lib.Dec.{leb}
-use lib.ListN.{length, getD}
-use Rattle.laws.specs.Answer.{refused, given}
-use Rattle.laws.specs.Integer.{plus, minus}
-use Rattle.laws.specs.Lists.{all}
-use Rattle.laws.proofs.Bools.{left, right}
-use Rattle.laws.proofs.Every.{all-at}
-use Rattle.laws.proofs.Parts.{added}
+use Rattle.laws.proofs.Prelude.{_≡_, refl, _∙_, Bool, true, false, cond, _&&_, ℕ, _+_, _<_, _≤_, arith, ℤ, pos, _+ℤ_, leb, length, getD, refused}
+use Rattle.laws.proofs.Prelude.{given, plus, minus, all, left, right, all-at, added}
 use Rattle.pixel_segment.specs.Field.{cpu, widthOf}
 use Rattle.pixel_segment.specs.Pack.{lowestTile, isPackable, packOf, ReadsBack}
 use Rattle.pixel_segment.proofs.Ranges.{cpu-layout, in-range, packable, tile, is-tile}

@@ -1,15 +1,8 @@
 -- The table that reading leaves, as `styling` reads it: record i is that of line i, so the table's layers are those of the lines, in order.
 -- Assumes nothing.
-use mathlib.Core.Path.{_≡_, refl, sym, ap, ap₂, _∙_}
-use mathlib.Core.List.{List, [], _∷_, _++_, map, flatten}
-use Prim.Native.Nat.{ℕ, zero, suc, _+_, _*_, _<_, _≤_}
-use native.Mathlib.Nat.{add-zero}
-use native.Mathlib.Omega.{arith}
-use lib.Ieee.{Float, nan}
-use lib.ListN.{length, drop, getD, length-append, length-map, List·getD-append, List·getD-map}
-use lib.Seq.{getD-append-add}
-use Rattle.laws.specs.Lists.{over}
-use Rattle.laws.proofs.Rows.{is-tabulate}
+use Rattle.laws.proofs.Prelude.{_≡_, refl, sym, ap, ap₂, _∙_, List, [], _∷_, _++_, map, flatten, ℕ, zero, suc, _+_, _*_, _<_, _≤_, add-zero, arith}
+use Rattle.laws.proofs.Prelude.{Float, nan, length, drop, getD, length-append, length-map, List·getD-append, List·getD-map, getD-append-add, over}
+use Rattle.laws.proofs.Prelude.{is-tabulate}
 use Rattle.styling.specs.declared.Layer.{Layer}
 use Rattle.layer_table.specs.Record.{layerOf}
 use Rattle.layer_table.specs.Table.{wordsAt, colorAt, layerAt, tableOf}

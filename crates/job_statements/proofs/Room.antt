@@ -1,16 +1,6 @@
 -- Lent arrays of 512 words, 256 floats and 2,048 row words hold every job, so that reading into such arrays answers the numbers of a job or 10.
 -- Assumes nothing.
-use mathlib.Core.Path.{_≡_}
-use mathlib.Core.Bool.{true, _&&_}
-use mathlib.Core.List.{List, map}
-use Prim.Native.Nat.{ℕ, _/_, _≤_}
-use native.Mathlib.Omega.{arith}
-use borrow.Author.Tests.{le-leb, leb-true}
-use lib.Dec.{leb}
-use lib.Ieee.{Float}
-use lib.ListN.{length, length-map}
-use Rattle.laws.specs.Lists.{all}
-use Rattle.laws.proofs.Bools.{both, right}
+use Rattle.laws.proofs.Prelude.{_≡_, true, _&&_, List, map, ℕ, _/_, _≤_, arith, le-leb, leb-true, leb, Float, length, length-map, all, both, right}
 use Rattle.job_lines.specs.Rules.{layerRule, segmentRule, segmentCount}
 use Rattle.job_text_statements.specs.Job.{Job, layerValues, isAllowed, WellFormed}
 use Rattle.job_statements.specs.Read.{hasRoom}

@@ -1,18 +1,8 @@
 -- What holds while a line's words are written, and while the lines' words are.
 -- Assumes nothing.
-use mathlib.Core.Path.{_≡_, refl, sym, ap, ap₂, subst, _∙_}
-use mathlib.Core.Bool.{true}
-use mathlib.Core.List.{List, [], _∷_, _++_, map, flatten}
-use Prim.Native.Nat.{ℕ, _+_, _<_, _≤_}
-use native.Mathlib.Nat.{zero-add}
-use native.Mathlib.Numerals.{add-one}
-use native.Mathlib.Omega.{arith}
-use lib.IntN.{ℤ}
-use lib.ListN.{length, drop, set, length-append, drop-of-length-le}
-use lib.Seq.{sets, sets-eq, length-sets, drop-cons}
-use Rattle.laws.specs.Integer.{plus}
-use Rattle.laws.specs.Lists.{tabulate, over}
-use Rattle.laws.proofs.Rows.{length-tabulate, getD-tabulate}
+use Rattle.laws.proofs.Prelude.{_≡_, refl, sym, ap, ap₂, subst, _∙_, true, List, [], _∷_, _++_, map, flatten, ℕ, _+_, _<_, _≤_, zero-add, add-one}
+use Rattle.laws.proofs.Prelude.{arith, ℤ, length, drop, set, length-append, drop-of-length-le, sets, sets-eq, length-sets, drop-cons, plus, tabulate}
+use Rattle.laws.proofs.Prelude.{over, length-tabulate, getD-tabulate}
 use Rattle.decimal.proofs.Print.{sets-append}
 use Rattle.job_lines.specs.declared.segment.SegmentLine.{SegmentLine}
 use Rattle.job_lines.specs.Rules.{segmentRule, segmentCount}

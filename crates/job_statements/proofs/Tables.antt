@@ -1,16 +1,7 @@
 -- The table's entries by their place are those of its records, one after another.
 -- Assumes nothing.
-use mathlib.Core.Path.{_≡_, sym, ap, _∙_}
-use mathlib.Core.Bool.{true}
-use mathlib.Core.List.{List, flatten}
-use Prim.Native.Nat.{ℕ, _+_, _*_, _/_, _%_, _<_, _≤_}
-use native.Mathlib.Nat.{add-zero}
-use native.Mathlib.Omega.{arith}
-use lib.IntN.{ℤ}
-use Rattle.laws.specs.Integer.{plus, minus}
-use Rattle.laws.specs.Lists.{tabulate, all}
-use Rattle.laws.proofs.Every.{all-at}
-use Rattle.laws.proofs.Rows.{length-tabulate, getD-tabulate}
+use Rattle.laws.proofs.Prelude.{_≡_, sym, ap, _∙_, true, List, flatten, ℕ, _+_, _*_, _/_, _%_, _<_, _≤_, add-zero, arith, ℤ, plus, minus, tabulate}
+use Rattle.laws.proofs.Prelude.{all, all-at, length-tabulate, getD-tabulate}
 use Rattle.job_lines.specs.Rules.{layerRule}
 use Rattle.job_text_statements.specs.Numbers.{numberAt, layerLineAt, layerLines}
 use Rattle.job_lines.proofs.Ranges.{alpha-range}

@@ -1,14 +1,6 @@
 -- What the inner functions promise: an entry of the table by its place, a line's fields as packing takes them, and a packed word.
 -- proofs/Tables and proofs/Rows say that these are the entries of `tableWords`, `tableColors` and `rowWords`.
-use mathlib.Core.Path.{_≡_}
-use mathlib.Core.Bool.{Bool, cond}
-use mathlib.Core.List.{List}
-use Prim.Native.Nat.{ℕ, _+_, _*_, _/_, _%_}
-use lib.Dec.{eqb}
-use lib.Ieee.{Float}
-use lib.IntN.{ℤ, pos}
-use lib.Seq.{sets}
-use Rattle.laws.specs.Integer.{plus}
+use Rattle.laws.specs.Prelude.{_≡_, Bool, cond, List, ℕ, _+_, _*_, _/_, _%_, eqb, Float, ℤ, pos, sets, plus}
 use Rattle.pixel_segment.specs.Field.{cpu}
 use Rattle.pixel_segment.specs.Pack.{wordOf, isPackable}
 use Rattle.job_lines.specs.declared.segment.SegmentLine.{SegmentLine}

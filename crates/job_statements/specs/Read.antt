@@ -1,15 +1,6 @@
 -- What `read_job` promises: its answer, and all three lent arrays at exit.
-use mathlib.Core.Path.{_≡_}
-use mathlib.Core.Bool.{Bool, true, false, cond, _&&_}
-use mathlib.Core.List.{List, []}
-use mathlib.Core.Option.{Option, some, none}
-use Prim.Native.Nat.{ℕ, _*_, _/_, _≤_}
-use lib.Dec.{leb}
-use lib.Ieee.{Float}
-use lib.IntN.{ℤ}
-use lib.ListN.{length}
-use Rattle.laws.specs.Answer.{Answer, refused, given}
-use Rattle.laws.specs.Lists.{over, all}
+use Rattle.laws.specs.Prelude.{_≡_, Bool, true, false, cond, _&&_, List, [], Option, some, none, ℕ, _*_, _/_, _≤_, leb, Float, ℤ, length, Answer}
+use Rattle.laws.specs.Prelude.{refused, given, over, all}
 use Rattle.job_text_statements.specs.declared.Head.{Head}
 use Rattle.job_statements.specs.declared.Reading.{Reading}
 use Rattle.job_statements.specs.declared.Reading.the-variants.{Accepted, NoRoom, Malformed}

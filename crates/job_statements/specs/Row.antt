@@ -2,12 +2,7 @@
 -- segment downward'.
 -- The words are those of packing (`wordOf`), at the tile y of the job's row. Only refusal 2 judges the row number, after the text is read, so
 -- it can be any number here: where packing does not take it, the words have tile y -1, which no opening accepts either.
-use mathlib.Core.Bool.{Bool, cond}
-use mathlib.Core.List.{List, map, flatten}
-use Prim.Native.Nat.{ℕ, _+_}
-use lib.IntN.{ℤ}
-use Rattle.laws.specs.Integer.{plus}
-use Rattle.laws.specs.Lists.{tabulate}
+use Rattle.laws.specs.Prelude.{Bool, cond, List, map, flatten, ℕ, _+_, ℤ, plus, tabulate}
 use Rattle.pixel_segment.specs.Field.{cpu, widthOf}
 use Rattle.pixel_segment.specs.Pack.{wordOf, isHeld, lowestTile}
 use Rattle.job_lines.specs.declared.segment.SegmentLine.{SegmentLine}

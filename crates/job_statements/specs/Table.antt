@@ -1,11 +1,6 @@
 -- The layer table that a job leaves: eight words a record (id, rule, func, span, clipped, fill, blend mode, unchanged) and four floats (red,
 -- green, blue, alpha). Stands for 'alpha is 0 to 256, divided by 256; other colours are 0' and 'every layer counts as changed'.
-use mathlib.Core.Bool.{false}
-use mathlib.Core.List.{List, [], _∷_, map, flatten}
-use Prim.Native.Nat.{ℕ, _^_}
-use lib.Ieee.{Float, binary32, odd, ofBits}
-use lib.IntN.{ℤ}
-use Rattle.laws.specs.Integer.{plus, modℤ}
+use Rattle.laws.specs.Prelude.{false, List, [], _∷_, map, flatten, ℕ, _^_, Float, binary32, odd, ofBits, ℤ, plus, modℤ}
 use Rattle.styling.specs.declared.Color.{Color}
 use Rattle.layer_table.specs.declared.Words.{Words}
 use Rattle.job_lines.specs.declared.layer.LayerLine.{LayerLine}

@@ -1,13 +1,8 @@
 -- Each answer of `read_blocks`, from what its blocks give. An answer's text is `blockOf s r`: of `Lines n i` the text from place i on, of `Cut`
 -- none.
 -- Assumes nothing.
-use mathlib.Core.Path.{_≡_, refl, sym, ap, _∙_}
-use mathlib.Core.List.{List, [], _∷_}
-use mathlib.Core.Option.{Option, some, none}
-use Prim.Native.Nat.{ℕ, suc, _<_, _≤_}
-use lib.IntN.{ℤ}
-use lib.ListN.{length, drop, getD, drop-of-length-le}
-use lib.Seq.{drop-cons}
+use Rattle.laws.proofs.Prelude.{_≡_, refl, sym, ap, _∙_, List, [], _∷_, Option, some, none, ℕ, suc, _<_, _≤_, ℤ, length, drop, getD}
+use Rattle.laws.proofs.Prelude.{drop-of-length-le, drop-cons}
 use Rattle.lines.specs.declared.Block.{Block}
 use Rattle.lines.specs.declared.Block.the-variants.{Lines, Cut}
 use Rattle.lines.specs.Parse.{parseBlock}

@@ -1,18 +1,7 @@
 -- What holds while segments are counted: those counted and those of the lines left are those of all lines.
 -- Assumes nothing.
-use mathlib.Core.Path.{_≡_, ap}
-use mathlib.Core.Bool.{true}
-use mathlib.Core.List.{List}
-use Prim.Native.Nat.{ℕ, _+_, _*_, _<_, _≤_}
-use native.Mathlib.Numerals.{add-one}
-use native.Mathlib.Omega.{arith}
-use lib.IntN.{ℤ}
-use lib.ListN.{length, drop, getD, drop-of-length-le}
-use lib.Seq.{drop-cons}
-use Rattle.laws.specs.Integer.{plus}
-use Rattle.laws.specs.Lists.{all}
-use Rattle.laws.proofs.Every.{all-at}
-use Rattle.laws.proofs.Rows.{length-tabulate, getD-tabulate}
+use Rattle.laws.proofs.Prelude.{_≡_, ap, true, List, ℕ, _+_, _*_, _<_, _≤_, add-one, arith, ℤ, length, drop, getD, drop-of-length-le, drop-cons, plus}
+use Rattle.laws.proofs.Prelude.{all, all-at, length-tabulate, getD-tabulate}
 use Rattle.job_lines.specs.declared.segment.SegmentLine.{SegmentLine}
 use Rattle.job_lines.specs.Rules.{segmentRule, segmentCount}
 use Rattle.job_text_statements.specs.Numbers.{segmentAt, segmentsIn}

@@ -1,14 +1,7 @@
 -- Document 01's job, as the text that it prints and as what is read of it; and the edges of the rules, tried on short texts.
 -- Assumes nothing.
-use mathlib.Core.Path.{_≡_, refl}
-use mathlib.Core.Bool.{Bool, true, false, not}
-use mathlib.Core.List.{List, [], _∷_, _++_}
-use mathlib.Core.Option.{some, none}
-use Prim.Native.Nat.{ℕ, zero, suc}
+use Rattle.laws.proofs.Prelude.{_≡_, refl, Bool, true, false, not, List, [], _∷_, _++_, some, none, ℕ, zero, suc, pos, negsuc, isWithin, all}
 use Prim.Native.String.{String}
-use lib.IntN.{pos, negsuc}
-use Rattle.laws.specs.Integer.{isWithin}
-use Rattle.laws.specs.Lists.{all}
 use Rattle.decimal.specs.Decimal.{decimal, decimalIn}
 use Rattle.decimal.specs.Parse.{parseℤ, parseℕ, moreDigits}
 use Rattle.lines.specs.Bytes.{bytes}

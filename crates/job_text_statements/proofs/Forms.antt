@@ -1,16 +1,7 @@
 -- Reading the three blocks is the inverse of printing them: `parseBlocks` takes exactly the texts of well-formed blocks.
 -- Assumes nothing.
-use mathlib.Core.Path.{_≡_, refl, sym, ap, _∙_, subst}
-use mathlib.Core.Bool.{false}
-use mathlib.Core.List.{List, [], _∷_, _++_, append-nil}
-use mathlib.Core.Option.{Option, some, none}
-use Prim.Native.Nat.{ℕ, _≤_, _<_}
-use native.Mathlib.Decide.{decLt}
-use native.Mathlib.Omega.{arith}
-use borrow.Author.Tests.{eq-eqb, ne-eqb, eqb-true, eqb-false, lt-ltb, le-ltb}
-use lib.Dec.{eqb}
-use lib.IntN.{ℤ}
-use lib.ListN.{length}
+use Rattle.laws.proofs.Prelude.{_≡_, refl, sym, ap, _∙_, subst, false, List, [], _∷_, _++_, append-nil, Option, some, none, ℕ, _≤_, _<_, decLt, arith}
+use Rattle.laws.proofs.Prelude.{eq-eqb, ne-eqb, eqb-true, eqb-false, lt-ltb, le-ltb, eqb, ℤ, length}
 use Rattle.decimal.proofs.Steps.{cases}
 use Rattle.lines.specs.Text.{blockText, AllFields}
 use Rattle.lines.specs.Parse.{ParsedLines, parseBlock, startsNumber}

@@ -1,15 +1,9 @@
 -- Reading is the inverse of printing: `parse` takes exactly the texts of well-formed jobs, and so two well-formed jobs have the same text
 -- only where they are the same.
 -- Assumes nothing.
-use mathlib.Core.Path.{_≡_, refl, sym, ap, ap₂, _∙_, subst}
-use mathlib.Core.Bool.{Bool, true, cond}
-use mathlib.Core.List.{List, [], _∷_, map}
-use mathlib.Core.Option.{Option, some, none, Option·some-injective}
-use Prim.Native.Nat.{ℕ}
-use native.Mathlib.Omega.{arith}
-use lib.IntN.{ℤ, pos}
-use lib.ListN.{length, getD}
-use Rattle.laws.proofs.Rows.{is-tabulate}
+use Rattle.laws.proofs.Prelude.{_≡_, refl, sym, ap, ap₂, _∙_, subst, Bool, true, cond, List, [], _∷_, map, Option, some, none, ℕ, arith, ℤ, pos}
+use Rattle.laws.proofs.Prelude.{length, getD, is-tabulate}
+use mathlib.Core.Option.{Option·some-injective}
 use Rattle.lines.specs.Text.{Fields, AllFields}
 use Rattle.decimal.proofs.Steps.{cases}
 use Rattle.job_lines.specs.declared.layer.LayerLine.{LayerLine}

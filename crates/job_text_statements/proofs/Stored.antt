@@ -1,14 +1,7 @@
 -- The lines of blocks that are stored one after another are the lines of the job that they say.
 -- Assumes nothing.
-use mathlib.Core.Path.{_≡_, sym, ap, _∙_}
-use mathlib.Core.List.{List, [], map, flatten}
-use Prim.Native.Nat.{ℕ, _+_, _*_, _<_, _≤_}
-use native.Mathlib.Omega.{arith}
-use lib.IntN.{ℤ}
-use lib.ListN.{length, getD, length-map, List·getD-map}
-use lib.Seq.{sets}
-use Rattle.laws.specs.Lists.{tabulate}
-use Rattle.laws.proofs.Rows.{is-tabulate}
+use Rattle.laws.proofs.Prelude.{_≡_, sym, ap, _∙_, List, [], map, flatten, ℕ, _+_, _*_, _<_, _≤_, arith, ℤ, length, getD, length-map, List·getD-map}
+use Rattle.laws.proofs.Prelude.{sets, tabulate, is-tabulate}
 use Rattle.lines.specs.Text.{AllFields}
 use Rattle.lines.proofs.Stored.{length-flatten, flatten-at, stored-at}
 use Rattle.job_text_statements.specs.Parse.{headOf, layerLineOf, segmentOf}

@@ -1,17 +1,7 @@
 -- Each answer of `read_numbers`, from what the blocks and the judges of their lines give.
 -- Assumes nothing.
-use mathlib.Core.Path.{_≡_, sym, ap, _∙_}
-use mathlib.Core.Bool.{true, false, cond, _&&_}
-use mathlib.Core.List.{List, flatten}
-use mathlib.Core.Option.{some, none}
-use Prim.Native.Nat.{ℕ, _*_, _<_, _≤_}
-use native.Mathlib.Omega.{arith}
-use borrow.Author.Tests.{le-leb, lt-leb}
-use lib.Dec.{leb}
-use lib.IntN.{ℤ}
-use lib.ListN.{length}
-use lib.Seq.{length-sets}
-use Rattle.laws.specs.Lists.{all}
+use Rattle.laws.proofs.Prelude.{_≡_, sym, ap, _∙_, true, false, cond, _&&_, List, flatten, some, none, ℕ, _*_, _<_, _≤_, arith, le-leb, lt-leb, leb}
+use Rattle.laws.proofs.Prelude.{ℤ, length, length-sets, all}
 use Rattle.job_text_statements.specs.Text.{Formed}
 use Rattle.job_lines.specs.Rules.{layerRule, segmentRule, segmentCount}
 use Rattle.job_text_statements.specs.Job.{Job, isAllowed}

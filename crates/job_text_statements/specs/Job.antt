@@ -1,12 +1,6 @@
 -- A job, its text, and which jobs are well formed. The printer `render` defines the form of the text: a text that is malformed (number 10) is
 -- one that no well-formed job prints to.
-use mathlib.Core.Path.{_≡_}
-use mathlib.Core.Bool.{Bool, true, _&&_}
-use mathlib.Core.List.{List, [], _∷_, map}
-use Prim.Native.Nat.{ℕ}
-use lib.Dec.{leb}
-use lib.IntN.{ℤ}
-use Rattle.laws.specs.Lists.{all}
+use Rattle.laws.specs.Prelude.{_≡_, Bool, true, _&&_, List, [], _∷_, map, ℕ, leb, ℤ, all}
 use Rattle.job_text_statements.specs.declared.Head.{Head}
 use Rattle.job_lines.specs.declared.layer.LayerLine.{LayerLine}
 use Rattle.job_lines.specs.declared.segment.SegmentLine.{SegmentLine}

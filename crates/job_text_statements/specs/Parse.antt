@@ -1,11 +1,5 @@
 -- Reading a job text block by block. proofs/Laws says what this is: the inverse of `render` on well-formed jobs.
-use mathlib.Core.Bool.{cond}
-use mathlib.Core.List.{List, [], _∷_, map}
-use mathlib.Core.Option.{Option, some, none}
-use Prim.Native.Nat.{ℕ}
-use lib.Dec.{ltb, eqb}
-use lib.IntN.{ℤ, pos}
-use lib.ListN.{length, getD}
+use Rattle.laws.specs.Prelude.{cond, List, [], _∷_, map, Option, some, none, ℕ, ltb, eqb, ℤ, pos, length, getD}
 use Rattle.lines.specs.Parse.{parseBlock}
 use Rattle.job_text_statements.specs.declared.Head.{Head}
 use Rattle.job_lines.specs.declared.layer.LayerLine.{LayerLine}

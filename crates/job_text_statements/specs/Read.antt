@@ -1,11 +1,5 @@
 -- What the readers of a job's numbers promise.
-use mathlib.Core.Path.{_≡_}
-use mathlib.Core.List.{List, flatten}
-use mathlib.Core.Option.{some, none}
-use Prim.Native.Nat.{ℕ, _≤_}
-use lib.IntN.{ℤ}
-use lib.ListN.{length}
-use lib.Seq.{sets}
+use Rattle.laws.specs.Prelude.{_≡_, List, flatten, some, none, ℕ, _≤_, ℤ, length, sets}
 use Rattle.job_text_statements.specs.declared.Numbers.{Numbers}
 use Rattle.job_text_statements.specs.declared.Numbers.the-variants.{Malformed}
 use Rattle.job_text_statements.specs.declared.blocks.Blocks.the-variants.{Lines, Broken}

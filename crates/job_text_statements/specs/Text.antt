@@ -1,10 +1,6 @@
 -- The form of a job text, as a printer writes it. Stands for 'three blocks, each a line of names, then lines of values', for 'block 1 has one
 -- value line, 2 has 0 to 64, 3 has 0 to 512', for 'at most 65,536 bytes' and 'a number above seven digits'.
-use mathlib.Core.Path.{_≡_}
-use mathlib.Core.List.{List, _++_}
-use Prim.Native.Nat.{ℕ, _≤_}
-use lib.IntN.{ℤ}
-use lib.ListN.{length}
+use Rattle.laws.specs.Prelude.{_≡_, List, _++_, ℕ, _≤_, ℤ, length}
 use Rattle.lines.specs.Bytes.{bytes}
 use Rattle.lines.specs.Text.{blockText, AllFields}
 

@@ -1,11 +1,6 @@
 -- The members of a lent list, one after the other. Assumes nothing.
-use mathlib.Core.Path.{_≡_, sym, ap, _∙_}
-use mathlib.Core.Bool.{Bool, true, false, cond}
-use mathlib.Core.List.{List, [], _∷_}
-use Prim.Native.Nat.{ℕ, suc, _+_, _≤_, _<_}
-use native.Mathlib.Omega.{arith}
-use lib.ListN.{length, drop, drop-of-length-le, take}
-use Rattle.laws.proofs.Rows.{length-tabulate}
+use Rattle.laws.proofs.Prelude.{_≡_, sym, ap, _∙_, Bool, true, false, cond, List, [], _∷_, ℕ, suc, _+_, _≤_, _<_, arith, length, drop}
+use Rattle.laws.proofs.Prelude.{drop-of-length-le, take, length-tabulate}
 use Rattle.styling.specs.Ascending.{strictlyAscends}
 use Rattle.layer_table.proofs.Listed.{drop-tabulate, map-tabulate}
 use Rattle.queue_statements.specs.Queue.{carryAt, queueOf}

@@ -1,17 +1,7 @@
 -- Two lists of members that ascend: the walk over today's that meets the others in their order. Assumes nothing.
-use mathlib.Core.Path.{_≡_, refl, sym, ap, _∙_}
-use mathlib.Core.Bool.{Bool, true, false, cond, _&&_, _||_}
-use mathlib.Core.List.{List, [], _∷_, map}
-use mathlib.Core.Logic.{⊎-elim}
-use Prim.Native.Nat.{ℕ, zero, suc, _+_, _≤_, _<_}
-use native.Mathlib.Numerals.{add-one}
-use native.Mathlib.Omega.{arith}
-use borrow.Author.Tests.{eq-eqb, ne-eqb, eqb-true, ltb-true, ltb-false, le-leb}
-use lib.Dec.{eqb, ltb, leb}
-use lib.ListN.{length, drop, drop-of-length-le}
-use Rattle.laws.specs.Lists.{all}
-use Rattle.laws.proofs.Bools.{both, left, not-left, either}
-use Rattle.laws.proofs.Drops.{nil-le, cons-lt, cons-rest}
+use Rattle.laws.proofs.Prelude.{_≡_, refl, sym, ap, _∙_, Bool, true, false, cond, _&&_, _||_, List, [], _∷_, map, ⊎-elim, ℕ, zero, suc, _+_, _≤_, _<_}
+use Rattle.laws.proofs.Prelude.{add-one, arith, eq-eqb, ne-eqb, eqb-true, ltb-true, ltb-false, le-leb, eqb, ltb, leb, length, drop, drop-of-length-le}
+use Rattle.laws.proofs.Prelude.{all, both, left, not-left, either, nil-le, cons-lt, cons-rest}
 use Rattle.styling.specs.Ascending.{strictlyAscendsFrom}
 use Rattle.styling.proofs.Ascents.{ascends-head, ascends-tail, ascends-weaken}
 use Rattle.kept_frames.specs.Stays.{Member, sameMember, isStill, stays}

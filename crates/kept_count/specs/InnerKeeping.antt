@@ -1,9 +1,5 @@
 -- What the functions below `keep_count` ask and give.
-use mathlib.Core.Path.{_≡_}
-use mathlib.Core.Bool.{Bool, true, false, cond}
-use mathlib.Core.List.{List, [], _∷_}
-use Prim.Native.Nat.{ℕ, _+_, _≤_}
-use lib.ListN.{length, drop, take}
+use Rattle.laws.specs.Prelude.{_≡_, Bool, true, false, cond, List, [], _∷_, ℕ, _+_, _≤_, length, drop, take}
 use Rattle.styling.specs.Ascending.{strictlyAscends}
 use Rattle.cached_tile.specs.declared.kept.Kept as kept
 use Rattle.kept_frames.specs.Stays.{Member, sameMember}

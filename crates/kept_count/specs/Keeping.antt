@@ -3,14 +3,8 @@
 -- of the two lists, and where it is no, the count's tag is dropped and nothing else. Asked twice, of the shown layers of the tile's last accepted work and of
 -- today and then the other way, it is the comparison of the keep rule (`kept_frames/specs/Right`, `TwiceAlike`); asked once, of all that are listed, it is
 -- not enough (`Wrong`, `KeptOtherwise`). A caller who wants the Rust's behaviour leaves the call out.
-use mathlib.Core.Path.{_≡_}
-use mathlib.Core.Bool.{Bool, true, false, cond, not, _&&_, _||_}
-use mathlib.Core.List.{List}
-use Prim.Native.Nat.{ℕ, min}
-use lib.Dec.{ltb, leb}
-use lib.ListN.{length, getD}
-use Rattle.laws.specs.Answer.{Answer, refused, given}
-use Rattle.laws.specs.Lists.{tabulate, every}
+use Rattle.laws.specs.Prelude.{_≡_, Bool, true, false, cond, not, _&&_, _||_, List, ℕ, min, ltb, leb, length, getD, Answer, refused, given, tabulate}
+use Rattle.laws.specs.Prelude.{every}
 use Rattle.refusals.specs.Refusal.{Judgement, pass, refuse, unless, numberOf}
 use Rattle.cached_tile.specs.Kept.{tagOutOfRange, changed}
 use Rattle.cached_tile.specs.Tile.{dropCount}

@@ -1,11 +1,6 @@
 -- The shown layers of a work that draws the tile, and with them the picture, rest neither on flags nor on whether layers were removed. Assumes nothing.
-use mathlib.Core.Path.{_≡_, refl, sym, ap, ap₂, _∙_}
-use mathlib.Core.Bool.{Bool, true, false, cond, not, _&&_}
-use mathlib.Core.List.{List, [], _∷_, map}
-use mathlib.Core.Option.{Option, some, none}
-use Prim.Native.Nat.{ℕ, zero, suc}
-use lib.Dec.{leb}
-use lib.ListN.{length, getD, replicate, length-map, List·getD-map}
+use Rattle.laws.proofs.Prelude.{_≡_, refl, sym, ap, ap₂, _∙_, Bool, true, false, cond, not, _&&_, List, [], _∷_, map, Option, some, none, ℕ, zero}
+use Rattle.laws.proofs.Prelude.{suc, leb, length, getD, replicate, length-map, List·getD-map}
 use Rattle.pass_statements.specs.Clips.{stepOf, clipsFrom, marksOf}
 use Rattle.pass_statements.specs.Covered.{hides, lookAt, itemAt, coveredFrom, startOf, coveredOf}
 use Rattle.pass_statements.specs.Decide.{shownFrom, shownOf}

@@ -1,9 +1,5 @@
 -- The keep rule matters only where the full-cover pass would keep the tile. Assumes nothing.
-use mathlib.Core.Path.{_≡_, refl, sym, ap, _∙_}
-use mathlib.Core.Bool.{Bool, true}
-use mathlib.Core.List.{List}
-use mathlib.Core.Logic.{_⊎_, inl, inr}
-use lib.ListN.{length}
+use Rattle.laws.proofs.Prelude.{_≡_, refl, sym, ap, _∙_, Bool, true, List, _⊎_, inl, inr, length}
 use Rattle.styling.specs.declared.Color.{Color}
 use Rattle.pass_statements.specs.Decide.{Outcome, passedOf, outcomeOf}
 use Rattle.pass_statements.specs.Decision as decision

@@ -1,12 +1,6 @@
 -- Colours of the same bits are the same, and the other way. Assumes nothing.
-use mathlib.Core.Path.{_≡_, refl, sym, ap, _∙_}
-use mathlib.Core.Bool.{Bool, true, false, _&&_, Bool·beq, false≢true}
-use Prim.Native.Nat.{ℕ}
-use borrow.Author.Tests.{eqb-true, eq-eqb}
-use lib.Dec.{eqb}
-use lib.Ieee.{Float, nan, inf, fin}
-use lib.IntN.{ℤ, pos, negsuc}
-use Rattle.laws.proofs.Bools.{both, left, right}
+use Rattle.laws.proofs.Prelude.{_≡_, refl, sym, ap, _∙_, Bool, true, false, _&&_, Bool·beq, false≢true, ℕ, eqb-true, eq-eqb, eqb, Float, nan, inf}
+use Rattle.laws.proofs.Prelude.{fin, ℤ, pos, negsuc, both, left, right}
 use Rattle.styling.specs.declared.Color.{Color}
 use Rattle.kept_frames.specs.Alike.{sameInt, sameFloat, sameBits}
 

@@ -1,16 +1,7 @@
 -- The decision of a work without a count rests on its paintings and the clear colour alone. Assumes nothing.
-use mathlib.Core.Path.{_≡_, refl, sym, ap, ap₂, subst, fun-ext, _∙_}
-use mathlib.Core.Bool.{Bool, true, false, cond, not, _&&_, _||_, false≢true}
-use mathlib.Core.List.{List, [], _∷_, map}
-use mathlib.Core.Logic.{⊎-elim}
-use mathlib.Core.Option.{Option, none}
-use Prim.Native.Nat.{ℕ, zero, suc, _+_, _≤_, _<_}
-use native.Mathlib.Omega.{arith}
-use borrow.Author.Tests.{le-leb, leb-true, lt-leb}
-use lib.Dec.{leb}
-use lib.ListN.{length, getD, drop}
-use Rattle.laws.specs.Lists.{all}
-use Rattle.laws.proofs.Bools.{left, right, either}
+use Rattle.laws.proofs.Prelude.{_≡_, refl, sym, ap, ap₂, subst, fun-ext, _∙_, Bool, true, false, cond, not, _&&_, _||_, false≢true, List, [], _∷_}
+use Rattle.laws.proofs.Prelude.{map, ⊎-elim, Option, none, ℕ, zero, suc, _+_, _≤_, _<_, arith, le-leb, leb-true, lt-leb, leb, length, getD, drop, all}
+use Rattle.laws.proofs.Prelude.{left, right, either}
 use Rattle.styling.specs.Style.{isClipped, isOpaque, solidColor}
 use Rattle.styling.specs.declared.Color.{Color}
 use Rattle.styling.specs.declared.Func.{Func}

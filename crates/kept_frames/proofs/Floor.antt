@@ -1,14 +1,6 @@
 -- *None* by the third pass: a unmasked layer hides all below it, and every unmasked layer from it up is unchanged.
-use mathlib.Core.Path.{_≡_, refl, sym, ap, subst, _∙_}
-use mathlib.Core.Bool.{Bool, true, false, cond, not, _&&_, false≢true}
-use mathlib.Core.List.{List}
-use mathlib.Core.Logic.{_⊎_, inl, inr, ⊎-elim}
-use Prim.Native.Nat.{ℕ, zero, suc, _≤_, _<_}
-use native.Mathlib.Omega.{arith}
-use borrow.Author.Tests.{eqb-true, eqb-false, not-true}
-use lib.Dec.{eqb}
-use lib.ListN.{length, getD}
-use Rattle.laws.proofs.Bools.{left, right, either}
+use Rattle.laws.proofs.Prelude.{_≡_, refl, sym, ap, subst, _∙_, Bool, true, false, cond, not, _&&_, false≢true, List, _⊎_, inl, inr, ⊎-elim, ℕ, zero}
+use Rattle.laws.proofs.Prelude.{suc, _≤_, _<_, arith, eqb-true, eqb-false, not-true, eqb, length, getD, left, right, either}
 use Rattle.styling.specs.declared.Color.{Color}
 use Rattle.styling.specs.Style.{isOpaque, solidColor}
 use Rattle.pass_statements.specs.Clips.{marksOf}

@@ -1,14 +1,6 @@
 -- *None* by the first pass: with truthful flags and the count of the last work, the list is that of the last work. Assumes nothing.
-use mathlib.Core.Path.{_≡_, sym, ap, _∙_}
-use mathlib.Core.Bool.{Bool, true, false, not, cond, _&&_}
-use mathlib.Core.List.{List, [], _∷_, map}
-use mathlib.Core.Option.{Option, some, none}
-use Prim.Native.Nat.{ℕ}
-use borrow.Author.Tests.{eqb-true}
-use lib.Dec.{eqb}
-use lib.ListN.{length}
-use Rattle.laws.proofs.Bools.{left, right}
-use Rattle.laws.proofs.Every.{all-at}
+use Rattle.laws.proofs.Prelude.{_≡_, sym, ap, _∙_, Bool, true, false, not, cond, _&&_, List, [], _∷_, map, Option, some, none, ℕ, eqb-true, eqb}
+use Rattle.laws.proofs.Prelude.{length, left, right, all-at}
 use Rattle.styling.specs.declared.Color.{Color}
 use Rattle.styling.specs.declared.Func.{Func}
 use Rattle.styling.specs.declared.Func.the-variants.{Draw, Clip}

@@ -1,10 +1,5 @@
 -- The latest clip below a layer does not rest on flags, nor does whether a layer needs a clip. Assumes nothing.
-use mathlib.Core.Path.{_≡_, refl, sym, ap, _∙_}
-use mathlib.Core.Bool.{Bool, true, false, cond, not, _&&_}
-use mathlib.Core.List.{List, [], _∷_, map}
-use mathlib.Core.Option.{Option, some, none}
-use Prim.Native.Nat.{ℕ}
-use lib.Dec.{ltb}
+use Rattle.laws.proofs.Prelude.{_≡_, refl, sym, ap, _∙_, Bool, true, false, cond, not, _&&_, List, [], _∷_, map, Option, some, none, ℕ, ltb}
 use Rattle.styling.specs.Style.{isClipped}
 use Rattle.styling.specs.declared.Func.{Func}
 use Rattle.pass_statements.specs.Clips.{isClip}

@@ -1,10 +1,5 @@
 -- *None* is right wherever the count was kept by the rule, and no right rule is wider. Assumes nothing.
-use mathlib.Core.Path.{_≡_, refl, sym, ap, _∙_}
-use mathlib.Core.Bool.{Bool, true, false, cond, false≢true}
-use mathlib.Core.List.{List}
-use mathlib.Core.Logic.{⊎-elim}
-use lib.ListN.{length}
-use Rattle.laws.proofs.Bools.{left, either}
+use Rattle.laws.proofs.Prelude.{_≡_, refl, sym, ap, _∙_, Bool, true, false, cond, false≢true, List, ⊎-elim, length, left, either}
 use Rattle.styling.specs.declared.Color.{Color}
 use Rattle.pass_statements.specs.Decide.{Outcome, outcomeOf}
 use Rattle.pass_statements.specs.Decision as decision

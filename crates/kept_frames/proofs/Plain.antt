@@ -1,15 +1,7 @@
 -- A tile that the full-cover pass keeps: every shown layer is unchanged and needs no clip. So where the shown layers are alike, the paintings are those of
 -- the last work. Assumes nothing.
-use mathlib.Core.Path.{_≡_, refl, sym, ap, ap₂, _∙_}
-use mathlib.Core.Bool.{Bool, true, false, cond, not, _&&_, _||_, Bool·beq, false≢true}
-use mathlib.Core.List.{List, [], _∷_, map}
-use mathlib.Core.Option.{Option, none}
-use Prim.Native.Nat.{ℕ, _≤_, _<_}
-use native.Mathlib.Omega.{arith}
-use borrow.Author.Tests.{eqb-true, eq-eqb}
-use lib.Dec.{eqb}
-use lib.ListN.{length}
-use Rattle.laws.proofs.Bools.{both, left, right, not-right, clash}
+use Rattle.laws.proofs.Prelude.{_≡_, refl, sym, ap, ap₂, _∙_, Bool, true, false, cond, not, _&&_, _||_, Bool·beq, false≢true, List, [], _∷_, map}
+use Rattle.laws.proofs.Prelude.{Option, none, ℕ, _≤_, _<_, arith, eqb-true, eq-eqb, eqb, length, both, left, right, not-right, clash}
 use Rattle.styling.specs.declared.Color.{Color}
 use Rattle.styling.specs.Style.{isClipped}
 use Rattle.pass_statements.specs.Clips.{marksOf}

@@ -1,8 +1,5 @@
 -- The histories of specs/Wrong and the pictures of specs/Example, computed. Assumes nothing.
-use mathlib.Core.Path.{refl}
-use mathlib.Core.Bool.{false≢true}
-use mathlib.Core.Logic.{inl, inr}
-use lib.Ieee.{ofBits, eq, odd}
+use Rattle.laws.proofs.Prelude.{refl, false≢true, inl, inr, ofBits, eq, odd}
 use Rattle.styling.specs.Ascending.{strictlyAscendsFrom}
 use Rattle.pass_statements.specs.Clips.{clipsFrom, stepOf}
 use Rattle.pass_statements.specs.Covered.{coveredFrom}

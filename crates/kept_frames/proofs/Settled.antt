@@ -1,13 +1,5 @@
 -- *Keep* is right, whatever flags, counts and crops said: a colour is kept only where the whole tile shows it. Assumes nothing.
-use mathlib.Core.Path.{_≡_, refl, sym, ap, _∙_}
-use mathlib.Core.Bool.{Bool, true, false, _&&_, false≢true}
-use mathlib.Core.List.{List}
-use Prim.Native.Nat.{ℕ}
-use native.Mathlib.Omega.{arith}
-use borrow.Author.Tests.{eqb-true}
-use lib.Dec.{eqb}
-use lib.ListN.{getD}
-use Rattle.laws.proofs.Bools.{left, right}
+use Rattle.laws.proofs.Prelude.{_≡_, refl, sym, ap, _∙_, Bool, true, false, _&&_, false≢true, List, ℕ, arith, eqb-true, eqb, getD, left, right}
 use Rattle.cached_tile.specs.Tile.{keepsColor, keepColor}
 use Rattle.cached_tile.specs.Kept.{sameBytes, keepOrWrite, keepsSame}
 use Rattle.cached_tile.specs.declared.CachedTile.{CachedTile}

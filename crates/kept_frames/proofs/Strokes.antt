@@ -1,14 +1,6 @@
 -- The painter's way through the shown layers, turn by turn, and what holds of each shown layer. Assumes nothing.
-use mathlib.Core.Path.{_≡_, refl, ap, _∙_}
-use mathlib.Core.Bool.{Bool, true, false, cond, _&&_}
-use mathlib.Core.List.{List, [], _∷_, map}
-use mathlib.Core.Option.{Option}
-use Prim.Native.Nat.{ℕ, suc, _+_, _≤_, _<_}
-use native.Mathlib.Omega.{arith}
-use borrow.Author.Tests.{leb-true}
-use lib.Dec.{leb}
-use lib.ListN.{length, getD}
-use Rattle.laws.proofs.Bools.{left, right}
+use Rattle.laws.proofs.Prelude.{_≡_, refl, ap, _∙_, Bool, true, false, cond, _&&_, List, [], _∷_, map, Option, ℕ, suc, _+_, _≤_, _<_, arith, leb-true}
+use Rattle.laws.proofs.Prelude.{leb, length, getD, left, right}
 use Rattle.pass_statements.specs.Covered.{itemAt}
 use Rattle.pass_statements.specs.Decide.{shownFrom}
 use Rattle.pass_statements.specs.Rules.{needsClip}

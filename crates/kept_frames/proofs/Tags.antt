@@ -1,12 +1,5 @@
 -- What dropping the one of a tile's tags leaves of the other, for every tag that no operation refuses. Assumes nothing.
-use mathlib.Core.Path.{_≡_, refl, sym}
-use mathlib.Core.Bool.{Bool, true, false, _&&_, Bool·beq}
-use Prim.Native.Nat.{ℕ, _≤_}
-use native.Mathlib.Omega.{arith}
-use borrow.Author.Tests.{leb-true}
-use lib.Bits.{bitAnd}
-use lib.Dec.{leb}
-use Rattle.laws.proofs.Every.{every-at}
+use Rattle.laws.proofs.Prelude.{_≡_, refl, sym, Bool, true, false, _&&_, Bool·beq, ℕ, _≤_, arith, leb-true, bitAnd, leb, every-at}
 use Rattle.cached_tile.specs.declared.CachedTile.{CachedTile}
 use Rattle.cached_tile.specs.Tile.{keepsCount, keepsColor, layerCountOf, solidColorOf, dropCount, dropColor}
 

@@ -1,14 +1,6 @@
 -- Two askings of `keep_count`, of the shown layers in either order, are the comparison of the keep rule. Assumes nothing.
-use mathlib.Core.Path.{_≡_, refl, sym, ap, _∙_}
-use mathlib.Core.Bool.{Bool, true, false, cond, _&&_, _||_, Bool·beq, false≢true}
-use mathlib.Core.List.{List, [], _∷_, map}
-use mathlib.Core.Logic.{_⊎_, inl, inr, ⊎-elim}
-use mathlib.Core.Option.{Option, none}
-use Prim.Native.Nat.{ℕ, suc, _≤_, _<_}
-use native.Mathlib.Omega.{arith}
-use borrow.Author.Tests.{eqb-true, eq-eqb, le-leb}
-use lib.Dec.{eqb, leb}
-use Rattle.laws.proofs.Bools.{both, left, right, same}
+use Rattle.laws.proofs.Prelude.{_≡_, refl, sym, ap, _∙_, Bool, true, false, cond, _&&_, _||_, Bool·beq, false≢true, List, [], _∷_, map, _⊎_, inl, inr}
+use Rattle.laws.proofs.Prelude.{⊎-elim, Option, none, ℕ, suc, _≤_, _<_, arith, eqb-true, eq-eqb, le-leb, eqb, leb, both, left, right, same}
 use Rattle.styling.specs.Ascending.{strictlyAscendsFrom}
 use Rattle.styling.proofs.Ascents.{ascends-head, ascends-tail, ascends-weaken}
 use Rattle.pass_statements.specs.Clips.{marksOf}

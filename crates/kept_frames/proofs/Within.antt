@@ -1,12 +1,6 @@
 -- Who was listed, by places and flags; and lists all of whose layers were listed before: they are no longer, and where they are as long they are the same.
 -- Assumes nothing.
-use mathlib.Core.Path.{_≡_, refl, sym, ap, ap₂, _∙_}
-use mathlib.Core.Bool.{true}
-use mathlib.Core.List.{List, [], _∷_, map}
-use mathlib.Core.Logic.{inl, inr}
-use Prim.Native.Nat.{ℕ, zero, suc, _≤_, _<_}
-use native.Mathlib.Omega.{arith}
-use lib.ListN.{length}
+use Rattle.laws.proofs.Prelude.{_≡_, refl, sym, ap, ap₂, _∙_, true, List, [], _∷_, map, inl, inr, ℕ, zero, suc, _≤_, _<_, arith, length}
 use Rattle.styling.specs.Ascending.{strictlyAscendsFrom}
 use Rattle.styling.proofs.Ascents.{ascends-head, ascends-tail}
 use Rattle.pass_statements.specs.Covered.{itemAt}

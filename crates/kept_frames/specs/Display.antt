@@ -1,10 +1,6 @@
 -- What stands in a tile of the caller's buffer, through works on it and settling: one colour in all 256 pixels, or something else. Stands for
 -- '*solid* is settled by a second call with the four display bytes, which says write or keep'.
-use mathlib.Core.Path.{_≡_}
-use mathlib.Core.Bool.{true}
-use mathlib.Core.List.{List}
-use Prim.Native.Nat.{ℕ, _≤_}
-use lib.ListN.{getD}
+use Rattle.laws.specs.Prelude.{_≡_, true, List, ℕ, _≤_, getD}
 use Rattle.cached_tile.specs.Tile.{emptyTile, solidColorOf, keepCount, dropCount, keepColor, dropColor}
 use Rattle.cached_tile.specs.Kept.{Writing, keepOrWrite, keepsSame}
 use Rattle.cached_tile.specs.declared.CachedTile.{CachedTile}

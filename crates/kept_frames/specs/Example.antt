@@ -1,12 +1,7 @@
 -- P7 in a picture: the latest listed clip is not always the one that cuts. Clip 1 (span 1), clip 2 (span 5), clipped draw 3: the painter keeps the last
 -- layer id of clip 1, so at 3 it has no clip, and the draw paints nothing. Without clip 1 the draw is cut by clip 2. And an opaque draw over a clip makes
 -- it be skipped, so that a clipped draw above is left without one. proofs/Refuted has them computed.
-use mathlib.Core.Path.{_≡_}
-use mathlib.Core.Bool.{true, false}
-use mathlib.Core.List.{List, [], _∷_}
-use mathlib.Core.Option.{Option, some, none}
-use Prim.Native.Nat.{ℕ}
-use lib.Ieee.{binary32, ofBits}
+use Rattle.laws.specs.Prelude.{_≡_, true, false, List, [], _∷_, Option, some, none, ℕ, binary32, ofBits}
 use Rattle.styling.specs.declared.BlendMode.the-variants.{Over}
 use Rattle.styling.specs.declared.Color.{Color}
 use Rattle.styling.specs.declared.Fill.the-variants.{Solid}

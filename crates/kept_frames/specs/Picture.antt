@@ -2,10 +2,7 @@
 -- ascending, from no clip. Of each: its record, whether it needs a clip, and whose coverages cut it. Those are of the clip that was painted last, while the
 -- painter has a clip, which is not always the latest listed one (P7). A draw that needs a clip while the painter has none paints nothing. Flags have no
 -- part in it. Whatever makes pixels of these, and of the clear colour, makes the same of the same; nothing is said of blending.
-use mathlib.Core.Bool.{Bool, true, false, cond, not, _&&_}
-use mathlib.Core.List.{List, [], _∷_}
-use mathlib.Core.Option.{Option, some, none}
-use Prim.Native.Nat.{ℕ}
+use Rattle.laws.specs.Prelude.{Bool, true, false, cond, not, _&&_, List, [], _∷_, Option, some, none, ℕ}
 use Rattle.styling.specs.declared.Color.{Color}
 use Rattle.styling.specs.declared.Func.{Func}
 use Rattle.styling.specs.declared.Func.the-variants.{Draw, Clip}

@@ -1,13 +1,7 @@
 -- When *none* is right: the tile, drawn afresh, would be drawn by the same decision and the same paintings as when it was last drawn, under a clear colour of
 -- the same bits. So it is wherever the count was kept by the rule of specs/Alike, and no wider rule is right.
-use mathlib.Core.Path.{_≡_}
-use mathlib.Core.Bool.{Bool, true, false, cond, _&&_}
-use mathlib.Core.List.{List, [], _∷_, map}
-use mathlib.Core.Logic.{_⊎_}
+use Rattle.laws.specs.Prelude.{_≡_, Bool, true, false, cond, _&&_, List, [], _∷_, map, _⊎_, Option, some, ℕ, length}
 use mathlib.Core.Option as option
-use mathlib.Core.Option.{Option, some}
-use Prim.Native.Nat.{ℕ}
-use lib.ListN.{length}
 use Rattle.styling.specs.declared.Color.{Color}
 use Rattle.pass_statements.specs.Decide.{shownOf, passedOf, outcomeOf}
 use Rattle.pass_statements.specs.Decision.{none}

@@ -1,10 +1,6 @@
 -- What `keep_count` compares: whoever is in the one list is in the other still, and as the same kind of layer. Asked of the shown layers, and then the other
 -- way, it is the keep rule's comparison (specs/Right, `TwiceAlike`). Asked once, of all that are listed, it is not enough (specs/Wrong, `KeptOtherwise`).
-use mathlib.Core.Bool.{Bool, cond, _&&_}
-use mathlib.Core.List.{List, map}
-use Prim.Native.Nat.{ℕ}
-use lib.Dec.{eqb}
-use Rattle.laws.specs.Lists.{all, any}
+use Rattle.laws.specs.Prelude.{Bool, cond, _&&_, List, map, ℕ, eqb, all, any}
 use Rattle.styling.specs.declared.Func.{Func}
 use Rattle.styling.specs.declared.Func.the-variants.{Draw, Clip}
 use Rattle.pass_statements.specs.declared.item.Item.{Item}

@@ -1,9 +1,6 @@
 -- Flags that are truthful since the tile's last accepted work: a layer that is listed as unchanged stood in the list of that work, with the same
 -- record, and as full. 'Since the last frame' is less: specs/Wrong has what comes of it.
-use mathlib.Core.Path.{_≡_}
-use mathlib.Core.Bool.{true}
-use mathlib.Core.List.{List, [], _∷_}
-use mathlib.Core.Logic.{_⊎_}
+use Rattle.laws.specs.Prelude.{_≡_, true, List, [], _∷_, _⊎_}
 use Rattle.pass_statements.specs.declared.item.Item.{Item}
 use Rattle.kept_frames.specs.Picture.{unflagged}
 

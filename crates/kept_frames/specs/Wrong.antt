@@ -1,12 +1,7 @@
 -- *None* by the full-cover pass is no more right than specs/Right says, here as in the Rust: the smallest histories in which a tile is kept with a wrong
 -- picture, flags truthful and no clip changed. In each frame of A to F every layer is full. Beside each, the ids of the layers that are shown at the last
 -- work, and of those that drawing afresh would show. proofs/Refuted has them computed.
-use mathlib.Core.Path.{_≡_}
-use mathlib.Core.Bool.{Bool, true, false}
-use mathlib.Core.List.{List, [], _∷_, map}
-use Prim.Native.Nat.{ℕ}
-use lib.Ieee.{binary32, ofBits}
-use lib.ListN.{length}
+use Rattle.laws.specs.Prelude.{_≡_, Bool, true, false, List, [], _∷_, map, ℕ, binary32, ofBits, length}
 use Rattle.styling.specs.declared.BlendMode.the-variants.{Over}
 use Rattle.styling.specs.declared.Color.{Color}
 use Rattle.styling.specs.declared.Fill.the-variants.{Solid}

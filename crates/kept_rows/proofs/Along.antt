@@ -1,9 +1,5 @@
 -- Rows whose flags are truthful: so are the flags of each tile's list, and an unchanged layer has the coverages of then. Assumes nothing.
-use mathlib.Core.Path.{_≡_, sym, ap, _∙_}
-use mathlib.Core.List.{map}
-use Prim.Native.Nat.{ℕ, _+_}
-use native.Mathlib.Omega.{arith}
-use Rattle.laws.specs.Answer.{Answer}
+use Rattle.laws.proofs.Prelude.{_≡_, sym, ap, _∙_, map, ℕ, _+_, arith, Answer}
 use Rattle.styling.specs.declared.Props.{Props}
 use Rattle.layer_workbench.specs.Work.{entryOf}
 use Rattle.row_carries.proofs.Carried.{layers-ascend}

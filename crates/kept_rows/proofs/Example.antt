@@ -1,13 +1,6 @@
 -- The history of specs/Example, by the existence of runs. Assumes nothing.
-use mathlib.Core.Path.{_≡_, refl}
-use mathlib.Core.Bool.{Bool, true, false, cond, false≢true}
-use mathlib.Core.List.{List, [], _∷_}
-use Prim.Native.Nat.{ℕ}
-use lib.Dec.{eqb}
-use lib.Ieee.{binary32, eq, odd, ofBits}
-use lib.IntN.{pos}
-use lib.ListN.{replicate}
-use Rattle.laws.specs.Answer.{given, refused}
+use Rattle.laws.proofs.Prelude.{_≡_, refl, Bool, true, false, cond, false≢true, List, [], _∷_, ℕ, eqb, binary32, eq, odd, ofBits, pos, replicate}
+use Rattle.laws.proofs.Prelude.{given, refused}
 use Rattle.refusals.specs.Refusal.{pass}
 use Rattle.pixel_segment.specs.Field.{coverOf, tileOf}
 use Rattle.segment_rows.specs.Rows.{Words, ascendsFrom}

@@ -1,14 +1,7 @@
 -- Frames of a row with nothing told are frames by the protocol. Assumes nothing.
-use mathlib.Core.Path.{_≡_, refl, sym, ap, subst, _∙_}
-use mathlib.Core.Bool.{Bool, true, false, cond, _&&_, false≢true}
-use mathlib.Core.List.{List, [], _∷_}
-use mathlib.Core.Logic.{_⊎_, inl, inr, ⊎-elim}
-use Prim.Native.Nat.{ℕ, zero, suc, _+_, _-_, _<_}
-use native.Mathlib.Omega.{arith}
-use borrow.Author.Tests.{eqb-true, leb-true, ltb-true}
-use lib.Dec.{eqb, leb, ltb}
-use lib.ListN.{getD}
-use Rattle.laws.proofs.Bools.{both, left, right, clash, not-true}
+use Rattle.laws.proofs.Prelude.{_≡_, refl, sym, ap, subst, _∙_, Bool, true, false, cond, _&&_, false≢true, List, [], _∷_, _⊎_, inl, inr, ⊎-elim, ℕ}
+use Rattle.laws.proofs.Prelude.{zero, suc, _+_, _-_, _<_, arith, eqb-true, leb-true, ltb-true, eqb, leb, ltb, getD, both, left, right, clash}
+use Rattle.laws.proofs.Bools.{not-true}
 use Rattle.cached_tile.specs.Tile.{emptyTile}
 use Rattle.cached_tile.specs.declared.CachedTile.{CachedTile}
 use Rattle.pass_statements.specs.Decision.{TileDecision, none, solid, paint}

@@ -1,14 +1,6 @@
 -- The theorem over frames: what stands of a tile is right after each of them. Assumes nothing.
-use mathlib.Core.Path.{_≡_, refl, sym, ap, _∙_}
-use mathlib.Core.Bool.{Bool, true, false, cond}
-use mathlib.Core.List.{List}
-use mathlib.Core.Logic.{⊎-elim}
+use Rattle.laws.proofs.Prelude.{_≡_, refl, sym, ap, _∙_, Bool, true, false, cond, List, ⊎-elim, some, ℕ, _+_, _%_, _^_, _≤_, arith, length, either}
 use mathlib.Core.Option as option
-use mathlib.Core.Option.{some}
-use Prim.Native.Nat.{ℕ, _+_, _%_, _^_, _≤_}
-use native.Mathlib.Omega.{arith}
-use lib.ListN.{length}
-use Rattle.laws.proofs.Bools.{either}
 use Rattle.cached_tile.specs.Tile.{emptyTile, layerCountOf, keepCount, dropCount, dropColor}
 use Rattle.cached_tile.specs.Kept.{previousCount, counted}
 use Rattle.cached_tile.specs.declared.CachedTile.{CachedTile}

@@ -1,8 +1,5 @@
 -- After every accepted opening, every work on its first tile that no condition refuses is an accepted work of some run. Assumes nothing.
-use mathlib.Core.Path.{_≡_, ap, _∙_}
-use mathlib.Core.List.{List, [], _∷_}
-use Prim.Native.Nat.{ℕ}
-use Rattle.laws.specs.Answer.{given}
+use Rattle.laws.proofs.Prelude.{_≡_, ap, _∙_, List, [], _∷_, ℕ, given}
 use Rattle.refusals.specs.Refusal.{Judgement, pass}
 use Rattle.segment_rows.specs.Rows.{Words}
 use Rattle.row_statements.specs.Lent.{Columns}

@@ -1,10 +1,6 @@
 -- The operation, called twice, is the comparison of the keep rule. Assumes nothing.
-use mathlib.Core.Path.{_≡_, refl, sym, ap, ap₂, _∙_}
-use mathlib.Core.Bool.{Bool, true, false, cond, _&&_}
-use mathlib.Core.List.{List}
-use Prim.Native.Nat.{ℕ, _%_}
-use native.Mathlib.Omega.{arith}
-use lib.Bits.{bitAnd, and-mask}
+use Rattle.laws.proofs.Prelude.{_≡_, refl, sym, ap, ap₂, _∙_, Bool, true, false, cond, _&&_, List, ℕ, _%_, arith, bitAnd}
+use lib.Bits.{and-mask}
 use Rattle.refusals.specs.Refusal.{Judgement, pass}
 use Rattle.cached_tile.specs.Tile.{dropCount}
 use Rattle.cached_tile.specs.declared.CachedTile.{CachedTile}

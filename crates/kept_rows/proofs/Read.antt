@@ -1,12 +1,5 @@
 -- The paintings of shown layers are read as `paintOn` says. Assumes nothing.
-use mathlib.Core.Path.{_≡_, refl, sym, ap, subst, _∙_}
-use mathlib.Core.List.{List, [], _∷_}
-use mathlib.Core.Option.{Option}
-use Prim.Native.Nat.{ℕ, suc, _-_}
-use native.Mathlib.Omega.{arith}
-use lib.Ieee.{Float}
-use Rattle.laws.specs.Answer.{Answer, refused, given}
-use Rattle.laws.specs.Lists.{over}
+use Rattle.laws.proofs.Prelude.{_≡_, refl, sym, ap, subst, _∙_, List, [], _∷_, Option, ℕ, suc, _-_, arith, Float, Answer, refused, given, over}
 use Rattle.refusals.specs.Refusal.{Judgement, pass, refuse}
 use Rattle.pass_statements.specs.declared.item.Item.{Item}
 use Rattle.painter.specs.Clip.{clipAfter}

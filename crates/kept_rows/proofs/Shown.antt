@@ -1,9 +1,5 @@
 -- A tile that is decided *none* would be drawn afresh as it was, by styles, revisions, coverages, cuts and marks. Assumes nothing.
-use mathlib.Core.Path.{_≡_, refl, sym, ap, _∙_}
-use mathlib.Core.List.{List, [], _∷_, map}
-use mathlib.Core.Option.{Option, some, none}
-use Prim.Native.Nat.{ℕ}
-use lib.Ieee.{Float}
+use Rattle.laws.proofs.Prelude.{_≡_, refl, sym, ap, _∙_, List, [], _∷_, map, Option, some, none, ℕ, Float}
 use Rattle.tile_layers.specs.Listing.{isChanged}
 use Rattle.row_statements.specs.Due.{tableOn, layersOn, planeOn}
 use Rattle.kept_frames.specs.Picture.{Stroke, pictureOf, Drawn}

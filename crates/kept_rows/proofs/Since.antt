@@ -1,19 +1,9 @@
 -- Flags that are worked out from two rows and two tables are truthful. Assumes nothing.
-use mathlib.Core.Path.{_≡_, refl, sym, ap, ap₂, _∙_}
-use mathlib.Core.Bool.{Bool, true, false, cond, not, _&&_, _||_, false≢true}
-use mathlib.Core.List.{List, [], _∷_, map}
-use Prim.Native.Nat.{ℕ, zero, suc, _+_, _*_, _/_, _%_, _≤_, _<_, min}
-use native.Mathlib.Omega.{arith}
-use borrow.Author.Tests.{eqb-true, eq-eqb, ne-eqb, lt-ltb, leb-true, le-leb}
-use lib.Dec.{eqb, ltb, leb}
-use lib.Ieee.{Float}
-use lib.ListN.{length, getD}
-use Rattle.laws.specs.Answer.{Answer, refused, given}
-use Rattle.laws.specs.Lists.{tabulate, all}
-use Rattle.laws.specs.Sum.{countBy}
-use Rattle.laws.proofs.Bools.{both, left, right}
+use Rattle.laws.proofs.Prelude.{_≡_, refl, sym, ap, ap₂, _∙_, Bool, true, false, cond, not, _&&_, _||_, false≢true, List, [], _∷_, map, ℕ, zero, suc}
+use Rattle.laws.proofs.Prelude.{_+_, _*_, _/_, _%_, _≤_, _<_, min, arith, eqb-true, eq-eqb, ne-eqb, lt-ltb, leb-true, le-leb, eqb, ltb, leb, Float}
+use Rattle.laws.proofs.Prelude.{length, getD, Answer, refused, given, tabulate, all, countBy, both, left, right, length-tabulate, getD-tabulate}
+use Rattle.laws.proofs.Prelude.{is-tabulate}
 use Rattle.laws.proofs.Maps.{map-tabulate}
-use Rattle.laws.proofs.Rows.{length-tabulate, getD-tabulate, is-tabulate}
 use Rattle.styling.specs.Ascending.{strictlyAscends}
 use Rattle.styling.specs.declared.Color.{Color}
 use Rattle.styling.specs.Codes.{ruleOf, fillOf, modeOf}

@@ -1,15 +1,7 @@
 -- The walk over both rows meets the layers whose words differ, and no other. Assumes nothing.
-use mathlib.Core.Path.{_≡_, refl, sym, ap, _∙_}
-use mathlib.Core.Bool.{Bool, true, false, cond, _&&_, _||_, false≢true}
-use mathlib.Core.List.{List, [], _∷_, map}
-use mathlib.Core.Logic.{⊎-elim}
-use Prim.Native.Nat.{ℕ, suc, _%_, _^_, _≤_, _<_}
-use native.Mathlib.Omega.{arith}
-use borrow.Author.Tests.{eqb-true, eqb-false, eq-eqb, ne-eqb, ltb-true, ltb-false, leb-true, le-leb}
-use lib.Dec.{eqb, ltb, leb}
-use lib.ListN.{getD, drop}
-use Rattle.laws.specs.Lists.{any, filter}
-use Rattle.laws.proofs.Bools.{both, left, right, either, clash}
+use Rattle.laws.proofs.Prelude.{_≡_, refl, sym, ap, _∙_, Bool, true, false, cond, _&&_, _||_, false≢true, List, [], _∷_, map, ⊎-elim, ℕ, suc, _%_}
+use Rattle.laws.proofs.Prelude.{_^_, _≤_, _<_, arith, eqb-true, eqb-false, eq-eqb, ne-eqb, ltb-true, ltb-false, leb-true, le-leb, eqb, ltb, leb, getD}
+use Rattle.laws.proofs.Prelude.{drop, any, filter, both, left, right, either, clash}
 use Rattle.pixel_segment.specs.Field.{cpu, layerIdOf}
 use Rattle.pixel_segment.specs.Order.{orderKey}
 use Rattle.segment_rows.specs.Rows.{ascendsFrom}

@@ -1,13 +1,5 @@
 -- What an accepted work says of its tile, by the whole row. Assumes nothing.
-use mathlib.Core.Path.{_≡_, refl, sym, ap, _∙_}
-use mathlib.Core.Bool.{not, _||_}
-use mathlib.Core.Bool.{Bool}
-use mathlib.Core.List.{List, map}
-use Prim.Native.Nat.{ℕ, suc, _≤_}
-use native.Mathlib.Omega.{arith}
-use borrow.Author.Tests.{ltb-false}
-use lib.ListN.{length, length-map}
-use Rattle.laws.specs.Answer.{given}
+use Rattle.laws.proofs.Prelude.{_≡_, refl, sym, ap, _∙_, not, _||_, Bool, List, map, ℕ, suc, _≤_, arith, ltb-false, length, length-map, given}
 use Rattle.refusals.specs.Refusal.{Judgement, pass, refuse, unless}
 use Rattle.refusals.proofs.Judging.{passed}
 use Rattle.cached_tile.specs.Kept.{tagOutOfRange, previousCount, counted}

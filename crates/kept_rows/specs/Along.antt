@@ -1,12 +1,7 @@
 -- Flags that are truthful along rows: a layer that today's table calls unchanged has the same record and the same words as in the row of the tile's
 -- last accepted work, and both rows begin at one tile (W-214's agreement). Then it is truthfully unchanged in every tile, and its coverages are the
 -- same. What a gradient or a texture holds no record has: a caller numbers it, and a new number is a new content.
-use mathlib.Core.Path.{_≡_}
-use mathlib.Core.Bool.{false}
-use mathlib.Core.List.{List}
-use Prim.Native.Nat.{ℕ, _+_}
-use lib.ListN.{getD}
-use Rattle.laws.specs.Answer.{Answer, refused, given}
+use Rattle.laws.specs.Prelude.{_≡_, false, List, ℕ, _+_, getD, Answer, refused, given}
 use Rattle.segment_rows.specs.Rows.{Words}
 use Rattle.layer_table.specs.Lookup.{lookup, recordPlace}
 use Rattle.layer_table.specs.Table.{tableIds}

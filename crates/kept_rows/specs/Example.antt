@@ -1,12 +1,6 @@
 -- The theorems over frames are not empty: two frames of one tile that meet their premises, in the second of which the tile is kept. One opaque layer comes
 -- in from tile -1 and fills the tile; in the second frame it is unchanged, and so by what its rows and tables say. proofs/Example has it.
-use mathlib.Core.Path.{_≡_}
-use mathlib.Core.List.{List, [], _∷_}
-use Prim.Native.Nat.{ℕ}
-use lib.Ieee.{binary32, ofBits}
-use lib.IntN.{pos, negsuc}
-use lib.ListN.{replicate}
-use Rattle.laws.specs.Lists.{tabulate}
+use Rattle.laws.specs.Prelude.{_≡_, List, [], _∷_, ℕ, binary32, ofBits, pos, negsuc, replicate, tabulate}
 use Rattle.pixel_segment.specs.Field.{cpu}
 use Rattle.pixel_segment.specs.Pack.{wordOf}
 use Rattle.cached_tile.specs.declared.CachedTile.{CachedTile}

@@ -3,12 +3,7 @@
 -- tile is worked with its count where it counts as worked, the row begins where that one began, and the keep rule allows it; else the count is dropped.
 -- Then the tile is right after every frame: the caller's flags, crops, refusals and frames left out have no part in it. A frame that leaves the whole row
 -- out is none of it.
-use mathlib.Core.Path.{_≡_}
-use mathlib.Core.Bool.{Bool, true, false, _&&_}
-use mathlib.Core.List.{List, [], _∷_}
-use Prim.Native.Nat.{ℕ, suc, _+_, _-_}
-use lib.Dec.{eqb, leb, ltb}
-use lib.ListN.{getD}
+use Rattle.laws.specs.Prelude.{_≡_, Bool, true, false, _&&_, List, [], _∷_, ℕ, suc, _+_, _-_, eqb, leb, ltb, getD}
 use Rattle.styling.specs.declared.Color.{Color}
 use Rattle.cached_tile.specs.Tile.{emptyTile}
 use Rattle.cached_tile.specs.declared.CachedTile.{CachedTile}

@@ -3,11 +3,7 @@
 -- is kept only by the keep rule, and every solid tile is settled and obeyed. Then what stands in the tile is always what drawing it afresh at its last
 -- accepted work draws, by the same decision and the same calls. A frame in which the tile is not worked, or turned down, leaves it as it is; and it may be
 -- forgotten.
-use mathlib.Core.Path.{_≡_}
-use mathlib.Core.Bool.{Bool, true, cond}
-use mathlib.Core.List.{List, []}
-use Prim.Native.Nat.{ℕ, _+_}
-use Rattle.laws.specs.Answer.{given}
+use Rattle.laws.specs.Prelude.{_≡_, Bool, true, cond, List, [], ℕ, _+_, given}
 use Rattle.segment_rows.specs.Rows.{Words}
 use Rattle.styling.specs.declared.Color.{Color}
 use Rattle.cached_tile.specs.Tile.{emptyTile, dropCount, keepColor}

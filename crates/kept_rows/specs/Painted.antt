@@ -1,12 +1,6 @@
 -- What a caller reads who paints the shown layers: in a run as demand 3 has it, after a tile's work, by one accepted call for each layer of a list and in
 -- its order. Every mark and every plane is that of `paintOn`, from the clip that the painting before it left: the way that `paintingsFrom` goes.
-use mathlib.Core.Path.{_≡_}
-use mathlib.Core.List.{List, [], _∷_}
-use mathlib.Core.Option.{Option}
-use Prim.Native.Nat.{ℕ, suc}
-use lib.Ieee.{Float}
-use Rattle.laws.specs.Answer.{given}
-use Rattle.laws.specs.Lists.{over}
+use Rattle.laws.specs.Prelude.{_≡_, List, [], _∷_, Option, ℕ, suc, Float, given, over}
 use Rattle.pass_statements.specs.declared.item.Item.{Item}
 use Rattle.row_statements.specs.Painting.{PaintSays, paintAnswer}
 use Rattle.row_statements.specs.Due.{OpenRow, Past, PaintChoice, paintOn}

@@ -2,12 +2,7 @@
 -- ascending, from no clip; every painting is `paintOn`, as demand 3 has it. Of each layer its style, the revision of what it holds, its 256 coverages and its
 -- mark; and what cuts it: the coverages of the clip that was painted last, where the layer needs a clip and the painter has one. And the clear colour. Here our
 -- equality ends: nothing is blended, and whatever makes pixels of these makes the same of the same.
-use mathlib.Core.Path.{_≡_}
-use mathlib.Core.Bool.{Bool, cond}
-use mathlib.Core.List.{List, [], _∷_, map}
-use mathlib.Core.Option.{Option, some, none}
-use Prim.Native.Nat.{ℕ}
-use lib.Ieee.{Float}
+use Rattle.laws.specs.Prelude.{_≡_, Bool, cond, List, [], _∷_, map, Option, some, none, ℕ, Float}
 use Rattle.styling.specs.declared.Color.{Color}
 use Rattle.styling.specs.declared.Func.{Func}
 use Rattle.styling.specs.declared.Func.the-variants.{Draw, Clip}

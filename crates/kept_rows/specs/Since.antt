@@ -2,15 +2,8 @@
 -- counts as unchanged where last frame's table has it with the same record, colours bit by bit, and with the same revision of what it holds, and both rows have
 -- the same words of it, in the same order. Every other flag becomes 0, and the caller's own plays no part. So the flags are truthful along the two rows
 -- (`MarkedTold`).
-use mathlib.Core.Path.{_≡_}
-use mathlib.Core.Bool.{Bool, true, false, cond, not, _&&_, _||_}
-use mathlib.Core.List.{List, [], _∷_}
-use Prim.Native.Nat.{ℕ, _+_, _*_, _/_, _%_}
-use lib.Dec.{eqb, ltb}
-use lib.Ieee.{Float, nan, inf, fin}
-use lib.ListN.{length, getD}
-use Rattle.laws.specs.Answer.{Answer, refused, given}
-use Rattle.laws.specs.Lists.{tabulate, filter}
+use Rattle.laws.specs.Prelude.{_≡_, Bool, true, false, cond, not, _&&_, _||_, List, [], _∷_, ℕ, _+_, _*_, _/_, _%_, eqb, ltb, Float, nan, inf, fin}
+use Rattle.laws.specs.Prelude.{length, getD, Answer, refused, given, tabulate, filter}
 use Rattle.pixel_segment.specs.Field.{cpu, layerIdOf}
 use Rattle.styling.specs.declared.Color.{Color}
 use Rattle.layer_table.specs.declared.Words.{Words}

@@ -1,12 +1,7 @@
 -- How `mark_unchanged` may find the layers whose words differ, in one walk over both rows: words that are the same are passed on both sides; else the layer
 -- of the word that comes first in the order of rows is changed, and that word is passed. That no other layer differs holds of any two lists; that the walk
 -- meets no layer whose words are the same, of lists that don't descend.
-use mathlib.Core.Path.{_≡_}
-use mathlib.Core.Bool.{Bool, true, false, cond}
-use mathlib.Core.List.{List, [], _∷_, map}
-use Prim.Native.Nat.{ℕ}
-use lib.Dec.{eqb, ltb}
-use Rattle.laws.specs.Lists.{any}
+use Rattle.laws.specs.Prelude.{_≡_, Bool, true, false, cond, List, [], _∷_, map, ℕ, eqb, ltb, any}
 use Rattle.pixel_segment.specs.Field.{cpu, layerIdOf}
 use Rattle.pixel_segment.specs.Order.{orderKey}
 use Rattle.segment_rows.specs.Rows.{ascends}

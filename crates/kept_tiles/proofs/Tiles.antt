@@ -1,17 +1,7 @@
 -- The keep rule for tiles is what the theorem over frames asks for. Assumes nothing.
-use mathlib.Core.Path.{_≡_, refl, sym, ap, ap₂, _∙_}
-use mathlib.Core.Bool.{Bool, true, false, cond, not, _&&_, _||_, false≢true}
-use mathlib.Core.List.{List, [], _∷_}
-use Prim.Native.Nat.{ℕ, suc, _+_, _-_, _*_, _/_, _%_, _≤_, _<_}
-use native.Mathlib.Omega.{arith}
-use borrow.Author.Tests.{eqb-true, eq-eqb, ne-eqb, lt-ltb, ltb-false}
-use lib.Bits.{bitAnd}
-use lib.Dec.{eqb, leb, ltb}
-use lib.ListN.{length, getD, take, drop}
-use lib.Seq.{getD-take, getD-drop}
-use Rattle.laws.specs.Lists.{every}
-use Rattle.laws.proofs.Bools.{both, left, right}
-use Rattle.laws.proofs.Rows.{getD-tabulate}
+use Rattle.laws.proofs.Prelude.{_≡_, refl, sym, ap, ap₂, _∙_, Bool, true, false, cond, not, _&&_, _||_, false≢true, List, [], _∷_, ℕ, suc, _+_, _-_}
+use Rattle.laws.proofs.Prelude.{_*_, _/_, _%_, _≤_, _<_, arith, eqb-true, eq-eqb, ne-eqb, lt-ltb, ltb-false, bitAnd, eqb, leb, ltb, length, getD}
+use Rattle.laws.proofs.Prelude.{take, drop, getD-take, getD-drop, every, both, left, right, getD-tabulate}
 use Rattle.refusals.specs.Refusal.{Judgement, pass, refuse, unless}
 use Rattle.refusals.proofs.Judging.{passed}
 use Rattle.pixel_segment.specs.Field.{cpu}

@@ -3,16 +3,8 @@
 -- the row's first. Judged by 1 to 4 and 6, the lowest that applies; a refusal leaves every byte as it was. Else the tag byte of a tile loses the count's bit
 -- where its count may not stay, and no other byte is written. Where either row would be turned down at its opening, or its list of the tile or of one before
 -- it, the count may not stay.
-use mathlib.Core.Path.{_≡_}
-use mathlib.Core.Bool.{Bool, true, false, cond, not, _&&_, _||_}
-use mathlib.Core.List.{List}
-use Prim.Native.Nat.{ℕ, suc, _+_, _*_, _/_, _%_, _≤_, _<_}
-use lib.Bits.{bitAnd}
-use lib.Dec.{eqb, leb, ltb}
-use lib.IntN.{pos}
-use lib.ListN.{length, getD, take, drop}
-use Rattle.laws.specs.Answer.{Answer, refused, given}
-use Rattle.laws.specs.Lists.{tabulate, every}
+use Rattle.laws.specs.Prelude.{_≡_, Bool, true, false, cond, not, _&&_, _||_, List, ℕ, suc, _+_, _*_, _/_, _%_, _≤_, _<_, bitAnd, eqb, leb, ltb, pos}
+use Rattle.laws.specs.Prelude.{length, getD, take, drop, Answer, refused, given, tabulate, every}
 use Rattle.refusals.specs.Refusal.{Judgement, pass, refuse, unless}
 use Rattle.pixel_segment.specs.Field.{cpu}
 use Rattle.segment_rows.specs.Rows.{isRow}

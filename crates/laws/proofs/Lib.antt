@@ -13,3 +13,4 @@ pub mod Every
 pub mod Filtered
 pub mod Maps
 pub mod Table
+pub mod Prelude

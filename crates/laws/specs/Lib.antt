@@ -3,3 +3,4 @@ pub mod Integer
 pub mod Sum
 pub mod Lists
 pub mod Answer
+pub mod Prelude

@@ -1,17 +1,9 @@
 -- Handing on: the carries that a tile's layers hand on, from the column that holds all of them; and the loop, which writes those that are not empty
 -- and knows that what is left of them is what the carries still to come hand on. Assumes nothing.
-use mathlib.Core.Path.{_≡_, refl, ap, ap₂, sym, subst, _∙_}
-use mathlib.Core.Bool.{Bool, true, false, cond}
-use mathlib.Core.List.{List, [], _∷_, map}
-use Prim.Native.Nat.{ℕ, _+_, _*_, _≤_, _<_}
-use native.Mathlib.Omega.{arith}
-use lib.IntN.{ℤ}
-use lib.ListN.{length, drop, set, length-map, drop-of-length-le}
-use Rattle.laws.specs.Lists.{filter, over}
-use Rattle.laws.proofs.Bools.{both}
-use Rattle.laws.proofs.Drops.{nil-le, cons-lt, cons-rest, map-at}
-use Rattle.laws.proofs.Filtered.{all-kept, length-filter}
-use Rattle.laws.proofs.Rows.{filled, filled-more, filled-all, length-filled}
+use Rattle.laws.proofs.Prelude.{_≡_, refl, ap, ap₂, sym, subst, _∙_, Bool, true, false, cond, List, [], _∷_, map, ℕ, _+_, _*_, _≤_, _<_, arith, ℤ}
+use Rattle.laws.proofs.Prelude.{length, drop, set, length-map, drop-of-length-le, filter, over, both, nil-le, cons-lt, cons-rest, map-at, all-kept}
+use Rattle.laws.proofs.Prelude.{filled, filled-more, filled-all, length-filled}
+use Rattle.laws.proofs.Filtered.{length-filter}
 use Rattle.cover_statements.specs.Carry.{carryOf}
 use Rattle.cover_statements.specs.Entry.{putEntry}
 use Rattle.styling.specs.declared.Layer.{Layer}

@@ -1,13 +1,6 @@
 -- The carries that a tile hands on: for every listed layer, shown, masked off or skipped alike, incoming plus own covers, without those that are
 -- empty by the layer's rule; ascending. Stands for 'a carry is incoming cover plus segment covers, painted or not; it is dropped when empty'.
-use mathlib.Core.Path.{_≡_}
-use mathlib.Core.Bool.{Bool, cond, not}
-use mathlib.Core.List.{List, map}
-use Prim.Native.Nat.{ℕ, _+_, _*_, _≤_}
-use lib.IntN.{ℤ}
-use lib.ListN.{length, set}
-use Rattle.laws.specs.Answer.{Answer, refused, given}
-use Rattle.laws.specs.Lists.{filter, over}
+use Rattle.laws.specs.Prelude.{_≡_, Bool, cond, not, List, map, ℕ, _+_, _*_, _≤_, ℤ, length, set, Answer, refused, given, filter, over}
 use Rattle.pixel_segment.specs.Field.{cpu}
 use Rattle.cover_statements.specs.Carry.{carryOf}
 use Rattle.cover_statements.specs.Cover.{isEmpty}

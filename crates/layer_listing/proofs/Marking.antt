@@ -1,15 +1,7 @@
 -- The loop that marks the changed layers of a list, in the places from 256 on; and the whole list, written and then marked. Assumes nothing.
-use mathlib.Core.Path.{_≡_, sym, ap, _∙_}
-use mathlib.Core.Bool.{Bool, true, false, not}
-use mathlib.Core.List.{List, _++_}
-use Prim.Native.Nat.{ℕ, _+_, _≤_, _<_}
-use native.Mathlib.Omega.{arith}
-use lib.IntN.{ℤ}
-use lib.ListN.{length, getD, set, take, drop, length-append, length-drop, length-map, take-append-drop, List·getD-append, List·getD-map}
-use lib.Seq.{length-take-le}
-use Rattle.laws.specs.Answer.{given, refused}
-use Rattle.laws.specs.Lists.{over}
-use Rattle.laws.proofs.Rows.{length-tabulate, getD-tabulate, is-tabulate, filled, length-filled, filled-more, filled-all}
+use Rattle.laws.proofs.Prelude.{_≡_, sym, ap, _∙_, Bool, true, false, not, List, _++_, ℕ, _+_, _≤_, _<_, arith, ℤ, length, getD, set, take, drop}
+use Rattle.laws.proofs.Prelude.{length-append, length-drop, length-map, take-append-drop, List·getD-append, List·getD-map, length-take-le, given}
+use Rattle.laws.proofs.Prelude.{refused, over, length-tabulate, getD-tabulate, is-tabulate, filled, length-filled, filled-more, filled-all}
 use Rattle.layer_table.specs.Lookup.{lookup}
 use Rattle.styling.specs.declared.Layer.{Layer}
 use Rattle.queue_statements.specs.Queue.{Carry, idsIn}

@@ -1,17 +1,7 @@
 -- The survey's loop: what is found so far and what is left make the whole, and the carries found so far are kept. Assumes nothing.
-use mathlib.Core.Path.{_≡_, refl, sym, ap, _∙_}
-use mathlib.Core.Bool.{Bool, true, false, cond, _&&_}
-use mathlib.Core.List.{List, map}
-use Prim.Native.Nat.{ℕ, _+_, _*_, _≤_}
-use native.Mathlib.Omega.{arith}
-use borrow.Author.Tests.{lt-ltb}
-use lib.Dec.{ltb}
-use lib.IntN.{ℤ}
-use lib.ListN.{length, drop, length-map}
-use Rattle.laws.specs.Answer.{Answer, given, refused, isGiven}
-use Rattle.laws.proofs.Bools.{left, right}
-use Rattle.laws.proofs.Drops.{cons-lt, map-drop, all-again, all-end}
-use Rattle.laws.proofs.Rows.{filled, filled-all}
+use Rattle.laws.proofs.Prelude.{_≡_, refl, sym, ap, _∙_, Bool, true, false, cond, _&&_, List, map, ℕ, _+_, _*_, _≤_, arith, lt-ltb, ltb, ℤ, length}
+use Rattle.laws.proofs.Prelude.{drop, length-map, Answer, given, refused, isGiven, left, right, cons-lt, map-drop, all-again, all-end, filled}
+use Rattle.laws.proofs.Prelude.{filled-all}
 use Rattle.pixel_segment.specs.Field.{cpu}
 use Rattle.segment_rows.specs.Search.{between}
 use Rattle.cover_statements.specs.Carry.{isLight, carryOf}

@@ -1,14 +1,6 @@
 -- The loop that writes a tile's list: its three columns, filled up to the k-th entry. Assumes nothing.
-use mathlib.Core.Path.{_≡_, refl, ap, sym, _∙_}
-use mathlib.Core.Bool.{Bool, true, false, cond}
-use mathlib.Core.List.{List, map}
-use Prim.Native.Nat.{ℕ, _+_, _*_, _≤_, _<_}
-use native.Mathlib.Omega.{arith}
-use lib.Dec.{ltb}
-use lib.IntN.{ℤ}
-use lib.ListN.{length, set, length-map}
-use Rattle.laws.proofs.Drops.{cons-lt, map-at, map-drop}
-use Rattle.laws.proofs.Rows.{filled, filled-more, filled-all, length-filled}
+use Rattle.laws.proofs.Prelude.{_≡_, refl, ap, sym, _∙_, Bool, true, false, cond, List, map, ℕ, _+_, _*_, _≤_, _<_, arith, ltb, ℤ, length, set}
+use Rattle.laws.proofs.Prelude.{length-map, cons-lt, map-at, map-drop, filled, filled-more, filled-all, length-filled}
 use Rattle.cover_statements.specs.Entry.{coverEntry, putEntry}
 use Rattle.queue_statements.specs.Queue.{Carry, queueOf, idsIn, coversIn, zeros}
 use Rattle.queue_statements.proofs.Columns.{areWide, length-covers}

@@ -1,11 +1,5 @@
 -- What the functions below the list of a tile's layers give: its three columns without marks, and the marks of the layers that a column of ids names.
-use mathlib.Core.Path.{_≡_}
-use mathlib.Core.Bool.{Bool}
-use mathlib.Core.List.{List}
-use Prim.Native.Nat.{ℕ}
-use lib.IntN.{ℤ}
-use lib.ListN.{getD}
-use Rattle.laws.specs.Lists.{tabulate, over}
+use Rattle.laws.specs.Prelude.{_≡_, Bool, List, ℕ, ℤ, getD, tabulate, over}
 use Rattle.styling.specs.declared.Layer.{Layer}
 use Rattle.queue_statements.specs.Queue.{idsIn, coversIn}
 use Rattle.tile_layers.specs.Listing.{Listed, incomingOf, segmentsOf, isChanged}

@@ -1,10 +1,5 @@
 -- What a survey of a tile's layers promises.
-use mathlib.Core.Path.{_≡_}
-use mathlib.Core.Bool.{true}
-use mathlib.Core.List.{List}
-use Prim.Native.Nat.{_≤_}
-use lib.IntN.{ℤ}
-use lib.ListN.{length}
+use Rattle.laws.specs.Prelude.{_≡_, true, List, _≤_, ℤ, length}
 use Rattle.styling.specs.declared.Layer.{Layer}
 use Rattle.tile_layers.specs.Listing.{Listed, areKnown, areLight}
 use Rattle.layer_carrying.specs.Carrying.{HoldsCarries}

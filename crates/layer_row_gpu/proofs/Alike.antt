@@ -1,17 +1,7 @@
 -- A tile four pixels high is rows 0 to 3 of one 16 high with the same segments: the plane of a row of words packed at 4 is the first 64 places of
 -- the plane of the same numbers packed at 16. It ties this profile to the Rust's painter, which has no such height. Assumes nothing.
-use mathlib.Core.Path.{_≡_, refl, sym, ap, ap₂, _∙_}
-use mathlib.Core.Bool.{Bool, cond, _&&_}
-use mathlib.Core.List.{List, [], _∷_}
-use Prim.Native.Nat.{ℕ, zero, suc, _<_}
-use native.Mathlib.Omega.{arith}
-use lib.Ieee.{Float, nan}
-use lib.IntN.{ℤ, pos, negsuc, natAbs, _+ℤ_, _*ℤ_, +ℤ-idl}
-use lib.ListN.{take, length-take}
-use lib.Seq.{ext-getD, getD-take}
-use Rattle.laws.specs.Lists.{filter}
-use Rattle.laws.specs.Sum.{sumℤ}
-use Rattle.laws.proofs.Sums.{sum-filter}
+use Rattle.laws.proofs.Prelude.{_≡_, refl, sym, ap, ap₂, _∙_, Bool, cond, _&&_, List, [], _∷_, ℕ, zero, suc, _<_, arith, Float, nan, ℤ, pos, negsuc}
+use Rattle.laws.proofs.Prelude.{natAbs, _+ℤ_, _*ℤ_, +ℤ-idl, take, length-take, ext-getD, getD-take, filter, sumℤ, sum-filter}
 use Rattle.pixel_segment.specs.Field.{cpu, gpu, tileOf, tileXOf, layerIdOf, localXOf, localYOf, coverOf, doubleAreaOf}
 use Rattle.pixel_segment.specs.Pack.{ReadsBack}
 use Rattle.pixel_segment.proofs.Ranges.{cpu-layout, gpu-layout}

@@ -1,18 +1,6 @@
 -- A work after an accepted opening is as the whole row has it. Assumes nothing.
-use mathlib.Core.Path.{_≡_, refl, ap, _∙_}
-use mathlib.Core.Bool.{Bool, true, false, cond, not, _||_}
-use mathlib.Core.List.{List}
-use Prim.Native.Nat.{ℕ, zero, suc, _+_, _≤_, _<_}
-use native.Mathlib.Nat.{add-zero, add-suc}
-use native.Mathlib.Numerals.{add-one}
-use native.Mathlib.Omega.{arith}
-use borrow.Author.Tests.{le-ltb}
-use lib.Dec.{lit<, ltb}
-use lib.Ieee.{Float}
-use lib.IntN.{ℤ, pos}
-use lib.ListN.{length, length-replicate}
-use Rattle.laws.specs.Integer.{plus}
-use Rattle.laws.specs.Lists.{over}
+use Rattle.laws.proofs.Prelude.{_≡_, refl, ap, _∙_, Bool, true, false, cond, not, _||_, List, ℕ, zero, suc, _+_, _≤_, _<_, add-zero, add-suc, add-one}
+use Rattle.laws.proofs.Prelude.{arith, le-ltb, lit<, ltb, Float, ℤ, pos, length, length-replicate, plus, over}
 use Rattle.refusals.specs.Refusal.{Judgement, pass, refuse, unless}
 use Rattle.refusals.proofs.Judging.{passed}
 use Rattle.pixel_segment.specs.Field.{gpu}

@@ -1,17 +1,7 @@
 -- A range as its loop goes: what is left to do on what is left is the whole. Assumes nothing.
-use mathlib.Core.Path.{_≡_, refl, sym, ap, subst, _∙_}
-use mathlib.Core.Bool.{Bool, true, false, not, _||_}
-use mathlib.Core.List.{List}
-use Prim.Native.Nat.{ℕ, zero, suc, _+_, _-_, _*_, _/_, _≤_, _<_}
-use native.Mathlib.Numerals.{add-one}
-use native.Mathlib.Omega.{arith}
-use borrow.Author.Tests.{le-ltb, lt-leb, leb-false, ltb-false, eq-eqb, ne-eqb, not-false}
-use lib.Dec.{ltb, leb}
-use lib.Ieee.{Float}
-use lib.IntN.{ℤ, pos}
-use lib.ListN.{length}
-use lib.Seq.{sets, length-sets}
-use Rattle.laws.specs.Lists.{over}
+use Rattle.laws.proofs.Prelude.{_≡_, refl, sym, ap, subst, _∙_, Bool, true, false, not, _||_, List, ℕ, zero, suc, _+_, _-_, _*_, _/_, _≤_, _<_}
+use Rattle.laws.proofs.Prelude.{add-one, arith, le-ltb, lt-leb, leb-false, ltb-false, eq-eqb, ne-eqb, not-false, ltb, leb, Float, ℤ, pos, length}
+use Rattle.laws.proofs.Prelude.{sets, length-sets, over}
 use Rattle.refusals.specs.Refusal.{Judgement, pass, refuse, unless, judgementIn}
 use Rattle.refusals.specs.declared.Verdict.{Verdict}
 use Rattle.refusals.proofs.Judging.{passed, or-left, or-right}

@@ -1,10 +1,5 @@
 -- The run of specs/LayerExample. Assumes nothing.
-use mathlib.Core.Path.{_≡_, refl, sym, ap, subst, _∙_}
-use mathlib.Core.List.{List, [], _∷_}
-use Prim.Native.Nat.{ℕ, _+_}
-use lib.Dec.{lit≤}
-use lib.IntN.{ℤ, pos}
-use lib.ListN.{replicate}
+use Rattle.laws.proofs.Prelude.{_≡_, refl, sym, ap, subst, _∙_, List, [], _∷_, ℕ, _+_, lit≤, ℤ, pos, replicate}
 use Rattle.refusals.specs.Refusal.{Judgement, pass, refuse, numberOf}
 use Rattle.refusals.specs.declared.Refusal.{Refusal}
 use Rattle.refusals.specs.declared.Refusal.the-variants.{Room, Tile, Row, Covers}

@@ -1,16 +1,6 @@
 -- The parts that searches find in a row in order are those that the whole row has of the layer. The stored number of tile t is t + 1. Uses of the
 -- laws over the tile height at 4. Assumes nothing.
-use mathlib.Core.Path.{_≡_, sym, ap, _∙_}
-use mathlib.Core.Bool.{true}
-use mathlib.Core.List.{List}
-use Prim.Native.Nat.{ℕ, suc}
-use native.Mathlib.Omega.{arith}
-use lib.Dec.{eqb, ltb}
-use lib.IntN.{ℤ, pos}
-use Rattle.laws.specs.Integer.{plus, minus}
-use Rattle.laws.specs.Lists.{filter}
-use Rattle.laws.proofs.Filtered.{filter-twice}
-use Rattle.laws.proofs.Parts.{whole, equal}
+use Rattle.laws.proofs.Prelude.{_≡_, sym, ap, _∙_, true, List, ℕ, suc, arith, eqb, ltb, ℤ, pos, plus, minus, filter, filter-twice, whole, equal}
 use Rattle.pixel_segment.specs.Field.{gpu, tileXOf, layerIdOf}
 use Rattle.pixel_segment.proofs.Heights.{gpu-keyed}
 use Rattle.segment_rows.specs.Rows.{isRow, Ordered, Words}

@@ -1,12 +1,7 @@
 -- Planes of 64 numbers that lie one after the other: one that is lent out and comes back written. Assumes nothing.
-use mathlib.Core.Path.{_≡_, ap, sym, _∙_}
-use mathlib.Core.List.{List, _++_, append-assoc, append-nil}
-use Prim.Native.Nat.{ℕ, _+_, _-_, _*_, _≤_}
-use native.Mathlib.Omega.{arith}
-use lib.Ieee.{Float}
-use lib.ListN.{length, take, drop, length-take, length-drop, length-append, drop-of-length-le}
-use lib.Seq.{sets, sets-eq, drop-drop, length-take-le, take-at, drop-at}
-use Rattle.laws.specs.Lists.{over}
+use Rattle.laws.proofs.Prelude.{_≡_, ap, sym, _∙_, List, _++_, append-assoc, append-nil, ℕ, _+_, _-_, _*_, _≤_, arith, Float, length, take, drop}
+use Rattle.laws.proofs.Prelude.{length-take, length-drop, length-append, drop-of-length-le, sets, sets-eq, drop-drop, length-take-le, take-at}
+use Rattle.laws.proofs.Prelude.{drop-at, over}
 use Rattle.layer_row_gpu.specs.WorkTiles.{planeAt}
 
 -- the k-th plane, lent out of the planes, comes back as it is written

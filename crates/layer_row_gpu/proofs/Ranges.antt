@@ -1,18 +1,7 @@
 -- A range of tiles after an accepted opening is as the whole row has it. Assumes nothing.
-use mathlib.Core.Path.{_≡_, refl, sym, ap, _∙_}
-use mathlib.Core.Bool.{Bool, true, false, cond}
-use mathlib.Core.List.{List, _++_}
-use Prim.Native.Nat.{ℕ, zero, suc, _+_, _-_, _*_, _/_, _≤_, _<_, min}
-use native.Mathlib.Nat.{add-zero, add-suc}
-use native.Mathlib.Omega.{arith}
-use lib.Dec.{leb, eqb, ltb}
-use lib.Ieee.{Float}
-use lib.IntN.{pos}
-use lib.ListN.{length, drop, length-append, length-take, length-drop}
-use lib.Seq.{sets}
-use Rattle.laws.specs.Integer.{plus}
-use Rattle.laws.specs.Lists.{over}
-use Rattle.laws.proofs.Rows.{length-over}
+use Rattle.laws.proofs.Prelude.{_≡_, refl, sym, ap, _∙_, Bool, true, false, cond, List, _++_, ℕ, zero, suc, _+_, _-_, _*_, _/_, _≤_, _<_, min}
+use Rattle.laws.proofs.Prelude.{add-zero, add-suc, arith, leb, eqb, ltb, Float, pos, length, drop, length-append, length-take, length-drop, sets}
+use Rattle.laws.proofs.Prelude.{plus, over, length-over}
 use Rattle.refusals.specs.Refusal.{Judgement, pass, refuse}
 use Rattle.pixel_segment.specs.Field.{gpu}
 use Rattle.cover_statements.specs.WholeRow.{rowPlane}

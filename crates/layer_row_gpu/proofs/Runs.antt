@@ -1,9 +1,5 @@
 -- The theorem over any works and ranges after an accepted opening: each call is as the whole row has it. Assumes nothing.
-use mathlib.Core.Path.{_≡_, refl, sym, ap, subst, _∙_}
-use mathlib.Core.List.{List, _∷_}
-use Prim.Native.Nat.{ℕ, _+_, _≤_}
-use native.Mathlib.Omega.{arith}
-use Rattle.laws.specs.Integer.{plus}
+use Rattle.laws.proofs.Prelude.{_≡_, refl, sym, ap, subst, _∙_, List, _∷_, ℕ, _+_, _≤_, arith, plus}
 use Rattle.refusals.specs.Refusal.{Judgement, pass, refuse}
 use Rattle.layer_row_gpu.specs.LayerState.{LayerState, layerStateIn}
 use Rattle.layer_row_gpu.specs.OpenLayer.{LayerCall, firstState, openedState}

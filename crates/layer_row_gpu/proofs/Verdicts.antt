@@ -1,20 +1,6 @@
 -- What verdicts that pass tell of an opening and of a work, and what the operations give by their verdicts. Assumes nothing.
-use mathlib.Core.Path.{_≡_}
-use mathlib.Core.Bool.{true, false, not, _||_}
-use mathlib.Core.Logic.{⊎-elim}
-use mathlib.Core.List.{List}
-use Prim.Native.Nat.{ℕ, suc, _≤_, _<_}
-use native.Mathlib.Omega.{arith}
-use borrow.Author.Tests.{not-false, lt-ltb, le-leb, eqb-true}
-use lib.Dec.{ltb, leb, eqb}
-use lib.Ieee.{Float}
-use lib.IntN.{ℤ, pos}
-use lib.ListN.{length}
-use lib.Signed.{ltZ}
-use Rattle.laws.specs.Integer.{plus, minus}
-use Rattle.laws.proofs.Parts.{whole, lt-false, equal}
-use Rattle.laws.proofs.Bools.{clash}
-use Rattle.laws.proofs.Orders.{le-or-lt}
+use Rattle.laws.proofs.Prelude.{_≡_, true, false, not, _||_, ⊎-elim, List, ℕ, suc, _≤_, _<_, arith, not-false, lt-ltb, le-leb, eqb-true, ltb, leb}
+use Rattle.laws.proofs.Prelude.{eqb, Float, ℤ, pos, length, ltZ, plus, minus, whole, lt-false, equal, clash, le-or-lt}
 use Rattle.refusals.specs.Refusal.{pass, unless}
 use Rattle.refusals.proofs.Judging.{passed, or-left, or-right}
 use Rattle.pixel_segment.specs.Field.{gpu}

@@ -1,15 +1,6 @@
 -- The sums of one layer in a part with other layers: those of its own segments. Assumes nothing.
-use mathlib.Core.Path.{_≡_, refl, ap, _∙_, fun-ext}
-use mathlib.Core.Bool.{Bool, true, false, cond, _&&_}
-use mathlib.Core.List.{List}
-use Prim.Native.Nat.{ℕ, _+_, _≤_, _<_, min}
-use native.Mathlib.Nat.{zero-add}
-use lib.Dec.{eqb}
-use lib.IntN.{ℤ, pos, natAbs, _+ℤ_, +ℤ-idl}
-use lib.ListN.{getD, replicate}
-use Rattle.laws.specs.Lists.{tabulate}
-use Rattle.laws.specs.Sum.{sumℤ, sumℕ}
-use Rattle.laws.proofs.Sums.{sum-ext, sum-filter}
+use Rattle.laws.proofs.Prelude.{_≡_, refl, ap, _∙_, fun-ext, Bool, true, false, cond, _&&_, List, ℕ, _+_, _≤_, _<_, min, zero-add, eqb, ℤ, pos}
+use Rattle.laws.proofs.Prelude.{natAbs, _+ℤ_, +ℤ-idl, getD, replicate, tabulate, sumℤ, sumℕ, sum-ext, sum-filter}
 use Rattle.pixel_segment.specs.Field.{gpu, layerIdOf, localYOf, coverOf}
 use Rattle.cover_statements.specs.Carry.{inRow, absCover, coverIn, loadIn, isLight, carryOf}
 use Rattle.cover_statements.specs.Cover.{coverAt, noCover}

@@ -1,9 +1,5 @@
 -- Numbers packed at a height, as a row. Stands for 'the same segments' of a tile 4 high and of one 16 high: rows 0 to 3 of the second are the first.
-use mathlib.Core.Path.{_≡_}
-use mathlib.Core.List.{List, [], _∷_}
-use Prim.Native.Nat.{ℕ}
-use lib.IntN.{ℤ}
-use Rattle.laws.specs.Answer.{given}
+use Rattle.laws.specs.Prelude.{_≡_, List, [], _∷_, ℕ, ℤ, given}
 use Rattle.pixel_segment.specs.Pack.{packOf}
 
 -- the seven numbers of a segment

@@ -1,10 +1,5 @@
 -- What the sums of one layer in a part with other layers say.
-use mathlib.Core.Bool.{cond}
-use mathlib.Core.List.{List}
-use Prim.Native.Nat.{ℕ}
-use lib.Dec.{eqb}
-use lib.IntN.{ℤ, pos}
-use Rattle.laws.specs.Lists.{filter}
+use Rattle.laws.specs.Prelude.{cond, List, ℕ, eqb, ℤ, pos, filter}
 use Rattle.pixel_segment.specs.Field.{gpu, layerIdOf, coverOf}
 
 -- the layer's segments of a part

@@ -1,9 +1,5 @@
 -- What the functions below a range ask and give. Once the first tile is judged, only the row's end, the planes and number 9 are judged of the others.
-use mathlib.Core.Path.{_≡_}
-use mathlib.Core.Bool.{Bool, true, not}
-use mathlib.Core.List.{List}
-use Prim.Native.Nat.{ℕ, suc, _≤_, _<_}
-use lib.Dec.{leb}
+use Rattle.laws.specs.Prelude.{_≡_, Bool, true, not, List, ℕ, suc, _≤_, _<_, leb}
 use Rattle.refusals.specs.Refusal.{pass, unless}
 use Rattle.pixel_segment.specs.Field.{gpu}
 use Rattle.segment_rows.specs.Rows.{isRow}

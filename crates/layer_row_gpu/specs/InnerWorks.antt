@@ -1,11 +1,5 @@
 -- What the functions below openings and works ask: that their judges passed.
-use mathlib.Core.Path.{_≡_}
-use mathlib.Core.Bool.{true}
-use mathlib.Core.List.{List}
-use Prim.Native.Nat.{ℕ, suc, _≤_, _<_}
-use lib.Ieee.{Float}
-use lib.ListN.{length}
-use Rattle.laws.specs.Integer.{plus, minus}
+use Rattle.laws.specs.Prelude.{_≡_, true, List, ℕ, suc, _≤_, _<_, Float, length, plus, minus}
 use Rattle.pixel_segment.specs.Field.{gpu}
 use Rattle.segment_rows.specs.Rows.{isRow}
 use Rattle.cover_statements.specs.Carry.{isLight}

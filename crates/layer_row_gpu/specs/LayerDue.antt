@@ -2,16 +2,7 @@
 -- many tiles were due to be worked so far, and by the caller's own choices. No answer and no state that a call gave back is looked at. Stands for
 -- W-213, 'carry and coverage are held to the same working from the whole row as at 16', and for 'what it compares with is worked by this document
 -- from the opening on'.
-use mathlib.Core.Bool.{Bool, not, cond, _||_}
-use mathlib.Core.List.{List, [], _++_}
-use Prim.Native.Nat.{ℕ, zero, suc, _+_, _/_}
-use lib.Dec.{ltb, leb, eqb}
-use lib.Ieee.{Float}
-use lib.IntN.{ℤ, pos}
-use lib.ListN.{length}
-use lib.Signed.{ltZ}
-use Rattle.laws.specs.Integer.{plus}
-use Rattle.laws.specs.Lists.{over}
+use Rattle.laws.specs.Prelude.{Bool, not, cond, _||_, List, [], _++_, ℕ, zero, suc, _+_, _/_, ltb, leb, eqb, Float, ℤ, pos, length, ltZ, plus, over}
 use Rattle.refusals.specs.Refusal.{Judgement, pass, refuse, unless}
 use Rattle.pixel_segment.specs.Field.{gpu}
 use Rattle.segment_rows.specs.Rows.{isRow}

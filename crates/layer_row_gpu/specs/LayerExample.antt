@@ -1,11 +1,6 @@
 -- The claim of LayerRun is not empty: an accepted opening and a run after it that meet its premises, in which an EvenOdd carry is dropped, a range works
 -- a tile and ends before one that number 9 refuses, and calls are refused by 1, 2, 3 and 9 before and after accepted ones. proofs/LayerExample has it.
-use mathlib.Core.Path.{_≡_}
-use mathlib.Core.List.{List, [], _∷_, map}
-use Prim.Native.Nat.{ℕ, _+_}
-use lib.Ieee.{binary32, ofBits}
-use lib.IntN.{ℤ, pos, negsuc}
-use lib.ListN.{replicate}
+use Rattle.laws.specs.Prelude.{_≡_, List, [], _∷_, map, ℕ, _+_, binary32, ofBits, ℤ, pos, negsuc, replicate}
 use Rattle.refusals.specs.Refusal.{Judgement, pass, refuse}
 use Rattle.pixel_segment.specs.Field.{gpu}
 use Rattle.pixel_segment.specs.Pack.{wordOf}

@@ -1,12 +1,7 @@
 -- A run of one layer's row: an accepted opening, and any list of works and ranges after it, refused ones included, as the calls went; and the claim about it:
 -- every call gives what is due of it (specs/LayerDue), which is worked from the whole row, never from a returned answer or state. Beside it, what the
 -- row alone says of every tile. proofs/Runs proves it; specs/LayerExample has a run that meets its premises.
-use mathlib.Core.Path.{_≡_}
-use mathlib.Core.List.{List, [], _∷_}
-use Prim.Native.Nat.{ℕ, suc, _+_}
-use lib.Ieee.{Float}
-use lib.IntN.{pos}
-use lib.ListN.{length}
+use Rattle.laws.specs.Prelude.{_≡_, List, [], _∷_, ℕ, suc, _+_, Float, pos, length}
 use Rattle.refusals.specs.Refusal.{pass, refuse}
 use Rattle.pixel_segment.specs.Field.{gpu}
 use Rattle.cover_statements.specs.WholeRow.{FromRow}

@@ -1,12 +1,6 @@
 -- Where a caller stands in one layer's row of tiles four pixels high, and refusal 2 by the sizes of this profile: rows 0 to 8,190, tiles to 4,095.
 -- Stands for W-213, 'numbers 1, 2 and 11 go by these sizes', and for condition 2 of 'Turned down'.
-use mathlib.Core.Bool.{Bool, cond, not, _||_}
-use mathlib.Core.List.{List}
-use Prim.Native.Nat.{ℕ, suc, _+_}
-use lib.Dec.{ltb, leb, eqb}
-use lib.IntN.{ℤ, pos}
-use lib.Signed.{ltZ}
-use Rattle.laws.specs.Integer.{plus}
+use Rattle.laws.specs.Prelude.{Bool, cond, not, _||_, List, ℕ, suc, _+_, ltb, leb, eqb, ℤ, pos, ltZ, plus}
 use Rattle.pixel_segment.specs.Field.{gpu}
 use Rattle.styling.specs.declared.FillRule.{FillRule}
 use Rattle.cover_statements.specs.Carry.{carryOf}

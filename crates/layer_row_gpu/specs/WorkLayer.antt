@@ -1,14 +1,6 @@
 -- The work on the next tile of one layer's row: judged by 1, 2, 3 and 9, lowest first; the tile's 64 coverages written, and the carry handed on.
 -- A refusal leaves the plane as it was and returns the equal state. Stands for W-213: 'planes have 64 numbers, carries 4 bytes'.
-use mathlib.Core.Path.{_≡_}
-use mathlib.Core.Bool.{not, _||_}
-use mathlib.Core.List.{List}
-use Prim.Native.Nat.{ℕ, suc}
-use lib.Dec.{ltb}
-use lib.Ieee.{Float}
-use lib.IntN.{ℤ}
-use lib.ListN.{length}
-use Rattle.laws.specs.Lists.{over}
+use Rattle.laws.specs.Prelude.{_≡_, not, _||_, List, ℕ, suc, ltb, Float, ℤ, length, over}
 use Rattle.refusals.specs.Refusal.{Judgement, pass, refuse, unless, judgementIn}
 use Rattle.pixel_segment.specs.Field.{gpu}
 use Rattle.segment_rows.specs.Rows.{isRow}

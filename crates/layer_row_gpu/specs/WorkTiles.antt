@@ -2,15 +2,7 @@
 -- numbers. It is refused only where the first tile's own call would be, by that number, and all is then as it was. Else it is accepted, and tells how
 -- many tiles were worked, and why it ended: all that were asked for are worked; the row has no further tile; no plane is left; or the next tile's own
 -- call would be refused, with the number. To ask for more tiles than the row has is no fault; a range that asks for none is accepted.
-use mathlib.Core.Path.{_≡_}
-use mathlib.Core.Bool.{Bool, cond}
-use mathlib.Core.List.{List}
-use Prim.Native.Nat.{ℕ, zero, suc, _*_, _/_}
-use lib.Dec.{leb, eqb}
-use lib.Ieee.{Float}
-use lib.IntN.{ℤ, pos}
-use lib.ListN.{length, take, drop}
-use lib.Seq.{sets}
+use Rattle.laws.specs.Prelude.{_≡_, Bool, cond, List, ℕ, zero, suc, _*_, _/_, leb, eqb, Float, ℤ, pos, length, take, drop, sets}
 use Rattle.refusals.specs.Refusal.{Judgement, pass, refuse, judgementIn, numberOf}
 use Rattle.layer_row_gpu.specs.LayerState.{LayerState, layerStateIn}
 use Rattle.layer_row_gpu.specs.WorkLayer.{workLayerVerdict, layerChoice, LayerGiven, workLayerOf}

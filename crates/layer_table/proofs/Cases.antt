@@ -1,6 +1,5 @@
 -- The cases of specs/Edges, computed. Assumes nothing.
-use mathlib.Core.Path.{refl}
-use lib.Ieee.{eq, ofBits}
+use Rattle.laws.proofs.Prelude.{refl, eq, ofBits}
 use Rattle.styling.specs.Ascending.{strictlyAscendsFrom}
 use Rattle.layer_table.specs.Table.{isTableShort, isValid, isTable, layerAt}
 use Rattle.layer_table.specs.Edges.{TableEdges}

@@ -1,17 +1,7 @@
 -- Halving an ascending table: what holds of the `len` places from `start` on that are left. No place outside them has the id.
 -- Assumes nothing.
-use mathlib.Core.Path.{_≡_, sym, ap, _∙_}
-use mathlib.Core.Bool.{Bool, true, _&&_}
-use mathlib.Core.Logic.{⊎-elim}
-use mathlib.Core.List.{List}
-use Prim.Native.Nat.{ℕ, _+_, _-_, _/_, _≤_, _<_}
-use native.Mathlib.Nat.{eq-or-lt-of-le, zero-add}
-use native.Mathlib.Omega.{arith}
-use borrow.Author.Tests.{ltb-true, eqb-true}
-use lib.Dec.{ltb, eqb}
-use Rattle.laws.specs.Answer.{refused, given}
-use Rattle.laws.proofs.Bools.{left, right}
-use Rattle.laws.proofs.Orders.{le-or-lt}
+use Rattle.laws.proofs.Prelude.{_≡_, sym, ap, _∙_, Bool, true, _&&_, ⊎-elim, List, ℕ, _+_, _-_, _/_, _≤_, _<_, eq-or-lt-of-le, zero-add, arith}
+use Rattle.laws.proofs.Prelude.{ltb-true, eqb-true, ltb, eqb, refused, given, left, right, le-or-lt}
 use Rattle.styling.specs.Ascending.{strictlyAscends}
 use Rattle.layer_table.specs.Table.{idAt, tableIds}
 use Rattle.layer_table.specs.Lookup.{recordPlace}

@@ -1,18 +1,7 @@
 -- Judging a table: what holds while its records are passed in one pass, and what holds of a table that passes. Assumes nothing.
-use mathlib.Core.Path.{_≡_, refl, sym, ap, _∙_}
-use mathlib.Core.Bool.{Bool, true, false, not, _&&_, _||_, and-true}
-use mathlib.Core.List.{List, map}
-use Prim.Native.Nat.{ℕ, _+_, _*_, _/_, _≤_, _<_, min}
-use native.Mathlib.Numerals.{add-one}
-use native.Mathlib.Omega.{arith}
-use borrow.Author.Tests.{ltb-true, ltb-false, lt-ltb, le-ltb, not-true}
-use lib.Dec.{leb, ltb}
-use lib.Ieee.{Float}
-use lib.ListN.{length, drop, drop-of-length-le}
-use Rattle.laws.specs.Lists.{tabulate, all}
-use Rattle.laws.proofs.Bools.{left, right}
-use Rattle.laws.proofs.Every.{all-at}
-use Rattle.laws.proofs.Rows.{length-tabulate, getD-tabulate}
+use Rattle.laws.proofs.Prelude.{_≡_, refl, sym, ap, _∙_, Bool, true, false, not, _&&_, _||_, and-true, List, map, ℕ, _+_, _*_, _/_, _≤_, _<_, min}
+use Rattle.laws.proofs.Prelude.{add-one, arith, ltb-true, ltb-false, lt-ltb, le-ltb, not-true, leb, ltb, Float, length, drop, drop-of-length-le}
+use Rattle.laws.proofs.Prelude.{tabulate, all, left, right, all-at, length-tabulate, getD-tabulate}
 use Rattle.layer_table.specs.declared.Words.{Words}
 use Rattle.styling.specs.Ascending.{strictlyAscendsFrom, strictlyAscends}
 use Rattle.layer_table.specs.Record.{inRange}

@@ -1,14 +1,6 @@
 -- The lists that a table is: their lengths and elements. Assumes nothing.
-use mathlib.Core.Path.{_≡_, refl, ap, _∙_}
-use mathlib.Core.Bool.{true}
-use mathlib.Core.List.{List, _∷_, map}
-use Prim.Native.Nat.{ℕ, zero, suc, _<_}
-use native.Mathlib.Omega.{arith}
-use lib.ListN.{length, getD, drop}
-use lib.Seq.{drop-cons}
-use lib.Ieee.{Float}
-use Rattle.laws.specs.Lists.{tabulate}
-use Rattle.laws.proofs.Rows.{length-tabulate, getD-tabulate}
+use Rattle.laws.proofs.Prelude.{_≡_, refl, ap, _∙_, true, List, _∷_, map, ℕ, zero, suc, _<_, arith, length, getD, drop, drop-cons, Float, tabulate}
+use Rattle.laws.proofs.Prelude.{length-tabulate, getD-tabulate}
 use Rattle.styling.specs.declared.Layer.{Layer}
 use Rattle.styling.specs.Ascending.{strictlyAscends}
 use Rattle.layer_table.specs.Table.{idAt, layerAt, tableOf, tableIds}

@@ -1,18 +1,9 @@
 -- What is looked up in a table, by its records: a layer is given where its id stands, and refused only where no record has the id.
 -- `at-place` and `at-none` are for whoever calls `find`; `Walk` is for whoever goes through the table in step with ascending ids.
 -- Assumes nothing.
-use mathlib.Core.Path.{_≡_, refl, sym, ap, _∙_}
-use mathlib.Core.Bool.{true}
-use mathlib.Core.Logic.{⊎-elim}
-use mathlib.Core.List.{List, [], _∷_, map}
-use Prim.Native.Nat.{ℕ, zero, suc, _+_, _≤_, _<_}
-use native.Mathlib.Nat.{not-suc-le-zero, le-of-suc-le-suc, eq-or-lt-of-le, zero-add}
-use native.Mathlib.Omega.{arith}
-use borrow.Author.Tests.{eq-eqb, ne-eqb}
-use lib.Ieee.{Float}
-use lib.ListN.{length, getD, length-map}
-use Rattle.laws.specs.Answer.{refused, given}
-use Rattle.laws.proofs.Orders.{le-or-lt, eq-or-ne}
+use Rattle.laws.proofs.Prelude.{_≡_, refl, sym, ap, _∙_, true, ⊎-elim, List, [], _∷_, map, ℕ, zero, suc, _+_, _≤_, _<_, not-suc-le-zero}
+use Rattle.laws.proofs.Prelude.{le-of-suc-le-suc, eq-or-lt-of-le, zero-add, arith, eq-eqb, ne-eqb, Float, length, getD, length-map, refused, given}
+use Rattle.laws.proofs.Prelude.{le-or-lt, eq-or-ne}
 use Rattle.styling.specs.declared.Layer.{Layer}
 use Rattle.layer_table.specs.declared.Found.{Found}
 use Rattle.layer_table.specs.declared.Found.the-variants.{At, Absent}

@@ -1,16 +1,7 @@
 -- Laws of looking up. Over any list: a place that is given holds the id, and where none is given no element has it. Over an ascending
 -- list: the place that holds the id is given. Assumes nothing.
-use mathlib.Core.Path.{_≡_, refl, sym, ap, _∙_}
-use mathlib.Core.Bool.{true}
-use mathlib.Core.Logic.{⊎-elim}
-use mathlib.Core.List.{List, [], _∷_}
-use Prim.Native.Nat.{ℕ, zero, suc, _+_, _<_}
-use native.Mathlib.Nat.{not-suc-le-zero, le-of-suc-le-suc, add-zero, add-suc, suc-add}
-use native.Mathlib.Omega.{arith}
-use borrow.Author.Tests.{eq-eqb, ne-eqb}
-use lib.ListN.{length, getD}
-use Rattle.laws.specs.Answer.{refused, given}
-use Rattle.laws.proofs.Orders.{eq-or-ne}
+use Rattle.laws.proofs.Prelude.{_≡_, refl, sym, ap, _∙_, true, ⊎-elim, List, [], _∷_, ℕ, zero, suc, _+_, _<_, not-suc-le-zero, le-of-suc-le-suc}
+use Rattle.laws.proofs.Prelude.{add-zero, add-suc, suc-add, arith, eq-eqb, ne-eqb, length, getD, refused, given, eq-or-ne}
 use Rattle.styling.specs.Ascending.{strictlyAscendsFrom}
 use Rattle.layer_table.specs.Lookup.{placeFrom}
 use Rattle.styling.proofs.Ascents.{ascends-tail, ascends-low}

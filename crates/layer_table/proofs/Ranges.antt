@@ -1,13 +1,7 @@
 -- The bounds that a record in range has, and those of the layer that it says. Assumes nothing.
-use mathlib.Core.Path.{_≡_, refl}
-use mathlib.Core.Bool.{Bool, true, false, cond, _&&_}
-use mathlib.Core.List.{List}
-use Prim.Native.Nat.{ℕ, zero, suc, _≤_, _<_}
-use native.Mathlib.Omega.{arith}
-use borrow.Author.Tests.{leb-true}
-use lib.Dec.{leb, eqb, eqb·suc-zero}
-use lib.Ieee.{Float, eq, ofBits, binary32}
-use Rattle.laws.proofs.Bools.{left, right}
+use Rattle.laws.proofs.Prelude.{_≡_, refl, Bool, true, false, cond, _&&_, List, ℕ, zero, suc, _≤_, _<_, arith, leb-true, leb, eqb, Float, eq, ofBits}
+use Rattle.laws.proofs.Prelude.{binary32, left, right}
+use lib.Dec.{eqb·suc-zero}
 use Rattle.styling.specs.declared.Color.{Color}
 use Rattle.styling.specs.declared.Style.{Style}
 use Rattle.styling.specs.declared.Func.the-variants.{Draw, Clip}

@@ -1,10 +1,6 @@
 -- Tables at the edges of refusals 1 and 4: equal ids, blend mode 16 and what is past an edge are refused, and the edges pass. Stands for 1 and 4 of
 -- 'Turned down'.
-use mathlib.Core.Path.{_≡_}
-use mathlib.Core.Bool.{true, false}
-use mathlib.Core.List.{List, [], _∷_, _++_}
-use Prim.Native.Nat.{ℕ, _-_, _^_}
-use lib.Ieee.{Float, ofBits, binary32}
+use Rattle.laws.specs.Prelude.{_≡_, true, false, List, [], _∷_, _++_, ℕ, _-_, _^_, Float, ofBits, binary32}
 use Rattle.styling.specs.Style.{isOpaque}
 use Rattle.layer_table.specs.Table.{isTableShort, isTable, layerAt}
 

@@ -1,11 +1,5 @@
 -- Looking a layer up in a table by its id: the first with that id, or refusal 8, 'a listed or painted layer is not in the table'.
-use mathlib.Core.Path.{_≡_}
-use mathlib.Core.Bool.{cond}
-use mathlib.Core.List.{List, [], _∷_}
-use Prim.Native.Nat.{ℕ, suc, _<_}
-use lib.Dec.{eqb}
-use lib.Ieee.{Float}
-use Rattle.laws.specs.Answer.{Answer, refused, given}
+use Rattle.laws.specs.Prelude.{_≡_, cond, List, [], _∷_, ℕ, suc, _<_, eqb, Float, Answer, refused, given}
 use Rattle.styling.specs.declared.Layer.{Layer}
 use Rattle.layer_table.specs.Table.{idAt, layerAt, tableOf}
 use Rattle.layer_table.specs.declared.Found.{Found}

@@ -1,9 +1,7 @@
 -- One record of the layer table: its eight words, which of them are in range, and the layer that they say.
 -- Stands for 'layer records say rule, draw or clip, clip span 0 to 2,097,151, clipped, fill, blend mode, colour, and unchanged'. A draw's
 -- span plays no part, nor do a clip's words for clipped, fill and blend mode and its colour, nor the colour of a fill that is not solid.
-use mathlib.Core.Bool.{Bool, cond, _&&_}
-use Prim.Native.Nat.{ℕ}
-use lib.Dec.{leb, eqb}
+use Rattle.laws.specs.Prelude.{Bool, cond, _&&_, ℕ, leb, eqb}
 use Rattle.styling.specs.declared.Color.{Color}
 use Rattle.styling.specs.declared.Func.{Func}
 use Rattle.styling.specs.declared.Func.the-variants.{Draw, Clip}

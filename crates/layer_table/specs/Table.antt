@@ -1,13 +1,6 @@
 -- The lent layer table: eight words and four floats a record, and how many records there are. This is the only place that knows how a
 -- record lies in memory; all else goes by `tableOf`, the list of its layers.
-use mathlib.Core.Path.{_≡_}
-use mathlib.Core.Bool.{Bool, true, not, _&&_}
-use mathlib.Core.List.{List, map}
-use Prim.Native.Nat.{ℕ, _+_, _*_, _/_, _≤_, _<_, min}
-use lib.Dec.{ltb}
-use lib.ListN.{length, getD}
-use lib.Ieee.{Float, nan}
-use Rattle.laws.specs.Lists.{tabulate, all}
+use Rattle.laws.specs.Prelude.{_≡_, Bool, true, not, _&&_, List, map, ℕ, _+_, _*_, _/_, _≤_, _<_, min, ltb, length, getD, Float, nan, tabulate, all}
 use Rattle.styling.specs.declared.Color.{Color}
 use Rattle.styling.specs.declared.Layer.{Layer}
 use Rattle.layer_table.specs.declared.Words.{Words}

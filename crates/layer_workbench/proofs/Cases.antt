@@ -1,12 +1,6 @@
 -- The carries of a tile do not hang on what the passes make of its layers: over any list, and worked in a tile with a layer that is skipped, one
 -- that is shown, and one that is masked off. Assumes nothing.
-use mathlib.Core.Path.{_≡_, refl}
-use mathlib.Core.Bool.{Bool, true, false}
-use mathlib.Core.List.{List, [], _∷_}
-use Prim.Native.Nat.{ℕ}
-use lib.IntN.{pos}
-use lib.Ieee.{eq, ofBits, binary32}
-use lib.ListN.{replicate}
+use Rattle.laws.proofs.Prelude.{_≡_, refl, Bool, true, false, List, [], _∷_, ℕ, pos, eq, ofBits, binary32, replicate}
 use Rattle.cover_statements.specs.Carry.{carryOf}
 use Rattle.cover_statements.specs.Cover.{isEmpty, isFull}
 use Rattle.styling.specs.declared.Color.{Color}

@@ -1,13 +1,7 @@
 -- What deciding promises, put together. Assumes nothing.
-use mathlib.Core.Path.{_≡_, ap, ap₂, _∙_}
-use mathlib.Core.Bool.{Bool, true}
-use mathlib.Core.List.{List, map}
-use Prim.Native.Nat.{ℕ, _≤_}
-use lib.ListN.{length}
-use lib.IntN.{ℤ}
+use Rattle.laws.proofs.Prelude.{_≡_, ap, ap₂, _∙_, Bool, true, List, map, ℕ, _≤_, length, ℤ, over}
 use Rattle.styling.specs.declared.Color.{Color}
 use Rattle.styling.specs.declared.Layer.{Layer}
-use Rattle.laws.specs.Lists.{over}
 use Rattle.queue_statements.specs.Queue.{idsIn}
 use Rattle.queue_statements.proofs.Columns.{areWide}
 use Rattle.tile_layers.specs.Listing.{Listed, incomingOf, Lists}

@@ -1,14 +1,7 @@
 -- A list written to its columns is what the passes read there. Assumes nothing.
-use mathlib.Core.Path.{_≡_, refl, ap, ap₂, sym, _∙_}
-use mathlib.Core.Bool.{Bool, true, false}
-use mathlib.Core.List.{List, [], _∷_, map}
-use Prim.Native.Nat.{ℕ, zero, suc, _+_, _*_, _≤_, _<_}
-use native.Mathlib.Nat.{le-of-suc-le-suc, not-suc-le-zero}
-use native.Mathlib.Omega.{arith}
-use lib.IntN.{ℤ}
-use lib.ListN.{length, getD, drop, length-map, length-append, List·getD-map}
-use Rattle.laws.specs.Lists.{over}
-use Rattle.laws.proofs.Rows.{is-tabulate, getD-tabulate}
+use Rattle.laws.proofs.Prelude.{_≡_, refl, ap, ap₂, sym, _∙_, Bool, true, false, List, [], _∷_, map, ℕ, zero, suc, _+_, _*_, _≤_, _<_}
+use Rattle.laws.proofs.Prelude.{le-of-suc-le-suc, not-suc-le-zero, arith, ℤ, length, getD, drop, length-map, length-append, List·getD-map, over}
+use Rattle.laws.proofs.Prelude.{is-tabulate, getD-tabulate}
 use Rattle.queue_statements.specs.Queue.{Carry, carryAt, queueOf, idsIn, coversIn}
 use Rattle.queue_statements.proofs.Columns.{areWide, length-covers, reads-back}
 use Rattle.styling.specs.declared.Layer.{Layer}

@@ -1,13 +1,6 @@
 -- The work on one tile (`drive_tile_painting` without painting): its layers are listed, the passes decide, the cached tile is updated, and the
 -- carries are handed on. Stands for 'One tile' up to painting.
-use mathlib.Core.Path.{_≡_}
-use mathlib.Core.Bool.{Bool, false}
-use mathlib.Core.List.{List, map}
-use mathlib.Core.Option.{Option, some, none}
-use Prim.Native.Nat.{ℕ, _≤_}
-use lib.IntN.{ℤ}
-use lib.ListN.{length}
-use Rattle.laws.specs.Lists.{over}
+use Rattle.laws.specs.Prelude.{_≡_, Bool, false, List, map, Option, some, none, ℕ, _≤_, ℤ, length, over}
 use Rattle.styling.specs.Color.{sameColor}
 use Rattle.styling.specs.declared.Color.{Color}
 use Rattle.styling.specs.declared.Layer.{Layer}

@@ -1,11 +1,6 @@
 -- Each answer of `read_block`, from what the names and the lines after them give.
 -- Assumes nothing.
-use mathlib.Core.Path.{refl, ap, subst}
-use mathlib.Core.List.{List, flatten}
-use Prim.Native.Nat.{ℕ}
-use native.Mathlib.Omega.{arith}
-use lib.IntN.{ℤ}
-use lib.ListN.{drop}
+use Rattle.laws.proofs.Prelude.{refl, ap, subst, List, flatten, ℕ, arith, ℤ, drop}
 use Rattle.lines.specs.declared.Place.the-variants.{At, Broken}
 use Rattle.lines.specs.declared.Block.{Block}
 use Rattle.lines.specs.declared.Block.the-variants.{Cut}

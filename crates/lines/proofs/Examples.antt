@@ -1,8 +1,6 @@
 -- A line with a number below 0, as it is printed.
 -- Assumes nothing.
-use mathlib.Core.Path.{_≡_, refl}
-use mathlib.Core.List.{[], _∷_}
-use lib.IntN.{pos, negsuc}
+use Rattle.laws.proofs.Prelude.{_≡_, refl, [], _∷_, pos, negsuc}
 use Rattle.decimal.specs.Decimal.{decimal, decimalIn}
 use Rattle.lines.specs.Bytes.{bytes}
 use Rattle.lines.specs.Text.{lineText}

@@ -1,15 +1,7 @@
 -- Reading is the inverse of printing: `parseLine`, `parseLines` and `parseBlock` read exactly what `lineText`, `linesText` and `blockText` print.
 -- Assumes nothing.
-use mathlib.Core.Path.{_≡_, refl, sym, ap, ap₂, _∙_}
-use mathlib.Core.Bool.{true, false}
-use mathlib.Core.List.{List, [], _∷_, _++_, append-assoc}
-use mathlib.Core.Option.{Option, some, none}
-use Prim.Native.Nat.{ℕ, zero, suc, _+_, _%_, _≤_}
-use native.Mathlib.Omega.{arith}
-use borrow.Author.Tests.{eq-eqb, eqb-true, eqb-false}
-use lib.Dec.{eqb}
-use lib.IntN.{ℤ, pos, negsuc}
-use lib.ListN.{length}
+use Rattle.laws.proofs.Prelude.{_≡_, refl, sym, ap, ap₂, _∙_, true, false, List, [], _∷_, _++_, append-assoc, Option, some, none, ℕ, zero, suc, _+_}
+use Rattle.laws.proofs.Prelude.{_%_, _≤_, arith, eq-eqb, eqb-true, eqb-false, eqb, ℤ, pos, negsuc, length}
 use Rattle.decimal.specs.Decimal.{decimal, decimalℤ, Stops}
 use Rattle.decimal.specs.Parse.{Parsed, parsed, failed, parseℤ}
 use Rattle.decimal.proofs.Digits.{decimal-one, decimal-more, by-digits}

@@ -1,13 +1,7 @@
 -- What holds while a line is printed: with what is left to print the list, and the place after it, are as the whole line leaves them.
 -- Assumes nothing.
-use mathlib.Core.Path.{_≡_, refl, sym, ap, _∙_}
-use mathlib.Core.List.{List, _∷_, _++_}
-use Prim.Native.Nat.{ℕ, suc, _+_, _-_, _*_, _<_, _≤_}
-use native.Mathlib.Numerals.{add-one}
-use native.Mathlib.Omega.{arith}
-use lib.IntN.{ℤ, pos}
-use lib.ListN.{length, drop, getD, set, length-set, length-append, length-drop, drop-of-length-le}
-use lib.Seq.{sets, length-sets, drop-cons}
+use Rattle.laws.proofs.Prelude.{_≡_, refl, sym, ap, _∙_, List, _∷_, _++_, ℕ, suc, _+_, _-_, _*_, _<_, _≤_, add-one, arith, ℤ, pos, length, drop, getD}
+use Rattle.laws.proofs.Prelude.{set, length-set, length-append, length-drop, drop-of-length-le, sets, length-sets, drop-cons}
 use Rattle.decimal.specs.Decimal.{decimalℤ}
 use Rattle.decimal.specs.Print.{Printing}
 use Rattle.decimal.proofs.Print.{sets-append}

@@ -1,14 +1,8 @@
 -- What holds while a line is read: what is left of it decides as the whole did, and with what is left to store the list is as the
 -- whole line leaves it.
 -- Assumes nothing.
-use mathlib.Core.Path.{_≡_, refl, sym, ap, _∙_}
-use mathlib.Core.List.{List, _∷_}
-use Prim.Native.Nat.{ℕ, suc, _+_, _-_, _<_, _≤_}
-use native.Mathlib.Numerals.{add-one}
-use native.Mathlib.Omega.{arith}
-use lib.IntN.{ℤ}
-use lib.ListN.{length, drop, getD, set, drop-of-length-le, length-set}
-use lib.Seq.{drop-cons, sets}
+use Rattle.laws.proofs.Prelude.{_≡_, refl, sym, ap, _∙_, List, _∷_, ℕ, suc, _+_, _-_, _<_, _≤_, add-one, arith, ℤ, length, drop, getD, set}
+use Rattle.laws.proofs.Prelude.{drop-of-length-le, length-set, drop-cons, sets}
 use Rattle.decimal.specs.declared.Signed.the-variants.{Integer, Malformed}
 use Rattle.decimal.specs.Parse.{parsed, parseℤ}
 use Rattle.decimal.specs.Read.{SignedRead}

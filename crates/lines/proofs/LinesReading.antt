@@ -1,15 +1,8 @@
 -- What holds while lines are read: what is left of them decides as the whole did, and with what is left to store the list is as all
 -- the lines leave it.
 -- Assumes nothing.
-use mathlib.Core.Path.{_≡_, refl, sym, ap, _∙_}
-use mathlib.Core.Bool.{true, false}
-use mathlib.Core.List.{List, [], append-nil, flatten}
-use mathlib.Core.Option.{some}
-use Prim.Native.Nat.{ℕ, suc, _+_, _-_, _*_, _<_, _≤_}
-use native.Mathlib.Omega.{arith}
-use lib.IntN.{ℤ}
-use lib.ListN.{length, drop}
-use lib.Seq.{sets, length-sets}
+use Rattle.laws.proofs.Prelude.{_≡_, refl, sym, ap, _∙_, true, false, List, [], append-nil, flatten, some, ℕ, suc, _+_, _-_, _*_, _<_, _≤_, arith, ℤ}
+use Rattle.laws.proofs.Prelude.{length, drop, sets, length-sets}
 use Rattle.decimal.proofs.Print.{sets-append}
 use Rattle.lines.specs.declared.Place.the-variants.{At, Broken}
 use Rattle.lines.specs.declared.Block.the-variants.{Lines, Cut}

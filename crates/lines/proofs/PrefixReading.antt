@@ -1,13 +1,6 @@
 -- What holds while a prefix is passed over: what is left of the prefix and of the text decides as the whole did.
 -- Assumes nothing.
-use mathlib.Core.Path.{_≡_, refl}
-use mathlib.Core.List.{List}
-use Prim.Native.Nat.{ℕ, _+_, _<_, _≤_}
-use native.Mathlib.Numerals.{add-one}
-use native.Mathlib.Omega.{arith}
-use borrow.Author.Tests.{eq-eqb, ne-eqb}
-use lib.ListN.{length, drop, getD, drop-of-length-le}
-use lib.Seq.{drop-cons}
+use Rattle.laws.proofs.Prelude.{_≡_, refl, List, ℕ, _+_, _<_, _≤_, add-one, arith, eq-eqb, ne-eqb, length, drop, getD, drop-of-length-le, drop-cons}
 use Rattle.lines.specs.declared.Place.the-variants.{At, Broken}
 use Rattle.lines.specs.Parse.{stripPrefix}
 use Rattle.lines.specs.Read.{PrefixRead}

@@ -1,12 +1,6 @@
 -- Each answer of `end_at` and of `starts_number`, from the tests that lead to it.
 -- Assumes nothing.
-use mathlib.Core.Path.{_≡_, refl}
-use mathlib.Core.Bool.{Bool, false, _||_}
-use mathlib.Core.List.{List}
-use Prim.Native.Nat.{ℕ, zero, suc, _<_, _≤_}
-use lib.Dec.{eqb}
-use lib.ListN.{length, drop, getD, drop-of-length-le}
-use lib.Seq.{drop-cons}
+use Rattle.laws.proofs.Prelude.{_≡_, refl, Bool, false, _||_, List, ℕ, zero, suc, _<_, _≤_, eqb, length, drop, getD, drop-of-length-le, drop-cons}
 use Rattle.decimal.specs.Decimal.{isDigit}
 use Rattle.lines.specs.Parse.{endAt, startsNumber}
 

@@ -1,12 +1,6 @@
 -- What one step does to the reading of a line and of lines.
 -- Assumes nothing.
-use mathlib.Core.Path.{_≡_, refl}
-use mathlib.Core.Bool.{true, false}
-use mathlib.Core.List.{List, [], _∷_}
-use mathlib.Core.Option.{some, none}
-use Prim.Native.Nat.{ℕ, zero, suc}
-use borrow.Author.Tests.{eq-eqb, ne-eqb}
-use lib.IntN.{ℤ}
+use Rattle.laws.proofs.Prelude.{_≡_, refl, true, false, List, [], _∷_, some, none, ℕ, zero, suc, eq-eqb, ne-eqb, ℤ}
 use Rattle.decimal.specs.Parse.{parsed, failed, parseℤ}
 use Rattle.lines.specs.Parse.{broken, after, endAt, parseLine, startsNumber, parseLines}
 

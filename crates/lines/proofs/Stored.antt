@@ -1,12 +1,7 @@
 -- The numbers of lines as they stand in a list, one line after another: field f of line i stands at i * k + f.
 -- Assumes nothing.
-use mathlib.Core.Path.{_≡_, ap, _∙_}
-use mathlib.Core.List.{List, [], _∷_, _++_, flatten}
-use Prim.Native.Nat.{ℕ, zero, suc, _+_, _*_, _<_, _≤_}
-use native.Mathlib.Omega.{arith}
-use lib.IntN.{ℤ, pos}
-use lib.ListN.{length, drop, getD, length-append, List·getD-append}
-use lib.Seq.{sets, sets-eq, getD-append-add}
+use Rattle.laws.proofs.Prelude.{_≡_, ap, _∙_, List, [], _∷_, _++_, flatten, ℕ, zero, suc, _+_, _*_, _<_, _≤_, arith, ℤ, pos, length, drop, getD}
+use Rattle.laws.proofs.Prelude.{length-append, List·getD-append, sets, sets-eq, getD-append-add}
 use Rattle.lines.specs.Text.{AllFields}
 
 pub length-flatten : (k : ℕ) (ls : List (List ℤ)) → AllFields k ls → length (flatten ls) ≡ length ls * k

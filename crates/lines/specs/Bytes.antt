@@ -1,6 +1,6 @@
 -- A quoted text as its bytes; only texts of ASCII are written so.
-use mathlib.Core.List.{List, [] as []ᴸ, _∷_ as _∷ᴸ_}
-use Prim.Native.Nat.{ℕ}
+use Rattle.laws.specs.Prelude.{List, ℕ}
+use mathlib.Core.List.{[] as []ᴸ, _∷_ as _∷ᴸ_}
 use Prim.Native.String.{String, [], _∷_}
 use Prim.Native.Char.{code}
 

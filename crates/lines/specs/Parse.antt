@@ -1,11 +1,6 @@
 -- Reading lines of whole numbers from the front of a text. proofs/Laws says what this is: the inverse of `lineText`, `linesText` and
 -- `blockText`. What is left of a text is `none` where its form is broken.
-use mathlib.Core.Bool.{Bool, false, _||_, cond}
-use mathlib.Core.List.{List, [], _∷_}
-use mathlib.Core.Option.{Option, some, none}
-use Prim.Native.Nat.{ℕ, zero, suc}
-use lib.Dec.{eqb}
-use lib.IntN.{ℤ}
+use Rattle.laws.specs.Prelude.{Bool, false, _||_, cond, List, [], _∷_, Option, some, none, ℕ, zero, suc, eqb, ℤ}
 use Rattle.decimal.specs.Decimal.{isDigit}
 use Rattle.decimal.specs.Parse.{Parsed, parsed, failed, parseℤ}
 

@@ -1,11 +1,5 @@
 -- What the readers of lines promise.
-use mathlib.Core.Path.{_≡_}
-use mathlib.Core.List.{List, flatten}
-use mathlib.Core.Option.{Option, some, none}
-use Prim.Native.Nat.{ℕ, _≤_}
-use lib.IntN.{ℤ}
-use lib.ListN.{length, drop}
-use lib.Seq.{sets}
+use Rattle.laws.specs.Prelude.{_≡_, List, flatten, Option, some, none, ℕ, _≤_, ℤ, length, drop, sets}
 use Rattle.lines.specs.declared.Place.{Place}
 use Rattle.lines.specs.declared.Place.the-variants.{At, Broken}
 use Rattle.lines.specs.declared.Block.{Block}

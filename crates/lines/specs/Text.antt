@@ -1,10 +1,6 @@
 -- Lines of whole numbers as text, as a printer writes them. Stands for 'three blocks, each a line of names, then lines of values in that
 -- order, fields parted by one space, lines ended by LF'.
-use mathlib.Core.Path.{_≡_}
-use mathlib.Core.List.{List, [], _∷_, _++_}
-use Prim.Native.Nat.{ℕ}
-use lib.IntN.{ℤ}
-use lib.ListN.{length}
+use Rattle.laws.specs.Prelude.{_≡_, List, [], _∷_, _++_, ℕ, ℤ, length}
 use Rattle.decimal.specs.Decimal.{decimalℤ, Short}
 
 -- what ends a field, by the fields after it in its line

@@ -1,17 +1,8 @@
 -- The layer id below which the clips that are passed free clipped draws tells whether the next layer, if it is a clipped draw, is freed: the layers
 -- ascend, so that the clips below it are those that are passed. Assumes nothing.
-use mathlib.Core.Path.{_≡_, refl, sym, ap, _∙_}
-use mathlib.Core.Bool.{Bool, true, false, cond, not, _&&_, and-true, and-false}
-use mathlib.Core.List.{List, [], _∷_, _++_, map}
-use mathlib.Core.Option.{Option, some, none}
-use Prim.Native.Nat.{ℕ, zero, suc, _+_, _≤_, _<_}
-use native.Mathlib.Nat.{le-of-suc-le-suc, eq-or-lt-of-le}
-use native.Mathlib.Omega.{arith}
-use borrow.Author.Tests.{lt-ltb, le-ltb, leb-true, leb-false}
-use mathlib.Core.Logic.{⊎-elim}
-use lib.Dec.{leb, ltb}
-use lib.ListN.{length, getD, take, length-map, List·getD-map}
-use Rattle.laws.specs.Answer.{Answer, refused, given, isGiven}
+use Rattle.laws.proofs.Prelude.{_≡_, refl, sym, ap, _∙_, Bool, true, false, cond, not, _&&_, and-true, and-false, List, [], _∷_, _++_, map, Option}
+use Rattle.laws.proofs.Prelude.{some, none, ℕ, zero, suc, _+_, _≤_, _<_, le-of-suc-le-suc, eq-or-lt-of-le, arith, lt-ltb, le-ltb, leb-true, leb-false}
+use Rattle.laws.proofs.Prelude.{⊎-elim, leb, ltb, length, getD, take, length-map, List·getD-map, Answer, refused, given, isGiven}
 use Rattle.layer_table.specs.Lookup.{lookup}
 use Rattle.styling.specs.Ascending.{strictlyAscends}
 use Rattle.styling.specs.Style.{isClipped}

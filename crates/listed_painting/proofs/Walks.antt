@@ -1,20 +1,8 @@
 -- The walk that paints a tile's layers: what it holds at the start and after each layer, and that the layer it meets is painted as by itself.
 -- Assumes nothing.
-use mathlib.Core.Path.{_≡_, refl, sym, ap, ap₂, subst, _∙_}
-use mathlib.Core.Bool.{Bool, true, false, cond, not, _&&_, false≢true}
-use mathlib.Core.Logic.{⊎-elim}
-use mathlib.Core.List.{List}
-use Prim.Native.Nat.{ℕ, _+_, _<_}
-use native.Mathlib.Numerals.{add-one}
-use native.Mathlib.Omega.{arith}
-use lib.Dec.{ltb}
-use lib.Ieee.{Float}
-use lib.IntN.{ℤ}
-use lib.ListN.{length, getD, take}
-use lib.Seq.{take-suc}
-use Rattle.laws.specs.Answer.{refused, given, isGiven}
-use Rattle.laws.proofs.Drops.{cons-lt, cons-at}
-use Rattle.laws.proofs.Orders.{le-or-lt}
+use Rattle.laws.proofs.Prelude.{_≡_, refl, sym, ap, ap₂, subst, _∙_, Bool, true, false, cond, not, _&&_, false≢true, ⊎-elim, List, ℕ, _+_, _<_}
+use Rattle.laws.proofs.Prelude.{add-one, arith, ltb, Float, ℤ, length, getD, take, take-suc, refused, given, isGiven, cons-lt, le-or-lt}
+use Rattle.laws.proofs.Drops.{cons-at}
 use Rattle.pixel_segment.specs.Field.{cpu}
 use Rattle.segment_rows.specs.Search.{between, layerPart}
 use Rattle.segment_rows.proofs.TileParts.{layer-part}

@@ -1,9 +1,6 @@
 -- How the code finds whether a draw needs a clip while it walks over a tile's layers: it keeps one number, the layer id below which the latest clip
 -- so far frees clipped draws. proofs/Freeing has that this is the need of a clip of pass_statements/specs/Rules.
-use mathlib.Core.Bool.{cond}
-use mathlib.Core.List.{List, [], _∷_}
-use Prim.Native.Nat.{ℕ, _+_}
-use Rattle.laws.specs.Answer.{Answer, refused, given}
+use Rattle.laws.specs.Prelude.{cond, List, [], _∷_, ℕ, _+_, Answer, refused, given}
 use Rattle.layer_table.specs.Lookup.{lookup}
 use Rattle.styling.specs.declared.Layer.{Layer}
 use Rattle.tile_layers.specs.Listing.{Listed}

@@ -1,13 +1,5 @@
 -- What a walk over a tile's layers holds before each of them, and what passing over the next layer and painting it give.
-use mathlib.Core.Path.{_≡_}
-use mathlib.Core.Bool.{true}
-use mathlib.Core.List.{List}
-use mathlib.Core.Option.{none}
-use Prim.Native.Nat.{ℕ, _+_, _≤_, _<_}
-use lib.Ieee.{Float}
-use lib.IntN.{ℤ}
-use lib.ListN.{length, drop, take, getD}
-use Rattle.laws.specs.Answer.{given, isGiven}
+use Rattle.laws.specs.Prelude.{_≡_, true, List, none, ℕ, _+_, _≤_, _<_, Float, ℤ, length, drop, take, getD, given, isGiven}
 use Rattle.layer_table.specs.Lookup.{lookup}
 use Rattle.layer_table.specs.Table.{Table}
 use Rattle.styling.specs.declared.Layer.{Layer}

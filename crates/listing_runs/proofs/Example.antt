@@ -1,7 +1,5 @@
 -- The run of specs/Example. Assumes nothing.
-use mathlib.Core.Path.{_≡_, refl, _∙_}
-use mathlib.Core.List.{[], _∷_}
-use Rattle.laws.specs.Answer.{given}
+use Rattle.laws.proofs.Prelude.{_≡_, refl, _∙_, [], _∷_, given}
 use Rattle.refusals.specs.Refusal.{pass, refuse}
 use Rattle.pixel_segment.specs.Field.{coverOf, tileOf}
 use Rattle.segment_rows.specs.Rows.{ascendsFrom}

@@ -1,13 +1,6 @@
 -- The lists that a caller holds: a list that an accepted listing or work left is its tile's, and each of them is found again. Assumes nothing.
-use mathlib.Core.Path.{_≡_, refl, ap, sym, subst, _∙_}
-use mathlib.Core.Logic.{_⊎_, inl, inr}
-use mathlib.Core.Bool.{false}
-use mathlib.Core.List.{List, [], _∷_, map}
-use Prim.Native.Nat.{ℕ, zero, suc, _+_, _<_}
-use native.Mathlib.Omega.{arith}
-use lib.IntN.{ℤ, pos}
-use lib.ListN.{length, length-map}
-use Rattle.laws.proofs.Orders.{eq-or-ne}
+use Rattle.laws.proofs.Prelude.{_≡_, refl, ap, sym, subst, _∙_, _⊎_, inl, inr, false, List, [], _∷_, map, ℕ, zero, suc, _+_, _<_, arith, ℤ, pos}
+use Rattle.laws.proofs.Prelude.{length, length-map, eq-or-ne}
 use Rattle.refusals.specs.Refusal.{pass}
 use Rattle.segment_rows.specs.Search.{tilePart}
 use Rattle.styling.specs.Ascending.{strictlyAscends}

@@ -1,11 +1,5 @@
 -- The claims of specs/Marked; the frames are computed. Assumes nothing.
-use mathlib.Core.Path.{_≡_, refl, ap, ap₂}
-use mathlib.Core.Bool.{Bool, true, false, cond}
-use mathlib.Core.List.{List, [], _∷_, map}
-use Prim.Native.Nat.{ℕ}
-use lib.Dec.{eqb}
-use lib.Ieee.{eq, ofBits}
-use Rattle.laws.specs.Answer.{Answer, refused, given}
+use Rattle.laws.proofs.Prelude.{_≡_, refl, ap, ap₂, Bool, true, false, cond, List, [], _∷_, map, ℕ, eqb, eq, ofBits, Answer, refused, given}
 use Rattle.cover_statements.specs.Cover.{isFull}
 use Rattle.styling.specs.declared.Color.{Color}
 use Rattle.styling.specs.declared.Layer.{Layer}

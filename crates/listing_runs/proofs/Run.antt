@@ -1,7 +1,6 @@
 -- The claim of specs/Claim: between calls the caller holds the row's carries and the lists of the tiles that are past, each call keeps that, and what is
 -- held makes each call right. Assumes nothing.
-use mathlib.Core.Path.{_≡_, subst, _∙_}
-use mathlib.Core.List.{List, map}
+use Rattle.laws.proofs.Prelude.{_≡_, subst, _∙_, List, map}
 use Rattle.refusals.specs.Refusal.{Judgement, refuse}
 use Rattle.layer_carrying.specs.Carrying.{handedOn}
 use Rattle.row_statements.specs.Lent.{layersOf}

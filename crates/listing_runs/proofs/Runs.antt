@@ -1,19 +1,6 @@
 -- The claim is not empty: after every accepted opening, every list of choices is the list of some run's calls. Assumes nothing.
-use mathlib.Core.Path.{_≡_, refl, ap, sym, subst, _∙_}
-use mathlib.Core.Bool.{Bool, true, false, not, _||_}
-use mathlib.Core.List.{List, [], _∷_}
-use Prim.Native.Nat.{ℕ, suc, _+_, _-_, _<_}
-use native.Mathlib.Omega.{arith}
-use borrow.Author.Tests.{not-true, ltb-true}
-use lib.Dec.{ltb}
-use lib.Ieee.{Float}
-use lib.IntN.{ℤ, pos}
-use lib.ListN.{length, take}
-use lib.Signed.{ltZ}
-use Rattle.laws.specs.Answer.{Answer, refused, given}
-use Rattle.laws.specs.Integer.{plus}
-use Rattle.laws.proofs.Bools.{left, right}
-use Rattle.laws.proofs.Parts.{whole, equal, lt-false}
+use Rattle.laws.proofs.Prelude.{_≡_, refl, ap, sym, subst, _∙_, Bool, true, false, not, _||_, List, [], _∷_, ℕ, suc, _+_, _-_, _<_, arith, not-true}
+use Rattle.laws.proofs.Prelude.{ltb-true, ltb, Float, ℤ, pos, length, take, ltZ, Answer, refused, given, plus, left, right, whole, equal, lt-false}
 use Rattle.refusals.specs.Refusal.{Judgement, pass, refuse, unless}
 use Rattle.refusals.proofs.Naming.{refusalOf, Named, named}
 use Rattle.styling.specs.Ascending.{strictlyAscends}

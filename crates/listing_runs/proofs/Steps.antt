@@ -1,15 +1,6 @@
 -- A listing and a deciding in a run: what they give is what is due, and what the caller then holds is again the row's. Assumes nothing.
-use mathlib.Core.Path.{_≡_, refl, ap, sym, subst, _∙_}
-use mathlib.Core.Bool.{Bool, false, _||_}
-use mathlib.Core.List.{List, map}
-use Prim.Native.Nat.{ℕ, suc, _+_, _<_}
-use native.Mathlib.Omega.{arith}
-use lib.Dec.{ltb}
-use lib.ListN.{length, take, drop}
-use lib.Seq.{take-at}
-use Rattle.laws.specs.Answer.{Answer, refused, given}
-use Rattle.laws.specs.Integer.{plus}
-use Rattle.laws.specs.Lists.{over}
+use Rattle.laws.proofs.Prelude.{_≡_, refl, ap, sym, subst, _∙_, Bool, false, _||_, List, map, ℕ, suc, _+_, _<_, arith, ltb, length, take, drop}
+use Rattle.laws.proofs.Prelude.{take-at, Answer, refused, given, plus, over}
 use Rattle.refusals.specs.Refusal.{Judgement, pass, refuse, unless}
 use Rattle.refusals.proofs.Judging.{passed, or-left, or-right}
 use Rattle.cached_tile.specs.Kept.{noTile, tagOutOfRange}

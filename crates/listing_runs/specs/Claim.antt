@@ -1,12 +1,7 @@
 -- Demand 3 over runs with listings and decidings: every call gives what is due of it, worked from the whole row (specs/Due, and
 -- row_statements/specs/Due of works and paintings), and what the row alone says of every tile holds as before. Stands for 'what holds along a row holds for lists decided as
 -- the listing call left them'. proofs/Run proves it; specs/Example has a run that meets its premises.
-use mathlib.Core.Path.{_≡_}
-use mathlib.Core.Bool.{Bool}
-use mathlib.Core.List.{List, [], _∷_, map}
-use Prim.Native.Nat.{ℕ, suc, _<_}
-use lib.ListN.{length, take}
-use Rattle.laws.specs.Answer.{refused}
+use Rattle.laws.specs.Prelude.{_≡_, Bool, List, [], _∷_, map, ℕ, suc, _<_, length, take, refused}
 use Rattle.refusals.specs.Refusal.{pass, refuse}
 use Rattle.segment_rows.specs.Rows.{Words}
 use Rattle.layer_workbench.specs.Work.{entryOf}

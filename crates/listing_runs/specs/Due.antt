@@ -1,13 +1,7 @@
 -- What is due of a listing and of a deciding after an accepted opening, worked from the opening on, as row_statements/specs/Due has it of works and
 -- paintings: by the row, the table, the row's tiles, which earlier calls were due to be accepted, and the caller's own choices. No answer, list, queue
 -- or state that a call gave back is looked at.
-use mathlib.Core.Bool.{Bool, _||_}
-use mathlib.Core.List.{List}
-use Prim.Native.Nat.{ℕ, suc, _-_}
-use lib.Dec.{ltb}
-use lib.IntN.{ℤ}
-use lib.ListN.{length}
-use Rattle.laws.specs.Integer.{plus}
+use Rattle.laws.specs.Prelude.{Bool, _||_, List, ℕ, suc, _-_, ltb, ℤ, length, plus}
 use Rattle.refusals.specs.Refusal.{Judgement, pass, unless}
 use Rattle.styling.specs.declared.Color.{Color}
 use Rattle.cached_tile.specs.Kept.{tagOutOfRange}

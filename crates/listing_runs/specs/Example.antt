@@ -2,14 +2,7 @@
 -- listing, late, twice and out of order, a refused deciding, a work, and a deciding from the list that it left; and between them a work, a painting and a
 -- listing with another row, table and queue, and decidings of another list. proofs/Example has it; proofs/Runs has that every list of choices is that of
 -- some run.
-use mathlib.Core.Path.{_≡_}
-use mathlib.Core.Bool.{Bool, not, cond, _&&_}
-use mathlib.Core.List.{List, [], _∷_, _++_}
-use Prim.Native.Nat.{ℕ, _+_}
-use lib.Dec.{ltb}
-use lib.IntN.{ℤ, pos}
-use lib.Signed.{ltZ}
-use Rattle.laws.specs.Integer.{plus}
+use Rattle.laws.specs.Prelude.{_≡_, Bool, not, cond, _&&_, List, [], _∷_, _++_, ℕ, _+_, ltb, ℤ, pos, ltZ, plus}
 use Rattle.refusals.specs.Refusal.{Judgement, pass, refuse}
 use Rattle.segment_rows.specs.Rows.{Words}
 use Rattle.cached_tile.specs.Kept.{noTile}

@@ -1,8 +1,5 @@
 -- The lists that a caller holds between the calls of a run: one for each tile that is past, the last one first, each saying its tile's layers.
-use mathlib.Core.Path.{_≡_}
-use mathlib.Core.List.{List, [], _∷_}
-use Prim.Native.Nat.{ℕ, zero, suc, _+_}
-use lib.IntN.{pos}
+use Rattle.laws.specs.Prelude.{_≡_, List, [], _∷_, ℕ, zero, suc, _+_, pos}
 use Rattle.row_statements.specs.Due.{OpenRow, Past, tableOn, layersOn}
 use Rattle.row_statements.specs.InnerHolding.{Holds}
 use Rattle.listing_statements.specs.InnerLists.{Decidable, ListSays}

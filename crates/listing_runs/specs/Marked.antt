@@ -1,13 +1,7 @@
 -- W-208 at deciding: what the lent table says of 'unchanged' plays no part, since the list has its own marks; and the smallest frames in which a
 -- changed clip repaints, and one in which a changed draw under the cover does not. Stands for 'every pass goes by that mark' and for 'the full-cover
 -- pass counts a tile as changed when any listed clip layer is changed, masked off or not'.
-use mathlib.Core.Path.{_≡_}
-use mathlib.Core.Bool.{Bool, true, false}
-use mathlib.Core.List.{List, [], _∷_, map}
-use Prim.Native.Nat.{ℕ}
-use lib.Ieee.{ofBits, binary32}
-use lib.IntN.{pos}
-use lib.ListN.{length, replicate}
+use Rattle.laws.specs.Prelude.{_≡_, Bool, true, false, List, [], _∷_, map, ℕ, ofBits, binary32, pos, length, replicate}
 use Rattle.styling.specs.declared.BlendMode.the-variants.{Over}
 use Rattle.styling.specs.declared.Color.{Color}
 use Rattle.styling.specs.declared.Fill.the-variants.{Solid}

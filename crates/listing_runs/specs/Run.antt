@@ -1,13 +1,7 @@
 -- A run of listings, decidings, works and paintings, refused ones included, as the calls went. The premise of each step is the operation's own contract, at
 -- what the caller holds, chooses and lends. Beside the state and the queues the caller holds the lists that accepted listings and works left, one a
 -- tile, and a deciding names one of them by its tile: it may come late, twice or out of order.
-use mathlib.Core.Path.{_≡_}
-use mathlib.Core.Logic.{_⊎_}
-use mathlib.Core.Bool.{Bool}
-use mathlib.Core.List.{List, [], _∷_}
-use Prim.Native.Nat.{ℕ}
-use lib.IntN.{ℤ}
-use lib.ListN.{take}
+use Rattle.laws.specs.Prelude.{_≡_, _⊎_, Bool, List, [], _∷_, ℕ, ℤ, take}
 use Rattle.refusals.specs.Refusal.{refuse}
 use Rattle.row_statements.specs.Lent.{Columns}
 use Rattle.row_statements.specs.State.{State, stateIn}

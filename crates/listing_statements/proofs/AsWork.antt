@@ -1,10 +1,5 @@
 -- A listing is the work on a tile that keeps nothing, without its decision: what is known of works is then known of listings. Assumes nothing.
-use mathlib.Core.Path.{_≡_, refl, ap, sym, _∙_}
-use mathlib.Core.Bool.{Bool, true, false, _||_}
-use Prim.Native.Nat.{ℕ}
-use lib.Ieee.{binary32, ofBits}
-use lib.ListN.{replicate}
-use Rattle.laws.specs.Answer.{Answer, refused, given}
+use Rattle.laws.proofs.Prelude.{_≡_, refl, ap, sym, _∙_, Bool, true, false, _||_, ℕ, binary32, ofBits, replicate, Answer, refused, given}
 use Rattle.refusals.specs.Refusal.{Judgement, pass, refuse, andThen}
 use Rattle.styling.specs.declared.Color.{Color}
 use Rattle.cached_tile.specs.Kept.{noTile}

@@ -1,5 +1,5 @@
 -- The cases of specs/Edges, computed. Assumes nothing.
-use mathlib.Core.Path.{refl}
+use Rattle.laws.proofs.Prelude.{refl}
 use Rattle.styling.specs.Ascending.{strictlyAscendsFrom}
 use Rattle.layer_table.specs.Lookup.{lookup}
 use Rattle.layer_table.specs.Table.{isTableShort, isValid, isTable, layerAt, tableOf}

@@ -1,16 +1,7 @@
 -- Deciding: the loop over the ids of a list, what a passed verdict tells, and the operation put together from its parts. Assumes nothing.
-use mathlib.Core.Path.{_≡_, refl, ap, sym, _∙_}
-use mathlib.Core.Bool.{Bool, true, false, not, _&&_, _||_, and-true}
-use mathlib.Core.List.{List}
-use Prim.Native.Nat.{ℕ, _+_, _/_, _≤_, _<_, min}
-use native.Mathlib.Omega.{arith}
-use borrow.Author.Tests.{not-false, ltb-false}
-use lib.Dec.{ltb}
-use lib.ListN.{length, getD, take, drop, drop-of-length-le, length-take}
-use lib.Seq.{drop-cons, getD-take}
-use Rattle.laws.specs.Answer.{given}
-use Rattle.laws.specs.Lists.{all}
-use Rattle.laws.proofs.Drops.{all-again, all-end}
+use Rattle.laws.proofs.Prelude.{_≡_, refl, ap, sym, _∙_, Bool, true, false, not, _&&_, _||_, and-true, List, ℕ, _+_, _/_, _≤_, _<_, min, arith}
+use Rattle.laws.proofs.Prelude.{not-false, ltb-false, ltb, length, getD, take, drop, drop-of-length-le, length-take, drop-cons, getD-take, given, all}
+use Rattle.laws.proofs.Prelude.{all-again, all-end}
 use Rattle.refusals.specs.Refusal.{Judgement, pass, refuse, unless, numberOf}
 use Rattle.refusals.specs.declared.Refusal.{Refusal}
 use Rattle.refusals.proofs.Judging.{passed, or-left, or-right}

@@ -1,11 +1,5 @@
 -- Listing: what a passed verdict tells, and the operation put together from its parts. Assumes nothing.
-use mathlib.Core.Path.{_≡_, refl, ap, _∙_}
-use mathlib.Core.Bool.{Bool}
-use mathlib.Core.List.{List}
-use Prim.Native.Nat.{ℕ}
-use lib.IntN.{ℤ}
-use lib.ListN.{length}
-use Rattle.laws.specs.Answer.{given}
+use Rattle.laws.proofs.Prelude.{_≡_, refl, ap, _∙_, Bool, List, ℕ, ℤ, length, given}
 use Rattle.refusals.specs.Refusal.{Judgement, pass, refuse, numberOf}
 use Rattle.refusals.specs.declared.Refusal.{Refusal}
 use Rattle.segment_rows.specs.Rows.{Words}

@@ -1,15 +1,6 @@
 -- A list that a tile's layers are written to says these layers, and a deciding from a list that says them goes by them. Assumes nothing.
-use mathlib.Core.Path.{_≡_, refl, ap, ap₂, sym, _∙_}
-use mathlib.Core.Bool.{Bool, true, false, _&&_, _||_}
-use mathlib.Core.List.{List, [], _∷_}
-use Prim.Native.Nat.{ℕ, _/_, _≤_}
-use native.Mathlib.Omega.{arith}
-use borrow.Author.Tests.{le-ltb, ltb-false}
-use lib.Dec.{ltb}
-use lib.ListN.{length, take, length-map}
-use Rattle.laws.specs.Answer.{isGiven}
-use Rattle.laws.specs.Lists.{over}
-use Rattle.laws.proofs.Rows.{length-over}
+use Rattle.laws.proofs.Prelude.{_≡_, refl, ap, ap₂, sym, _∙_, Bool, true, false, _&&_, _||_, List, [], _∷_, ℕ, _/_, _≤_, arith, le-ltb, ltb-false}
+use Rattle.laws.proofs.Prelude.{ltb, length, take, length-map, isGiven, over, length-over}
 use Rattle.refusals.specs.Refusal.{Judgement, pass, unless}
 use Rattle.refusals.proofs.Judging.{or-left, or-right}
 use Rattle.layer_table.specs.Lookup.{lookup}

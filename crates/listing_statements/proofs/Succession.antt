@@ -1,13 +1,7 @@
 -- A work is a listing and then a deciding from what it left: the law of specs/Succession. Assumes nothing.
-use mathlib.Core.Path.{_≡_, refl, ap, sym, subst, _∙_}
-use mathlib.Core.Bool.{Bool, true, false, not}
-use mathlib.Core.List.{List}
-use Prim.Native.Nat.{ℕ, suc}
-use native.Mathlib.Omega.{arith}
-use lib.Dec.{ltb}
-use lib.ListN.{length}
-use Rattle.laws.specs.Answer.{Answer, refused, given}
-use Rattle.laws.proofs.Bools.{not-true, clash}
+use Rattle.laws.proofs.Prelude.{_≡_, refl, ap, sym, subst, _∙_, Bool, true, false, not, List, ℕ, suc, arith, ltb, length, Answer, refused, given}
+use Rattle.laws.proofs.Prelude.{clash}
+use Rattle.laws.proofs.Bools.{not-true}
 use Rattle.refusals.specs.Refusal.{Judgement, pass, refuse, unless, andThen}
 use Rattle.refusals.proofs.Judging.{passed, or-left, or-right}
 use Rattle.pixel_segment.specs.Field.{cpu}

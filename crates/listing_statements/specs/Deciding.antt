@@ -2,14 +2,7 @@
 -- 4 to 8, the lowest that applies; a refusal says its number and leaves the cached tile and the mask column as they were. Else the decision, the skips
 -- and the masks are those of the passes, and the cached tile is updated as by a work. There is no state, no row and no queue, and no list is
 -- written. 9 is not judged: a cover is full or not whatever its bytes are. Stands for W-206's deciding call.
-use mathlib.Core.Path.{_≡_}
-use mathlib.Core.Bool.{Bool, not, _||_}
-use mathlib.Core.List.{List}
-use Prim.Native.Nat.{ℕ}
-use lib.Dec.{ltb}
-use lib.ListN.{length, take}
-use Rattle.laws.specs.Answer.{Answer, refused, given, isGiven}
-use Rattle.laws.specs.Lists.{all, over}
+use Rattle.laws.specs.Prelude.{_≡_, Bool, not, _||_, List, ℕ, ltb, length, take, Answer, refused, given, isGiven, all, over}
 use Rattle.refusals.specs.Refusal.{Judgement, pass, refuse, unless, numberOf}
 use Rattle.styling.specs.Ascending.{strictlyAscends}
 use Rattle.styling.specs.declared.Color.{Color}

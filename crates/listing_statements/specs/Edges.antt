@@ -1,11 +1,5 @@
 -- The refusals of a deciding at their edges. Stands for W-206, 'deciding judges 1 and 4 to 8'.
-use mathlib.Core.Path.{_≡_}
-use mathlib.Core.Bool.{Bool, false}
-use mathlib.Core.List.{List, _∷_}
-use Prim.Native.Nat.{ℕ}
-use lib.IntN.{pos}
-use lib.ListN.{replicate}
-use Rattle.laws.specs.Lists.{tabulate}
+use Rattle.laws.specs.Prelude.{_≡_, Bool, false, List, _∷_, ℕ, pos, replicate, tabulate}
 use Rattle.refusals.specs.Refusal.{pass, refuse}
 use Rattle.cached_tile.specs.Kept.{noTile}
 use Rattle.cached_tile.specs.declared.kept.Kept as kept

@@ -1,11 +1,5 @@
 -- What the functions below listing ask and give.
-use mathlib.Core.List.{List}
-use mathlib.Core.Bool.{Bool}
-use mathlib.Core.Path.{_≡_}
-use Prim.Native.Nat.{ℕ, _*_, _≤_, _+_}
-use lib.IntN.{ℤ}
-use lib.ListN.{length}
-use Rattle.laws.specs.Integer.{plus, minus}
+use Rattle.laws.specs.Prelude.{List, Bool, _≡_, ℕ, _*_, _≤_, _+_, ℤ, length, plus, minus}
 use Rattle.refusals.specs.declared.Refusal.{Refusal}
 use Rattle.segment_rows.specs.Search.{tilePart}
 use Rattle.layer_table.specs.Table.{Table}

@@ -1,9 +1,5 @@
 -- What a lent list says once a tile's layers are written to it, or where other memory holds the same entries.
-use mathlib.Core.Path.{_≡_}
-use mathlib.Core.Bool.{true, false}
-use mathlib.Core.List.{List, map}
-use Prim.Native.Nat.{ℕ, _≤_}
-use lib.ListN.{length, take}
+use Rattle.laws.specs.Prelude.{_≡_, true, false, List, map, ℕ, _≤_, length, take}
 use Rattle.styling.specs.Ascending.{strictlyAscends}
 use Rattle.styling.specs.declared.Layer.{Layer}
 use Rattle.queue_statements.specs.Queue.{idsIn}

@@ -2,14 +2,7 @@
 -- leaves the state and every lent list as they were. Else the tile's layers stand in the three columns of the list, the carries past the tile in the
 -- queue handed on, and the state is the next one. No cached tile is touched, nothing is decided, and no mask column is lent. Stands for W-206's
 -- listing call.
-use mathlib.Core.Path.{_≡_}
-use mathlib.Core.Bool.{Bool, _||_}
-use mathlib.Core.List.{List}
-use Prim.Native.Nat.{ℕ}
-use lib.IntN.{ℤ}
-use lib.ListN.{length}
-use Rattle.laws.specs.Answer.{Answer, refused, given}
-use Rattle.laws.specs.Lists.{over}
+use Rattle.laws.specs.Prelude.{_≡_, Bool, _||_, List, ℕ, ℤ, length, Answer, refused, given, over}
 use Rattle.refusals.specs.Refusal.{Judgement, pass, refuse, andThen, numberOf}
 use Rattle.segment_rows.specs.Search.{tilePart}
 use Rattle.queue_statements.specs.Queue.{Carry, idsIn, coversIn}

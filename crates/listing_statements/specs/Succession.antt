@@ -1,10 +1,6 @@
 -- A work is a listing and then a deciding from what it left, with the same lent memory: where 1 to 6 pass they give the same, and no deciding after an
 -- accepted listing is turned down. Stands for 'the old call judges 1 to 6 and is then their succession'. proofs/Succession proves it.
-use mathlib.Core.Path.{_≡_}
-use mathlib.Core.Bool.{Bool}
-use mathlib.Core.List.{List}
-use Prim.Native.Nat.{ℕ}
-use Rattle.laws.specs.Answer.{Answer, refused, given}
+use Rattle.laws.specs.Prelude.{_≡_, Bool, List, ℕ, Answer, refused, given}
 use Rattle.refusals.specs.Refusal.{pass}
 use Rattle.segment_rows.specs.Rows.{Words}
 use Rattle.row_statements.specs.Lent.{listColumns}

@@ -1,15 +1,7 @@
 -- A segment's line by four draws: each number fits its width, and each draw starts from the state that the one before it left.
 -- Assumes nothing.
-use mathlib.Core.Path.{_≡_, ap, _∙_}
-use mathlib.Core.List.{[], _∷_}
-use Prim.Native.Nat.{ℕ, _/_, _%_, _<_}
-use native.Mathlib.Omega.{arith}
-use lib.IntN.{pos, _-ℤ_}
-use mir.Facts.{toZ-ofZ}
-use mir.Syntax.{w32}
-use mir.Val.{SFits, toZ, ofZ}
+use Rattle.laws.proofs.Prelude.{_≡_, ap, _∙_, [], _∷_, ℕ, _/_, _%_, _<_, arith, pos, _-ℤ_, toZ-ofZ, w32, SFits, toZ, ofZ, sfits}
 use mir.ValLaws.{toZ-pos}
-use Rattle.laws.proofs.Machine.{sfits}
 use Rattle.job_text_statements.specs.Job.{segmentValues}
 use Rattle.load_statements.specs.Draw.{next, drawOfState, stateAfter, drawAt}
 use Rattle.load_statements.specs.Load.{segmentFrom}

@@ -1,16 +1,7 @@
 -- Each answer of `read_field` and of `read_input`, from the tests that lead to it.
 -- Assumes nothing.
-use mathlib.Core.Path.{_≡_, sym, ap, _∙_}
-use mathlib.Core.Bool.{true, false, _&&_}
-use mathlib.Core.List.{List, []}
-use mathlib.Core.Option.{some, none}
-use Prim.Native.Nat.{ℕ, _+_, _^_, _≤_, _<_}
-use native.Mathlib.Numerals.{add-one}
-use native.Mathlib.Omega.{arith}
-use borrow.Author.Tests.{eq-eqb, ne-eqb}
-use lib.Dec.{ltb}
-use lib.ListN.{length, drop, getD, drop-of-length-le}
-use lib.Seq.{drop-cons}
+use Rattle.laws.proofs.Prelude.{_≡_, sym, ap, _∙_, true, false, _&&_, List, [], some, none, ℕ, _+_, _^_, _≤_, _<_, add-one, arith, eq-eqb, ne-eqb}
+use Rattle.laws.proofs.Prelude.{ltb, length, drop, getD, drop-of-length-le, drop-cons}
 use Rattle.decimal.specs.declared.Unsigned.the-variants.{Natural, Missing}
 use Rattle.decimal.specs.Parse.{parsed}
 use Rattle.decimal.specs.Read.{UnsignedRead}

@@ -1,9 +1,5 @@
 -- What the readers of the line promise.
-use mathlib.Core.Path.{_≡_}
-use mathlib.Core.List.{List}
-use mathlib.Core.Option.{Option, some, none}
-use Prim.Native.Nat.{ℕ, _≤_}
-use lib.ListN.{length, drop}
+use Rattle.laws.specs.Prelude.{_≡_, List, Option, some, none, ℕ, _≤_, length, drop}
 use Rattle.decimal.specs.Parse.{Parsed, parsed, failed}
 use Rattle.load_statements.specs.Load.{Asked, asked}
 use Rattle.load_statements.specs.Input.{parseField}

@@ -1,13 +1,6 @@
 -- The job reader accepts every load.
 -- Assumes nothing.
-use mathlib.Core.Path.{_≡_}
-use mathlib.Core.Bool.{true}
-use mathlib.Core.List.{List}
-use Prim.Native.Nat.{ℕ, _/_, _≤_}
-use native.Mathlib.Omega.{arith}
-use borrow.Author.Tests.{le-leb}
-use lib.Ieee.{Float}
-use lib.ListN.{length}
+use Rattle.laws.proofs.Prelude.{_≡_, true, List, ℕ, _/_, _≤_, arith, le-leb, Float, length}
 use Rattle.job_text_statements.specs.Job.{render}
 use Rattle.job_lines.specs.Rules.{segmentCount}
 use Rattle.job_statements.specs.Read as reading

@@ -1,18 +1,7 @@
 -- The row of a load is in order: a word for each segment, which ascend by their slots.
 -- Assumes nothing.
-use mathlib.Core.Path.{_≡_, refl, ap, ap₂}
-use mathlib.Core.Bool.{true}
-use mathlib.Core.List.{_++_, flatten}
-use Prim.Native.Nat.{ℕ, zero, suc, _+_, _*_, _/_, _%_, _^_, _≤_, _<_}
-use native.Mathlib.Omega.{arith}
-use borrow.Author.Tests.{eq-eqb}
-use lib.Dec.{eqb}
-use lib.IntN.{ℤ, pos, _-ℤ_}
-use lib.ListN.{length, getD}
-use Rattle.laws.specs.Integer.{plus, modℤ}
-use Rattle.laws.specs.Lists.{tabulate, all}
-use Rattle.laws.proofs.Bools.{both}
-use Rattle.laws.proofs.Rows.{length-tabulate, getD-tabulate}
+use Rattle.laws.proofs.Prelude.{_≡_, refl, ap, ap₂, true, _++_, flatten, ℕ, zero, suc, _+_, _*_, _/_, _%_, _^_, _≤_, _<_, arith, eq-eqb, eqb, ℤ, pos}
+use Rattle.laws.proofs.Prelude.{_-ℤ_, length, getD, plus, modℤ, tabulate, all, both, length-tabulate, getD-tabulate}
 use Rattle.pixel_segment.specs.Field.{cpu, tileXOf, tileYOf, layerIdOf}
 use Rattle.pixel_segment.specs.Order.{orderKey}
 use Rattle.pixel_segment.specs.Pack.{wordOf}

@@ -1,14 +1,8 @@
 -- Reading the line is the inverse of printing it: `ask` takes exactly the lines of three numbers in range.
 -- Assumes nothing.
-use mathlib.Core.Path.{_≡_, refl, sym, ap, _∙_}
-use mathlib.Core.Bool.{_&&_}
-use mathlib.Core.List.{List, [], _∷_, _++_}
-use mathlib.Core.Option.{Option, some, none, Option·some-injective}
-use Prim.Native.Nat.{ℕ, _^_, _≤_, _<_}
-use native.Mathlib.Omega.{arith}
-use borrow.Author.Tests.{eq-eqb, eqb-true, lt-ltb, ltb-true}
-use lib.Dec.{eqb, ltb}
-use Rattle.laws.proofs.Bools.{left, right}
+use Rattle.laws.proofs.Prelude.{_≡_, refl, sym, ap, _∙_, _&&_, List, [], _∷_, _++_, Option, some, none, ℕ, _^_, _≤_, _<_, arith, eq-eqb, eqb-true}
+use Rattle.laws.proofs.Prelude.{lt-ltb, ltb-true, eqb, ltb, left, right}
+use mathlib.Core.Option.{Option·some-injective}
 use Rattle.decimal.specs.Decimal.{decimal, Stops}
 use Rattle.decimal.specs.Parse.{Parsed, parsed, failed, parseℕ}
 use Rattle.decimal.proofs.Steps.{cases}

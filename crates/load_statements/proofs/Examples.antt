@@ -1,11 +1,6 @@
 -- Draws, lines and a text, computed: document 02's first draw of seed 0 and those after it, loads of few segments, and lines at the edges.
 -- Assumes nothing.
-use mathlib.Core.Path.{_≡_, refl}
-use mathlib.Core.Bool.{Bool, true, false, not}
-use mathlib.Core.List.{List, [], _∷_}
-use mathlib.Core.Option.{some, none}
-use Prim.Native.Nat.{ℕ, suc}
-use Rattle.laws.specs.Lists.{tabulate, all}
+use Rattle.laws.proofs.Prelude.{_≡_, refl, Bool, true, false, not, List, [], _∷_, some, none, ℕ, suc, tabulate, all}
 use Rattle.decimal.specs.Decimal.{decimal, decimalIn}
 use Rattle.decimal.specs.Parse.{parseℕ, moreDigits}
 use Rattle.lines.specs.Bytes.{bytes}

@@ -1,11 +1,6 @@
 -- The lines of a load: the bounds of their numbers, and how long they are.
 -- Assumes nothing.
-use Prim.Native.Nat.{ℕ, suc, _/_, _%_, _≤_, _<_}
-use native.Mathlib.Omega.{arith}
-use lib.IntN.{ℤ, pos, negsuc, _-ℤ_}
-use lib.ListN.{length, length-append}
-use Rattle.laws.specs.Integer.{plus, minus}
-use Rattle.laws.proofs.Parts.{taken}
+use Rattle.laws.proofs.Prelude.{ℕ, suc, _/_, _%_, _≤_, _<_, arith, ℤ, pos, negsuc, _-ℤ_, length, length-append, plus, minus, taken}
 use Rattle.decimal.specs.Decimal.{decimal, decimalℤ}
 use Rattle.decimal.proofs.Print.{length-at-most}
 use Rattle.lines.specs.Text.{lineText}

@@ -1,20 +1,8 @@
 -- The job of a load is well formed: its lines, its counts and its length are those of a job text, and the rules hold.
 -- Assumes nothing.
-use mathlib.Core.Path.{_≡_, refl, ap}
-use mathlib.Core.Bool.{Bool, true}
-use mathlib.Core.List.{List, [], _∷_, map, append-nil}
-use mathlib.Core.Option.{some}
-use Prim.Native.Nat.{ℕ, zero, suc, _*_, _%_, _≤_, _<_}
+use Rattle.laws.proofs.Prelude.{_≡_, refl, ap, Bool, true, List, [], _∷_, map, append-nil, some, ℕ, zero, suc, _*_, _%_, _≤_, _<_, arith, le-leb, ℤ}
+use Rattle.laws.proofs.Prelude.{pos, _-ℤ_, length, length-append, length-map, plus, tabulate, all, both, whole, length-tabulate}
 use native.Mathlib.Nat.{mul-suc}
-use native.Mathlib.Omega.{arith}
-use borrow.Author.Tests.{le-leb}
-use lib.IntN.{ℤ, pos, _-ℤ_}
-use lib.ListN.{length, length-append, length-map}
-use Rattle.laws.specs.Integer.{plus}
-use Rattle.laws.specs.Lists.{tabulate, all}
-use Rattle.laws.proofs.Bools.{both}
-use Rattle.laws.proofs.Parts.{whole}
-use Rattle.laws.proofs.Rows.{length-tabulate}
 use Rattle.layer_table.proofs.Listed.{map-tabulate}
 use Rattle.lines.specs.Text.{lineText, linesText, blockText, Fields, AllFields}
 use Rattle.job_lines.specs.declared.segment.SegmentLine.{SegmentLine}

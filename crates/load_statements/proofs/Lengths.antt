@@ -1,15 +1,7 @@
 -- The line that asks for a load has at most 20 bytes, and so the first 21 of an input decide; every answer has at most 11,518.
 -- Assumes nothing.
-use mathlib.Core.Path.{_≡_, refl, sym, ap, _∙_}
-use mathlib.Core.Logic.{⊎-elim}
-use mathlib.Core.List.{List, [], _∷_}
-use mathlib.Core.Option.{Option, some, none}
-use Prim.Native.Nat.{ℕ, _≤_, _<_}
-use native.Mathlib.Omega.{arith}
-use lib.IntN.{pos}
-use lib.ListN.{length, take, length-append}
-use lib.Seq.{length-take-le, take-all}
-use Rattle.laws.proofs.Orders.{le-or-lt}
+use Rattle.laws.proofs.Prelude.{_≡_, refl, sym, ap, _∙_, ⊎-elim, List, [], _∷_, Option, some, none, ℕ, _≤_, _<_, arith, pos, length, take}
+use Rattle.laws.proofs.Prelude.{length-append, length-take-le, take-all, le-or-lt}
 use Rattle.decimal.specs.Decimal.{decimal}
 use Rattle.decimal.proofs.Print.{length-at-most}
 use Rattle.lines.specs.Text.{lineText}

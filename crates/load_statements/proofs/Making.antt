@@ -1,9 +1,6 @@
 -- What holds of every load, put together; and what reading a line tells.
 -- Assumes nothing.
-use mathlib.Core.Path.{_≡_, refl}
-use mathlib.Core.List.{List}
-use mathlib.Core.Option.{Option, some, none}
-use Prim.Native.Nat.{ℕ}
+use Rattle.laws.proofs.Prelude.{_≡_, refl, List, Option, some, none, ℕ}
 use Rattle.load_statements.specs.Load.{Asked}
 use Rattle.load_statements.specs.Input.{AskedInRange, ask}
 use Rattle.load_statements.specs.Made.{LoadMade, LoadTells}

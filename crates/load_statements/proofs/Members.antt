@@ -1,18 +1,7 @@
 -- The layers of a load's tiles: each is one of the eight of its table, so that no list has more than eight layers, and none is missing in the table.
 -- Assumes nothing.
-use mathlib.Core.Path.{_≡_, refl}
-use mathlib.Core.Bool.{Bool, true, false, cond}
-use mathlib.Core.List.{List, [], _∷_, map}
-use Prim.Native.Nat.{ℕ, suc, _-_, _≤_, _<_}
-use native.Mathlib.Omega.{arith}
-use borrow.Author.Tests.{ltb-true}
-use lib.Dec.{ltb, eqb}
-use lib.IntN.{ℤ}
-use lib.ListN.{length, drop}
-use Rattle.laws.specs.Answer.{isGiven}
-use Rattle.laws.specs.Lists.{all}
-use Rattle.laws.proofs.Bools.{both, left, right}
-use Rattle.laws.proofs.Filtered.{all-kept}
+use Rattle.laws.proofs.Prelude.{_≡_, refl, Bool, true, false, cond, List, [], _∷_, map, ℕ, suc, _-_, _≤_, _<_, arith, ltb-true, ltb, eqb, ℤ, length}
+use Rattle.laws.proofs.Prelude.{drop, isGiven, all, both, left, right, all-kept}
 use Rattle.laws.proofs.Maps.{all-take, all-drop}
 use Rattle.pixel_segment.specs.Field.{cpu, layerIdOf}
 use Rattle.segment_rows.specs.Search.{searchOf, orderAt, afterOf, tilePart}

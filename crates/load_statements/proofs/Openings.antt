@@ -1,20 +1,8 @@
 -- An opening of a load's job is not refused: its row ascends, its layers are a table, and no segment lies left of tile 0.
 -- Assumes nothing.
-use mathlib.Core.Path.{_≡_, refl, ap, _∙_}
-use mathlib.Core.Bool.{true, false, not}
-use mathlib.Core.Logic.{⊎-elim}
-use mathlib.Core.List.{[], flatten}
-use Prim.Native.Nat.{ℕ, _^_, _≤_, _<_}
-use native.Mathlib.Omega.{arith}
-use borrow.Author.Tests.{le-ltb}
-use lib.Dec.{ltb, lit<}
-use lib.IntN.{pos}
-use lib.ListN.{getD, List·getD-eq-default}
-use Rattle.laws.specs.Answer.{given}
-use Rattle.laws.specs.Lists.{tabulate, over}
-use Rattle.laws.proofs.Filtered.{filter-none}
-use Rattle.laws.proofs.Orders.{le-or-lt}
-use Rattle.laws.proofs.Rows.{length-tabulate, getD-tabulate}
+use Rattle.laws.proofs.Prelude.{_≡_, refl, ap, _∙_, true, false, not, ⊎-elim, [], flatten, ℕ, _^_, _≤_, _<_, arith, le-ltb, ltb, lit<, pos, getD}
+use Rattle.laws.proofs.Prelude.{given, tabulate, over, filter-none, le-or-lt, length-tabulate, getD-tabulate}
+use lib.ListN.{List·getD-eq-default}
 use Rattle.refusals.specs.Refusal.{pass}
 use Rattle.pixel_segment.specs.Field.{cpu, tileXOf, tileOf}
 use Rattle.segment_rows.specs.Rows.{Words}

@@ -1,14 +1,6 @@
 -- The lines of a load keep the rules of document 01 on a job's values.
 -- Assumes nothing.
-use mathlib.Core.Path.{_≡_, refl}
-use mathlib.Core.Bool.{true}
-use Prim.Native.Nat.{ℕ, _+_, _/_, _%_, _≤_, _<_}
-use native.Mathlib.Omega.{arith}
-use lib.IntN.{pos, _-ℤ_}
-use Rattle.laws.specs.Integer.{isWithin}
-use Rattle.laws.proofs.Bools.{both}
-use Rattle.laws.proofs.Parts.{taken, added}
-use Rattle.laws.proofs.Ranges.{is-within}
+use Rattle.laws.proofs.Prelude.{_≡_, refl, true, ℕ, _+_, _/_, _%_, _≤_, _<_, arith, pos, _-ℤ_, isWithin, both, taken, added, is-within}
 use Rattle.pixel_segment.specs.Field.{cpu}
 use Rattle.pixel_segment.specs.Pack.{isPackable}
 use Rattle.pixel_segment.proofs.Ranges.{cpu-layout, packable}

@@ -1,8 +1,6 @@
 -- What the load program prints. Stands for document 02, W-204: it 'writes a job text', and 'refuses with 10, printing only `refused 10`, any
 -- input but one line of three whole numbers in these ranges'.
-use mathlib.Core.List.{List}
-use mathlib.Core.Option.{Option, some, none}
-use Prim.Native.Nat.{ℕ}
+use Rattle.laws.specs.Prelude.{List, Option, some, none, ℕ}
 use Rattle.job_text_statements.specs.Job.{render}
 use Rattle.report.specs.Text.{refusalText}
 use Rattle.load_statements.specs.Load.{Asked, loadOf}

@@ -1,13 +1,7 @@
 -- The line that asks for a load. Stands for document 02, W-204: 'a seed, a number of tiles 1 to 4,095 and a number of segments n, 1 to 512, on
 -- one line of standard input in that order', 'three whole numbers in these ranges in document 01's text form, the seed having up to ten digits':
 -- what three such numbers print to. `ask` reads it; proofs/Asking says what this is: the inverse of `lineText` on these lines.
-use mathlib.Core.Path.{_≡_}
-use mathlib.Core.Bool.{cond, _&&_}
-use mathlib.Core.List.{List, [], _∷_}
-use mathlib.Core.Option.{Option, some, none}
-use Prim.Native.Nat.{ℕ, _^_, _≤_, _<_}
-use lib.Dec.{ltb, eqb}
-use lib.IntN.{pos}
+use Rattle.laws.specs.Prelude.{_≡_, cond, _&&_, List, [], _∷_, Option, some, none, ℕ, _^_, _≤_, _<_, ltb, eqb, pos}
 use Rattle.decimal.specs.Parse.{Parsed, parsed, failed, parseℕ}
 use Rattle.lines.specs.Text.{lineText}
 use Rattle.load_statements.specs.Load.{Asked, asked}

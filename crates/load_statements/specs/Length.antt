@@ -1,9 +1,6 @@
 -- How long the line is that asks for a load, and the text that answers it. The load program reads one byte more than the longest line has, which is
 -- enough to tell a longer input, and has room for every answer.
-use mathlib.Core.Path.{_≡_}
-use mathlib.Core.List.{List}
-use Prim.Native.Nat.{ℕ, suc, _≤_}
-use lib.ListN.{length, take}
+use Rattle.laws.specs.Prelude.{_≡_, List, ℕ, suc, _≤_, length, take}
 use Rattle.load_statements.specs.Load.{Asked}
 use Rattle.load_statements.specs.Input.{Asks}
 use Rattle.load_statements.specs.Answer.{loadAnswerText}

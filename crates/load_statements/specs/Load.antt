@@ -2,9 +2,7 @@
 -- k × 8 × tiles divided by n, rounded down; its tile is slot divided by 8, its layer the remainder. Four draws give, in turn, x (the draw mod
 -- 16), y (mod 16), the multiplier (mod 33) and the cover (mod 33, less 16); each segment has one row. The job's row and from are 0, its tiles
 -- and to the number of tiles'. Its text is document 01's (`render`).
-use Prim.Native.Nat.{ℕ, _*_, _/_, _%_}
-use lib.IntN.{pos, _-ℤ_}
-use Rattle.laws.specs.Lists.{tabulate}
+use Rattle.laws.specs.Prelude.{ℕ, _*_, _/_, _%_, pos, _-ℤ_, tabulate}
 use Rattle.job_lines.specs.declared.layer.LayerLine.{LayerLine}
 use Rattle.job_lines.specs.declared.segment.SegmentLine.{SegmentLine}
 use Rattle.job_text_statements.specs.declared.Head.{Head}

@@ -1,14 +1,6 @@
 -- What holds of every load. Stands for document 02, W-204: 'the job reader is proved to accept every such text, and its rows ascend'. Beyond
 -- that, its layers are a table, and so an opening of its job, from tile 0 and with a queue that is long enough, is not refused; after it only 9 is.
-use mathlib.Core.Path.{_≡_}
-use mathlib.Core.Bool.{true, false}
-use mathlib.Core.List.{List}
-use mathlib.Core.Option.{Option, some, none}
-use Prim.Native.Nat.{ℕ, _≤_}
-use lib.Ieee.{Float}
-use lib.IntN.{pos}
-use lib.ListN.{length}
-use Rattle.laws.specs.Answer.{given}
+use Rattle.laws.specs.Prelude.{_≡_, true, false, List, Option, some, none, ℕ, _≤_, Float, pos, length, given}
 use Rattle.pixel_segment.specs.Field.{cpu}
 use Rattle.segment_rows.specs.Rows.{isRow}
 use Rattle.row_statements.specs.Lent.{Columns, isQueueShort, isLentTable}

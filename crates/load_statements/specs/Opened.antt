@@ -1,7 +1,5 @@
 -- What a load's job is opened with: the row and the layer table that reading leaves of it.
-use mathlib.Core.List.{List}
-use Prim.Native.Nat.{ℕ}
-use lib.IntN.{pos}
+use Rattle.laws.specs.Prelude.{List, ℕ, pos}
 use Rattle.row_statements.specs.Lent.{LentTable, lentTable}
 use Rattle.row_statements.specs.Opening.{OpenCall, openCall}
 use Rattle.job_statements.specs.Table.{tableWords, tableColors}

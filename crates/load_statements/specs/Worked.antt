@@ -1,12 +1,6 @@
 -- How the row of a load is worked after its opening. Stands for document 02, W-204: 'rows whose covers grow too large end with 9 in the row program';
 -- and no row of a load ends with another number.
-use mathlib.Core.Path.{_≡_}
-use mathlib.Core.Bool.{Bool, true, false, not, _||_}
-use mathlib.Core.Logic.{_⊎_}
-use mathlib.Core.Option.{some, none}
-use Prim.Native.Nat.{ℕ, _<_}
-use lib.IntN.{pos}
-use lib.ListN.{length}
+use Rattle.laws.specs.Prelude.{_≡_, Bool, true, false, not, _||_, _⊎_, some, none, ℕ, _<_, pos, length}
 use Rattle.refusals.specs.Refusal.{pass, unless}
 use Rattle.cached_tile.specs.Kept.{tagOutOfRange}
 use Rattle.tile_layers.specs.Listing.{areLight}

@@ -1,13 +1,7 @@
 -- The blocks of a load's text, printed: their lines, the text put together, and the answer to a line and to the front of an input.
 -- Assumes nothing.
-use mathlib.Core.Path.{_≡_, refl, sym, ap, ap₂, subst, _∙_}
-use mathlib.Core.List.{List, [], _∷_, _++_, append-nil}
-use mathlib.Core.Option.{Option, some}
-use Prim.Native.Nat.{ℕ, suc, _+_, _*_, _<_, _≤_}
-use native.Mathlib.Omega.{arith}
-use lib.IntN.{ℤ}
-use lib.ListN.{length, take}
-use Rattle.laws.specs.Lists.{tabulate}
+use Rattle.laws.proofs.Prelude.{_≡_, refl, sym, ap, ap₂, subst, _∙_, List, [], _∷_, _++_, append-nil, Option, some, ℕ, suc, _+_, _*_, _<_, _≤_, arith}
+use Rattle.laws.proofs.Prelude.{ℤ, length, take, tabulate}
 use Rattle.decimal.specs.Print.{Printing}
 use Rattle.decimal.proofs.Print.{joined}
 use Rattle.lines.specs.Text.{lineText, linesText, blockText}

@@ -1,7 +1,5 @@
 -- What answering a line promises: every byte of the answer, at the front of a buffer that has room for it, and with it what holds of every load.
-use mathlib.Core.List.{List, [], _∷_}
-use Prim.Native.Nat.{ℕ}
-use Rattle.laws.specs.Lists.{tabulate}
+use Rattle.laws.specs.Prelude.{List, [], _∷_, ℕ, tabulate}
 use Rattle.lines.specs.Text.{blockText}
 use Rattle.job_text_statements.specs.Text.{headNames, layerNames, segmentNames}
 use Rattle.job_text_statements.specs.Job.{headValues, layerValues, segmentValues}

@@ -1,19 +1,7 @@
 -- Laws of the mark by remainders: an EvenOdd coverage is above 0 exactly where its doubled area is no multiple of 1,024, and a weight, which is at
 -- most 512, is its own EvenOdd weight. Assumes nothing.
-use mathlib.Core.Path.{_≡_, refl, sym, ap, _∙_}
-use mathlib.Core.List.{List}
-use Prim.Native.Nat.{ℕ, zero, suc, _+_, _*_, _≤_, _<_}
-use native.Mathlib.Nat.{mod-eq-of-lt}
-use native.Mathlib.Omega.{arith}
-use borrow.Author.Tests.{lt-ltb}
-use lib.Dec.{ltb, lit<}
-use lib.Ieee.{nan}
-use lib.IntN.{ℤ, pos, negsuc, natAbs}
-use lib.ListN.{length, getD, length-map}
-use lib.Seq.{ext-getD}
-use Rattle.laws.proofs.Mod.{remainder}
-use Rattle.laws.proofs.Parts.{difference}
-use Rattle.laws.specs.Integer.{minus, modℤ}
+use Rattle.laws.proofs.Prelude.{_≡_, refl, sym, ap, _∙_, List, ℕ, zero, suc, _+_, _*_, _≤_, _<_, mod-eq-of-lt, arith, lt-ltb, ltb, lit<, nan, ℤ, pos}
+use Rattle.laws.proofs.Prelude.{negsuc, natAbs, length, getD, length-map, ext-getD, remainder, difference, minus, modℤ}
 use Rattle.weight_table.specs.Rest.{restWeight}
 use Rattle.styling.specs.declared.FillRule.the-variants.{EvenOdd}
 use Rattle.cover_statements.specs.Cover.{coverAt}

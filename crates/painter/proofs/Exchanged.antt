@@ -1,12 +1,6 @@
 -- W-209: what a layer paints is its plane by columns, the order before, with the two places exchanged; so for a draw and for a clip. A draw's mark is
 -- the one that the plane by columns had. Assumes nothing.
-use mathlib.Core.Path.{_≡_, ap, _∙_}
-use mathlib.Core.Bool.{Bool, cond}
-use mathlib.Core.List.{List}
-use mathlib.Core.Option.{Option}
-use Prim.Native.Nat.{ℕ}
-use lib.Ieee.{Float, nan}
-use Rattle.laws.specs.Lists.{over}
+use Rattle.laws.proofs.Prelude.{_≡_, ap, _∙_, Bool, cond, List, Option, ℕ, Float, nan, over}
 use Rattle.pixel_segment.specs.Field.{cpu}
 use Rattle.segment_rows.specs.Search.{layerPart}
 use Rattle.styling.specs.declared.Func.{Func}

@@ -1,15 +1,6 @@
 -- The walk that finds whether a draw is freed: the latest clip so far and the layers that are left give the latest clip of all. Assumes nothing.
-use mathlib.Core.Path.{_≡_, refl, sym, ap, _∙_}
-use mathlib.Core.Bool.{Bool, true, false, cond, _&&_}
-use mathlib.Core.List.{List, [], _∷_, map}
-use mathlib.Core.Option.{Option, some, none}
-use Prim.Native.Nat.{ℕ, _+_, _≤_}
-use lib.Dec.{ltb, leb}
-use lib.IntN.{ℤ}
-use lib.ListN.{length, drop}
-use Rattle.laws.specs.Answer.{Answer, refused, given, isGiven}
-use Rattle.laws.proofs.Drops.{cons-rest}
-use Rattle.laws.specs.Lists.{filter}
+use Rattle.laws.proofs.Prelude.{_≡_, refl, sym, ap, _∙_, Bool, true, false, cond, _&&_, List, [], _∷_, map, Option, some, none, ℕ, _+_, _≤_, ltb, leb}
+use Rattle.laws.proofs.Prelude.{ℤ, length, drop, Answer, refused, given, isGiven, cons-rest, filter}
 use Rattle.layer_table.specs.Lookup.{lookup}
 use Rattle.styling.specs.declared.Layer.{Layer}
 use Rattle.cover_statements.specs.Entry as entries

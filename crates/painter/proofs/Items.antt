@@ -1,10 +1,6 @@
 -- After an accepted tile work the table has every listed layer, and the layers that rule over a painted one are all that are listed, as the passes
 -- see them. Assumes nothing.
-use mathlib.Core.Path.{_≡_, ap}
-use mathlib.Core.Bool.{true}
-use mathlib.Core.List.{List, map}
-use Rattle.laws.specs.Answer.{isGiven}
-use Rattle.laws.proofs.Filtered.{filter-all}
+use Rattle.laws.proofs.Prelude.{_≡_, ap, true, List, map, isGiven, filter-all}
 use Rattle.layer_table.specs.Lookup.{lookup}
 use Rattle.styling.specs.declared.Layer.{Layer}
 use Rattle.tile_layers.specs.Listing.{Listed, areKnown}

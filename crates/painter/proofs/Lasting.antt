@@ -1,18 +1,6 @@
 -- The last layer id that a clip of a judged table reaches fits 32 bits. Assumes nothing.
-use mathlib.Core.Path.{_≡_, refl, sym, ap, _∙_}
-use mathlib.Core.Bool.{Bool, true}
-use mathlib.Core.Logic.{⊎-elim}
-use mathlib.Core.List.{List, [], _∷_}
-use Prim.Native.Nat.{ℕ, _+_, _≤_, _<_}
-use native.Mathlib.Omega.{arith}
-use borrow.Author.Tests.{leb-true, le-leb}
-use lib.Dec.{leb}
-use lib.Ieee.{Float}
-use Rattle.laws.specs.Answer.{given}
-use Rattle.laws.specs.Lists.{all}
-use Rattle.laws.proofs.Bools.{left, right}
-use Rattle.laws.proofs.Every.{all-intro}
-use Rattle.laws.proofs.Orders.{eq-or-ne}
+use Rattle.laws.proofs.Prelude.{_≡_, refl, sym, ap, _∙_, Bool, true, ⊎-elim, List, [], _∷_, ℕ, _+_, _≤_, _<_, arith, leb-true, le-leb, leb, Float}
+use Rattle.laws.proofs.Prelude.{given, all, left, right, all-intro, eq-or-ne}
 use Rattle.layer_table.specs.Lookup.{lookup}
 use Rattle.layer_table.specs.Table.{layerAt, Table, tableOf}
 use Rattle.layer_table.proofs.Listed.{length-table, getD-table, layer-id}

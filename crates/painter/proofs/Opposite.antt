@@ -1,9 +1,5 @@
 -- Number 9 of a painted layer applies to a tile of the opposite row where it does to the row's. Assumes nothing.
-use mathlib.Core.Path.{_≡_, ap₂, _∙_}
-use mathlib.Core.Bool.{true}
-use mathlib.Core.List.{List, map}
-use Prim.Native.Nat.{ℕ}
-use lib.IntN.{ℤ}
+use Rattle.laws.proofs.Prelude.{_≡_, ap₂, _∙_, true, List, map, ℕ, ℤ}
 use Rattle.pixel_segment.specs.Field.{cpu}
 use Rattle.pixel_segment.specs.Opposite.{oppositeOf}
 use Rattle.pixel_segment.proofs.Opposite.{areMild, cpu-wide}

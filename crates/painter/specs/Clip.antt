@@ -1,9 +1,6 @@
 -- The painter's clip, as `paint_layer` and `clip_at` of the Rust keep it. Stands for '`clip_at` writes the mask of a second clip but keeps the
 -- last layer id of the first while that one lives', from which P7 comes.
-use mathlib.Core.Bool.{Bool, true, false, cond, _&&_}
-use mathlib.Core.Option.{Option, some, none}
-use Prim.Native.Nat.{ℕ, _+_}
-use lib.Dec.{ltb}
+use Rattle.laws.specs.Prelude.{Bool, true, false, cond, _&&_, Option, some, none, ℕ, _+_, ltb}
 use Rattle.styling.specs.declared.Func.{Func}
 use Rattle.styling.specs.declared.Func.the-variants.{Draw, Clip}
 use Rattle.painter.specs.declared.Clip as painter

@@ -1,8 +1,5 @@
 -- How the code finds whether a draw needs a clip: over the list in one walk, keeping whether the latest clip so far frees the draw.
-use mathlib.Core.Bool.{Bool, cond, _&&_}
-use Prim.Native.Nat.{ℕ}
-use lib.Dec.{ltb, leb}
-use Rattle.laws.specs.Answer.{Answer, refused, given}
+use Rattle.laws.specs.Prelude.{Bool, cond, _&&_, ℕ, ltb, leb, Answer, refused, given}
 use Rattle.styling.specs.declared.Layer.{Layer}
 use Rattle.pass_statements.specs.Clips.{isClip}
 use Rattle.pass_statements.specs.Entry.{Entry}

@@ -1,13 +1,6 @@
 -- A layer painted from its own segments and the cover that comes in for it, whatever row and queue they are of. proofs/Painted has that this is its
 -- painting in a tile where they are that tile's.
-use mathlib.Core.Path.{_≡_}
-use mathlib.Core.Bool.{Bool}
-use mathlib.Core.List.{List}
-use mathlib.Core.Option.{Option}
-use Prim.Native.Nat.{ℕ}
-use lib.Ieee.{Float}
-use lib.IntN.{ℤ}
-use Rattle.laws.specs.Lists.{over}
+use Rattle.laws.specs.Prelude.{_≡_, Bool, List, Option, ℕ, Float, ℤ, over}
 use Rattle.pixel_segment.specs.Field.{cpu}
 use Rattle.styling.specs.declared.Layer.{Layer}
 use Rattle.cover_statements.specs.Paint.{partPlane}

@@ -1,9 +1,5 @@
 -- What the painting of a layer asks of the functions above it, which judge: the row's operations turn everything else down.
-use Prim.Native.Nat.{ℕ, _≤_}
-use mathlib.Core.List.{List}
-use lib.Ieee.{Float}
-use lib.IntN.{ℤ}
-use lib.ListN.{length}
+use Rattle.laws.specs.Prelude.{ℕ, _≤_, List, Float, ℤ, length}
 use Rattle.layer_table.specs.Table.{Table}
 use Rattle.queue_statements.specs.Queue.{Queued}
 use Rattle.tile_layers.specs.InnerWalk.{Walks}

@@ -1,14 +1,7 @@
 -- One layer painted in one tile: its 256 coverages from the queue that the tile took in and the tile's part of the row, its mark, and the clip
 -- after it. Stands for 'each writes its 256 coverages into a lent plane and gives its mark', for 'bit 2 × column + h of a mark is set when a draw
 -- uses the octet: some coverage is above 0 and no needed clip is lacking', and for 'a clip layer's mark is 0; it writes its whole plane'.
-use mathlib.Core.Path.{_≡_}
-use mathlib.Core.Bool.{Bool, cond}
-use mathlib.Core.List.{List, map}
-use mathlib.Core.Option.{Option}
-use Prim.Native.Nat.{ℕ}
-use lib.Ieee.{Float}
-use Rattle.laws.specs.Answer.{isGiven}
-use Rattle.laws.specs.Lists.{over, filter}
+use Rattle.laws.specs.Prelude.{_≡_, Bool, cond, List, map, Option, ℕ, Float, isGiven, over, filter}
 use Rattle.pixel_segment.specs.Field.{cpu}
 use Rattle.segment_rows.specs.Search.{layerPart}
 use Rattle.layer_table.specs.Lookup.{lookup}

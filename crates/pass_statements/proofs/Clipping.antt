@@ -1,14 +1,7 @@
 -- The second pass as it runs over two lent columns: what is left of it, from place i on, gives what the whole pass gives. Assumes nothing.
-use mathlib.Core.Path.{_≡_, refl, sym, ap, ap₂, _∙_}
-use mathlib.Core.Bool.{Bool, true, false, not}
-use mathlib.Core.List.{List, [], _∷_}
-use Prim.Native.Nat.{ℕ, suc, _+_, _≤_, _<_}
-use native.Mathlib.Nat.{add-suc, suc-add}
-use native.Mathlib.Numerals.{add-one}
-use native.Mathlib.Omega.{arith}
-use lib.ListN.{length, set, drop, replicate, length-set, length-replicate, drop-of-length-le}
+use Rattle.laws.proofs.Prelude.{_≡_, refl, sym, ap, ap₂, _∙_, Bool, true, false, not, List, [], _∷_, ℕ, suc, _+_, _≤_, _<_, add-suc, suc-add, add-one}
+use Rattle.laws.proofs.Prelude.{arith, length, set, drop, replicate, length-set, length-replicate, drop-of-length-le, over}
 use lib.Seq.{set-append-left}
-use Rattle.laws.specs.Lists.{over}
 use Rattle.styling.specs.Style.{isClipped}
 use Rattle.pass_statements.specs.declared.item.Item.{Item}
 use Rattle.pass_statements.specs.declared.clips.ActiveClip.{ActiveClip}

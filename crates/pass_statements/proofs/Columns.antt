@@ -1,12 +1,6 @@
 -- A lent column of marks: its front filled with one mark. Assumes nothing.
-use mathlib.Core.Path.{_≡_, refl, sym, ap, _∙_}
-use mathlib.Core.Bool.{Bool}
-use mathlib.Core.List.{List}
-use Prim.Native.Nat.{ℕ, _+_, _≤_, _<_}
-use native.Mathlib.Omega.{arith}
-use lib.ListN.{length, getD, set, replicate, length-replicate, getD-replicate}
-use Rattle.laws.specs.Lists.{over}
-use Rattle.laws.proofs.Rows.{filled, length-filled, filled-more, filled-all}
+use Rattle.laws.proofs.Prelude.{_≡_, refl, sym, ap, _∙_, Bool, List, ℕ, _+_, _≤_, _<_, arith, length, getD, set, replicate, length-replicate}
+use Rattle.laws.proofs.Prelude.{getD-replicate, over, filled, length-filled, filled-more, filled-all}
 
 pub record Filling (n : ℕ) (mark : Bool) (old : List Bool) (i : ℕ) (column : List Bool) : Type 0 where
   pub reached : i ≤ n

@@ -1,13 +1,6 @@
 -- The third pass as it runs: what is left of it, over the i lowest layers, gives what the whole pass gives. Assumes nothing.
-use mathlib.Core.Path.{_≡_, refl, sym, ap, _∙_}
-use mathlib.Core.Bool.{Bool, true, false, cond}
-use mathlib.Core.Logic.{_⊎_, inl, inr, ⊎-map}
-use mathlib.Core.List.{List}
-use Prim.Native.Nat.{ℕ, zero, suc, _-_, _≤_, _<_}
-use native.Mathlib.Nat.{not-suc-le-zero}
-use native.Mathlib.Omega.{arith}
-use lib.ListN.{length, getD}
-use Rattle.laws.proofs.Bools.{clash}
+use Rattle.laws.proofs.Prelude.{_≡_, refl, sym, ap, _∙_, Bool, true, false, cond, _⊎_, inl, inr, ⊎-map, List, ℕ, zero, suc, _-_, _≤_, _<_}
+use Rattle.laws.proofs.Prelude.{not-suc-le-zero, arith, length, getD, clash}
 use Rattle.pass_statements.specs.declared.item.Item.{Item}
 use Rattle.pass_statements.specs.declared.covered.Covered.{Covered}
 use Rattle.pass_statements.specs.Covered.{hides, lookAt, itemAt, coveredFrom, startOf, coveredOf}

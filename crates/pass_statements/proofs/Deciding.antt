@@ -1,13 +1,7 @@
 -- The decision, put together from the passes. Assumes nothing.
-use mathlib.Core.Path.{_≡_, refl, sym, ap, ap₂, _∙_}
-use mathlib.Core.Bool.{Bool, true, false, cond, _&&_}
-use mathlib.Core.List.{List, [], _∷_, _++_}
-use Prim.Native.Nat.{ℕ, zero, suc, _≤_, _<_}
-use native.Mathlib.Nat.{le-of-suc-le-suc, not-suc-le-zero}
-use native.Mathlib.Omega.{arith}
-use lib.Dec.{leb}
-use lib.ListN.{length, getD, drop, set, replicate, length-set, length-replicate, List·getD-append}
-use Rattle.laws.specs.Lists.{over}
+use Rattle.laws.proofs.Prelude.{_≡_, refl, sym, ap, ap₂, _∙_, Bool, true, false, cond, _&&_, List, [], _∷_, _++_, ℕ, zero, suc, _≤_, _<_}
+use Rattle.laws.proofs.Prelude.{le-of-suc-le-suc, not-suc-le-zero, arith, leb, length, getD, drop, set, replicate, length-set, length-replicate}
+use Rattle.laws.proofs.Prelude.{List·getD-append, over}
 use Rattle.styling.specs.declared.Color.{Color}
 use Rattle.pass_statements.specs.declared.item.Item.{Item}
 use Rattle.pass_statements.specs.declared.clips.Current.{Current}

@@ -1,15 +1,8 @@
 -- A clip as the second pass comes to it: what it is judged by. It stays where another clip comes before a layer past its end, or a clipped draw
 -- within its span; what is full is masked off at once. Assumes nothing.
-use mathlib.Core.Path.{_≡_, refl, sym, ap, _∙_}
-use mathlib.Core.Bool.{Bool, true, false, not, _&&_, _||_, false≢true, and-true, and-false}
-use mathlib.Core.List.{List, [], _∷_}
-use Prim.Native.Nat.{ℕ, zero, suc, _+_, _≤_, _<_}
-use native.Mathlib.Nat.{not-suc-le-zero, le-of-suc-le-suc, add-suc, suc-add}
-use native.Mathlib.Omega.{arith}
-use borrow.Author.Tests.{le-leb, lt-leb}
-use lib.Dec.{leb}
-use lib.ListN.{length, getD, set, drop}
-use lib.Seq.{getD-set-same}
+use Rattle.laws.proofs.Prelude.{_≡_, refl, sym, ap, _∙_, Bool, true, false, not, _&&_, _||_, false≢true, and-true, and-false, List, [], _∷_, ℕ, zero}
+use Rattle.laws.proofs.Prelude.{suc, _+_, _≤_, _<_, not-suc-le-zero, le-of-suc-le-suc, add-suc, suc-add, arith, le-leb, lt-leb, leb, length, getD}
+use Rattle.laws.proofs.Prelude.{set, drop, getD-set-same}
 use Rattle.styling.specs.Style.{isClipped}
 use Rattle.pass_statements.specs.declared.Index.{Index}
 use Rattle.pass_statements.specs.declared.item.Item.{Item}

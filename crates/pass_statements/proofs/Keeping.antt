@@ -1,10 +1,5 @@
 -- The first pass: a kept tile, by its two tests. Assumes nothing.
-use mathlib.Core.Path.{_≡_, refl, sym}
-use mathlib.Core.Bool.{Bool, true, false, _&&_, false≢true}
-use mathlib.Core.List.{List}
-use Prim.Native.Nat.{ℕ}
-use lib.Dec.{eqb}
-use lib.ListN.{length}
+use Rattle.laws.proofs.Prelude.{_≡_, refl, sym, Bool, true, false, _&&_, false≢true, List, ℕ, eqb, length}
 use Rattle.pass_statements.specs.declared.item.Item.{Item}
 use Rattle.pass_statements.specs.declared.unchanged.PreviousCount.{PreviousCount}
 use Rattle.pass_statements.specs.declared.unchanged.PreviousCount.the-variants.{Kept}

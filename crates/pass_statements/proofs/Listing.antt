@@ -1,16 +1,8 @@
 -- The list that three lent columns and a table are: its length and its items. Assumes nothing.
-use mathlib.Core.Path.{_≡_, sym, ap, _∙_}
-use mathlib.Core.Bool.{Bool, false, not}
-use mathlib.Core.List.{List, _∷_}
-use Prim.Native.Nat.{ℕ, suc, _+_, _*_, _≤_, _<_}
-use native.Mathlib.Omega.{arith}
-use lib.IntN.{ℤ, pos}
-use lib.ListN.{length, getD, drop}
-use Rattle.laws.specs.Lists.{tabulate}
-use Rattle.laws.proofs.Rows.{is-tabulate, length-tabulate, getD-tabulate}
+use Rattle.laws.proofs.Prelude.{_≡_, sym, ap, _∙_, Bool, false, not, List, _∷_, ℕ, suc, _+_, _*_, _≤_, _<_, arith, ℤ, pos, length, getD, drop}
+use Rattle.laws.proofs.Prelude.{tabulate, is-tabulate, length-tabulate, getD-tabulate, given, refused}
 use Rattle.cover_statements.specs.Entry.{coverEntry}
 use Rattle.cover_statements.proofs.Entries.{entry-length, entry-at}
-use Rattle.laws.specs.Answer.{given, refused}
 use Rattle.styling.specs.declared.Layer.{Layer}
 use Rattle.styling.specs.declared.Func.the-variants.{Clip}
 use Rattle.layer_table.specs.Lookup.{lookup}

@@ -1,7 +1,5 @@
 -- A look of the third pass at one layer: each answer, from the test that leads to it. Assumes nothing.
-use mathlib.Core.Path.{_≡_}
-use mathlib.Core.Bool.{Bool, true, false, _&&_}
-use Prim.Native.Nat.{ℕ}
+use Rattle.laws.proofs.Prelude.{_≡_, Bool, true, false, _&&_, ℕ}
 use Rattle.styling.specs.declared.Paint.{Paint}
 use Rattle.styling.specs.Style.{colorIn, isOpaque, solidColor}
 use Rattle.pass_statements.specs.declared.Index.{Index}

@@ -1,11 +1,6 @@
 -- What the second pass leaves at a place: a turn marks its own place, and masks off at most the current clip besides. Assumes nothing.
-use mathlib.Core.Path.{_≡_, refl, sym, _∙_}
-use mathlib.Core.Bool.{Bool, true, false, not, false≢true}
-use mathlib.Core.List.{List, [], _∷_}
-use Prim.Native.Nat.{ℕ, suc, _≤_, _<_}
-use native.Mathlib.Omega.{arith}
-use lib.ListN.{length, getD, set}
-use lib.Seq.{getD-set-same, getD-set-other}
+use Rattle.laws.proofs.Prelude.{_≡_, refl, sym, _∙_, Bool, true, false, not, false≢true, List, [], _∷_, ℕ, suc, _≤_, _<_, arith, length, getD, set}
+use Rattle.laws.proofs.Prelude.{getD-set-same, getD-set-other}
 use Rattle.styling.specs.Style.{isClipped}
 use Rattle.pass_statements.specs.declared.item.Item.{Item}
 use Rattle.pass_statements.specs.declared.clips.Current.{Current}

@@ -1,8 +1,5 @@
 -- The passes read the same of a list and of its opposite: a cover is full where the negated one is. Assumes nothing.
-use mathlib.Core.Path.{_≡_, refl, ap₂}
-use mathlib.Core.Bool.{not, _&&_}
-use mathlib.Core.List.{List, [], _∷_, map}
-use Rattle.laws.specs.Answer.{Answer, refused, given}
+use Rattle.laws.proofs.Prelude.{_≡_, refl, ap₂, not, _&&_, List, [], _∷_, map, Answer, refused, given}
 use Rattle.cover_statements.proofs.Opposite.{full-opposite}
 use Rattle.layer_table.specs.Lookup.{lookup}
 use Rattle.styling.specs.declared.Layer.{Layer}

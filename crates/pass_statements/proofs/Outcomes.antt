@@ -1,13 +1,6 @@
 -- An outcome by its one test, and what the passes leave of a whole list, for proofs/Words. Assumes nothing.
-use mathlib.Core.Path.{_≡_, refl, sym, ap, _∙_}
-use mathlib.Core.Bool.{Bool, true, false, not, _&&_, _||_, false≢true}
-use mathlib.Core.List.{List, map}
-use mathlib.Core.Option.{none}
-use Prim.Native.Nat.{ℕ, suc, _<_}
-use native.Mathlib.Nat.{zero-add}
-use native.Mathlib.Omega.{arith}
-use lib.ListN.{length, getD, drop, replicate, length-replicate, getD-replicate, length-map, List·getD-map}
-use Rattle.laws.proofs.Bools.{left, right}
+use Rattle.laws.proofs.Prelude.{_≡_, refl, sym, ap, _∙_, Bool, true, false, not, _&&_, _||_, false≢true, List, map, none, ℕ, suc, _<_, zero-add}
+use Rattle.laws.proofs.Prelude.{arith, length, getD, drop, replicate, length-replicate, getD-replicate, length-map, List·getD-map, left, right}
 use Rattle.styling.specs.declared.Color.{Color}
 use Rattle.styling.specs.declared.Func.{Func}
 use Rattle.styling.specs.declared.Func.the-variants.{Draw, Clip}

@@ -1,16 +1,8 @@
 -- W-208 in laws: a listed clip that is changed never leaves a tile as it is; the mark of a clip counts, masked off or not, and that of a draw that
 -- is masked off plays no part; marks are the list's own, whatever the table says. Assumes nothing.
-use mathlib.Core.Path.{_≡_, refl, sym, ap, _∙_}
-use mathlib.Core.Bool.{Bool, true, false, not, _&&_, _||_, and-true}
-use mathlib.Core.List.{List, [], _∷_, map}
-use Prim.Native.Nat.{ℕ, zero, suc, _<_}
-use native.Mathlib.Nat.{le-of-suc-le-suc, not-suc-le-zero}
-use native.Mathlib.Omega.{arith}
-use lib.Dec.{eqb}
-use lib.ListN.{length, getD, length-set, length-map}
-use lib.Seq.{getD-set-same, getD-set-other}
-use Rattle.laws.specs.Answer.{Answer, given, refused}
-use Rattle.laws.proofs.Bools.{clash, not-left, not-right}
+use Rattle.laws.proofs.Prelude.{_≡_, refl, sym, ap, _∙_, Bool, true, false, not, _&&_, _||_, and-true, List, [], _∷_, map, ℕ, zero, suc, _<_}
+use Rattle.laws.proofs.Prelude.{le-of-suc-le-suc, not-suc-le-zero, arith, eqb, length, getD, length-set, length-map, getD-set-same, getD-set-other}
+use Rattle.laws.proofs.Prelude.{Answer, given, refused, clash, not-left, not-right}
 use Rattle.styling.specs.declared.Color.{Color}
 use Rattle.styling.specs.declared.Layer.{Layer}
 use Rattle.layer_table.specs.Lookup.{lookup}

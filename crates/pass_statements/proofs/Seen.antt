@@ -1,15 +1,7 @@
 -- The shown layers, in the words of specs/Shown; what is masked off plays no part in them. Assumes nothing.
-use mathlib.Core.Path.{_≡_, refl, sym, ap, ap₂, _∙_}
-use mathlib.Core.Bool.{Bool, true, false, cond, not, _&&_}
-use mathlib.Core.List.{List, [], _∷_, map}
-use Prim.Native.Nat.{ℕ, zero, suc, _+_}
-use native.Mathlib.Nat.{add-zero, zero-add, add-suc, suc-add}
-use native.Mathlib.Omega.{arith}
-use borrow.Author.Tests.{ltb-true, ltb-false, le-leb, lt-leb}
-use lib.Dec.{ltb, leb}
-use lib.ListN.{length, getD}
-use Rattle.laws.specs.Lists.{tabulate, filter}
-use Rattle.laws.proofs.Filtered.{filter-ext}
+use Rattle.laws.proofs.Prelude.{_≡_, refl, sym, ap, ap₂, _∙_, Bool, true, false, cond, not, _&&_, List, [], _∷_, map, ℕ, zero, suc, _+_, add-zero}
+use Rattle.laws.proofs.Prelude.{zero-add, add-suc, suc-add, arith, ltb-true, ltb-false, le-leb, lt-leb, ltb, leb, length, getD, tabulate, filter}
+use Rattle.laws.proofs.Prelude.{filter-ext}
 use Rattle.pass_statements.specs.declared.item.Item.{Item}
 use Rattle.pass_statements.specs.Covered.{itemAt}
 use Rattle.pass_statements.specs.Decide.{shownFrom, shownOf}

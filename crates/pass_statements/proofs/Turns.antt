@@ -1,12 +1,6 @@
 -- One turn of the second pass, by its four cases: a clip, and a draw with no clip, past the end of the current one, or within it.
 -- Assumes nothing.
-use mathlib.Core.Path.{_≡_, refl, ap, _∙_}
-use mathlib.Core.Bool.{Bool, true, false, cond, not, _&&_}
-use mathlib.Core.Logic.{⊎-elim}
-use Prim.Native.Nat.{ℕ, _+_, _≤_, _<_}
-use native.Mathlib.Omega.{arith}
-use borrow.Author.Tests.{lt-ltb, le-ltb}
-use Rattle.laws.proofs.Orders.{le-or-lt}
+use Rattle.laws.proofs.Prelude.{_≡_, refl, ap, _∙_, Bool, true, false, cond, not, _&&_, ⊎-elim, ℕ, _+_, _≤_, _<_, arith, lt-ltb, le-ltb, le-or-lt}
 use Rattle.styling.specs.declared.Func.{Func}
 use Rattle.styling.specs.declared.Func.the-variants.{Draw, Clip}
 use Rattle.styling.specs.declared.Style.{Style}

@@ -1,17 +1,8 @@
 -- A clip that some listed draw uses, by the latest clips of the draws: in an ascending list that is a clipped draw which comes above the clip,
 -- before another clip and before any layer past its end. Assumes nothing.
-use mathlib.Core.Path.{_≡_, refl, ap, ap₂, _∙_}
-use mathlib.Core.Bool.{Bool, true, false, cond, not, _&&_, _||_, and-false, false≢true}
-use mathlib.Core.List.{List, [], _∷_, map}
-use mathlib.Core.Option.{Option, some, none}
-use Prim.Native.Nat.{ℕ, zero, suc, _≤_, _<_}
-use native.Mathlib.Nat.{not-suc-le-zero, le-of-suc-le-suc}
-use native.Mathlib.Omega.{arith}
-use borrow.Author.Tests.{eq-eqb, ne-eqb, lt-leb, leb-false}
-use lib.Dec.{leb}
-use lib.ListN.{length, drop}
-use Rattle.laws.specs.Lists.{any}
-use Rattle.laws.proofs.Bools.{not-left, not-right}
+use Rattle.laws.proofs.Prelude.{_≡_, refl, ap, ap₂, _∙_, Bool, true, false, cond, not, _&&_, _||_, and-false, false≢true, List, [], _∷_, map, Option}
+use Rattle.laws.proofs.Prelude.{some, none, ℕ, zero, suc, _≤_, _<_, not-suc-le-zero, le-of-suc-le-suc, arith, eq-eqb, ne-eqb, lt-leb, leb-false, leb}
+use Rattle.laws.proofs.Prelude.{length, drop, any, not-left, not-right}
 use Rattle.styling.specs.Ascending.{strictlyAscendsFrom}
 use Rattle.styling.specs.declared.Func.{Func}
 use Rattle.styling.specs.declared.Func.the-variants.{Draw, Clip}

@@ -1,14 +1,6 @@
 -- What the scope says of the passes in words, proved of the definitions. Assumes nothing.
-use mathlib.Core.Path.{_≡_, refl, ap, _∙_}
-use mathlib.Core.Bool.{Bool, true, false, not, _&&_, _||_, and-true, and-false}
-use mathlib.Core.Logic.{_⊎_, inl, ⊎-elim, ⊎-map}
-use mathlib.Core.List.{List, []}
-use Prim.Native.Nat.{ℕ, _≤_, _<_}
-use native.Mathlib.Nat.{not-suc-le-zero}
-use native.Mathlib.Omega.{arith}
-use borrow.Author.Tests.{ne-eqb}
-use lib.ListN.{length, length-replicate}
-use Rattle.laws.proofs.Bools.{either}
+use Rattle.laws.proofs.Prelude.{_≡_, refl, ap, _∙_, Bool, true, false, not, _&&_, _||_, and-true, and-false, _⊎_, inl, ⊎-elim, ⊎-map, List, [], ℕ}
+use Rattle.laws.proofs.Prelude.{_≤_, _<_, not-suc-le-zero, arith, ne-eqb, length, length-replicate, either}
 use Rattle.styling.specs.declared.Color.{Color}
 use Rattle.styling.specs.Style.{isClipped}
 use Rattle.pass_statements.specs.declared.item.Item.{Item}

@@ -1,11 +1,5 @@
 -- The second pass (`skip_trivial_clips_pass`), as the Rust goes: from the lowest listed layer up, with the clip that was met last.
-use mathlib.Core.Path.{_≡_}
-use mathlib.Core.Bool.{Bool, true, false, cond, not, _||_}
-use mathlib.Core.List.{List, [], _∷_}
-use Prim.Native.Nat.{ℕ, suc, _+_}
-use lib.Dec.{ltb}
-use lib.ListN.{length, set, replicate}
-use Rattle.laws.specs.Lists.{over}
+use Rattle.laws.specs.Prelude.{_≡_, Bool, true, false, cond, not, _||_, List, [], _∷_, ℕ, suc, _+_, ltb, length, set, replicate, over}
 use Rattle.styling.specs.declared.Func.{Func}
 use Rattle.styling.specs.declared.Func.the-variants.{Draw, Clip}
 use Rattle.styling.specs.Style.{isClipped}

@@ -1,12 +1,7 @@
 -- The third pass (`skip_fully_covered_layers_pass`), as the Rust goes: from the highest layer that is not masked off down to the first that
 -- hides all below it. It finds the first cover that tells whether the tile can be solid, whether the layers looked at are unchanged, and how
 -- many are skipped. Other than in the Rust, the tile also counts as changed where any listed clip is changed (W-208).
-use mathlib.Core.Bool.{Bool, false, cond, not, _&&_, _||_}
-use mathlib.Core.List.{List}
-use mathlib.Core.Option.{Option, some, none}
-use Prim.Native.Nat.{ℕ, zero, suc}
-use lib.ListN.{length, getD}
-use Rattle.laws.specs.Lists.{all}
+use Rattle.laws.specs.Prelude.{Bool, false, cond, not, _&&_, _||_, List, Option, some, none, ℕ, zero, suc, length, getD, all}
 use Rattle.styling.specs.declared.Color.{Color}
 use Rattle.styling.specs.declared.Func.the-variants.{Clip}
 use Rattle.styling.specs.Style.{isClipped, isOpaque, solidColor}

@@ -1,15 +1,8 @@
 -- The decision about a tile (`optimization_passes`): none, solid with the bottom colour and how many shown layers (0 or 1) lie before those to
 -- mix above it, or paint; which layers are masked off, and how many are skipped. A layer that is neither is shown; a skipped one, masked off or
 -- not, is passed over as covered.
-use mathlib.Core.Path.{_≡_}
-use mathlib.Core.Bool.{Bool, true, false, cond, _&&_}
-use mathlib.Core.List.{List, [], _∷_}
+use Rattle.laws.specs.Prelude.{_≡_, Bool, true, false, cond, _&&_, List, [], _∷_, Option, some, ℕ, suc, leb, length, drop, replicate, all, over}
 use mathlib.Core.Option as option
-use mathlib.Core.Option.{Option, some}
-use Prim.Native.Nat.{ℕ, suc}
-use lib.Dec.{leb}
-use lib.ListN.{length, drop, replicate}
-use Rattle.laws.specs.Lists.{all, over}
 use Rattle.styling.specs.declared.Color.{Color}
 use Rattle.styling.specs.Style.{solidColor}
 use Rattle.pass_statements.specs.declared.item.Item.{Item}

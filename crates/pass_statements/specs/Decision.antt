@@ -1,6 +1,6 @@
 -- The decision about a tile, as the scope tells it: 0 none; 1 solid, with the bottom colour and how many shown layers (0 or 1) lie before those to
 -- mix above it; 2 paint. Promises about a decision are promises about this type.
-use Prim.Native.Nat.{ℕ}
+use Rattle.laws.specs.Prelude.{ℕ}
 use Rattle.styling.specs.declared.Color.{Color}
 use Rattle.pass_statements.specs.declared.decide.Decision.{Decision}
 use Rattle.pass_statements.specs.declared.decide.Decision.the-variants.{None, Solid, Paint}

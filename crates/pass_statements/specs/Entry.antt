@@ -1,11 +1,6 @@
 -- An entry of a tile's list: a layer id, the cover that comes in from the left (zeros where none does), whether the layer has segments in the
 -- tile, and whether it is changed, as the table said at listing (W-208); and a list as it lies in three lent columns.
-use mathlib.Core.Bool.{Bool, false}
-use mathlib.Core.List.{List}
-use Prim.Native.Nat.{ℕ, _+_, _*_}
-use lib.IntN.{ℤ, pos}
-use lib.ListN.{getD}
-use Rattle.laws.specs.Lists.{tabulate}
+use Rattle.laws.specs.Prelude.{Bool, false, List, ℕ, _+_, _*_, ℤ, pos, getD, tabulate}
 
 pub record Entry : Type 0 where
   pub id : ℕ

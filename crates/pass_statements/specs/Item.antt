@@ -1,11 +1,6 @@
 -- What the passes read of a listed layer. A layer is full in a tile where it has no segment there and its incoming cover is full by its rule
 -- (`layer_is_full` of the Rust). It is unchanged where its entry says so: the table's own word plays no part here (W-208).
-use mathlib.Core.Bool.{Bool, false, not, _&&_}
-use mathlib.Core.List.{List, map}
-use Prim.Native.Nat.{ℕ, _+_, _*_, _≤_}
-use lib.IntN.{ℤ}
-use lib.ListN.{length}
-use Rattle.laws.specs.Answer.{Answer, refused, given}
+use Rattle.laws.specs.Prelude.{Bool, false, not, _&&_, List, map, ℕ, _+_, _*_, _≤_, ℤ, length, Answer, refused, given}
 use Rattle.cover_statements.specs.Cover.{isFull}
 use Rattle.layer_table.specs.Lookup.{lookup}
 use Rattle.styling.specs.declared.Layer.{Layer}

@@ -3,14 +3,8 @@
 -- 'A clipped draw before any clip, or past the span of the latest one, is masked off.'
 -- 'A clip followed by another clip before a listed draw past its end is never judged for use; it stays shown unless full': shown there is not
 -- masked off. A clip that is judged is masked off where no listed draw uses it.
-use mathlib.Core.Path.{_≡_}
-use mathlib.Core.Bool.{Bool, true, false, cond, not, _&&_, _||_}
-use mathlib.Core.List.{List, [], _∷_, map}
-use mathlib.Core.Option.{Option, some, none}
-use Prim.Native.Nat.{ℕ, suc, _+_, _<_}
-use lib.Dec.{ltb, leb, eqb}
-use lib.ListN.{length, getD, set, drop}
-use Rattle.laws.specs.Lists.{any}
+use Rattle.laws.specs.Prelude.{_≡_, Bool, true, false, cond, not, _&&_, _||_, List, [], _∷_, map, Option, some, none, ℕ, suc, _+_, _<_, ltb, leb, eqb}
+use Rattle.laws.specs.Prelude.{length, getD, set, drop, any}
 use Rattle.styling.specs.Ascending.{strictlyAscends}
 use Rattle.styling.specs.declared.Layer.{Layer}
 use Rattle.styling.specs.declared.Func.{Func}

@@ -1,11 +1,6 @@
 -- Which listed layers are shown, by a column of marks and how many are skipped. Stands for 'a listed layer that is neither masked off nor skipped
 -- is shown; a skipped one, masked off or not, is passed over as covered'. proofs/Seen has that `shownOf` are the shown layers.
-use mathlib.Core.Bool.{Bool, false, not, _&&_}
-use mathlib.Core.List.{List, map}
-use Prim.Native.Nat.{ℕ}
-use lib.Dec.{ltb}
-use lib.ListN.{length, getD}
-use Rattle.laws.specs.Lists.{tabulate, filter}
+use Rattle.laws.specs.Prelude.{Bool, false, not, _&&_, List, map, ℕ, ltb, length, getD, tabulate, filter}
 use Rattle.pass_statements.specs.declared.item.Item.{Item}
 use Rattle.pass_statements.specs.Covered.{itemAt}
 

@@ -1,11 +1,6 @@
 -- The first pass (`tile_unchanged_pass`): a tile is kept where the clear colour is unchanged, a count was kept and equals the number of listed
 -- layers, and every listed layer is unchanged. It also says whether layers were removed, for the third pass.
-use mathlib.Core.Bool.{Bool, true, false, _&&_}
-use mathlib.Core.List.{List}
-use Prim.Native.Nat.{ℕ}
-use lib.Dec.{ltb, eqb}
-use lib.ListN.{length}
-use Rattle.laws.specs.Lists.{all}
+use Rattle.laws.specs.Prelude.{Bool, true, false, _&&_, List, ℕ, ltb, eqb, length, all}
 use Rattle.pass_statements.specs.declared.item.Item.{Item}
 use Rattle.pass_statements.specs.declared.unchanged.PreviousCount.{PreviousCount}
 use Rattle.pass_statements.specs.declared.unchanged.PreviousCount.the-variants.{Kept, Absent}

@@ -1,5 +1,5 @@
 -- The edges of specs/Edges, computed. Assumes nothing.
-use mathlib.Core.Path.{refl}
+use Rattle.laws.proofs.Prelude.{refl}
 use Rattle.pixel_segment.specs.Pack.{isPackable}
 use Rattle.pixel_segment.specs.Edges.{Edges}
 

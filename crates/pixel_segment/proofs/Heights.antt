@@ -1,9 +1,6 @@
 -- Tables of widths over the tile height. What order compares is the same at every height: a key of tile y, tile x and layer id; only the bits
 -- below the key, 16 + k in tiles 2^k high, differ. Laws of order take a table with such keys, and stand for tiles 16 and 4 high. Assumes nothing.
-use mathlib.Core.Path.{_≡_, refl, sym, ap, _∙_}
-use Prim.Native.Nat.{ℕ, _+_, _-_, _/_, _%_, _^_, _≤_, _<_}
-use native.Mathlib.Omega.{arith}
-use lib.Dec.{lit≤}
+use Rattle.laws.proofs.Prelude.{_≡_, refl, sym, ap, _∙_, ℕ, _+_, _-_, _/_, _%_, _^_, _≤_, _<_, arith, lit≤}
 use lib.Pow.{shr-shr, shr-mod, shr-lt}
 use Rattle.pixel_segment.specs.Field.{cpu, gpu, widthsAt, widthsOf, shiftOf}
 use Rattle.pixel_segment.specs.Order.{orderKey}

@@ -1,20 +1,8 @@
 -- The order of packed words is that of tile y, then tile x, then layer id, as fields and as the numbers that were packed, at every tile height. Assumes nothing.
-use mathlib.Core.Path.{_≡_, refl, ap, ap₂, sym, _∙_}
-use mathlib.Core.Bool.{Bool, cond}
-use mathlib.Core.List.{List, [], _∷_}
-use mathlib.Core.Logic.{⊎-elim}
-use Prim.Native.Nat.{ℕ, zero, suc, _+_, _*_, _/_, _%_, _^_, _≤_, _<_}
-use native.Mathlib.Nat.{mul-le-mul-right, suc-mul, mod-lt}
-use native.Mathlib.Omega.{arith}
-use borrow.Author.Tests.{ltb-true, lt-ltb, le-ltb}
-use lib.Arith.{digits-lt}
-use lib.Dec.{ltb, lit<}
-use lib.IntN.{ℤ, pos, negsuc}
-use Rattle.laws.specs.Answer.{given}
-use Rattle.laws.specs.Integer.{plus, modℤ}
-use Rattle.laws.proofs.Bools.{same}
-use Rattle.laws.proofs.Orders.{le-or-lt}
-use Rattle.laws.proofs.Parts.{difference, equal}
+use Rattle.laws.proofs.Prelude.{_≡_, refl, ap, ap₂, sym, _∙_, Bool, cond, List, [], _∷_, ⊎-elim, ℕ, zero, suc, _+_, _*_, _/_, _%_, _^_, _≤_, _<_}
+use Rattle.laws.proofs.Prelude.{mul-le-mul-right, mod-lt, arith, ltb-true, lt-ltb, le-ltb, digits-lt, ltb, lit<, ℤ, pos, negsuc, given, plus, modℤ}
+use Rattle.laws.proofs.Prelude.{same, le-or-lt, difference, equal}
+use native.Mathlib.Nat.{suc-mul}
 use Rattle.pixel_segment.specs.Field.{cpu, gpu, widthOf, tileOf, tileXOf, tileYOf, layerIdOf}
 use Rattle.pixel_segment.specs.Pack.{storedOf, packOf}
 use Rattle.pixel_segment.specs.Order.{orderKey, compareOf, compareℤ, thenBy}

@@ -1,23 +1,11 @@
 -- The opposite of a word, for every table of seven widths: its fields but the cover, what order compares and its range are the word's; the cover is
 -- negated where it is not the lowest; twice is the word itself; and the opposite of a packed word is the negated cover packed. Assumes nothing.
-use mathlib.Core.Path.{_≡_, ap, ap₂, _∙_}
-use mathlib.Core.Bool.{Bool, true}
-use mathlib.Core.Logic.{⊎-elim}
-use mathlib.Core.List.{List}
-use Prim.Native.Nat.{ℕ, zero, suc, _+_, _-_, _*_, _/_, _%_, _^_, _≤_, _<_}
-use native.Mathlib.Nat.{add-zero, sub-zero, add-mul-mod-self-right, mul-add-mod-self-right, mul-add-div-right, mod-self, mod-lt, mod-eq-of-lt, div-eq-of-lt, div-add-mod', div-one}
-use native.Mathlib.Omega.{arith}
-use borrow.Author.Tests.{le-leb, leb-true}
-use lib.Dec.{leb, lit<}
-use lib.IntN.{ℤ, pos, negℤ, natAbs, _*ℤ_}
-use lib.ListN.{getD}
-use lib.Pow.{pow-pos}
-use Rattle.laws.specs.Integer.{plus, minus, modℤ}
-use Rattle.laws.proofs.Mod.{unique, opposite}
-use Rattle.laws.specs.Lists.{all}
-use Rattle.laws.proofs.Every.{all-intro}
-use Rattle.laws.proofs.Orders.{le-or-lt}
-use Rattle.laws.proofs.Parts.{whole, difference, plus-neg, minus-neg, times-neg}
+use Rattle.laws.proofs.Prelude.{_≡_, ap, ap₂, _∙_, Bool, true, ⊎-elim, List, ℕ, zero, suc, _+_, _-_, _*_, _/_, _%_, _^_, _≤_, _<_, add-zero, mod-lt}
+use Rattle.laws.proofs.Prelude.{mod-eq-of-lt, div-eq-of-lt, div-add-mod', div-one, arith, le-leb, leb-true, leb, lit<, ℤ, pos, negℤ, natAbs, _*ℤ_}
+use Rattle.laws.proofs.Prelude.{getD, pow-pos, plus, minus, modℤ, unique, all, all-intro, le-or-lt, whole, difference}
+use native.Mathlib.Nat.{sub-zero, add-mul-mod-self-right, mul-add-mod-self-right, mul-add-div-right, mod-self}
+use Rattle.laws.proofs.Mod.{opposite}
+use Rattle.laws.proofs.Parts.{plus-neg, minus-neg, times-neg}
 use Rattle.pixel_segment.specs.Field.{cpu, gpu, sum, widthOf, shiftOf, fieldOf, multiplierOf, signedOf, coverOf, doubleAreaOf}
 use Rattle.pixel_segment.specs.Pack.{wordOf, withCover}
 use Rattle.pixel_segment.specs.Opposite.{oppositeOf, Mild}

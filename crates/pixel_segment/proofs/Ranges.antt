@@ -1,17 +1,9 @@
 -- What packing accepts, as facts: `isPackable` is true exactly where every number is in range, for every table of seven widths whose last is a
 -- signed field's. Assumes nothing.
-use mathlib.Core.Path.{_≡_, refl}
-use mathlib.Core.Bool.{true, _&&_}
-use mathlib.Core.List.{List, [], _∷_}
-use Prim.Native.Nat.{ℕ, zero, suc, _+_, _-_, _^_, _≤_, _<_}
+use Rattle.laws.proofs.Prelude.{_≡_, refl, true, _&&_, List, [], _∷_, ℕ, zero, suc, _+_, _-_, _^_, _≤_, _<_, arith, ℤ, pos, _+ℤ_, leZ, ltZ, pow-pos}
+use Rattle.laws.proofs.Prelude.{plus, minus, both, left, right, whole, added, le-true, true-le, lt-true}
 use native.Mathlib.Nat.{pow-succ'}
-use native.Mathlib.Omega.{arith}
-use lib.IntN.{ℤ, pos, _+ℤ_}
-use lib.Signed.{leZ, ltZ}
-use lib.Pow.{pow-pos}
-use Rattle.laws.specs.Integer.{plus, minus}
-use Rattle.laws.proofs.Bools.{both, left, right}
-use Rattle.laws.proofs.Parts.{whole, added, plus-neg, minus-neg, le-true, true-le, lt-true, true-lt}
+use Rattle.laws.proofs.Parts.{plus-neg, minus-neg, true-lt}
 use Rattle.pixel_segment.specs.Field.{cpu, gpu, widthsOf, widthOf}
 use Rattle.pixel_segment.specs.Pack.{storedOf, isHeld, lowestTile, lowestSigned, isPackable, FieldsInRange}
 use Rattle.pixel_segment.specs.Layout.{Layout}

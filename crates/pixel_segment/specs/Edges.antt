@@ -1,10 +1,7 @@
 -- Both sides of every edge of what packing accepts, one field after the other beside layer 5, tile x 2, tile y 0, local x 3, local y 4,
 -- multiplier 32 and cover 16 (P1); then every field at its lowest and at its highest. What is refused is refused by 11; the words are those
 -- of the Rust.
-use mathlib.Core.Path.{_≡_}
-use Prim.Native.Nat.{ℕ}
-use lib.IntN.{ℤ, pos, negsuc}
-use Rattle.laws.specs.Answer.{Answer, refused, given}
+use Rattle.laws.specs.Prelude.{_≡_, ℕ, ℤ, pos, negsuc, Answer, refused, given}
 use Rattle.pixel_segment.specs.Field.{cpu}
 use Rattle.pixel_segment.specs.Pack.{packOf}
 

@@ -1,10 +1,7 @@
 -- The fields of a packed word. A table says how many bits each has, highest first: tile y, tile x, layer id, local x, local y, double area
 -- multiplier, cover. Every definition takes the table as a parameter: tiles of another height have another one.
 -- Stands for the clause on the seven field widths, and for 'cover is signed, -32 to 31', 'double area is multiplier × cover'.
-use mathlib.Core.List.{List, [], _∷_}
-use Prim.Native.Nat.{ℕ, _+_, _-_, _/_, _%_, _^_}
-use lib.ListN.{getD, drop}
-use lib.IntN.{ℤ, pos, subℕ, _*ℤ_}
+use Rattle.laws.specs.Prelude.{List, [], _∷_, ℕ, _+_, _-_, _/_, _%_, _^_, getD, drop, ℤ, pos, subℕ, _*ℤ_}
 use Rattle.pixel_segment.specs.declared.consts.Layout.{Layout}
 use Rattle.pixel_segment.specs.declared.consts.Layout.the-variants.{Cpu, Gpu}
 use Rattle.pixel_segment.specs.declared.consts.BitField.{BitField}

@@ -1,11 +1,6 @@
 -- Tables of widths that the laws take: seven of them, the last a signed field's; and tables in which the fields that order compares are read from its key.
 -- Stands for W-213, 'facts about fields and sums are shown over the tile height'.
-use mathlib.Core.Path.{_≡_}
-use mathlib.Core.List.{List}
-use Prim.Native.Nat.{ℕ, _/_, _%_, _^_, _≤_, _<_}
-use lib.IntN.{ℤ}
-use lib.ListN.{length}
-use Rattle.laws.specs.Answer.{given}
+use Rattle.laws.specs.Prelude.{_≡_, List, ℕ, _/_, _%_, _^_, _≤_, _<_, ℤ, length, given}
 use Rattle.pixel_segment.specs.Field.{widthOf, sum, tileXOf, tileYOf, layerIdOf}
 use Rattle.pixel_segment.specs.Pack.{packOf}
 use Rattle.pixel_segment.specs.Order.{orderKey, compareOf, compareℤ, thenBy}

@@ -1,9 +1,6 @@
 -- The opposite of a segment: the same place, multiplier and layer, run the other way. Stands for W-210: 'negating every segment's cover', of rows
 -- 'whose covers lie in -31 to 31'. The cover -32 has no opposite in its field: it stays as it is.
-use mathlib.Core.List.{List}
-use Prim.Native.Nat.{ℕ, _≤_, _<_}
-use lib.IntN.{negℤ, natAbs}
-use lib.ListN.{length, getD}
+use Rattle.laws.specs.Prelude.{List, ℕ, _≤_, _<_, negℤ, natAbs, length, getD}
 use Rattle.pixel_segment.specs.Field.{coverOf}
 use Rattle.pixel_segment.specs.Pack.{withCover}
 

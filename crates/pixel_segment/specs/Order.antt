@@ -1,11 +1,6 @@
 -- The order of segments. Stands for 'order compares only the upper 44 bits: tile y, tile x, layer'. How two keys compare is a number,
 -- the rank of the first: 0 below the second, 1 equal to it, 2 above it.
-use mathlib.Core.Bool.{Bool, true, false, cond}
-use mathlib.Core.List.{List}
-use Prim.Native.Nat.{ℕ, zero, suc, _/_, _^_}
-use lib.Dec.{ltb}
-use lib.IntN.{ℤ}
-use lib.Signed.{ltZ}
+use Rattle.laws.specs.Prelude.{Bool, true, false, cond, List, ℕ, zero, suc, _/_, _^_, ltb, ℤ, ltZ}
 use Rattle.pixel_segment.specs.Field.{shiftOf}
 use Rattle.pixel_segment.specs.declared.order.Ordering.{Ordering}
 use Rattle.pixel_segment.specs.declared.order.Ordering.the-variants.{Less, Equal, Greater}

@@ -1,14 +1,8 @@
 -- Packing: seven numbers in a word, each in a field that holds it; where one lies outside its field's range, packing is refused by 11.
 -- Stands for W-203: tile numbers are taken from -1 and stored plus 1, layer ids, local places and multipliers from 0, covers are signed, and
 -- each field reads back as the number that was packed. Every definition takes the table of widths as a parameter.
-use mathlib.Core.Path.{_≡_}
-use mathlib.Core.Bool.{Bool, cond, _&&_}
-use mathlib.Core.List.{List, [], _∷_}
-use Prim.Native.Nat.{ℕ, _+_, _-_, _*_, _/_, _%_, _^_, _≤_, _<_}
-use lib.IntN.{ℤ, pos, negsuc, negℤ, _+ℤ_}
-use lib.Signed.{leZ, ltZ}
-use Rattle.laws.specs.Integer.{plus, minus, modℤ}
-use Rattle.laws.specs.Answer.{Answer, refused, given}
+use Rattle.laws.specs.Prelude.{_≡_, Bool, cond, _&&_, List, [], _∷_, ℕ, _+_, _-_, _*_, _/_, _%_, _^_, _≤_, _<_, ℤ, pos, negsuc, negℤ, _+ℤ_, leZ, ltZ}
+use Rattle.laws.specs.Prelude.{plus, minus, modℤ, Answer, refused, given}
 use Rattle.pixel_segment.specs.Field.{widthOf, tileOf, tileXOf, tileYOf, layerIdOf, localXOf, localYOf, multiplierOf, coverOf}
 use Rattle.pixel_segment.specs.declared.Packed.{Packed}
 use Rattle.pixel_segment.specs.declared.Packed.the-variants.{Segment, FieldOutOfRange}

@@ -1,6 +1,5 @@
 -- The two lowest fields are those of tiles 16 high. Assumes nothing.
-use mathlib.Core.Path.{_≡_, refl}
-use Prim.Native.Nat.{ℕ}
+use Rattle.laws.proofs.Prelude.{_≡_, refl, ℕ}
 use Rattle.pixel_segment.specs.Field.{gpu, cpu, coverOf, doubleAreaOf}
 
 pub cover-same : (w : ℕ) → coverOf cpu w ≡ coverOf gpu w

@@ -1,11 +1,7 @@
 -- Worked packings for tiles four pixels high, beside the edges of what is accepted: layer 5, tile x 2, tile y 0, local x 3, local y 3, multiplier
 -- 32 and cover 16, and what differs from it. The words are those of the Rust at that height; what is refused is refused by 11. Then two words
 -- that compare as equal, and P5's answers.
-use mathlib.Core.Path.{_≡_}
-use mathlib.Core.List.{List, [], _∷_}
-use Prim.Native.Nat.{ℕ}
-use lib.IntN.{ℤ, pos, negsuc}
-use Rattle.laws.specs.Answer.{Answer, refused, given}
+use Rattle.laws.specs.Prelude.{_≡_, List, [], _∷_, ℕ, ℤ, pos, negsuc, Answer, refused, given}
 use Rattle.pixel_segment.specs.Field.{gpu, doubleAreaOf}
 use Rattle.pixel_segment.specs.Order.{orderKey, compareOf}
 use Rattle.pixel_segment.specs.Pack.{packOf}

@@ -1,15 +1,8 @@
 -- The cells of a part that number 9 does not refuse, summed without loads: the loads are there in the proof alone, and bound each sum as they do
 -- where they are judged (cover_statements/proofs/Judging). Assumes nothing.
-use mathlib.Core.Path.{_≡_, refl, sym, _∙_}
-use mathlib.Core.Bool.{true}
-use mathlib.Core.List.{List, [], _∷_, map}
-use mathlib.Core.Logic.{⊎-elim}
-use Prim.Native.Nat.{ℕ, _+_, _*_, _≤_, _<_}
-use native.Mathlib.Omega.{arith}
-use lib.IntN.{ℤ, natAbs, _+ℤ_}
-use lib.ListN.{length, getD, set, length-map}
-use Rattle.laws.proofs.Bools.{not-false, clash}
-use Rattle.laws.proofs.Orders.{le-or-lt}
+use Rattle.laws.proofs.Prelude.{_≡_, refl, sym, _∙_, true, List, [], _∷_, map, ⊎-elim, ℕ, _+_, _*_, _≤_, _<_, arith, ℤ, natAbs, _+ℤ_, length, getD}
+use Rattle.laws.proofs.Prelude.{set, length-map, clash, le-or-lt}
+use Rattle.laws.proofs.Bools.{not-false}
 use Rattle.pixel_segment.specs.Field.{cpu, localXOf, localYOf, coverOf, doubleAreaOf}
 use Rattle.cover_statements.specs.Carry.{isLight, absCover}
 use Rattle.cover_statements.specs.Cover.{coverAt}

@@ -1,16 +1,6 @@
 -- A row that a search found, and one that it did not: where it stands, inside the segments. Assumes nothing.
-use mathlib.Core.Path.{_≡_, refl, ap, ap₂, sym, subst, _∙_}
-use mathlib.Core.Bool.{Bool, true, false, cond}
-use mathlib.Core.List.{List}
-use Prim.Native.Nat.{ℕ, _+_, _≤_, _<_}
-use native.Mathlib.Omega.{arith}
-use native.Mathlib.Numerals.{add-one}
-use lib.IntN.{ℤ, pos, subℕ, _-ℤ_}
-use lib.ListN.{length, getD, take, length-take}
-use mir.Syntax.{w16}
-use mir.Val.{SFits}
-use Rattle.laws.proofs.Parts.{difference, taken}
-use Rattle.laws.proofs.Machine.{sfits}
+use Rattle.laws.proofs.Prelude.{_≡_, refl, ap, ap₂, sym, subst, _∙_, Bool, true, false, cond, List, ℕ, _+_, _≤_, _<_, arith, add-one, ℤ, pos, subℕ}
+use Rattle.laws.proofs.Prelude.{_-ℤ_, length, getD, take, length-take, w16, SFits, difference, taken, sfits}
 use Rattle.pixel_segment.specs.Field.{cpu, tileOf, tileYOf}
 use Rattle.pixel_segment.specs.Order.{isEq}
 use Rattle.segment_rows.specs.Search.{Place, found, absent, searchOf, orderAt, afterOf}

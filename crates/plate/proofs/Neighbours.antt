@@ -1,15 +1,6 @@
 -- Whole numbers compared with a number and with the one before it, and tile numbers as they are stored. Assumes nothing.
-use mathlib.Core.Path.{_≡_, refl, ap}
-use mathlib.Core.Bool.{Bool, true, false, cond, not, false≢true}
-use Prim.Native.Nat.{ℕ, _+_, _%_, _≤_, _<_}
-use native.Mathlib.Omega.{arith}
-use borrow.Author.Tests.{eq-eqb, eqb-true}
-use lib.Dec.{eqb}
-use lib.IntN.{ℤ, pos, subℕ, _-ℤ_}
-use lib.Signed.{ltZ}
-use Rattle.laws.specs.Integer.{plus, minus}
-use Rattle.laws.proofs.Bools.{same}
-use Rattle.laws.proofs.Parts.{equal, difference, taken, lt-true, lt-false}
+use Rattle.laws.proofs.Prelude.{_≡_, refl, ap, Bool, true, false, cond, not, false≢true, ℕ, _+_, _%_, _≤_, _<_, arith, eq-eqb, eqb-true, eqb, ℤ, pos}
+use Rattle.laws.proofs.Prelude.{subℕ, _-ℤ_, ltZ, plus, minus, same, equal, difference, taken, lt-true, lt-false}
 use Rattle.pixel_segment.specs.Field.{tileOf}
 use Rattle.pixel_segment.specs.Order.{compareℤ, isLt, isEq, isGt}
 use Rattle.plate.specs.Rows.{castOf}

@@ -1,19 +1,7 @@
 -- The rows of segments in order are the segments of those rows. Assumes nothing.
-use mathlib.Core.Path.{_≡_, refl, ap, sym, subst, _∙_, fun-ext}
-use mathlib.Core.Bool.{Bool, true, false, not, false≢true}
-use mathlib.Core.Logic.{⊎-elim}
-use mathlib.Core.List.{List}
-use Prim.Native.Nat.{ℕ, zero, suc, _+_, _-_, _%_, _≤_, _<_}
-use native.Mathlib.Omega.{arith}
-use lib.Dec.{leb, eqb, ltb}
-use lib.IntN.{ℤ, pos, _-ℤ_}
-use lib.ListN.{length, getD, take, drop, length-take}
-use lib.Seq.{getD-take}
-use lib.Signed.{leZ}
-use Rattle.laws.specs.Lists.{filter}
-use Rattle.laws.specs.Sum.{countBy}
-use Rattle.laws.proofs.Orders.{le-or-lt}
-use Rattle.laws.proofs.Filtered.{filter-ext}
+use Rattle.laws.proofs.Prelude.{_≡_, refl, ap, sym, subst, _∙_, fun-ext, Bool, true, false, not, false≢true, ⊎-elim, List, ℕ, zero, suc, _+_, _-_}
+use Rattle.laws.proofs.Prelude.{_%_, _≤_, _<_, arith, leb, eqb, ltb, ℤ, pos, _-ℤ_, length, getD, take, drop, length-take, getD-take, leZ, filter}
+use Rattle.laws.proofs.Prelude.{countBy, le-or-lt, filter-ext}
 use Rattle.pixel_segment.specs.Field.{cpu, tileOf, tileYOf}
 use Rattle.pixel_segment.specs.Order.{isLt, isEq, isGt, compareBool}
 use Rattle.segment_rows.specs.Rows.{Ordered}

@@ -1,19 +1,8 @@
 -- The rows of a plate one after another, and what holds of every plate. Assumes nothing.
-use mathlib.Core.Path.{_≡_, refl, ap, ap₂, sym, _∙_}
-use mathlib.Core.Bool.{Bool, true, false, cond, not, _&&_, and-true}
-use mathlib.Core.Logic.{⊎-elim}
-use mathlib.Core.List.{List, [], _∷_, _++_}
-use Prim.Native.Nat.{ℕ, zero, suc, _+_, _-_, _%_, _≤_, _<_}
-use native.Mathlib.Omega.{arith}
-use borrow.Author.Tests.{le-leb, lt-leb, leb-true, eq-eqb, ne-eqb, eqb-true}
-use lib.Dec.{leb, eqb}
-use lib.IntN.{ℤ}
-use lib.ListN.{getD}
-use Rattle.laws.specs.Lists.{all, filter}
-use Rattle.laws.proofs.Bools.{left, right, both, same}
-use Rattle.laws.proofs.Orders.{le-or-lt}
-use Rattle.laws.proofs.Every.{all-at, all-intro}
-use Rattle.laws.proofs.Filtered.{filter-all, filter-none, filter-ext, filter-twice, all-own}
+use Rattle.laws.proofs.Prelude.{_≡_, refl, ap, ap₂, sym, _∙_, Bool, true, false, cond, not, _&&_, and-true, ⊎-elim, List, [], _∷_, _++_, ℕ, zero, suc}
+use Rattle.laws.proofs.Prelude.{_+_, _-_, _%_, _≤_, _<_, arith, le-leb, lt-leb, leb-true, eq-eqb, ne-eqb, eqb-true, leb, eqb, ℤ, getD, all, filter}
+use Rattle.laws.proofs.Prelude.{left, right, both, same, le-or-lt, all-at, all-intro, filter-all, filter-none, filter-ext, filter-twice}
+use Rattle.laws.proofs.Filtered.{all-own}
 use Rattle.pixel_segment.specs.Field.{cpu, tileOf, tileYOf}
 use Rattle.pixel_segment.specs.Order.{orderKey}
 use Rattle.segment_rows.specs.Rows.{ascends, isRow, Ordered, Words}

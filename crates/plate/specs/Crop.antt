@@ -1,7 +1,5 @@
 -- A vertical crop. Stands for '`print_row` skips rows outside a crop'.
-use mathlib.Core.Bool.{Bool, true, _&&_}
-use Prim.Native.Nat.{ℕ}
-use lib.Dec.{leb, ltb}
+use Rattle.laws.specs.Prelude.{Bool, true, _&&_, ℕ, leb, ltb}
 use Rattle.plate.specs.declared.Crop.{Crop}
 use Rattle.plate.specs.declared.Crop.the-variants.{Absent, Rows}
 

@@ -1,8 +1,6 @@
 -- What `print_row` makes of a row, with a crop or without one. Stands for '`print_row` skips rows outside a crop' and for 'row choice of
 -- `print_row` and `for_each_row`, one after another'.
-use mathlib.Core.Bool.{cond}
-use mathlib.Core.List.{List, [], _++_}
-use Prim.Native.Nat.{ℕ, zero, suc}
+use Rattle.laws.specs.Prelude.{cond, List, [], _++_, ℕ, zero, suc}
 use Rattle.segment_rows.specs.Search.{between}
 use Rattle.plate.specs.Crop.{isInCrop}
 use Rattle.plate.specs.Rows.{castOf, rowPlace}

@@ -1,11 +1,7 @@
 -- Which part of all segments of a plate is a row, as the Rust's searches find it, on every slice: `for_each_row` skips what has a negative
 -- tile y, and `print_row` finds row j. On a slice that tile y sorts see proofs/Sorted. Stands for 'row choice of `print_row` and
 -- `for_each_row`, one after another'.
-use mathlib.Core.Bool.{false}
-use mathlib.Core.List.{List}
-use Prim.Native.Nat.{ℕ, suc}
-use lib.IntN.{ℤ, pos, _-ℤ_}
-use lib.ListN.{take, drop}
+use Rattle.laws.specs.Prelude.{false, List, ℕ, suc, ℤ, pos, _-ℤ_, take, drop}
 use Rattle.pixel_segment.specs.Field.{signedOf}
 use Rattle.segment_rows.specs.Search.{Place, found, absent, searchOf, orderAt, afterOf, between}
 use Rattle.segment_rows.specs.declared.search.Key.the-variants.{TileY, TileYNotNegative}

@@ -1,11 +1,6 @@
 -- The rows of a plate whose segments are in order. Tile numbers stand as they are stored, plus 1: row j is stored as j + 1, and 0 is
 -- tile row -1.
-use mathlib.Core.Path.{_≡_}
-use mathlib.Core.Bool.{Bool, true, false, _&&_}
-use mathlib.Core.List.{List, []}
-use Prim.Native.Nat.{ℕ, suc, _+_, _-_, _≤_, _<_}
-use lib.Dec.{leb, eqb}
-use Rattle.laws.specs.Lists.{filter}
+use Rattle.laws.specs.Prelude.{_≡_, Bool, true, false, _&&_, List, [], ℕ, suc, _+_, _-_, _≤_, _<_, leb, eqb, filter}
 use Rattle.pixel_segment.specs.Field.{cpu, tileYOf}
 use Rattle.segment_rows.specs.Rows.{isRow}
 use Rattle.plate.specs.Crop.{isInCrop}

@@ -1,10 +1,6 @@
 -- A queue lent as a slice of carry records (id, 16 covers), and the columns that it stands for. Stands for 'the queue may be lent as a slice of carry
 -- records'.
-use mathlib.Core.List.{List, [], map}
-use Prim.Native.Nat.{ℕ, _/_, min}
-use lib.IntN.{ℤ, pos}
-use lib.ListN.{length, take, replicate}
-use Rattle.laws.specs.Lists.{tabulate, over}
+use Rattle.laws.specs.Prelude.{List, [], map, ℕ, _/_, min, ℤ, pos, length, take, replicate, tabulate, over}
 use Rattle.cover_statements.specs.Cover.{coverAt}
 use Rattle.queue_statements.specs.Queue.{Carry, idsIn, coversIn}
 use Rattle.queue_records.specs.declared.CarryRecord.{CarryRecord}

@@ -1,18 +1,8 @@
 -- A queue written to two columns reads back, and is in order. For every queue whose covers have 16 numbers. Assumes nothing.
-use mathlib.Core.Path.{_≡_, refl, sym, ap, ap₂, _∙_}
-use mathlib.Core.Bool.{Bool, true}
-use mathlib.Core.List.{List, [], _∷_, _++_, append-assoc, append-nil}
-use Prim.Native.Nat.{ℕ, zero, suc, _+_, _*_, _≤_, _<_}
-use native.Mathlib.Nat.{not-suc-le-zero, le-of-suc-le-suc}
-use native.Mathlib.Omega.{arith}
-use borrow.Author.Tests.{eqb-true, le-leb}
-use lib.Dec.{eqb, leb}
-use lib.IntN.{ℤ}
-use lib.ListN.{length, getD, take, drop, length-append, List·getD-append}
-use lib.Seq.{take-at, drop-append-add}
-use Rattle.laws.specs.Lists.{over, all}
-use Rattle.laws.proofs.Bools.{left, right, both}
-use Rattle.laws.proofs.Rows.{is-tabulate}
+use Rattle.laws.proofs.Prelude.{_≡_, refl, sym, ap, ap₂, _∙_, Bool, true, List, [], _∷_, _++_, append-assoc, append-nil, ℕ, zero, suc, _+_, _*_, _≤_}
+use Rattle.laws.proofs.Prelude.{_<_, not-suc-le-zero, le-of-suc-le-suc, arith, eqb-true, le-leb, eqb, leb, ℤ, length, getD, take, drop, length-append}
+use Rattle.laws.proofs.Prelude.{List·getD-append, take-at, over, all, left, right, both, is-tabulate}
+use lib.Seq.{drop-append-add}
 use Rattle.styling.specs.Ascending.{strictlyAscends}
 use Rattle.cover_statements.specs.Cover.{coverAt}
 use Rattle.cover_statements.specs.Entry.{coverEntry}

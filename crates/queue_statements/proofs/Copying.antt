@@ -1,12 +1,6 @@
 -- The front of one column written over the front of another, an element at a time. Assumes nothing.
-use mathlib.Core.Path.{_≡_, refl, ap, _∙_}
-use mathlib.Core.List.{List}
-use Prim.Native.Nat.{ℕ, _+_, _≤_, _<_}
-use native.Mathlib.Omega.{arith}
-use lib.ListN.{length, getD, take, set}
-use lib.Seq.{getD-take, length-take-le}
-use Rattle.laws.specs.Lists.{over}
-use Rattle.laws.proofs.Rows.{filled, filled-more, filled-all, length-filled}
+use Rattle.laws.proofs.Prelude.{_≡_, refl, ap, _∙_, List, ℕ, _+_, _≤_, _<_, arith, length, getD, take, set, getD-take, length-take-le, over, filled}
+use Rattle.laws.proofs.Prelude.{filled-more, filled-all, length-filled}
 
 pub record Copying {A : Type 0} (from : List A) (n : ℕ) (old : List A) (i : ℕ) (to : List A) : Type 0 where
   pub there : n ≤ length from

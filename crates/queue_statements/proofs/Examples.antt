@@ -1,5 +1,5 @@
 -- The cases of specs/Edges, computed. Assumes nothing.
-use mathlib.Core.Path.{refl}
+use Rattle.laws.proofs.Prelude.{refl}
 use Rattle.cover_statements.specs.Carry.{isLight}
 use Rattle.pixel_segment.specs.Field.{coverOf}
 use Rattle.queue_statements.specs.Opening.{addTo, addAll, isLightOpening}

@@ -1,14 +1,6 @@
 -- An opening in columns of its own, and these written to the lent ones: the answers. Assumes nothing.
-use mathlib.Core.Path.{_≡_, refl, sym, ap, _∙_}
-use mathlib.Core.Bool.{Bool, true, false}
-use mathlib.Core.List.{List}
-use Prim.Native.Nat.{ℕ, _*_, _≤_, _<_}
-use native.Mathlib.Omega.{arith}
-use borrow.Author.Tests.{lt-ltb, le-ltb}
-use lib.IntN.{ℤ}
-use lib.ListN.{length, take}
-use Rattle.laws.specs.Answer.{Answer, refused, given}
-use Rattle.laws.specs.Lists.{over}
+use Rattle.laws.proofs.Prelude.{_≡_, refl, sym, ap, _∙_, Bool, true, false, List, ℕ, _*_, _≤_, _<_, arith, lt-ltb, le-ltb, ℤ, length, take, Answer}
+use Rattle.laws.proofs.Prelude.{refused, given, over}
 use Rattle.queue_statements.specs.Queue.{idsIn, coversIn}
 use Rattle.queue_statements.specs.Opening.{openQueue, writtenIf, Opens}
 use Rattle.queue_statements.specs.InnerGather.{writtenCount, listIf, Clear, Gathered}

@@ -1,16 +1,7 @@
 -- Judging a lent queue: what holds while its ids are passed in one pass, and what holds of a queue that passes. Assumes nothing.
-use mathlib.Core.Path.{_≡_, refl, sym, ap, _∙_}
-use mathlib.Core.Bool.{Bool, true, false, _&&_, and-true, and-assoc}
-use mathlib.Core.List.{List}
-use Prim.Native.Nat.{ℕ, suc, _+_, _/_, _≤_, _<_, min}
-use native.Mathlib.Numerals.{add-one}
-use native.Mathlib.Omega.{arith}
-use borrow.Author.Tests.{ltb-false, leb-true, le-leb, lt-leb}
-use lib.Dec.{leb}
-use lib.IntN.{ℤ}
-use lib.ListN.{length, getD, take, drop, drop-of-length-le, length-take}
-use lib.Seq.{drop-cons, getD-take}
-use Rattle.laws.proofs.Bools.{left, right}
+use Rattle.laws.proofs.Prelude.{_≡_, refl, sym, ap, _∙_, Bool, true, false, _&&_, and-true, and-assoc, List, ℕ, suc, _+_, _/_, _≤_, _<_, min, add-one}
+use Rattle.laws.proofs.Prelude.{arith, ltb-false, leb-true, le-leb, lt-leb, leb, ℤ, length, getD, take, drop, drop-of-length-le, length-take}
+use Rattle.laws.proofs.Prelude.{drop-cons, getD-take, left, right}
 use Rattle.styling.specs.Ascending.{strictlyAscendsFrom, strictlyAscends}
 use Rattle.queue_statements.specs.Queue.{areColumnsShort, isQueue, LentQueueRoom, Queued}
 

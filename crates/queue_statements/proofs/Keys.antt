@@ -1,18 +1,8 @@
 -- The place of a word's sum, once an opening's layers are known: the words that go to a layer's entry and pixel row are those of the layer and
 -- the row, so what is summed there is the layer's. Assumes nothing.
-use mathlib.Core.Path.{_≡_, sym, ap, _∙_}
-use mathlib.Core.Bool.{true, _&&_}
-use mathlib.Core.List.{List, map}
-use Prim.Native.Nat.{ℕ, _+_, _*_, _<_}
-use native.Mathlib.Omega.{arith}
-use borrow.Author.Tests.{eqb-true, eq-eqb}
-use lib.Dec.{eqb}
-use lib.ListN.{length, getD, length-map, List·getD-map}
-use Rattle.laws.specs.Lists.{all}
-use Rattle.laws.specs.Sum.{sumBy}
-use Rattle.laws.proofs.Bools.{both, left, right, same}
-use Rattle.laws.proofs.Every.{all-at, all-intro}
-use Rattle.laws.proofs.Sums.{sum-ext-on, sum-filter}
+use Rattle.laws.proofs.Prelude.{_≡_, sym, ap, _∙_, true, _&&_, List, map, ℕ, _+_, _*_, _<_, arith, eqb-true, eq-eqb, eqb, length, getD, length-map}
+use Rattle.laws.proofs.Prelude.{List·getD-map, all, sumBy, both, left, right, same, all-at, all-intro, sum-filter}
+use Rattle.laws.proofs.Sums.{sum-ext-on}
 use Rattle.styling.specs.Ascending.{strictlyAscends}
 use Rattle.styling.proofs.Ascents.{ascends-lt}
 use Rattle.pixel_segment.specs.Field.{cpu, layerIdOf, localYOf}

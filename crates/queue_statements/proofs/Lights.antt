@@ -1,16 +1,7 @@
 -- What the sums and loads of an opening say, place by place: number 9, and the covers that are written. Assumes nothing.
-use mathlib.Core.Path.{_≡_, refl, sym, ap, _∙_}
-use mathlib.Core.Bool.{true, false}
-use mathlib.Core.List.{List}
-use Prim.Native.Nat.{ℕ, _+_, _*_, _/_, _%_, _≤_, _<_}
-use native.Mathlib.Nat.{zero-add}
-use native.Mathlib.Omega.{arith}
-use borrow.Author.Tests.{le-leb}
-use lib.IntN.{ℤ, pos, natAbs, _+ℤ_, +ℤ-idl}
-use lib.ListN.{length, getD, take}
-use lib.Seq.{ext-getD, getD-take, length-take-le}
+use Rattle.laws.proofs.Prelude.{_≡_, refl, sym, ap, _∙_, true, false, List, ℕ, _+_, _*_, _/_, _%_, _≤_, _<_, zero-add, arith, le-leb, ℤ, pos, natAbs}
+use Rattle.laws.proofs.Prelude.{_+ℤ_, +ℤ-idl, length, getD, take, ext-getD, getD-take, length-take-le, every-intro, all-at, all-intro}
 use Rattle.laws.proofs.Bools.{not-true}
-use Rattle.laws.proofs.Every.{every-intro, all-at, all-intro}
 use Rattle.pixel_segment.specs.Field.{cpu, layerIdOf, localYOf, coverOf}
 use Rattle.cover_statements.specs.Carry.{loadIn, absCover, lightAt, isLight}
 use Rattle.cover_statements.specs.Cover.{coverAt}

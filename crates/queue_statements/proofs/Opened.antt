@@ -1,15 +1,6 @@
 -- What an opening leaves with the caller, by its answer: the queue that it counts, in order; or the columns as they were. Assumes nothing.
-use mathlib.Core.Path.{_≡_, refl, sym, ap, _∙_}
-use mathlib.Core.Bool.{Bool, true, false, cond}
-use mathlib.Core.List.{List}
-use Prim.Native.Nat.{ℕ, _≤_}
-use native.Mathlib.Omega.{arith}
-use borrow.Author.Tests.{ltb-false}
-use lib.Dec.{ltb}
-use lib.IntN.{ℤ}
-use lib.ListN.{length}
-use Rattle.laws.specs.Answer.{Answer, refused, given}
-use Rattle.laws.specs.Lists.{over}
+use Rattle.laws.proofs.Prelude.{_≡_, refl, sym, ap, _∙_, Bool, true, false, cond, List, ℕ, _≤_, arith, ltb-false, ltb, ℤ, length, Answer, refused}
+use Rattle.laws.proofs.Prelude.{given, over}
 use Rattle.queue_statements.specs.Queue.{queueOf, idsIn, coversIn, isQueue}
 use Rattle.queue_statements.specs.Opening.{openQueue, isLightOpening, writtenIf, Opens}
 use Rattle.queue_statements.proofs.Columns.{reads-back, in-order}

@@ -1,21 +1,9 @@
 -- Laws of the opening of a row, over any words: its ids ascend, its covers have 16 numbers, a layer has a carry exactly where a word has its
 -- id, and a carry is the exact sum of its layer's covers in each pixel row. Assumes nothing.
-use mathlib.Core.Path.{_≡_, refl, sym, ap, _∙_}
-use mathlib.Core.Bool.{Bool, true, false, cond}
-use mathlib.Core.Logic.{⊎-elim}
-use mathlib.Core.List.{List, [], _∷_, map}
-use Prim.Native.Nat.{ℕ, suc, _<_}
-use native.Mathlib.Omega.{arith}
-use borrow.Author.Tests.{eq-eqb, ne-eqb, lt-ltb, le-ltb, eqb-true}
-use lib.Dec.{eqb, ltb}
-use lib.IntN.{ℤ, pos, _+ℤ_, +ℤ-idl, +ℤ-idr, +ℤ-assoc}
-use lib.ListN.{length, length-set}
-use Rattle.laws.specs.Lists.{tabulate}
-use Rattle.laws.proofs.Bools.{both, left, right}
+use Rattle.laws.proofs.Prelude.{_≡_, refl, sym, ap, _∙_, Bool, true, false, cond, ⊎-elim, List, [], _∷_, map, ℕ, suc, _<_, arith, eq-eqb, ne-eqb}
+use Rattle.laws.proofs.Prelude.{lt-ltb, le-ltb, eqb-true, eqb, ltb, ℤ, pos, _+ℤ_, +ℤ-idl, +ℤ-idr, +ℤ-assoc, length, length-set, tabulate, both, left}
+use Rattle.laws.proofs.Prelude.{right, entry-one, eq-or-ne, is-tabulate}
 use Rattle.laws.proofs.Filtered.{filter-append}
-use Rattle.laws.proofs.Keyed.{entry-one}
-use Rattle.laws.proofs.Orders.{eq-or-ne}
-use Rattle.laws.proofs.Rows.{is-tabulate}
 use Rattle.laws.proofs.Sums.{sumℤ-append}
 use Rattle.styling.specs.Ascending.{strictlyAscendsFrom, strictlyAscends}
 use Rattle.styling.proofs.Ascents.{ascends-tail, ascends-low}

@@ -1,16 +1,8 @@
 -- The opposite of a row opens with the row's carries negated, and its opening is judged alike. Assumes nothing.
-use mathlib.Core.Path.{_≡_, refl, ap, ap₂, sym, _∙_}
-use mathlib.Core.Bool.{Bool, true, cond}
-use mathlib.Core.List.{List, [], _∷_, map}
-use Prim.Native.Nat.{ℕ}
-use lib.Dec.{eqb, ltb, lit<}
-use lib.IntN.{ℤ, negℤ, _+ℤ_, negℤ-+ℤ}
-use lib.ListN.{length, set, length-map}
-use Rattle.laws.specs.Answer.{refused, given}
-use Rattle.laws.specs.Lists.{all}
-use Rattle.laws.proofs.Bools.{left, right}
-use Rattle.laws.proofs.Filtered.{all-kept}
-use Rattle.laws.proofs.Maps.{all-map, filter-map, map-set, map-cond}
+use Rattle.laws.proofs.Prelude.{_≡_, refl, ap, ap₂, sym, _∙_, Bool, true, cond, List, [], _∷_, map, ℕ, eqb, ltb, lit<, ℤ, negℤ, _+ℤ_, length, set}
+use Rattle.laws.proofs.Prelude.{length-map, refused, given, all, left, right, all-kept, all-map, filter-map}
+use lib.IntN.{negℤ-+ℤ}
+use Rattle.laws.proofs.Maps.{map-set, map-cond}
 use Rattle.pixel_segment.specs.Field.{cpu, layerIdOf, localYOf, coverOf}
 use Rattle.pixel_segment.specs.Opposite.{oppositeOf}
 use Rattle.pixel_segment.proofs.Opposite.{isMild, areMild, cpu-wide, opposite-field, mild-cover}

@@ -1,13 +1,5 @@
 -- A word's cover and load added at their place: what is stored fits, and nothing is stored past 127. Assumes nothing.
-use mathlib.Core.Path.{_≡_, refl, sym, ap}
-use mathlib.Core.Bool.{true, false}
-use mathlib.Core.List.{List}
-use Prim.Native.Nat.{ℕ, _≤_, _<_}
-use native.Mathlib.Omega.{arith}
-use borrow.Author.Tests.{le-leb, lt-leb}
-use lib.IntN.{ℤ, natAbs, _+ℤ_}
-use lib.ListN.{set}
-use Rattle.laws.proofs.Sums.{abs-add}
+use Rattle.laws.proofs.Prelude.{_≡_, refl, sym, ap, true, false, List, ℕ, _≤_, _<_, arith, le-leb, lt-leb, ℤ, natAbs, _+ℤ_, set, abs-add}
 use Rattle.pixel_segment.specs.Field.{cpu, coverOf}
 use Rattle.cover_statements.specs.Cover.{coverAt}
 use Rattle.queue_statements.specs.InnerSums.{loadWith, Placing, Placed}

@@ -1,15 +1,7 @@
 -- A queue by its carries, and the cover that it holds for a layer: what `incoming` answers. Assumes nothing.
-use mathlib.Core.Path.{_≡_, refl, sym, ap, _∙_}
-use mathlib.Core.Bool.{true, false}
-use mathlib.Core.List.{List, [], _∷_}
-use Prim.Native.Nat.{ℕ, zero, suc, _≤_, _<_}
-use native.Mathlib.Nat.{not-suc-le-zero, le-of-suc-le-suc}
-use native.Mathlib.Omega.{arith}
-use borrow.Author.Tests.{eq-eqb, ne-eqb}
-use lib.IntN.{ℤ}
-use lib.ListN.{length, getD, take, length-map, List·getD-map}
-use lib.Seq.{getD-take, length-take-le}
-use Rattle.laws.proofs.Rows.{length-tabulate, getD-tabulate, is-tabulate}
+use Rattle.laws.proofs.Prelude.{_≡_, refl, sym, ap, _∙_, true, false, List, [], _∷_, ℕ, zero, suc, _≤_, _<_, not-suc-le-zero, le-of-suc-le-suc, arith}
+use Rattle.laws.proofs.Prelude.{eq-eqb, ne-eqb, ℤ, length, getD, take, length-map, List·getD-map, getD-take, length-take-le, length-tabulate}
+use Rattle.laws.proofs.Prelude.{getD-tabulate, is-tabulate}
 use Rattle.styling.specs.Ascending.{strictlyAscendsFrom}
 use Rattle.styling.proofs.Ascents.{ascends-tail, ascends-low}
 use Rattle.layer_table.proofs.Listed.{map-tabulate}

@@ -1,17 +1,7 @@
 -- Laws of ranks: a rank by the numbers around it, and the halving that finds it in an ascending list. Assumes nothing.
-use mathlib.Core.Path.{_≡_, sym, ap, _∙_}
-use mathlib.Core.Bool.{true, false}
-use mathlib.Core.Logic.{⊎-elim}
-use mathlib.Core.List.{List, [], _∷_}
-use Prim.Native.Nat.{ℕ, zero, suc, _+_, _≤_, _<_}
-use native.Mathlib.Nat.{not-suc-le-zero, le-of-suc-le-suc, eq-or-lt-of-le}
-use native.Mathlib.Omega.{arith}
-use borrow.Author.Tests.{lt-ltb, le-ltb, ltb-true, eqb-true, eq-eqb}
-use lib.Dec.{eqb, ltb}
-use lib.ListN.{length, getD, take}
-use lib.Seq.{getD-take, length-take-le}
-use Rattle.laws.proofs.Bools.{left, right, both, clash}
-use Rattle.laws.proofs.Orders.{le-or-lt}
+use Rattle.laws.proofs.Prelude.{_≡_, sym, ap, _∙_, true, false, ⊎-elim, List, [], _∷_, ℕ, zero, suc, _+_, _≤_, _<_, not-suc-le-zero, le-of-suc-le-suc}
+use Rattle.laws.proofs.Prelude.{eq-or-lt-of-le, arith, lt-ltb, le-ltb, ltb-true, eqb-true, eq-eqb, eqb, ltb, length, getD, take, getD-take}
+use Rattle.laws.proofs.Prelude.{length-take-le, left, right, both, clash, le-or-lt}
 use Rattle.styling.specs.Ascending.{strictlyAscends}
 use Rattle.styling.proofs.Ascents.{ascends-lt}
 use Rattle.queue_statements.specs.Rank.{rankOf, holdsAt}

@@ -1,12 +1,5 @@
 -- The covers of an opening added: how it starts, and its two ends. Assumes nothing.
-use mathlib.Core.Path.{_≡_, sym, ap, _∙_}
-use mathlib.Core.Bool.{Bool, true, false, false≢true}
-use mathlib.Core.List.{List}
-use Prim.Native.Nat.{ℕ, _≤_, _<_}
-use native.Mathlib.Omega.{arith}
-use lib.IntN.{ℤ}
-use lib.ListN.{length, getD, take}
-use lib.Seq.{length-take-le}
+use Rattle.laws.proofs.Prelude.{_≡_, sym, ap, _∙_, Bool, true, false, false≢true, List, ℕ, _≤_, _<_, arith, ℤ, length, getD, take, length-take-le}
 use Rattle.styling.specs.Ascending.{strictlyAscends}
 use Rattle.queue_statements.specs.Queue.{idsIn}
 use Rattle.queue_statements.specs.Opening.{openQueue}

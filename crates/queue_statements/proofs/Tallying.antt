@@ -1,21 +1,8 @@
 -- Words added at their places, one after the other: at word i, the sums and loads so far. A sum is never larger than its load, and no load is
 -- above 127. Assumes nothing.
-use mathlib.Core.Path.{_≡_, refl, sym, ap, _∙_}
-use mathlib.Core.Bool.{Bool, true, false, cond}
-use mathlib.Core.Logic.{⊎-elim}
-use mathlib.Core.List.{List}
-use Prim.Native.Nat.{ℕ, _+_, _≤_, _<_}
-use native.Mathlib.Nat.{add-assoc, add-zero}
-use native.Mathlib.Omega.{arith}
-use borrow.Author.Tests.{eq-eqb, ne-eqb, leb-true, leb-false}
-use lib.Dec.{eqb}
-use lib.IntN.{ℤ, pos, natAbs, _+ℤ_, +ℤ-idl, +ℤ-idr, +ℤ-assoc}
-use lib.ListN.{length, getD, drop, length-set}
-use Rattle.laws.specs.Sum.{sumBy}
-use Rattle.laws.proofs.Keyed.{addOne, entry-one}
-use Rattle.laws.proofs.Orders.{eq-or-ne}
-use Rattle.laws.proofs.Parts.{equal, whole}
-use Rattle.laws.proofs.Sums.{abs-add, abs-cond, sum-step, sum-end}
+use Rattle.laws.proofs.Prelude.{_≡_, refl, sym, ap, _∙_, Bool, true, false, cond, ⊎-elim, List, ℕ, _+_, _≤_, _<_, add-assoc, add-zero, arith, eq-eqb}
+use Rattle.laws.proofs.Prelude.{ne-eqb, leb-true, leb-false, eqb, ℤ, pos, natAbs, _+ℤ_, +ℤ-idl, +ℤ-idr, +ℤ-assoc, length, getD, drop, length-set}
+use Rattle.laws.proofs.Prelude.{sumBy, addOne, entry-one, eq-or-ne, equal, whole, abs-add, abs-cond, sum-step, sum-end}
 use Rattle.pixel_segment.specs.Field.{cpu, coverOf}
 use Rattle.cover_statements.specs.Carry.{absCover}
 use Rattle.cover_statements.specs.Cover.{coverAt}

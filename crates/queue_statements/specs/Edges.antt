@@ -1,12 +1,6 @@
 -- Both sides of the edges of an opening's refusals 7 and 9, and what it holds, on a few words. A word is a layer times 2^20, a pixel row times 2^12,
 -- and a cover modulo 64, all in tile -1. Stands for 7 and 9 of 'Turned down'.
-use mathlib.Core.Path.{_≡_}
-use mathlib.Core.List.{[], _∷_}
-use Prim.Native.Nat.{_+_, _*_, _^_}
-use lib.IntN.{pos}
-use lib.ListN.{set}
-use Rattle.laws.specs.Answer.{refused, given}
-use Rattle.laws.specs.Lists.{tabulate}
+use Rattle.laws.specs.Prelude.{_≡_, [], _∷_, _+_, _*_, _^_, pos, set, refused, given, tabulate}
 use Rattle.queue_statements.specs.Queue.{zeros}
 use Rattle.queue_statements.specs.Opening.{openQueue, openAnswer}
 

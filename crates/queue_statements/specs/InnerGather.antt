@@ -1,10 +1,5 @@
 -- How the code opens a row: the queue in columns of its own first, which are then written to the lent ones, all or nothing.
-use mathlib.Core.Path.{_≡_}
-use mathlib.Core.List.{List, []}
-use Prim.Native.Nat.{ℕ, _*_, _≤_}
-use lib.IntN.{ℤ, natAbs}
-use lib.ListN.{take}
-use Rattle.laws.specs.Answer.{Answer, refused, given}
+use Rattle.laws.specs.Prelude.{_≡_, List, [], ℕ, _*_, _≤_, ℤ, natAbs, take, Answer, refused, given}
 use Rattle.cover_statements.specs.Cover.{coverAt}
 use Rattle.queue_statements.specs.Queue.{idsIn, coversIn}
 use Rattle.queue_statements.specs.Opening.{openQueue, openAnswer}

@@ -1,12 +1,6 @@
 -- How the code adds the covers of an opening, once its layers are known: a column of sums and one of loads (absolute covers), 16 numbers a
 -- layer. Each word goes to one place of both.
-use mathlib.Core.Path.{_≡_}
-use mathlib.Core.Bool.{Bool, true, cond}
-use mathlib.Core.List.{List}
-use Prim.Native.Nat.{ℕ, _+_, _*_, _≤_, _<_}
-use lib.Dec.{leb}
-use lib.IntN.{ℤ, natAbs, _+ℤ_}
-use lib.ListN.{length, getD, set, take}
+use Rattle.laws.specs.Prelude.{_≡_, Bool, true, cond, List, ℕ, _+_, _*_, _≤_, _<_, leb, ℤ, natAbs, _+ℤ_, length, getD, set, take}
 use Rattle.pixel_segment.specs.Field.{cpu, layerIdOf, localYOf, coverOf}
 use Rattle.cover_statements.specs.Carry.{absCover}
 use Rattle.cover_statements.specs.Cover.{coverAt}

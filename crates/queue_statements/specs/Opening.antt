@@ -1,14 +1,6 @@
 -- The opening of a row (`paint_tile_row`): one carry for each layer that has segments left of the first tile, tile -1 included, whatever its sum:
 -- carries of zero are kept. The segments are added one after the other, as the Rust adds them to its map by layer id.
-use mathlib.Core.Path.{_≡_}
-use mathlib.Core.Bool.{Bool, cond}
-use mathlib.Core.List.{List, [], _∷_}
-use Prim.Native.Nat.{ℕ}
-use lib.Dec.{eqb, ltb}
-use lib.IntN.{ℤ, _+ℤ_}
-use lib.ListN.{length, set}
-use Rattle.laws.specs.Answer.{Answer, refused, given}
-use Rattle.laws.specs.Lists.{all, over, filter}
+use Rattle.laws.specs.Prelude.{_≡_, Bool, cond, List, [], _∷_, ℕ, eqb, ltb, ℤ, _+ℤ_, length, set, Answer, refused, given, all, over, filter}
 use Rattle.pixel_segment.specs.Field.{cpu, layerIdOf, localYOf, coverOf}
 use Rattle.cover_statements.specs.Carry.{isLight}
 use Rattle.cover_statements.specs.Cover.{coverAt}

@@ -1,13 +1,7 @@
 -- A queue of carries: the covers that layers hand from tile to tile, ascending by layer id; and how it lies in two lent columns, of which the
 -- first n entries count: layer ids, and 16 signed bytes each. Stands for 'carries' and for refusals 1 and 5 of a queue.
-use mathlib.Core.Path.{_≡_}
-use mathlib.Core.Bool.{Bool, true, false, cond, _&&_, _||_}
-use mathlib.Core.List.{List, [], _∷_, _++_, map}
-use Prim.Native.Nat.{ℕ, _*_, _/_, _≤_, min}
-use lib.Dec.{eqb, leb, ltb}
-use lib.IntN.{ℤ, pos}
-use lib.ListN.{length, getD, take, replicate}
-use Rattle.laws.specs.Lists.{tabulate}
+use Rattle.laws.specs.Prelude.{_≡_, Bool, true, false, cond, _&&_, _||_, List, [], _∷_, _++_, map, ℕ, _*_, _/_, _≤_, min, eqb, leb, ltb, ℤ, pos}
+use Rattle.laws.specs.Prelude.{length, getD, take, replicate, tabulate}
 use Rattle.cover_statements.specs.Entry.{coverEntry}
 use Rattle.styling.specs.Ascending.{strictlyAscends}
 

@@ -1,9 +1,5 @@
 -- Where an id stands in an ascending list of ids, or would stand.
-use mathlib.Core.Bool.{Bool, cond, _&&_}
-use mathlib.Core.List.{List, [], _∷_}
-use Prim.Native.Nat.{ℕ, suc}
-use lib.Dec.{eqb, ltb}
-use lib.ListN.{length, getD}
+use Rattle.laws.specs.Prelude.{Bool, cond, _&&_, List, [], _∷_, ℕ, suc, eqb, ltb, length, getD}
 
 -- how many numbers at the front of a list are below x: in an ascending list, how many are
 unfoldable pub rankOf : ℕ → List ℕ → ℕ

@@ -1,8 +1,5 @@
 -- What a judgement that passes tells of the conditions in its lines. Assumes nothing.
-use mathlib.Core.Path.{_≡_, refl}
-use mathlib.Core.Bool.{Bool, true, false, _||_}
-use Prim.Native.Nat.{ℕ}
-use native.Mathlib.Omega.{arith}
+use Rattle.laws.proofs.Prelude.{_≡_, refl, Bool, true, false, _||_, ℕ, arith}
 use Rattle.refusals.specs.Refusal.{Judgement, pass, refuse, unless, andThen}
 
 -- a line that passes: its condition does not apply, and the lines below it pass

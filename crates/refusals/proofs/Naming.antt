@@ -1,8 +1,5 @@
 -- The refusal that has a number of the table, and judgements whose numbers are all of it: a caller's answer can name them. Assumes nothing.
-use mathlib.Core.Path.{_≡_}
-use mathlib.Core.Bool.{Bool, true, false, cond}
-use Prim.Native.Nat.{ℕ}
-use lib.Dec.{eqb}
+use Rattle.laws.proofs.Prelude.{_≡_, Bool, true, false, cond, ℕ, eqb}
 use Rattle.refusals.specs.Refusal.{numberOf, Judgement, pass, refuse, unless}
 use Rattle.refusals.specs.declared.Refusal.{Refusal}
 use Rattle.refusals.specs.declared.Refusal.the-variants.{Room, Tile, Row, Table, Queue, Tag, Layers, Missing, Covers, Fields, NotHeld, Slots, Bounds, Revisions}

@@ -1,8 +1,7 @@
 -- The numbers of the refusals, as the table of the scope ('Turned down') has them and as requests add to it, and what a judge says: pass, or the
 -- lowest number that applies.
 -- Definitions of verdicts are written in the table's numbers; the names stand in the code alone.
-use mathlib.Core.Bool.{Bool, cond}
-use Prim.Native.Nat.{ℕ}
+use Rattle.laws.specs.Prelude.{Bool, cond, ℕ}
 use Rattle.refusals.specs.declared.Refusal.{Refusal}
 use Rattle.refusals.specs.declared.Refusal.the-variants.{Room, Tile, Row, Table, Queue, Tag, Layers, Missing, Covers, Fields, NotHeld, Slots, Bounds, Revisions}
 use Rattle.refusals.specs.declared.Verdict.{Verdict}

@@ -1,13 +1,7 @@
 -- What holds while bytes are printed: with what is left to store the list is as all the bytes leave it.
 -- Assumes nothing.
-use mathlib.Core.Path.{_≡_, refl, sym, ap, _∙_}
-use mathlib.Core.List.{List}
-use Prim.Native.Nat.{ℕ, suc, _+_, _<_, _≤_}
-use native.Mathlib.Nat.{add-zero}
-use native.Mathlib.Numerals.{add-one}
-use native.Mathlib.Omega.{arith}
-use lib.ListN.{length, drop, getD, set, length-set, drop-of-length-le}
-use lib.Seq.{sets, drop-cons}
+use Rattle.laws.proofs.Prelude.{_≡_, refl, sym, ap, _∙_, List, ℕ, suc, _+_, _<_, _≤_, add-zero, add-one, arith, length, drop, getD, set, length-set}
+use Rattle.laws.proofs.Prelude.{drop-of-length-le, sets, drop-cons}
 use Rattle.decimal.specs.Print.{Printing}
 
 pub record Copying (src out₀ : List ℕ) (at j : ℕ) (out : List ℕ) : Type 0 where

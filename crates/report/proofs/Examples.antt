@@ -1,8 +1,6 @@
 -- Document 01's printed lines.
 -- Assumes nothing.
-use mathlib.Core.Path.{_≡_, refl}
-use mathlib.Core.List.{List, _++_}
-use Prim.Native.Nat.{ℕ}
+use Rattle.laws.proofs.Prelude.{_≡_, refl, List, _++_, ℕ}
 use Rattle.decimal.specs.Decimal.{decimal, decimalIn}
 use Rattle.lines.specs.Bytes.{bytes}
 use Rattle.report.specs.declared.Op.{Op}

@@ -1,12 +1,6 @@
 -- The parts of a line, with the bounds that their room rests on, and the lines put together.
 -- Assumes nothing.
-use mathlib.Core.Path.{_≡_, sym, subst}
-use mathlib.Core.List.{List}
-use Prim.Native.Nat.{ℕ, _+_, _≤_}
-use native.Mathlib.Omega.{arith}
-use lib.ListN.{length, set}
-use mir.Syntax.{w32}
-use mir.Val.{Fits}
+use Rattle.laws.proofs.Prelude.{_≡_, sym, subst, List, ℕ, _+_, _≤_, arith, length, set, w32, Fits}
 use Rattle.decimal.specs.Decimal.{decimal}
 use Rattle.decimal.specs.Print.{Printing}
 use Rattle.decimal.proofs.Print.{joined, byte, ten}

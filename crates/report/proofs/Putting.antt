@@ -1,13 +1,7 @@
 -- Each answer of `put`, and the part of a buffer that holds a line.
 -- Assumes nothing.
-use mathlib.Core.Path.{_≡_, sym, ap, subst, _∙_}
-use mathlib.Core.List.{List}
-use mathlib.Core.Option.{some}
-use Prim.Native.Nat.{ℕ, _+_, _<_, _≤_}
-use native.Mathlib.Omega.{arith}
-use borrow.Author.Tests.{le-leb, lt-leb, leb-true}
-use lib.ListN.{length, take, drop}
-use lib.Seq.{sets-eq, take-at}
+use Rattle.laws.proofs.Prelude.{_≡_, sym, ap, subst, _∙_, List, some, ℕ, _+_, _<_, _≤_, arith, le-leb, lt-leb, leb-true, length, take, drop, sets-eq}
+use Rattle.laws.proofs.Prelude.{take-at}
 use Rattle.decimal.specs.Print.{Printing}
 use Rattle.decimal.proofs.Steps.{cases}
 use Rattle.report.specs.declared.Printed.{Printed}

@@ -1,13 +1,6 @@
 -- What printing into a lent buffer promises: the line stands from place `at` on and the other entries are as they were, where it has room, and
 -- else the buffer is as it was.
-use mathlib.Core.Path.{_≡_}
-use mathlib.Core.Bool.{Bool, cond}
-use mathlib.Core.List.{List}
-use mathlib.Core.Option.{Option, some, none}
-use Prim.Native.Nat.{ℕ, _+_, _≤_}
-use lib.Dec.{leb}
-use lib.ListN.{length}
-use lib.Seq.{sets}
+use Rattle.laws.specs.Prelude.{_≡_, Bool, cond, List, Option, some, none, ℕ, _+_, _≤_, leb, length, sets}
 use Rattle.report.specs.declared.Printed.{Printed}
 use Rattle.report.specs.declared.Printed.the-variants.{Next, Full}
 

@@ -1,7 +1,6 @@
 -- The lines that the row program prints. Stands for the fields 'tile, decision, layers listed, layers neither masked nor skipped, used octets
 -- summed over the draws, carries handed on', and for 'a refusal prints `refused` and its number'. Every line ends with LF.
-use mathlib.Core.List.{List, [], _∷_, _++_}
-use Prim.Native.Nat.{ℕ}
+use Rattle.laws.specs.Prelude.{List, [], _∷_, _++_, ℕ}
 use Rattle.decimal.specs.Decimal.{decimal}
 use Rattle.lines.specs.Bytes.{bytes}
 use Rattle.report.specs.declared.Op.{Op}

@@ -1,14 +1,6 @@
 -- Laws of a record added to an ascending list. Assumes nothing.
-use mathlib.Core.Path.{_≡_, refl, sym}
-use mathlib.Core.Bool.{Bool, true, false, _&&_}
-use mathlib.Core.Logic.{⊎-elim}
-use mathlib.Core.List.{List, [], _∷_}
-use Prim.Native.Nat.{ℕ, suc, _≤_, _<_}
-use native.Mathlib.Omega.{arith}
-use borrow.Author.Tests.{lt-ltb, le-ltb, eq-eqb, ne-eqb, le-leb, ltb-true, ltb-false}
-use lib.Dec.{ltb, leb}
-use Rattle.laws.proofs.Bools.{both}
-use Rattle.laws.proofs.Orders.{le-or-lt, eq-or-ne}
+use Rattle.laws.proofs.Prelude.{_≡_, refl, sym, Bool, true, false, _&&_, ⊎-elim, List, [], _∷_, ℕ, suc, _≤_, _<_, arith, lt-ltb, le-ltb, eq-eqb}
+use Rattle.laws.proofs.Prelude.{ne-eqb, le-leb, ltb-true, ltb-false, ltb, leb, both, le-or-lt, eq-or-ne}
 use Rattle.styling.specs.Ascending.{strictlyAscendsFrom, strictlyAscends}
 use Rattle.styling.proofs.Ascents.{ascends-head, ascends-tail}
 use Rattle.revision_statements.specs.Sent.{Sent, idOf}

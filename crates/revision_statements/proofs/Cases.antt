@@ -1,9 +1,5 @@
 -- Worked cases of standing records, as theorems over the definitions. Assumes nothing.
-use mathlib.Core.Path.{_≡_, refl}
-use mathlib.Core.Bool.{true, false}
-use mathlib.Core.List.{List, [], _∷_}
-use Prim.Native.Nat.{ℕ}
-use lib.Ieee.{Float, nan}
+use Rattle.laws.proofs.Prelude.{_≡_, refl, true, false, List, [], _∷_, ℕ, Float, nan}
 use Rattle.refusals.specs.Refusal.{pass, refuse}
 use Rattle.layer_table.specs.Table.{isTableShort}
 use Rattle.revision_statements.specs.Sent.{Sent, isGood, sentAt, sentRoom, firstSent}

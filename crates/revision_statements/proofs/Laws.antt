@@ -1,17 +1,7 @@
 -- The laws of standing records. Together `ascending`, `given-one`, `highest`, `nothing-lost` and `withdrawn` determine the table (`only-one`).
 -- Assumes nothing.
-use mathlib.Core.Path.{_≡_, refl, sym, ap, _∙_}
-use mathlib.Core.Bool.{Bool, true, false, cond}
-use mathlib.Core.Logic.{inr, ⊎-elim}
-use mathlib.Core.List.{List, [], _∷_, _++_}
-use Prim.Native.Nat.{ℕ, suc, _≤_, _<_}
-use native.Mathlib.Omega.{arith}
-use borrow.Author.Tests.{le-leb}
-use lib.Dec.{leb}
-use lib.Ieee.{Float}
-use Rattle.laws.specs.Lists.{any, filter}
-use Rattle.laws.proofs.Bools.{both, clash}
-use Rattle.laws.proofs.Rows.{length-tabulate, getD-tabulate}
+use Rattle.laws.proofs.Prelude.{_≡_, refl, sym, ap, _∙_, Bool, true, false, cond, inr, ⊎-elim, List, [], _∷_, _++_, ℕ, suc, _≤_, _<_, arith, le-leb}
+use Rattle.laws.proofs.Prelude.{leb, Float, any, filter, both, clash, length-tabulate, getD-tabulate}
 use Rattle.refusals.proofs.Judging.{or-right}
 use Rattle.styling.specs.Ascending.{strictlyAscendsFrom, strictlyAscends}
 use Rattle.styling.proofs.Ascents.{ascends-head, ascends-tail, ascends-weaken}

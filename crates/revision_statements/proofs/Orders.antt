@@ -1,14 +1,6 @@
 -- Records in another order, and lists with the same records. Assumes nothing.
-use mathlib.Core.Path.{_≡_, refl, sym, ap, ap₂, _∙_}
-use mathlib.Core.Bool.{Bool, true, false, _&&_, _||_}
-use mathlib.Core.Logic.{_⊎_, inl, inr, ⊎-elim}
-use mathlib.Core.List.{List, [], _∷_, _++_}
-use Prim.Native.Nat.{ℕ, suc}
-use native.Mathlib.Omega.{arith}
-use borrow.Author.Tests.{eqb-true, eq-eqb}
-use lib.Dec.{eqb}
-use Rattle.laws.specs.Lists.{any}
-use Rattle.laws.proofs.Bools.{same}
+use Rattle.laws.proofs.Prelude.{_≡_, refl, sym, ap, ap₂, _∙_, Bool, true, false, _&&_, _||_, _⊎_, inl, inr, ⊎-elim, List, [], _∷_, _++_, ℕ, suc}
+use Rattle.laws.proofs.Prelude.{arith, eqb-true, eq-eqb, eqb, any, same}
 use Rattle.styling.specs.Ascending.{strictlyAscendsFrom}
 use Rattle.styling.proofs.Ascents.{ascends-tail}
 use Rattle.revision_statements.specs.Sent.{Sent, idOf}

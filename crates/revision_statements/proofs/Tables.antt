@@ -1,20 +1,8 @@
 -- The written table passes 1 and 4 at its count, and its layers are those of the standing records: 'demands on rows begin from that table'.
 -- Assumes nothing.
-use mathlib.Core.Path.{_≡_, refl, sym, ap, ap₂, _∙_}
-use mathlib.Core.Bool.{Bool, true, false, _&&_}
-use mathlib.Core.Logic.{inl, inr}
-use mathlib.Core.List.{List, [], _∷_, _++_, map}
-use Prim.Native.Nat.{ℕ, zero, suc, _+_, _*_, _<_}
-use native.Mathlib.Nat.{add-zero, le-of-suc-le-suc, not-suc-le-zero}
-use native.Mathlib.Omega.{arith}
-use borrow.Author.Tests.{le-ltb}
-use lib.Ieee.{Float, nan}
-use lib.ListN.{length, getD, drop, length-map, List·getD-map}
-use lib.Seq.{getD-drop, drop-cons}
-use Rattle.laws.specs.Answer.{given}
-use Rattle.laws.specs.Lists.{tabulate, all, over}
-use Rattle.laws.proofs.Bools.{both, left, right}
-use Rattle.laws.proofs.Rows.{is-tabulate, length-over}
+use Rattle.laws.proofs.Prelude.{_≡_, refl, sym, ap, ap₂, _∙_, Bool, true, false, _&&_, inl, inr, List, [], _∷_, _++_, map, ℕ, zero, suc, _+_, _*_}
+use Rattle.laws.proofs.Prelude.{_<_, add-zero, le-of-suc-le-suc, not-suc-le-zero, arith, le-ltb, Float, nan, length, getD, drop, length-map}
+use Rattle.laws.proofs.Prelude.{List·getD-map, getD-drop, drop-cons, given, tabulate, all, over, both, left, right, is-tabulate, length-over}
 use Rattle.refusals.specs.Refusal.{Judgement, pass, refuse}
 use Rattle.styling.specs.Ascending.{strictlyAscends}
 use Rattle.layer_table.specs.Record.{inRange, layerOf}

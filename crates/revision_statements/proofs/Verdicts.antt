@@ -1,16 +1,6 @@
 -- The judge's answers, one after the other, and what holds where it passes. Assumes nothing.
-use mathlib.Core.Path.{_≡_, refl, ap}
-use mathlib.Core.Bool.{true, false, not}
-use mathlib.Core.List.{List}
-use Prim.Native.Nat.{ℕ, _<_}
-use native.Mathlib.Omega.{arith}
-use borrow.Author.Tests.{not-false}
-use lib.Ieee.{Float}
-use lib.ListN.{length, getD}
-use Rattle.laws.specs.Answer.{refused, given}
-use Rattle.laws.specs.Lists.{tabulate, all}
-use Rattle.laws.proofs.Every.{all-intro}
-use Rattle.laws.proofs.Rows.{length-tabulate, getD-tabulate}
+use Rattle.laws.proofs.Prelude.{_≡_, refl, ap, true, false, not, List, ℕ, _<_, arith, not-false, Float, length, getD, refused, given, tabulate, all}
+use Rattle.laws.proofs.Prelude.{all-intro, length-tabulate, getD-tabulate}
 use Rattle.refusals.specs.Refusal.{Judgement, pass, refuse}
 use Rattle.refusals.proofs.Judging.{passed}
 use Rattle.layer_table.specs.Table.{isTableShort}

@@ -1,10 +1,5 @@
 -- What the laws of standing records say (proofs/Laws, Tables), without the steps of `addSent`.
-use mathlib.Core.Path.{_≡_}
-use mathlib.Core.Bool.{true}
-use mathlib.Core.Logic.{_⊎_}
-use mathlib.Core.List.{List, [], _∷_, map}
-use Prim.Native.Nat.{ℕ, _≤_, _<_}
-use lib.Ieee.{Float}
+use Rattle.laws.specs.Prelude.{_≡_, true, _⊎_, List, [], _∷_, map, ℕ, _≤_, _<_, Float}
 use Rattle.styling.specs.declared.Layer.{Layer}
 use Rattle.layer_table.specs.Record.{layerOf}
 use Rattle.layer_table.specs.Table.{tableOf, isTable}

@@ -1,13 +1,7 @@
 -- One record as it is sent, and how records lie in lent memory. Stands for 'a record carries a layer id, a revision number of 32 bits, and
 -- either properties or a withdrawal' (document 02, W-212). The properties are the words and the colour of a record of the layer table; the
 -- layer id is the first of these words. Of a withdrawal the other words and the colour play no part.
-use mathlib.Core.Bool.{Bool, cond, _&&_}
-use mathlib.Core.List.{List}
-use Prim.Native.Nat.{ℕ, _+_, _*_, _/_, min}
-use lib.Dec.{leb, eqb}
-use lib.Ieee.{Float}
-use lib.ListN.{length, getD}
-use Rattle.laws.specs.Lists.{tabulate}
+use Rattle.laws.specs.Prelude.{Bool, cond, _&&_, List, ℕ, _+_, _*_, _/_, min, leb, eqb, Float, length, getD, tabulate}
 use Rattle.styling.specs.declared.Color.{Color}
 use Rattle.layer_table.specs.declared.Words.{Words}
 use Rattle.layer_table.specs.Record.{layerLimit, inRange}

@@ -1,15 +1,7 @@
 -- What the operation answers and leaves: 'it refuses two records of one layer with equal revisions with 15, an out-of-range id, code or span with
 -- 4, and a lent table too short for the standing layers with 1; 4 is judged first, then 15, then 1' (document 02, W-212). So this judge does
 -- not answer the lowest number that applies.
-use mathlib.Core.Path.{_≡_}
-use mathlib.Core.Bool.{Bool, false, not, _&&_, _||_}
-use mathlib.Core.List.{List, [], _∷_}
-use Prim.Native.Nat.{ℕ}
-use lib.Dec.{eqb}
-use lib.Ieee.{Float}
-use lib.ListN.{length}
-use Rattle.laws.specs.Answer.{Answer, refused, given}
-use Rattle.laws.specs.Lists.{over, all, any}
+use Rattle.laws.specs.Prelude.{_≡_, Bool, false, not, _&&_, _||_, List, [], _∷_, ℕ, eqb, Float, length, Answer, refused, given, over, all, any}
 use Rattle.refusals.specs.Refusal.{Judgement, pass, refuse, unless, numberOf}
 use Rattle.layer_table.specs.Table.{isTableShort}
 use Rattle.revision_statements.specs.declared.Standing.{Standing}

@@ -1,21 +1,8 @@
 -- What a text is answered by, from what reading it leaves: the fronts of the arrays are the job's, arrays of these lengths hold every job, and a
 -- malformed text is refused by 10.
 -- Assumes nothing.
-use mathlib.Core.Path.{_≡_, refl, ap, sym, subst, _∙_}
-use mathlib.Core.Bool.{_&&_}
-use mathlib.Core.List.{List}
-use mathlib.Core.Option.{Option, some, none}
-use Prim.Native.Nat.{ℕ, _*_, _/_, _≤_}
-use native.Mathlib.Omega.{arith}
-use borrow.Author.Tests.{leb-true}
-use lib.Dec.{leb}
-use lib.Ieee.{Float}
-use lib.ListN.{length, take, drop}
-use lib.Seq.{take-at}
-use Rattle.laws.specs.Answer.{Answer, refused, given}
-use Rattle.laws.specs.Integer.{plus}
-use Rattle.laws.specs.Lists.{over}
-use Rattle.laws.proofs.Bools.{left, right}
+use Rattle.laws.proofs.Prelude.{_≡_, refl, ap, sym, subst, _∙_, _&&_, List, Option, some, none, ℕ, _*_, _/_, _≤_, arith, leb-true, leb, Float, length}
+use Rattle.laws.proofs.Prelude.{take, drop, take-at, Answer, refused, given, plus, over, left, right}
 use Rattle.job_text_statements.specs.Job.{Job, render, WellFormed}
 use Rattle.job_text_statements.specs.Parse.{parse}
 use Rattle.job_lines.specs.Rules.{segmentCount}

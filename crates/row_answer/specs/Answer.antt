@@ -1,13 +1,6 @@
 -- The whole text that the row program prints for a job text. Stands for 'A refusal prints `refused` and its number as the last line, after the
 -- names and the tiles already worked; number 10 prints only that.'
-use mathlib.Core.Bool.{cond}
-use mathlib.Core.List.{List, [], _∷_, _++_}
-use mathlib.Core.Option.{Option, some, none}
-use Prim.Native.Nat.{ℕ, suc}
-use lib.Dec.{eqb}
-use lib.Ieee.{Float}
-use lib.ListN.{length}
-use Rattle.laws.specs.Integer.{plus}
+use Rattle.laws.specs.Prelude.{cond, List, [], _∷_, _++_, Option, some, none, ℕ, suc, eqb, Float, length, plus}
 use Rattle.row_statements.specs.Lent.{lentTable}
 use Rattle.row_statements.specs.Opening.{openCall}
 use Rattle.row_lines.specs.Driven.{Driving, rowDriving}

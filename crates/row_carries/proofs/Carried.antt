@@ -1,14 +1,7 @@
 -- The carries of a row that is worked from its opening on are what the whole row says: 'after each tile a layer's NonZero carry is the exact sum
 -- of its covers so far in each row; an EvenOdd one agrees with that sum modulo 32; a dropped carry counts as zeros'. Assumes nothing.
-use mathlib.Core.Path.{_≡_, refl, sym, ap, ap₂, _∙_}
-use mathlib.Core.Bool.{Bool, true, false, cond}
-use mathlib.Core.List.{List}
-use Prim.Native.Nat.{ℕ, zero, suc, _+_, _<_}
-use native.Mathlib.Nat.{add-zero}
-use native.Mathlib.Omega.{arith}
-use lib.IntN.{ℤ, pos}
-use lib.ListN.{length, getD}
-use Rattle.laws.specs.Integer.{modℤ}
+use Rattle.laws.proofs.Prelude.{_≡_, refl, sym, ap, ap₂, _∙_, Bool, true, false, cond, List, ℕ, zero, suc, _+_, _<_, add-zero, arith, ℤ, pos, length}
+use Rattle.laws.proofs.Prelude.{getD, modℤ}
 use Rattle.pixel_segment.specs.Field.{cpu}
 use Rattle.segment_rows.specs.Search.{leftPart, tilePart, layerPart}
 use Rattle.styling.specs.Ascending.{strictlyAscends}

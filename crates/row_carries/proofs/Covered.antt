@@ -1,11 +1,6 @@
 -- A layer that is passed over as covered lies under one that hides it, by the whole row. Assumes nothing.
-use mathlib.Core.Path.{_≡_, refl, sym, ap, ap₂, _∙_}
-use mathlib.Core.Bool.{true, false, false≢true}
-use mathlib.Core.List.{List, [], _∷_, map}
-use Prim.Native.Nat.{ℕ, _<_}
-use native.Mathlib.Omega.{arith}
-use lib.ListN.{length, getD, length-map}
-use Rattle.laws.specs.Answer.{Answer, refused, given}
+use Rattle.laws.proofs.Prelude.{_≡_, refl, sym, ap, ap₂, _∙_, true, false, false≢true, List, [], _∷_, map, ℕ, _<_, arith, length, getD, length-map}
+use Rattle.laws.proofs.Prelude.{Answer, refused, given}
 use Rattle.layer_table.specs.Lookup.{lookup}
 use Rattle.styling.specs.Style.{isOpaque}
 use Rattle.styling.specs.declared.Color.{Color}

@@ -1,17 +1,8 @@
 -- The carries that a tile hands on, by the layers of its list: they ascend as the list does, and hold of each layer its carry, or zeros where
 -- that is empty by the layer's rule. Assumes nothing.
-use mathlib.Core.Path.{_≡_, refl, sym, ap, ap₂, _∙_}
-use mathlib.Core.Bool.{Bool, true, false, cond, not}
-use mathlib.Core.Logic.{⊎-elim}
-use mathlib.Core.List.{List, [], _∷_, map}
-use Prim.Native.Nat.{ℕ, suc, _≤_}
-use native.Mathlib.Omega.{arith}
-use borrow.Author.Tests.{le-leb}
-use lib.Dec.{leb}
-use lib.IntN.{ℤ}
-use Rattle.laws.specs.Lists.{filter}
-use Rattle.laws.proofs.Bools.{both, either-way}
-use Rattle.laws.proofs.Orders.{eq-or-ne}
+use Rattle.laws.proofs.Prelude.{_≡_, refl, sym, ap, ap₂, _∙_, Bool, true, false, cond, not, ⊎-elim, List, [], _∷_, map, ℕ, suc, _≤_, arith, le-leb}
+use Rattle.laws.proofs.Prelude.{leb, ℤ, filter, both, eq-or-ne}
+use Rattle.laws.proofs.Bools.{either-way}
 use Rattle.pixel_segment.specs.Field.{cpu}
 use Rattle.styling.specs.Ascending.{strictlyAscendsFrom}
 use Rattle.styling.specs.declared.FillRule.{FillRule}

@@ -1,18 +1,9 @@
 -- What a tile's list holds of a layer is what the queue and the part hold of it, over any ascending queue; and a list that ascends holds of a
 -- layer what stands at its place. Assumes nothing.
-use mathlib.Core.Path.{_≡_, refl, sym, ap, ap₂, _∙_}
-use mathlib.Core.Bool.{Bool, true, false, cond, not}
-use mathlib.Core.Logic.{⊎-elim}
-use mathlib.Core.List.{List, [], _∷_, _++_, map, append-nil}
-use Prim.Native.Nat.{ℕ, zero, suc, _≤_, _<_}
-use native.Mathlib.Nat.{not-suc-le-zero, le-of-suc-le-suc}
-use native.Mathlib.Omega.{arith}
-use borrow.Author.Tests.{eq-eqb, ne-eqb, eqb-true, eqb-false, not-true, ltb-true, ltb-false}
-use lib.Dec.{eqb, ltb}
-use lib.IntN.{ℤ}
-use lib.ListN.{length, getD, length-map, List·getD-map}
-use Rattle.laws.proofs.Bools.{both, left, right, either-way}
-use Rattle.laws.proofs.Orders.{eq-or-ne}
+use Rattle.laws.proofs.Prelude.{_≡_, refl, sym, ap, ap₂, _∙_, Bool, true, false, cond, not, ⊎-elim, List, [], _∷_, _++_, map, append-nil, ℕ, zero}
+use Rattle.laws.proofs.Prelude.{suc, _≤_, _<_, not-suc-le-zero, le-of-suc-le-suc, arith, eq-eqb, ne-eqb, eqb-true, eqb-false, not-true, ltb-true}
+use Rattle.laws.proofs.Prelude.{ltb-false, eqb, ltb, ℤ, length, getD, length-map, List·getD-map, both, left, right, eq-or-ne}
+use Rattle.laws.proofs.Bools.{either-way}
 use Rattle.pixel_segment.specs.Field.{cpu, layerIdOf}
 use Rattle.segment_rows.specs.Rows.{Ordered}
 use Rattle.styling.specs.Ascending.{strictlyAscendsFrom, strictlyAscends}

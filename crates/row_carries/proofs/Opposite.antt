@@ -1,13 +1,6 @@
 -- The carries of the opposite row, worked from its opening on: those of the row, negated exactly, by either rule; and what follows of its tiles'
 -- layers and of what the passes make of them. Assumes nothing.
-use mathlib.Core.Path.{_≡_, refl, ap, ap₂, _∙_}
-use mathlib.Core.Bool.{true, not}
-use mathlib.Core.List.{List, [], _∷_, map}
-use Prim.Native.Nat.{ℕ, zero, suc, _+_}
-use lib.IntN.{pos}
-use Rattle.laws.specs.Lists.{filter}
-use Rattle.laws.proofs.Bools.{left, right}
-use Rattle.laws.proofs.Maps.{filter-map}
+use Rattle.laws.proofs.Prelude.{_≡_, refl, ap, ap₂, _∙_, true, not, List, [], _∷_, map, ℕ, zero, suc, _+_, pos, filter, left, right, filter-map}
 use Rattle.pixel_segment.specs.Field.{cpu}
 use Rattle.pixel_segment.specs.Opposite.{oppositeOf}
 use Rattle.pixel_segment.proofs.Opposite.{areMild, cpu-wide}

@@ -1,12 +1,6 @@
 -- The parts of a row in order, found by search, are the parts that the whole row has of a layer: what lies in a tile, and what lies left of it.
 -- The stored number of tile t is t + 1. Assumes nothing.
-use mathlib.Core.Path.{_≡_, sym, ap, _∙_}
-use mathlib.Core.List.{List}
-use Prim.Native.Nat.{ℕ, suc}
-use lib.Dec.{eqb, ltb}
-use lib.IntN.{ℤ, pos}
-use Rattle.laws.specs.Lists.{filter}
-use Rattle.laws.proofs.Filtered.{filter-twice}
+use Rattle.laws.proofs.Prelude.{_≡_, sym, ap, _∙_, List, ℕ, suc, eqb, ltb, ℤ, pos, filter, filter-twice}
 use Rattle.pixel_segment.specs.Field.{cpu, tileXOf, layerIdOf}
 use Rattle.segment_rows.specs.Rows.{Ordered}
 use Rattle.segment_rows.specs.Search.{leftPart, tilePart, layerPart}

@@ -1,21 +1,9 @@
 -- Planes that the whole row gives in a tile: coverage 0 of a layer that is not listed there, coverage 1 of one that is full there. Assumes
 -- nothing.
-use mathlib.Core.Path.{_≡_, refl, sym, ap, ap₂, _∙_}
-use mathlib.Core.Bool.{true, false, not, false≢true}
-use mathlib.Core.List.{List, [], _∷_, map}
-use Prim.Native.Nat.{ℕ, suc, _+_, _<_}
-use native.Mathlib.Omega.{arith}
-use borrow.Author.Tests.{not-true}
-use lib.Ieee.{Float, binary32, ofBits}
-use lib.IntN.{ℤ, pos}
-use lib.ListN.{length, getD, replicate, length-replicate, getD-replicate, length-map}
-use lib.Seq.{drop-cons}
-use Rattle.laws.specs.Lists.{every}
-use Rattle.laws.specs.Answer.{Answer, refused, given}
+use Rattle.laws.proofs.Prelude.{_≡_, refl, sym, ap, ap₂, _∙_, true, false, not, false≢true, List, [], _∷_, map, ℕ, suc, _+_, _<_, arith, not-true}
+use Rattle.laws.proofs.Prelude.{Float, binary32, ofBits, ℤ, pos, length, getD, replicate, length-replicate, getD-replicate, length-map, drop-cons}
+use Rattle.laws.proofs.Prelude.{every, Answer, refused, given, map-at, every-at, is-tabulate}
 use Rattle.laws.proofs.Bools as Bools
-use Rattle.laws.proofs.Drops.{map-at}
-use Rattle.laws.proofs.Every.{every-at}
-use Rattle.laws.proofs.Rows.{is-tabulate}
 use Rattle.pixel_segment.specs.Field.{cpu}
 use Rattle.layer_table.specs.Lookup.{lookup}
 use Rattle.styling.specs.declared.FillRule.{FillRule}

@@ -1,13 +1,7 @@
 -- The carries of a row that is worked from its opening on: the queue before each tile, and the layers of each tile, by the row, the table and
 -- the first tile alone. Stands for 'worked by this document from the opening on, never from a returned queue or state'; proofs/Carried has that
 -- the carries are what the whole row says.
-use mathlib.Core.Path.{_≡_}
-use mathlib.Core.Bool.{Bool, true, not}
-use mathlib.Core.List.{List}
-use Prim.Native.Nat.{ℕ, zero, suc, _+_}
-use lib.Dec.{eqb}
-use lib.IntN.{pos}
-use Rattle.laws.specs.Lists.{all}
+use Rattle.laws.specs.Prelude.{_≡_, Bool, true, not, List, ℕ, zero, suc, _+_, eqb, pos, all}
 use Rattle.pixel_segment.specs.Field.{cpu}
 use Rattle.segment_rows.specs.Rows.{isRow, Words}
 use Rattle.segment_rows.specs.Search.{leftPart, tilePart}

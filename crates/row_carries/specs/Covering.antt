@@ -1,10 +1,6 @@
 -- What lies over a layer that is passed over as covered, by the whole row. Stands for 'a skipped one, masked off or not, is passed over as
 -- covered' of demand 3: such a layer can't be seen.
-use mathlib.Core.Path.{_≡_}
-use mathlib.Core.Bool.{true, false}
-use mathlib.Core.List.{List, map}
-use Prim.Native.Nat.{ℕ, suc, _+_, _≤_, _<_}
-use lib.ListN.{length, getD, replicate}
+use Rattle.laws.specs.Prelude.{_≡_, true, false, List, map, ℕ, suc, _+_, _≤_, _<_, length, getD, replicate}
 use Rattle.pixel_segment.specs.Field.{cpu}
 use Rattle.styling.specs.Style.{isOpaque}
 use Rattle.styling.specs.declared.Layer.{Layer}

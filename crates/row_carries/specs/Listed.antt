@@ -1,7 +1,5 @@
 -- What the list of tile from + n says of a layer, by the queue that comes in and the whole row. The stored number of a tile is its own plus 1.
-use mathlib.Core.Path.{_≡_}
-use mathlib.Core.List.{List, []}
-use Prim.Native.Nat.{ℕ, suc, _+_}
+use Rattle.laws.specs.Prelude.{_≡_, List, [], ℕ, suc, _+_}
 use Rattle.pixel_segment.specs.Field.{cpu}
 use Rattle.styling.specs.declared.Layer.{Layer}
 use Rattle.cover_statements.specs.WholeRow.{partOf}

@@ -1,14 +1,6 @@
 -- Where a loop over the tiles of a row cuts it: it holds how many words are left of the next tile. Assumes nothing.
-use mathlib.Core.Path.{_≡_, ap, ap₂, _∙_}
-use mathlib.Core.Bool.{true}
-use mathlib.Core.List.{List}
-use Prim.Native.Nat.{ℕ, _+_, _-_, _^_, _≤_, _<_}
-use native.Mathlib.Omega.{arith}
-use lib.IntN.{pos}
-use lib.ListN.{length, take, drop, length-drop}
-use lib.Seq.{take-all}
-use mir.Syntax.{w64}
-use mir.Val.{Fits}
+use Rattle.laws.proofs.Prelude.{_≡_, ap, ap₂, _∙_, true, List, ℕ, _+_, _-_, _^_, _≤_, _<_, arith, pos, length, take, drop, length-drop, take-all, w64}
+use Rattle.laws.proofs.Prelude.{Fits}
 use Rattle.pixel_segment.specs.Field.{cpu}
 use Rattle.segment_rows.specs.Rows.{isRow, Words}
 use Rattle.segment_rows.specs.Search.{leftPart, tilePart, upToTile}

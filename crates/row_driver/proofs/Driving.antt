@@ -1,15 +1,7 @@
 -- The lines of a driven row, as the loop over its tiles goes: with the lines that are left, the lent array is as all lines leave it. Assumes
 -- nothing.
-use mathlib.Core.Path.{_≡_, refl, ap, ap₂, sym, _∙_}
-use mathlib.Core.List.{List, [], _∷_, _++_, flatten}
-use mathlib.Core.Option.{some, none}
-use Prim.Native.Nat.{ℕ, zero, suc, _+_, _-_, _*_, _≤_, _<_}
-use native.Mathlib.Nat.{zero-add}
-use native.Mathlib.Numerals.{add-one}
-use native.Mathlib.Omega.{arith}
-use lib.ListN.{length, drop}
-use lib.Seq.{sets, sets-eq, length-sets}
-use Rattle.laws.specs.Lists.{over}
+use Rattle.laws.proofs.Prelude.{_≡_, refl, ap, ap₂, sym, _∙_, List, [], _∷_, _++_, flatten, some, none, ℕ, zero, suc, _+_, _-_, _*_, _≤_, _<_}
+use Rattle.laws.proofs.Prelude.{zero-add, add-one, arith, length, drop, sets, sets-eq, length-sets, over}
 use Rattle.refusals.specs.Refusal.{Judgement, pass, refuse, numberOf}
 use Rattle.refusals.specs.declared.Refusal.{Refusal}
 use Rattle.row_statements.specs.TileWork.{listVerdict}

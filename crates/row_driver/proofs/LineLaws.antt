@@ -1,13 +1,5 @@
 -- The line of a tile, by what its work is called with, is the one that the whole row gives. Assumes nothing.
-use mathlib.Core.Path.{_≡_, refl, ap, sym, _∙_}
-use mathlib.Core.Bool.{Bool, true, false, cond}
-use mathlib.Core.List.{List, [], _∷_}
-use mathlib.Core.Option.{none}
-use Prim.Native.Nat.{ℕ, suc, _+_}
-use native.Mathlib.Omega.{arith}
-use lib.Count.{ones}
-use lib.IntN.{pos}
-use lib.ListN.{length}
+use Rattle.laws.proofs.Prelude.{_≡_, refl, ap, sym, _∙_, Bool, true, false, cond, List, [], _∷_, none, ℕ, suc, _+_, arith, ones, pos, length}
 use Rattle.segment_rows.specs.Search.{tilePart}
 use Rattle.styling.specs.declared.Layer.{Layer}
 use Rattle.queue_statements.specs.Queue.{Carry, idsIn}

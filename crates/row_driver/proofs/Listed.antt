@@ -1,18 +1,8 @@
 -- An accepted work's list: each of its layers can be painted, since the table has it and number 9 does not apply; and the tally of the lent list is
 -- the tile's. Assumes nothing.
-use mathlib.Core.Path.{_≡_, refl, ap, sym, _∙_}
-use mathlib.Core.Bool.{true, not}
-use mathlib.Core.List.{List, map}
-use mathlib.Core.Logic.{⊎-elim}
-use mathlib.Core.Option.{none}
-use Prim.Native.Nat.{ℕ, _≤_, _<_}
-use native.Mathlib.Omega.{arith}
-use lib.ListN.{length, take, drop, length-map}
+use Rattle.laws.proofs.Prelude.{_≡_, refl, ap, sym, _∙_, true, not, List, map, ⊎-elim, none, ℕ, _≤_, _<_, arith, length, take, drop, length-map}
+use Rattle.laws.proofs.Prelude.{refused, given, isGiven, over, all-at, length-over}
 use lib.Seq.{take-append-seam}
-use Rattle.laws.specs.Answer.{refused, given, isGiven}
-use Rattle.laws.specs.Lists.{over}
-use Rattle.laws.proofs.Every.{all-at}
-use Rattle.laws.proofs.Rows.{length-over}
 use Rattle.pixel_segment.specs.Field.{cpu, layerIdOf}
 use Rattle.segment_rows.specs.Rows.{Ordered}
 use Rattle.segment_rows.specs.Search.{tilePart}

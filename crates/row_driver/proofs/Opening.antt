@@ -1,15 +1,6 @@
 -- A row that the driver opens: what an accepted opening leaves lets its tiles be driven, and a refused one ends the row. Assumes nothing.
-use mathlib.Core.Path.{_≡_, refl, ap, sym, subst}
-use mathlib.Core.Bool.{false}
-use mathlib.Core.List.{List, [], flatten}
-use mathlib.Core.Option.{some}
-use Prim.Native.Nat.{ℕ, _+_, _*_, _≤_}
-use native.Mathlib.Omega.{arith}
-use lib.IntN.{ℤ, pos}
-use lib.ListN.{length, replicate}
-use Rattle.laws.specs.Answer.{Answer, refused}
-use Rattle.laws.specs.Integer.{plus}
-use Rattle.laws.specs.Lists.{over}
+use Rattle.laws.proofs.Prelude.{_≡_, refl, ap, sym, subst, false, List, [], flatten, some, ℕ, _+_, _*_, _≤_, arith, ℤ, pos, length, replicate, Answer}
+use Rattle.laws.proofs.Prelude.{refused, plus, over}
 use Rattle.refusals.specs.Refusal.{numberOf}
 use Rattle.refusals.specs.declared.Refusal.{Refusal}
 use Rattle.segment_rows.specs.Rows.{Words}

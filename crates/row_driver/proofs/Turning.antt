@@ -1,15 +1,7 @@
 -- A tile of a driven row: what the driver holds lets the work pass without judging the row and the table again, and the theorem of demand 3 says
 -- what the work gives and what the driver then holds. Assumes nothing.
-use mathlib.Core.Path.{_≡_, refl, ap, sym, subst, _∙_}
-use mathlib.Core.Bool.{Bool, true, false, not}
-use mathlib.Core.List.{List}
-use mathlib.Core.Option.{some, none}
-use Prim.Native.Nat.{ℕ, suc, _+_, _^_, _<_}
-use native.Mathlib.Omega.{arith}
-use borrow.Author.Tests.{le-ltb, lt-leb, eq-eqb}
-use lib.IntN.{pos}
-use lib.ListN.{length}
-use Rattle.laws.specs.Answer.{refused, given}
+use Rattle.laws.proofs.Prelude.{_≡_, refl, ap, sym, subst, _∙_, Bool, true, false, not, List, some, none, ℕ, suc, _+_, _^_, _<_, arith, le-ltb}
+use Rattle.laws.proofs.Prelude.{lt-leb, eq-eqb, pos, length, refused, given}
 use Rattle.refusals.specs.Refusal.{Judgement, pass, refuse, numberOf, andThen}
 use Rattle.refusals.specs.declared.Refusal.{Refusal}
 use Rattle.segment_rows.specs.Search.{tilePart}

@@ -1,12 +1,6 @@
 -- What the inner functions of a driver ask and give: a tile's line from what a work is called with, and two queues that take turns. proofs/ has
 -- that these are the lines of row_lines/specs/Lines.
-use mathlib.Core.Path.{_≡_}
-use mathlib.Core.Bool.{Bool, true, false, not}
-use mathlib.Core.List.{List}
-use Prim.Native.Nat.{ℕ, _+_, _*_, _≤_}
-use lib.Ieee.{Float}
-use lib.IntN.{pos}
-use lib.ListN.{length}
+use Rattle.laws.specs.Prelude.{_≡_, Bool, true, false, not, List, ℕ, _+_, _*_, _≤_, Float, pos, length}
 use Rattle.segment_rows.specs.Search.{tilePart}
 use Rattle.queue_statements.specs.Queue.{idsIn, isQueue}
 use Rattle.cached_tile.specs.Kept.{noTile}

@@ -1,13 +1,6 @@
 -- An accepted work's list: each of its layers can be painted, since the table has it and number 9 does not apply; so can the shown ones. Assumes
 -- nothing.
-use mathlib.Core.Path.{_≡_, ap₂, sym, _∙_}
-use mathlib.Core.Bool.{Bool, true, false}
-use mathlib.Core.List.{List, [], _∷_}
-use Prim.Native.Nat.{ℕ, zero, suc, _<_}
-use native.Mathlib.Omega.{arith}
-use lib.ListN.{length, drop, getD}
-use Rattle.laws.specs.Answer.{isGiven}
-use Rattle.laws.proofs.Every.{all-at}
+use Rattle.laws.proofs.Prelude.{_≡_, ap₂, sym, _∙_, Bool, true, false, List, [], _∷_, ℕ, zero, suc, _<_, arith, length, drop, getD, isGiven, all-at}
 use Rattle.refusals.specs.Refusal.{pass}
 use Rattle.pixel_segment.specs.Field.{cpu, layerIdOf}
 use Rattle.segment_rows.specs.Rows.{Ordered}

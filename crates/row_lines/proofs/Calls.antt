@@ -1,17 +1,7 @@
 -- The calls of a driven row, wherever they give what is due of them, tell the lines of the whole row. Assumes nothing.
-use mathlib.Core.Path.{_≡_, refl, ap, ap₂, sym, subst, _∙_}
-use mathlib.Core.Bool.{Bool, true, false, cond}
-use mathlib.Core.List.{List, [], _∷_, _++_}
+use Rattle.laws.proofs.Prelude.{_≡_, refl, ap, ap₂, sym, subst, _∙_, Bool, true, false, cond, List, [], _∷_, _++_, Option, ℕ, suc, _+_, _-_, _≤_, _<_}
+use Rattle.laws.proofs.Prelude.{arith, le-ltb, lt-leb, eq-eqb, ones, Float, pos, length, take, length-map, refused, given}
 use mathlib.Core.Option as option
-use mathlib.Core.Option.{Option}
-use Prim.Native.Nat.{ℕ, suc, _+_, _-_, _≤_, _<_}
-use native.Mathlib.Omega.{arith}
-use borrow.Author.Tests.{le-ltb, lt-leb, eq-eqb}
-use lib.Count.{ones}
-use lib.Ieee.{Float}
-use lib.IntN.{pos}
-use lib.ListN.{length, take, length-map}
-use Rattle.laws.specs.Answer.{refused, given}
 use Rattle.refusals.specs.Refusal.{Judgement, pass, refuse}
 use Rattle.queue_statements.specs.Queue.{idsIn}
 use Rattle.queue_statements.proofs.Columns.{take-ids}

@@ -1,18 +1,7 @@
 -- After every accepted opening there is a run of the public calls that a driven row stands for. Assumes nothing.
-use mathlib.Core.Path.{_≡_, refl, ap, sym, subst, _∙_}
-use mathlib.Core.Bool.{Bool, true, false, cond}
-use mathlib.Core.List.{List, [], _∷_, _++_}
+use Rattle.laws.proofs.Prelude.{_≡_, refl, ap, sym, subst, _∙_, Bool, true, false, cond, List, [], _∷_, _++_, Option, ℕ, zero, suc, _+_, _-_, _≤_}
+use Rattle.laws.proofs.Prelude.{_<_, arith, eq-eqb, ne-eqb, le-ltb, ones, binary32, ofBits, pos, replicate, refused, given, plus}
 use mathlib.Core.Option as option
-use mathlib.Core.Option.{Option}
-use Prim.Native.Nat.{ℕ, zero, suc, _+_, _-_, _≤_, _<_}
-use native.Mathlib.Omega.{arith}
-use borrow.Author.Tests.{eq-eqb, ne-eqb, le-ltb}
-use lib.Count.{ones}
-use lib.Ieee.{binary32, ofBits}
-use lib.IntN.{pos}
-use lib.ListN.{replicate}
-use Rattle.laws.specs.Answer.{refused, given}
-use Rattle.laws.specs.Integer.{plus}
 use Rattle.refusals.specs.Refusal.{Judgement, pass, refuse}
 use Rattle.segment_rows.specs.Rows.{Words}
 use Rattle.segment_rows.specs.Search.{tilePart}

@@ -1,17 +1,8 @@
 -- The public calls that the lines of a driven row stand for: the work on each tile, and where it is painted the painting of each shown layer,
 -- ascending. What is shown and counted is read from what the calls answered and left in lent memory, as a caller reads it. proofs/Calls has that
 -- these are the lines of specs/Lines wherever the calls are a run, and that there is such a run.
-use mathlib.Core.Path.{_≡_}
-use mathlib.Core.Bool.{false, cond}
-use mathlib.Core.List.{List, [], _∷_, _++_}
-use Prim.Native.Nat.{ℕ, zero, suc, _+_, _≤_}
-use lib.Count.{ones}
-use lib.Dec.{ltb}
-use lib.Ieee.{Float}
-use lib.IntN.{pos}
-use lib.ListN.{length, take}
-use Rattle.laws.specs.Answer.{refused, given}
-use Rattle.laws.specs.Integer.{plus}
+use Rattle.laws.specs.Prelude.{_≡_, false, cond, List, [], _∷_, _++_, ℕ, zero, suc, _+_, _≤_, ones, ltb, Float, pos, length, take, refused, given}
+use Rattle.laws.specs.Prelude.{plus}
 use Rattle.refusals.specs.Refusal.{pass, refuse}
 use Rattle.segment_rows.specs.Rows.{Words}
 use Rattle.cached_tile.specs.Kept.{noTile}

@@ -1,15 +1,7 @@
 -- What driving a row promises: how many lines are written, the refusal that ended it, and every entry of the lent array, which has a line for each
 -- tile that a row can have. The opening is judged first, then the tiles one after the other. Stands for 'a refusal [..] after the names and the
 -- tiles already worked' of the row program.
-use mathlib.Core.Path.{_≡_}
-use mathlib.Core.List.{List, []}
-use mathlib.Core.Option.{Option, some, none}
-use Prim.Native.Nat.{ℕ, _-_, min}
-use lib.IntN.{ℤ, pos}
-use lib.ListN.{length, replicate}
-use Rattle.laws.specs.Answer.{Answer, refused, given}
-use Rattle.laws.specs.Integer.{plus}
-use Rattle.laws.specs.Lists.{over}
+use Rattle.laws.specs.Prelude.{_≡_, List, [], Option, some, none, ℕ, _-_, min, ℤ, pos, length, replicate, Answer, refused, given, plus, over}
 use Rattle.refusals.specs.Refusal.{Judgement, pass, refuse, numberOf}
 use Rattle.row_statements.specs.Lent.{Columns}
 use Rattle.row_statements.specs.State.{State}

@@ -1,14 +1,8 @@
 -- The lines of a driven row: for each tile its decision, layers listed, layers shown, used octets and carries, worked from the whole row by the
 -- definitions that the theorem of demand 3 compares with (`row_statements`, specs/Due). No queue and no state that a call gave back is looked at.
 -- Stands for 'Fields: tile, decision, layers listed, layers neither masked nor skipped, used octets summed over the draws, carries handed on'.
-use mathlib.Core.Bool.{Bool, true, false, cond}
+use Rattle.laws.specs.Prelude.{Bool, true, false, cond, Option, List, [], _∷_, map, flatten, ℕ, zero, suc, _+_, ones, binary32, ofBits, length}
 use mathlib.Core.Option as option
-use mathlib.Core.Option.{Option}
-use mathlib.Core.List.{List, [], _∷_, map, flatten}
-use Prim.Native.Nat.{ℕ, zero, suc, _+_}
-use lib.Count.{ones}
-use lib.Ieee.{binary32, ofBits}
-use lib.ListN.{length}
 use Rattle.styling.specs.declared.Color.{Color}
 use Rattle.queue_statements.specs.Queue.{idsIn}
 use Rattle.cached_tile.specs.Kept.{noTile}

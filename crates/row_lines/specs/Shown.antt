@@ -1,9 +1,6 @@
 -- The shown layers of a tile: a listed layer that is neither masked off nor skipped is shown. Stands for 'layers neither masked nor skipped' of
 -- the row program.
-use mathlib.Core.Bool.{Bool, cond}
-use mathlib.Core.List.{List, [], _∷_}
-use Prim.Native.Nat.{ℕ}
-use lib.ListN.{drop}
+use Rattle.laws.specs.Prelude.{Bool, cond, List, [], _∷_, ℕ, drop}
 
 -- the ids whose flag is set
 unfoldable pub flagged : List Bool → List ℕ → List ℕ

@@ -1,11 +1,6 @@
 -- What holds while lines are printed, and what a driver told once they are.
 -- Assumes nothing.
-use mathlib.Core.Path.{_≡_, refl, ap, sym, subst, _∙_}
-use mathlib.Core.List.{List, [], _++_}
-use Prim.Native.Nat.{ℕ, _+_, _*_, _≤_, _<_}
-use native.Mathlib.Numerals.{add-one}
-use native.Mathlib.Omega.{arith}
-use lib.ListN.{length}
+use Rattle.laws.proofs.Prelude.{_≡_, refl, ap, sym, subst, _∙_, List, [], _++_, ℕ, _+_, _*_, _≤_, _<_, add-one, arith, length}
 use Rattle.decimal.specs.Print.{Printing}
 use Rattle.decimal.proofs.Print.{joined}
 use Rattle.refusals.specs.Refusal.{numberOf}

@@ -1,14 +1,6 @@
 -- A line of the report, printed where there is room for the longest: its bytes, and the place after it.
 -- Assumes nothing.
-use mathlib.Core.Path.{_≡_, subst, _∙_}
-use mathlib.Core.List.{List}
-use mathlib.Core.Option.{some}
-use Prim.Native.Nat.{ℕ, _+_, _*_, _≤_}
-use native.Mathlib.Omega.{arith}
-use borrow.Author.Tests.{le-leb}
-use lib.ListN.{length, getD, length-append}
-use mir.Syntax.{w32}
-use mir.Val.{Fits}
+use Rattle.laws.proofs.Prelude.{_≡_, subst, _∙_, List, some, ℕ, _+_, _*_, _≤_, arith, le-leb, length, getD, length-append, w32, Fits}
 use Rattle.decimal.specs.Print.{Printing}
 use Rattle.decimal.proofs.Print.{ten}
 use Rattle.report.specs.Text.{opField, tileText, refusalText}

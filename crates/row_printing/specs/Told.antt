@@ -1,8 +1,6 @@
 -- What the inner printers promise: a line as its five words say it, and the text of the lines that a driver told. row_text/proofs/Telling has
 -- that this is the text of row_answer/specs/Answer.
-use mathlib.Core.List.{List, [], _++_}
-use Prim.Native.Nat.{ℕ, zero, suc, _+_, _*_, _≤_}
-use lib.ListN.{length, getD}
+use Rattle.laws.specs.Prelude.{List, [], _++_, ℕ, zero, suc, _+_, _*_, _≤_, length, getD}
 use Rattle.row_lines.specs.Driven.{LinesWritten}
 use Rattle.row_lines.specs.declared.Line.{Line}
 use Rattle.report.specs.Text.{tileNames}

@@ -1,16 +1,6 @@
 -- The run of specs/Example. Assumes nothing.
-use mathlib.Core.Path.{_≡_, refl, _∙_}
-use mathlib.Core.Bool.{true}
-use mathlib.Core.List.{List, [], _∷_}
-use Prim.Native.Nat.{ℕ, zero, suc, _^_, _<_}
-use native.Mathlib.Omega.{arith}
-use borrow.Author.Tests.{ltb-true}
-use lib.Dec.{ltb}
-use lib.Ieee.{eq, odd, ofBits}
-use lib.ListN.{getD}
-use Rattle.laws.specs.Answer.{given}
-use Rattle.laws.specs.Lists.{all}
-use Rattle.laws.proofs.Bools.{left, right}
+use Rattle.laws.proofs.Prelude.{_≡_, refl, _∙_, true, List, [], _∷_, ℕ, zero, suc, _^_, _<_, arith, ltb-true, ltb, eq, odd, ofBits, getD, given, all}
+use Rattle.laws.proofs.Prelude.{left, right}
 use Rattle.refusals.specs.Refusal.{pass, refuse}
 use Rattle.pixel_segment.specs.Field.{coverOf, tileOf}
 use Rattle.segment_rows.specs.Rows.{Words, ascendsFrom}

@@ -1,13 +1,5 @@
 -- The lists that a caller holds a queue in: once it is written to them, and in other memory that holds the same carries. Assumes nothing.
-use mathlib.Core.Path.{_≡_, ap, ap₂, sym, _∙_}
-use mathlib.Core.Bool.{true, false}
-use mathlib.Core.List.{List}
-use Prim.Native.Nat.{ℕ, _/_, _≤_, min}
-use native.Mathlib.Omega.{arith}
-use lib.Dec.{ltb}
-use lib.ListN.{length, length-map}
-use Rattle.laws.specs.Lists.{over}
-use Rattle.laws.proofs.Rows.{length-over}
+use Rattle.laws.proofs.Prelude.{_≡_, ap, ap₂, sym, _∙_, true, false, List, ℕ, _/_, _≤_, min, arith, ltb, length, length-map, over, length-over}
 use Rattle.styling.specs.Ascending.{strictlyAscends}
 use Rattle.queue_statements.specs.Queue.{Carry, idsIn, coversIn, isQueue}
 use Rattle.queue_statements.proofs.Columns.{areWide, length-covers, reads-back, in-order}

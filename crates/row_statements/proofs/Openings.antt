@@ -1,15 +1,6 @@
 -- What a passed opening's verdict tells, and the operation put together from its parts. Assumes nothing.
-use mathlib.Core.Path.{_≡_, refl, ap, _∙_}
-use mathlib.Core.Bool.{true, false, _||_}
-use mathlib.Core.List.{List}
-use Prim.Native.Nat.{ℕ, suc, _≤_}
-use native.Mathlib.Omega.{arith}
-use borrow.Author.Tests.{not-false}
-use lib.IntN.{ℤ, pos}
-use lib.Signed.{ltZ}
-use Rattle.laws.specs.Answer.{Answer, refused, given}
-use Rattle.laws.specs.Integer.{plus, minus}
-use Rattle.laws.proofs.Parts.{whole, lt-false}
+use Rattle.laws.proofs.Prelude.{_≡_, refl, ap, _∙_, true, false, _||_, List, ℕ, suc, _≤_, arith, not-false, ℤ, pos, ltZ, Answer, refused, given, plus}
+use Rattle.laws.proofs.Prelude.{minus, whole, lt-false}
 use Rattle.refusals.specs.Refusal.{pass, refuse, numberOf}
 use Rattle.refusals.specs.declared.Refusal.{Refusal}
 use Rattle.refusals.proofs.Judging.{passed, or-left, or-right}

@@ -1,5 +1,5 @@
 -- The cases of specs/PaintEdges, computed. Assumes nothing.
-use mathlib.Core.Path.{refl}
+use Rattle.laws.proofs.Prelude.{refl}
 use Rattle.pixel_segment.specs.Field.{coverOf, tileOf}
 use Rattle.segment_rows.specs.Rows.{ascendsFrom}
 use Rattle.segment_rows.specs.Search.{halved, searchOf, tilePart, layerPart}

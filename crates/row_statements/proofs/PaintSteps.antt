@@ -1,19 +1,7 @@
 -- A painting in a run: what it gives is what is due, and what the caller then holds is again the row's. Assumes nothing.
-use mathlib.Core.Path.{_≡_, refl, ap, ap₂, sym, subst, _∙_}
-use mathlib.Core.Bool.{Bool, true, false, not, _||_, false≢true}
-use mathlib.Core.List.{List}
-use mathlib.Core.Option.{Option}
-use Prim.Native.Nat.{ℕ, zero, suc, _+_, _-_}
-use native.Mathlib.Omega.{arith}
-use borrow.Author.Tests.{le-leb, lt-leb, ne-eqb, eqb-true, not-false}
-use lib.Dec.{ltb, leb, eqb}
-use lib.Ieee.{Float}
-use lib.IntN.{ℤ, pos}
-use lib.ListN.{length}
-use lib.Signed.{ltZ}
-use Rattle.laws.specs.Answer.{Answer, refused, given}
-use Rattle.laws.specs.Integer.{plus}
-use Rattle.laws.proofs.Parts.{whole, equal, lt-false}
+use Rattle.laws.proofs.Prelude.{_≡_, refl, ap, ap₂, sym, subst, _∙_, Bool, true, false, not, _||_, false≢true, List, Option, ℕ, zero, suc, _+_, _-_}
+use Rattle.laws.proofs.Prelude.{arith, le-leb, lt-leb, ne-eqb, eqb-true, not-false, ltb, leb, eqb, Float, ℤ, pos, length, ltZ, Answer, refused, given}
+use Rattle.laws.proofs.Prelude.{plus, whole, equal, lt-false}
 use Rattle.refusals.specs.Refusal.{Judgement, pass, refuse, unless, andThen}
 use Rattle.refusals.proofs.Judging.{passed, or-left, or-right}
 use Rattle.pixel_segment.specs.Field.{cpu}

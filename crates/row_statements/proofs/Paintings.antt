@@ -1,18 +1,7 @@
 -- What a painting's verdict tells, and the whole operation from it. Assumes nothing.
-use mathlib.Core.Path.{_≡_, refl, ap, subst, _∙_}
-use mathlib.Core.Bool.{true, false, not, _||_, false≢true}
-use mathlib.Core.List.{List}
-use Prim.Native.Nat.{ℕ, suc, _+_, _≤_}
-use native.Mathlib.Omega.{arith}
-use borrow.Author.Tests.{ltb-false, eqb-true, not-false}
-use lib.Dec.{ltb, leb, eqb}
-use lib.Ieee.{Float}
-use lib.IntN.{ℤ, pos}
-use lib.ListN.{length}
-use lib.Signed.{ltZ}
-use Rattle.laws.specs.Answer.{Answer, refused, given, isGiven}
-use Rattle.laws.specs.Integer.{plus, minus}
-use Rattle.laws.proofs.Parts.{whole, equal, lt-false}
+use Rattle.laws.proofs.Prelude.{_≡_, refl, ap, subst, _∙_, true, false, not, _||_, false≢true, List, ℕ, suc, _+_, _≤_, arith, ltb-false, eqb-true}
+use Rattle.laws.proofs.Prelude.{not-false, ltb, leb, eqb, Float, ℤ, pos, length, ltZ, Answer, refused, given, isGiven, plus, minus, whole, equal}
+use Rattle.laws.proofs.Prelude.{lt-false}
 use Rattle.refusals.specs.Refusal.{Judgement, pass, refuse, numberOf}
 use Rattle.refusals.specs.declared.Refusal.{Refusal}
 use Rattle.refusals.proofs.Judging.{passed, or-left, or-right}

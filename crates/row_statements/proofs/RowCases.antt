@@ -1,5 +1,5 @@
 -- The cases of specs/Edges, computed. Assumes nothing.
-use mathlib.Core.Path.{refl}
+use Rattle.laws.proofs.Prelude.{refl}
 use Rattle.pixel_segment.specs.Field.{coverOf}
 use Rattle.segment_rows.specs.Rows.{ascendsFrom}
 use Rattle.styling.specs.Ascending.{strictlyAscendsFrom}

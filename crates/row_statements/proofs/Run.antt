@@ -1,20 +1,8 @@
 -- The claim of specs/Claim: between calls the caller holds the row's carries, each call keeps that, and what is held makes each call right.
 -- Assumes nothing.
-use mathlib.Core.Path.{_≡_, refl, ap, ap₂, sym, subst, _∙_}
-use mathlib.Core.Bool.{Bool, true, false, cond}
-use mathlib.Core.List.{List}
-use mathlib.Core.Option.{none}
-use Prim.Native.Nat.{ℕ, _+_, _≤_}
-use native.Mathlib.Omega.{arith}
-use borrow.Author.Tests.{ltb-false}
-use lib.Dec.{ltb}
-use lib.Ieee.{Float}
-use lib.IntN.{ℤ, pos}
-use lib.ListN.{length}
-use Rattle.laws.specs.Answer.{Answer, refused, given}
-use Rattle.laws.specs.Integer.{plus}
-use Rattle.laws.proofs.Bools.{not-true, clash}
-use Rattle.laws.proofs.Parts.{whole, equal}
+use Rattle.laws.proofs.Prelude.{_≡_, refl, ap, ap₂, sym, subst, _∙_, Bool, true, false, cond, List, none, ℕ, _+_, _≤_, arith, ltb-false, ltb, Float}
+use Rattle.laws.proofs.Prelude.{ℤ, pos, length, Answer, refused, given, plus, clash, whole, equal}
+use Rattle.laws.proofs.Bools.{not-true}
 use Rattle.refusals.specs.Refusal.{Judgement, pass, refuse}
 use Rattle.segment_rows.specs.Rows.{Words}
 use Rattle.segment_rows.specs.Search.{leftPart}

@@ -1,14 +1,6 @@
 -- The claim is not empty: after every accepted opening, every list of choices is the list of some run's calls. Assumes nothing.
-use mathlib.Core.Path.{_≡_, refl, ap, sym, subst, _∙_}
-use mathlib.Core.Bool.{Bool, not, _||_}
-use mathlib.Core.List.{List, [], _∷_}
-use mathlib.Core.Option.{Option, some, none}
-use Prim.Native.Nat.{ℕ, suc, _+_, _-_}
-use lib.Dec.{ltb}
-use lib.Ieee.{Float}
-use lib.IntN.{pos}
-use lib.ListN.{length}
-use Rattle.laws.specs.Answer.{Answer, refused, given, isGiven}
+use Rattle.laws.proofs.Prelude.{_≡_, refl, ap, sym, subst, _∙_, Bool, not, _||_, List, [], _∷_, Option, some, none, ℕ, suc, _+_, _-_, ltb, Float, pos}
+use Rattle.laws.proofs.Prelude.{length, Answer, refused, given, isGiven}
 use Rattle.refusals.specs.Refusal.{Judgement, pass, refuse, unless, andThen}
 use Rattle.refusals.proofs.Naming.{refusalOf, Named, named}
 use Rattle.pixel_segment.specs.Field.{cpu}

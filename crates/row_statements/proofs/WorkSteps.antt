@@ -1,19 +1,6 @@
 -- A tile work in a run: what it gives is what is due, and what the caller then holds is again the row's. Assumes nothing.
-use mathlib.Core.Path.{_≡_, refl, ap, ap₂, sym, subst, _∙_}
-use mathlib.Core.Bool.{Bool, true, false, not, _||_}
-use mathlib.Core.List.{List, map}
-use mathlib.Core.Option.{none}
-use Prim.Native.Nat.{ℕ, suc, _+_, _≤_}
-use native.Mathlib.Omega.{arith}
-use borrow.Author.Tests.{le-ltb, leb-false}
-use lib.Dec.{leb, eqb}
-use lib.IntN.{ℤ, pos}
-use lib.ListN.{length, take, drop, length-map}
-use lib.Seq.{take-at}
-use lib.Signed.{ltZ}
-use Rattle.laws.specs.Answer.{refused}
-use Rattle.laws.specs.Integer.{plus}
-use Rattle.laws.specs.Lists.{over}
+use Rattle.laws.proofs.Prelude.{_≡_, refl, ap, ap₂, sym, subst, _∙_, Bool, true, false, not, _||_, List, map, none, ℕ, suc, _+_, _≤_, arith, le-ltb}
+use Rattle.laws.proofs.Prelude.{leb-false, leb, eqb, ℤ, pos, length, take, drop, length-map, take-at, ltZ, refused, plus, over}
 use Rattle.refusals.specs.Refusal.{Judgement, pass, refuse, unless, andThen}
 use Rattle.refusals.proofs.Judging.{passed, or-left, or-right}
 use Rattle.segment_rows.specs.Search.{tilePart}

@@ -1,17 +1,6 @@
 -- The work on a tile: what a passed verdict tells, and the operation put together from its parts. Assumes nothing.
-use mathlib.Core.Path.{_≡_, refl, ap, sym, subst, _∙_}
-use mathlib.Core.Bool.{Bool, true, false, not, _||_}
-use mathlib.Core.List.{List}
-use Prim.Native.Nat.{ℕ, suc, _/_, _≤_, _<_}
-use native.Mathlib.Omega.{arith}
-use borrow.Author.Tests.{not-false, ltb-false, leb-false, eqb-true}
-use lib.Dec.{ltb, leb, eqb}
-use lib.IntN.{ℤ, pos}
-use lib.ListN.{length}
-use lib.Signed.{ltZ}
-use Rattle.laws.specs.Answer.{given}
-use Rattle.laws.specs.Integer.{plus, minus}
-use Rattle.laws.proofs.Parts.{whole, equal, lt-false}
+use Rattle.laws.proofs.Prelude.{_≡_, refl, ap, sym, subst, _∙_, Bool, true, false, not, _||_, List, ℕ, suc, _/_, _≤_, _<_, arith, not-false}
+use Rattle.laws.proofs.Prelude.{ltb-false, leb-false, eqb-true, ltb, leb, eqb, ℤ, pos, length, ltZ, given, plus, minus, whole, equal, lt-false}
 use Rattle.refusals.specs.Refusal.{Judgement, pass, refuse, unless, andThen, numberOf}
 use Rattle.refusals.specs.declared.Refusal.{Refusal}
 use Rattle.refusals.proofs.Judging.{passed, or-left, or-right}

@@ -1,13 +1,7 @@
 -- Demand 3, one claim about an accepted opening and any list of tile works and paintings after it, refused ones included: every call gives what is
 -- due of it (specs/Due), which is worked from the whole row. Beside it, what the row alone says of every tile. proofs/Run proves it; specs/Example
 -- has a run that meets its premises.
-use mathlib.Core.Path.{_≡_}
-use mathlib.Core.Bool.{true}
-use mathlib.Core.List.{List, [], _∷_, map}
-use Prim.Native.Nat.{ℕ, suc, _+_, _<_}
-use lib.Ieee.{Float}
-use lib.ListN.{length, getD, take, replicate}
-use Rattle.laws.specs.Answer.{refused}
+use Rattle.laws.specs.Prelude.{_≡_, true, List, [], _∷_, map, ℕ, suc, _+_, _<_, Float, length, getD, take, replicate, refused}
 use Rattle.refusals.specs.Refusal.{pass, refuse}
 use Rattle.pixel_segment.specs.Field.{cpu}
 use Rattle.segment_rows.specs.Rows.{Words}

@@ -1,8 +1,6 @@
 -- The first five conditions of a call on a tile of an open row, lowest first, said once: tile work, listing and painting are judged by these lines.
 -- They differ in what is short, in which tile is wrong, and in which queue is lent. Stands for 1 to 5 of 'Turned down'.
-use mathlib.Core.Bool.{Bool, not}
-use mathlib.Core.List.{List}
-use Prim.Native.Nat.{ℕ, suc}
+use Rattle.laws.specs.Prelude.{Bool, not, List, ℕ, suc}
 use Rattle.refusals.specs.Refusal.{Judgement, unless}
 use Rattle.pixel_segment.specs.Field.{cpu}
 use Rattle.segment_rows.specs.Rows.{isRow}

@@ -1,16 +1,7 @@
 -- What is due of each call after an accepted opening, worked from the opening on: by the row, the table, the row's tiles, which earlier calls were
 -- due to be accepted, and the caller's own choices. No answer, no queue and no state that a call gave back is looked at. The claim of specs/Claim
 -- compares every call with these definitions. Stands for 'what it compares with is worked by this document from the opening on'.
-use mathlib.Core.Bool.{Bool, not, _||_}
-use mathlib.Core.List.{List}
-use mathlib.Core.Option.{Option, none}
-use Prim.Native.Nat.{ℕ, zero, suc, _+_, _-_}
-use lib.Dec.{ltb, leb, eqb}
-use lib.Ieee.{Float}
-use lib.IntN.{ℤ, pos}
-use lib.ListN.{length}
-use lib.Signed.{ltZ}
-use Rattle.laws.specs.Integer.{plus}
+use Rattle.laws.specs.Prelude.{Bool, not, _||_, List, Option, none, ℕ, zero, suc, _+_, _-_, ltb, leb, eqb, Float, ℤ, pos, length, ltZ, plus}
 use Rattle.refusals.specs.Refusal.{Judgement, pass, refuse, unless}
 use Rattle.pixel_segment.specs.Field.{cpu}
 use Rattle.segment_rows.specs.Search.{tilePart}

@@ -1,14 +1,6 @@
 -- Both sides of the edges of an opening's refusals 1 to 4 and of a tile work's; those of 7 and 9 at an opening stand in queue_statements/specs/Edges.
 -- Stands for 'Turned down'.
-use mathlib.Core.Path.{_≡_}
-use mathlib.Core.Bool.{Bool, true, false}
-use mathlib.Core.List.{List, [], _∷_}
-use mathlib.Core.Option.{none}
-use Prim.Native.Nat.{ℕ}
-use lib.Ieee.{nan}
-use lib.IntN.{ℤ, pos, negsuc}
-use lib.ListN.{replicate}
-use Rattle.laws.specs.Lists.{tabulate}
+use Rattle.laws.specs.Prelude.{_≡_, Bool, true, false, List, [], _∷_, none, ℕ, nan, ℤ, pos, negsuc, replicate, tabulate}
 use Rattle.pixel_segment.specs.Field.{cpu}
 use Rattle.pixel_segment.specs.Pack.{wordOf}
 use Rattle.layer_table.specs.Record.{layerOf}

@@ -1,14 +1,7 @@
 -- The claim is not empty: an accepted opening and a run after it that meet the claim's premises, in which an EvenOdd carry is dropped, a clip is
 -- painted, a layer is passed over as covered, and calls are refused by 1, 2, 6 and 8 between accepted ones, and by 3, 4 and 5 for another row, table and
 -- queue. proofs/Example has it.
-use mathlib.Core.Path.{_≡_}
-use mathlib.Core.Bool.{true, false}
-use mathlib.Core.List.{List, [], _∷_, _++_}
-use Prim.Native.Nat.{ℕ}
-use lib.Ieee.{binary32, ofBits}
-use lib.IntN.{ℤ, pos, negsuc}
-use lib.ListN.{replicate}
-use Rattle.laws.specs.Lists.{tabulate}
+use Rattle.laws.specs.Prelude.{_≡_, true, false, List, [], _∷_, _++_, ℕ, binary32, ofBits, ℤ, pos, negsuc, replicate, tabulate}
 use Rattle.refusals.specs.Refusal.{Judgement, pass, refuse}
 use Rattle.pixel_segment.specs.Field.{cpu}
 use Rattle.segment_rows.specs.Rows.{Words}

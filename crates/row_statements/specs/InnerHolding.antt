@@ -1,10 +1,6 @@
 -- What a caller holds between the calls of a run: the carries of the row, in lists that no refusal turns down. The inner functions of a driver ask
 -- this where the public operations judge.
-use mathlib.Core.Path.{_≡_}
-use mathlib.Core.Bool.{true, false}
-use mathlib.Core.List.{List}
-use Prim.Native.Nat.{ℕ, zero, suc, _+_, _≤_}
-use lib.ListN.{length}
+use Rattle.laws.specs.Prelude.{_≡_, true, false, List, ℕ, zero, suc, _+_, _≤_, length}
 use Rattle.queue_statements.specs.Queue.{Carry, isQueue}
 use Rattle.tile_layers.specs.Listing.{areKnown}
 use Rattle.row_carries.specs.Carries.{InOrder}

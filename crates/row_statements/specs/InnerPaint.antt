@@ -1,10 +1,5 @@
 -- What the functions below the painting of a layer give.
-use mathlib.Core.Bool.{Bool, _||_}
-use mathlib.Core.List.{List}
-use Prim.Native.Nat.{ℕ}
-use lib.Dec.{ltb}
-use lib.Ieee.{Float}
-use lib.ListN.{length}
+use Rattle.laws.specs.Prelude.{Bool, _||_, List, ℕ, ltb, Float, length}
 use Rattle.painter.specs.declared.Clip as painter
 use Rattle.row_statements.specs.Lent.{Columns, LentTable, isQueueShort, isLentShort}
 use Rattle.row_statements.specs.declared.PaintAnswer.the-variants.{Mark}

@@ -1,11 +1,5 @@
 -- What the functions below the work on a tile ask and give.
-use mathlib.Core.Path.{_≡_}
-use mathlib.Core.Bool.{Bool}
-use mathlib.Core.List.{List}
-use Prim.Native.Nat.{ℕ, _*_, _≤_, _+_}
-use lib.IntN.{ℤ}
-use lib.ListN.{length}
-use Rattle.laws.specs.Integer.{plus, minus}
+use Rattle.laws.specs.Prelude.{_≡_, Bool, List, ℕ, _*_, _≤_, _+_, ℤ, length, plus, minus}
 use Rattle.refusals.specs.Refusal.{Judgement, pass, unless, andThen, judgementIn}
 use Rattle.refusals.specs.declared.Refusal.{Refusal}
 use Rattle.segment_rows.specs.Search.{tilePart}

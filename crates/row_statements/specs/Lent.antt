@@ -1,13 +1,6 @@
 -- The memory that a caller lends to a row's operations: a queue's two columns, the four of a tile's list, a layer table. How carries and a list lie
 -- in it, what is written over it, and refusal 1 of each. Stands for 'lent arrays with counts' and for condition 1 of 'Turned down'.
-use mathlib.Core.Bool.{Bool, _||_}
-use mathlib.Core.List.{List}
-use Prim.Native.Nat.{ℕ, _/_}
-use lib.Dec.{ltb}
-use lib.Ieee.{Float}
-use lib.IntN.{ℤ}
-use lib.ListN.{length}
-use Rattle.laws.specs.Lists.{over}
+use Rattle.laws.specs.Prelude.{Bool, _||_, List, ℕ, _/_, ltb, Float, ℤ, length, over}
 use Rattle.layer_table.specs.Table as table
 use Rattle.styling.specs.declared.Layer.{Layer}
 use Rattle.queue_statements.specs.Queue as queue

@@ -1,15 +1,7 @@
 -- The opening of a tile row as a public operation (`paint_tile_row` up to its first tile): judged by 1 to 4, then by 7 and 9; the queue of carries
 -- from the segments left of `from`, and the state before the first tile. Stands for the clause on opening and for 'Turned down' at an opening; an
 -- empty row and from = to pass.
-use mathlib.Core.Path.{_≡_}
-use mathlib.Core.Bool.{Bool, not, _||_}
-use mathlib.Core.List.{List}
-use mathlib.Core.Option.{none}
-use Prim.Native.Nat.{ℕ, suc}
-use lib.IntN.{ℤ, pos}
-use lib.Signed.{ltZ}
-use Rattle.laws.specs.Answer.{Answer, refused, given}
-use Rattle.laws.specs.Integer.{plus}
+use Rattle.laws.specs.Prelude.{_≡_, Bool, not, _||_, List, none, ℕ, suc, ℤ, pos, ltZ, Answer, refused, given, plus}
 use Rattle.refusals.specs.Refusal.{Judgement, pass, refuse, unless, numberOf}
 use Rattle.pixel_segment.specs.Field.{cpu}
 use Rattle.segment_rows.specs.Rows.{isRow}

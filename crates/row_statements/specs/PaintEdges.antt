@@ -1,11 +1,5 @@
 -- Both sides of the edges of a painting's refusals. Stands for 'Turned down'.
-use mathlib.Core.Path.{_≡_}
-use mathlib.Core.List.{List, [], _∷_}
-use mathlib.Core.Option.{none}
-use Prim.Native.Nat.{ℕ}
-use lib.Ieee.{nan}
-use lib.IntN.{ℤ, pos, negsuc}
-use lib.ListN.{replicate}
+use Rattle.laws.specs.Prelude.{_≡_, List, [], _∷_, none, ℕ, nan, ℤ, pos, negsuc, replicate}
 use Rattle.pixel_segment.specs.Field.{cpu}
 use Rattle.pixel_segment.specs.Pack.{wordOf}
 use Rattle.refusals.specs.Refusal.{Judgement, pass, refuse}

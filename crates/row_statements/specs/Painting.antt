@@ -1,17 +1,7 @@
 -- Painting a layer as a public operation (`paint_layer` of the Rust): judged by 1 to 5, then by 8 and 9 for the painted layer; then the painting of
 -- `painter` in the tile's part of the row, from the queue that the tile took in, and the state with the clip after it. Stands for 'One tile' from
 -- painting on, and for 'Turned down' at painting.
-use mathlib.Core.Path.{_≡_}
-use mathlib.Core.Bool.{Bool, false, not, _||_}
-use mathlib.Core.List.{List}
-use mathlib.Core.Option.{Option}
-use Prim.Native.Nat.{ℕ}
-use lib.Dec.{ltb}
-use lib.Ieee.{Float}
-use lib.IntN.{ℤ}
-use lib.ListN.{length}
-use Rattle.laws.specs.Answer.{Answer, refused, given, isGiven}
-use Rattle.laws.specs.Lists.{over}
+use Rattle.laws.specs.Prelude.{_≡_, Bool, false, not, _||_, List, Option, ℕ, ltb, Float, ℤ, length, Answer, refused, given, isGiven, over}
 use Rattle.refusals.specs.Refusal.{Judgement, pass, refuse, unless, andThen, numberOf}
 use Rattle.segment_rows.specs.Search.{tilePart}
 use Rattle.layer_table.specs.Lookup.{lookup}

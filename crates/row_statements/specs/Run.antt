@@ -1,11 +1,7 @@
 -- A run: an accepted opening's row, and any list of tile works and paintings after it, refused ones included, as the calls went. The premise of each
 -- step is the operation's own contract, at what the caller holds, chooses and lends.
-use mathlib.Core.Path.{_≡_}
-use mathlib.Core.List.{List, [], _∷_}
-use Prim.Native.Nat.{ℕ}
-use lib.Ieee.{Float}
+use Rattle.laws.specs.Prelude.{_≡_, List, [], _∷_, ℕ, Float, plus}
 use Rattle.refusals.specs.Refusal.{refuse}
-use Rattle.laws.specs.Integer.{plus}
 use Rattle.queue_statements.specs.Queue.{isQueue}
 use Rattle.row_statements.specs.Lent.{Columns, carriesIn, isQueueShort}
 use Rattle.row_statements.specs.State.{State, stateIn}

@@ -1,12 +1,6 @@
 -- Where a caller stands in a row, and refusal 2 of a tile. The clip is none, or the last layer id that it lives up to. Stands for 'a state passed by
 -- value' and for condition 2: 'tile not the next (in painting: not the one just worked) or outside from..to'.
-use mathlib.Core.Bool.{Bool, not, _||_}
-use mathlib.Core.Option.{Option, none}
-use Prim.Native.Nat.{ℕ, _+_}
-use lib.Dec.{ltb, leb, eqb}
-use lib.IntN.{ℤ, pos}
-use lib.Signed.{ltZ}
-use Rattle.laws.specs.Integer.{plus}
+use Rattle.laws.specs.Prelude.{Bool, not, _||_, Option, none, ℕ, _+_, ltb, leb, eqb, ℤ, pos, ltZ, plus}
 use Rattle.painter.specs.Clip.{clipIn}
 use Rattle.row_statements.specs.declared.RowState.{RowState}
 

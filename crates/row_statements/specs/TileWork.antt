@@ -1,13 +1,7 @@
 -- The work on a tile as a public operation: judged by 1 to 9, the lowest that applies; a refusal says its number and leaves the state, the cached
 -- tile and every lent list as they were. Else the list, masks, skips, decision, cached tile and carries are those of `layer_workbench` for the
 -- tile's part of the row, and the state is the next one. Stands for 'One tile' up to painting and for 'Turned down' at tile work.
-use mathlib.Core.Path.{_≡_}
-use mathlib.Core.Bool.{Bool, not, _||_}
-use mathlib.Core.List.{List}
-use Prim.Native.Nat.{ℕ}
-use lib.IntN.{ℤ}
-use lib.ListN.{length}
-use Rattle.laws.specs.Answer.{Answer, refused, given}
+use Rattle.laws.specs.Prelude.{_≡_, Bool, not, _||_, List, ℕ, ℤ, length, Answer, refused, given}
 use Rattle.refusals.specs.Refusal.{Judgement, pass, refuse, unless, andThen, numberOf}
 use Rattle.segment_rows.specs.Search.{tilePart}
 use Rattle.styling.specs.declared.Color.{Color}

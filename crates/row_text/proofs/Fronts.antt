@@ -1,8 +1,5 @@
 -- The first 65,537 bytes of an input decide its answer. Assumes nothing.
-use mathlib.Core.Path.{_≡_, sym, ap, _∙_}
-use mathlib.Core.List.{List}
-use Prim.Native.Nat.{ℕ}
-use lib.ListN.{take}
+use Rattle.laws.proofs.Prelude.{_≡_, sym, ap, _∙_, List, ℕ, take}
 use Rattle.job_text_statements.specs.Parse.{parse}
 use Rattle.job_front.specs.Front.{inputRoom}
 use Rattle.job_front.proofs.Fronts.{front-decides}

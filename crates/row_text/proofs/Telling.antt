@@ -1,14 +1,7 @@
 -- The text of the lines that a driver told is that of the driven row.
 -- Assumes nothing.
-use mathlib.Core.Path.{_≡_, refl, ap, ap₂, sym, subst, _∙_}
-use mathlib.Core.List.{List, [], _∷_, _++_, append-nil, append-assoc, flatten}
-use Prim.Native.Nat.{ℕ, zero, suc, _+_, _*_, _≤_}
-use native.Mathlib.Nat.{add-zero}
-use native.Mathlib.Omega.{arith}
-use lib.Ieee.{Float}
-use lib.ListN.{length, drop, getD, length-append}
-use Rattle.laws.specs.Integer.{plus}
-use Rattle.laws.specs.Lists.{over}
+use Rattle.laws.proofs.Prelude.{_≡_, refl, ap, ap₂, sym, subst, _∙_, List, [], _∷_, _++_, append-nil, append-assoc, flatten, ℕ, zero, suc, _+_, _*_}
+use Rattle.laws.proofs.Prelude.{_≤_, add-zero, arith, Float, length, drop, getD, length-append, plus, over}
 use Rattle.row_lines.specs.Lines.{lineWords, linesWords}
 use Rattle.row_lines.specs.Driven.{Driving, LinesWritten, linesWritten, Drives}
 use Rattle.row_lines.specs.declared.Driven.{Driven}

@@ -1,8 +1,5 @@
 -- The part of a tile of a row that 1 to 6 were judged of. Assumes nothing.
-use mathlib.Core.Path.{_≡_}
-use mathlib.Core.List.{List}
-use Prim.Native.Nat.{ℕ}
-use lib.IntN.{ℤ}
+use Rattle.laws.proofs.Prelude.{_≡_, List, ℕ, ℤ}
 use Rattle.segment_rows.specs.Search.{tilePart}
 use Rattle.styling.specs.declared.Color.{Color}
 use Rattle.cached_tile.specs.declared.kept.Kept as kept

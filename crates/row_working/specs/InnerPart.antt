@@ -1,9 +1,5 @@
 -- What the work on a tile's part asks and gives, whichever tile of whichever row the part is.
-use mathlib.Core.Path.{_≡_}
-use mathlib.Core.List.{List}
-use Prim.Native.Nat.{ℕ, _*_, _≤_}
-use lib.IntN.{ℤ}
-use lib.ListN.{length}
+use Rattle.laws.specs.Prelude.{_≡_, List, ℕ, _*_, _≤_, ℤ, length}
 use Rattle.segment_rows.specs.Search.{tilePart}
 use Rattle.layer_table.specs.Table.{Table}
 use Rattle.styling.specs.declared.Color.{Color}

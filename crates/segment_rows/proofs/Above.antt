@@ -1,19 +1,6 @@
 -- Which numbers of a field are above a key: those from the least one on, which the searches halve by. Assumes nothing.
-use mathlib.Core.Path.{_≡_, refl, ap, sym, _∙_}
-use mathlib.Core.Bool.{Bool, true, false, cond}
-use mathlib.Core.Logic.{⊎-elim}
-use Prim.Native.Nat.{ℕ, zero, suc, _+_, _≤_, _<_, min}
-use native.Mathlib.Numerals.{add-one}
-use native.Mathlib.Omega.{arith}
-use borrow.Author.Tests.{lt-ltb, le-ltb, le-leb, lt-leb}
-use lib.Dec.{leb}
-use lib.IntN.{ℤ, pos, negsuc, _+ℤ_}
-use lib.Signed.{leZ}
-use mir.Syntax.{w16, w32}
-use mir.Val.{SFits}
-use Rattle.laws.proofs.Machine.{within, sfits}
-use Rattle.laws.proofs.Orders.{le-or-lt}
-use Rattle.laws.proofs.Parts.{added}
+use Rattle.laws.proofs.Prelude.{_≡_, refl, ap, sym, _∙_, Bool, true, false, cond, ⊎-elim, ℕ, zero, suc, _+_, _≤_, _<_, min, add-one, arith, lt-ltb}
+use Rattle.laws.proofs.Prelude.{le-ltb, le-leb, lt-leb, leb, ℤ, pos, negsuc, _+ℤ_, leZ, w16, w32, SFits, within, sfits, le-or-lt, added}
 use Rattle.pixel_segment.specs.Field.{tileOf}
 use Rattle.pixel_segment.specs.Order.{isGt, compareOf, compareℤ, compareBool}
 use Rattle.pixel_segment.specs.Pack.{storedOf}

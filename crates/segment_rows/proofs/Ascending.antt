@@ -1,18 +1,8 @@
 -- Laws of ascending lists: how a loop over one goes, and what it says of any two elements. Assumes nothing.
-use mathlib.Core.Path.{_≡_, refl, ap, sym, _∙_}
-use mathlib.Core.Bool.{Bool, true, false, _&&_, and-assoc, and-true}
-use mathlib.Core.List.{List, [], _∷_}
-use mathlib.Core.Logic.{⊎-elim}
-use Prim.Native.Nat.{ℕ, zero, suc, _+_, _-_, _/_, _≤_, _<_}
-use native.Mathlib.Nat.{not-suc-le-zero, le-of-suc-le-suc, div-eq-of-lt, div-eq-of-lt-le}
-use native.Mathlib.Numerals.{add-one}
-use native.Mathlib.Omega.{arith}
-use borrow.Author.Tests.{leb-true, le-leb, lt-leb, ne-eqb}
-use lib.Dec.{leb, eqb}
-use lib.ListN.{length, getD, drop, drop-of-length-le}
-use lib.Seq.{drop-cons}
-use Rattle.laws.proofs.Bools.{left, right, both, not-right}
-use Rattle.laws.proofs.Orders.{le-or-lt}
+use Rattle.laws.proofs.Prelude.{_≡_, refl, ap, sym, _∙_, Bool, true, false, _&&_, and-assoc, and-true, List, [], _∷_, ⊎-elim, ℕ, zero, suc, _+_, _-_}
+use Rattle.laws.proofs.Prelude.{_/_, _≤_, _<_, not-suc-le-zero, le-of-suc-le-suc, div-eq-of-lt, add-one, arith, leb-true, le-leb, lt-leb, ne-eqb, leb}
+use Rattle.laws.proofs.Prelude.{eqb, length, getD, drop, drop-of-length-le, drop-cons, left, right, both, not-right, le-or-lt}
+use native.Mathlib.Nat.{div-eq-of-lt-le}
 use Rattle.segment_rows.specs.Rows.{ascendsFrom, ascends}
 
 -- the key before plus the highest key minus a key reaches the bound exactly where the key is lower

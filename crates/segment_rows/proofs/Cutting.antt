@@ -1,21 +1,9 @@
 -- A row in order, cut tile by tile: what is left from the end of the tiles before on begins at this tile or later, so that its last word is
 -- where the tile ends. Assumes nothing.
-use mathlib.Core.Path.{_≡_, refl, ap, ap₂, sym, _∙_, fun-ext}
-use mathlib.Core.Bool.{Bool, true, false, cond, _&&_}
-use mathlib.Core.Logic.{⊎-elim}
-use mathlib.Core.List.{List, [], _∷_}
-use Prim.Native.Nat.{ℕ, suc, _+_, _≤_, _<_}
-use native.Mathlib.Numerals.{add-one}
-use native.Mathlib.Omega.{arith}
-use borrow.Author.Tests.{lt-ltb, le-ltb, le-leb, lt-leb, eq-eqb, ne-eqb}
-use lib.Dec.{ltb, leb, eqb}
-use lib.IntN.{pos}
-use lib.ListN.{length, getD, drop, length-drop}
-use lib.Seq.{getD-drop}
-use Rattle.laws.specs.Lists.{filter}
-use Rattle.laws.specs.Sum.{countBy}
-use Rattle.laws.proofs.Filtered.{filter-ext, filter-twice, length-filter}
-use Rattle.laws.proofs.Orders.{le-or-lt}
+use Rattle.laws.proofs.Prelude.{_≡_, refl, ap, ap₂, sym, _∙_, fun-ext, Bool, true, false, cond, _&&_, ⊎-elim, List, [], _∷_, ℕ, suc, _+_, _≤_, _<_}
+use Rattle.laws.proofs.Prelude.{add-one, arith, lt-ltb, le-ltb, le-leb, lt-leb, eq-eqb, ne-eqb, ltb, leb, eqb, pos, length, getD, drop, length-drop}
+use Rattle.laws.proofs.Prelude.{getD-drop, filter, countBy, filter-ext, filter-twice, le-or-lt}
+use Rattle.laws.proofs.Filtered.{length-filter}
 use Rattle.pixel_segment.specs.Field.{cpu, tileOf, tileXOf}
 use Rattle.pixel_segment.specs.Order.{isLt, isEq, compareOf, compareBool}
 use Rattle.pixel_segment.proofs.Heights.{cpu-keyed}

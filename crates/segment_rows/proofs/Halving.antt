@@ -1,15 +1,6 @@
 -- Laws of the halving: how a turn of a search's loop goes, by a test whether an element is above the key. Assumes nothing.
-use mathlib.Core.Path.{_≡_, refl, sym, ap, ap₂, _∙_, fun-ext}
-use mathlib.Core.Bool.{Bool, true, false, cond}
-use mathlib.Core.List.{List, [], _∷_}
-use mathlib.Core.Logic.{⊎-elim}
-use Prim.Native.Nat.{ℕ, zero, suc, _+_, _-_, _/_, _≤_, _<_}
-use native.Mathlib.Nat.{not-suc-le-zero}
-use native.Mathlib.Omega.{arith}
-use borrow.Author.Tests.{lt-ltb, le-ltb}
-use lib.ListN.{length, getD}
-use Rattle.laws.proofs.Orders.{le-or-lt}
-use Rattle.laws.proofs.Bools.{either}
+use Rattle.laws.proofs.Prelude.{_≡_, refl, sym, ap, ap₂, _∙_, fun-ext, Bool, true, false, cond, List, [], _∷_, ⊎-elim, ℕ, zero, suc, _+_, _-_, _/_}
+use Rattle.laws.proofs.Prelude.{_≤_, _<_, not-suc-le-zero, arith, lt-ltb, le-ltb, length, getD, le-or-lt, either}
 use Rattle.pixel_segment.specs.Order.{isGt}
 use Rattle.segment_rows.specs.Search.{Place, found, absent, halved, endOf, ended, searchOf, afterOf}
 use Rattle.segment_rows.specs.InnerHalving.{HalfOf}

@@ -1,20 +1,8 @@
 -- The keys of the painter on rows in order: how they compare by stored numbers, and that a row is sorted by each. Assumes nothing.
-use mathlib.Core.Path.{_≡_, refl, ap, ap₂, sym, _∙_}
-use mathlib.Core.Bool.{Bool, true, false, cond}
-use mathlib.Core.Logic.{⊎-elim}
-use mathlib.Core.List.{List}
-use Prim.Native.Nat.{ℕ, zero, suc, _/_, _%_, _^_, _≤_, _<_}
-use native.Mathlib.Omega.{arith}
-use borrow.Author.Tests.{lt-ltb, le-ltb, le-leb, lt-leb, eq-eqb, ne-eqb, eqb-true}
-use lib.Dec.{ltb, leb, eqb, leb·suc-suc}
-use lib.IntN.{pos, negsuc}
-use lib.ListN.{length, getD}
-use lib.Signed.{ltZ, leZ}
-use Rattle.laws.specs.Lists.{all}
-use Rattle.laws.proofs.Bools.{left, right}
-use Rattle.laws.proofs.Every.{all-at}
-use Rattle.laws.proofs.Orders.{le-or-lt}
-use Rattle.laws.proofs.Parts.{equal, difference}
+use Rattle.laws.proofs.Prelude.{_≡_, refl, ap, ap₂, sym, _∙_, Bool, true, false, cond, ⊎-elim, List, ℕ, zero, suc, _/_, _%_, _^_, _≤_, _<_, arith}
+use Rattle.laws.proofs.Prelude.{lt-ltb, le-ltb, le-leb, lt-leb, eq-eqb, ne-eqb, eqb-true, ltb, leb, eqb, pos, negsuc, length, getD, ltZ, leZ, all}
+use Rattle.laws.proofs.Prelude.{left, right, all-at, le-or-lt, equal, difference}
+use lib.Dec.{leb·suc-suc}
 use Rattle.pixel_segment.specs.Field.{tileOf, tileXOf, tileYOf}
 use Rattle.pixel_segment.specs.Order.{isLt, isEq, compareOf, compareℤ, compareBool, orderKey}
 use Rattle.segment_rows.specs.Rows.{ascends, isRow, Ordered, Words}

@@ -1,16 +1,8 @@
 -- The opposite of a row, each of whose words is its opposite: it is a row where the row is, and its parts are the opposites of the row's. Order, tile
 -- and layer play no part in it, so no cover need be mild. Assumes nothing.
-use mathlib.Core.Path.{_≡_, refl, ap, ap₂, _∙_}
-use mathlib.Core.Bool.{Bool, true, false, cond, _&&_}
-use mathlib.Core.List.{List, [], _∷_, map}
-use Prim.Native.Nat.{ℕ, zero, suc, _+_, _-_, _/_, _^_, _<_}
-use native.Mathlib.Omega.{arith}
-use lib.Dec.{leb, eqb, ltb, lit<}
-use lib.IntN.{ℤ, pos}
-use lib.ListN.{length, getD, take, drop, length-map}
-use lib.Signed.{leZ}
-use Rattle.laws.proofs.Drops.{map-drop}
-use Rattle.laws.proofs.Maps.{map-take, all-map, key-at, all-take, all-drop}
+use Rattle.laws.proofs.Prelude.{_≡_, refl, ap, ap₂, _∙_, Bool, true, false, cond, _&&_, List, [], _∷_, map, ℕ, zero, suc, _+_, _-_, _/_, _^_, _<_}
+use Rattle.laws.proofs.Prelude.{arith, leb, eqb, ltb, lit<, ℤ, pos, length, getD, take, drop, length-map, leZ, map-drop, all-map}
+use Rattle.laws.proofs.Maps.{map-take, key-at, all-take, all-drop}
 use Rattle.pixel_segment.specs.Field.{cpu, tileYOf, tileOf}
 use Rattle.pixel_segment.specs.Opposite.{oppositeOf}
 use Rattle.pixel_segment.specs.Order.{orderKey, isGt, compareOf, compareℤ, compareBool}

@@ -1,16 +1,7 @@
 -- Laws of a row in order, at every tile height: its first and last word tell the tile y of all. Assumes nothing.
-use mathlib.Core.Path.{_≡_, refl, sym}
-use mathlib.Core.Bool.{Bool, true, false, _&&_}
-use mathlib.Core.List.{List, [], _∷_}
-use Prim.Native.Nat.{ℕ, _-_, _^_, _≤_, _<_}
-use native.Mathlib.Omega.{arith}
-use borrow.Author.Tests.{eqb-true, eq-eqb}
-use lib.Dec.{eqb}
-use lib.ListN.{length, getD}
+use Rattle.laws.proofs.Prelude.{_≡_, refl, sym, Bool, true, false, _&&_, List, [], _∷_, ℕ, _-_, _^_, _≤_, _<_, arith, eqb-true, eq-eqb, eqb, length}
+use Rattle.laws.proofs.Prelude.{getD, all, left, right, both, same, not-left, all-at, all-intro}
 use lib.Pow.{shr-mono}
-use Rattle.laws.specs.Lists.{all}
-use Rattle.laws.proofs.Bools.{left, right, both, same, not-left}
-use Rattle.laws.proofs.Every.{all-at, all-intro}
 use Rattle.pixel_segment.specs.Field.{tileYOf}
 use Rattle.pixel_segment.specs.Order.{orderKey}
 use Rattle.segment_rows.specs.Rows.{ascends, isRow}

@@ -1,15 +1,7 @@
 -- The search in a slice that the key sorts: found exactly where an element has the key, at the last one; else absent, with the number of
 -- elements below it. One law over the key serves every search. Assumes nothing.
-use mathlib.Core.Path.{_≡_, refl, sym, ap, ap₂, _∙_}
-use mathlib.Core.Bool.{Bool, true, false, cond, false≢true}
-use mathlib.Core.Logic.{⊎-elim}
-use mathlib.Core.List.{List, [], _∷_}
-use Prim.Native.Nat.{ℕ, zero, suc, _+_, _-_, _/_, _≤_, _<_}
-use native.Mathlib.Omega.{arith}
-use lib.ListN.{length, getD}
-use Rattle.laws.specs.Sum.{countBy}
-use Rattle.laws.proofs.Orders.{le-or-lt}
-use Rattle.laws.proofs.Bools.{either}
+use Rattle.laws.proofs.Prelude.{_≡_, refl, sym, ap, ap₂, _∙_, Bool, true, false, cond, false≢true, ⊎-elim, List, [], _∷_, ℕ, zero, suc, _+_, _-_, _/_}
+use Rattle.laws.proofs.Prelude.{_≤_, _<_, arith, length, getD, countBy, le-or-lt, either}
 use Rattle.pixel_segment.specs.Order.{isLt, isEq, isGt}
 use Rattle.segment_rows.specs.Rows.{Ordered}
 use Rattle.segment_rows.specs.Search.{found, absent, halved, ended, searchOf, lastPlace}

@@ -1,18 +1,9 @@
 -- A tile's part of a row in order ascends by layer. Assumes nothing.
-use mathlib.Core.Path.{_≡_, refl, sym, subst₂, _∙_}
-use mathlib.Core.Bool.{Bool, true, false, cond}
-use mathlib.Core.Logic.{⊎-elim}
-use mathlib.Core.List.{List, [], _∷_}
-use Prim.Native.Nat.{ℕ, _+_, _*_, _^_, _≤_, _<_}
-use native.Mathlib.Omega.{arith}
-use borrow.Author.Tests.{leb-true, le-leb, eqb-true, lt-ltb, ltb-true}
-use lib.Dec.{ltb, leb, eqb, lit<}
-use lib.ListN.{length, getD, List·getD-eq-default}
-use Rattle.laws.specs.Lists.{all, filter}
-use Rattle.laws.proofs.Bools.{left, right, both}
-use Rattle.laws.proofs.Every.{all-at, all-intro}
-use Rattle.laws.proofs.Orders.{le-or-lt}
-use Rattle.laws.proofs.Filtered.{all-own, all-kept}
+use Rattle.laws.proofs.Prelude.{_≡_, refl, sym, subst₂, _∙_, Bool, true, false, cond, ⊎-elim, List, [], _∷_, ℕ, _+_, _*_, _^_, _≤_, _<_, arith}
+use Rattle.laws.proofs.Prelude.{leb-true, le-leb, eqb-true, lt-ltb, ltb-true, ltb, leb, eqb, lit<, length, getD, all, filter, left, right, both}
+use Rattle.laws.proofs.Prelude.{all-at, all-intro, le-or-lt, all-kept}
+use lib.ListN.{List·getD-eq-default}
+use Rattle.laws.proofs.Filtered.{all-own}
 use Rattle.pixel_segment.specs.Field.{cpu, tileXOf, tileYOf, layerIdOf}
 use Rattle.pixel_segment.specs.Order.{orderKey}
 use Rattle.segment_rows.specs.Rows.{ascendsFrom, ascends, isRow, Ordered, Words}

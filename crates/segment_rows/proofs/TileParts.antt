@@ -1,20 +1,9 @@
 -- The parts that searches find in a row in order are what they are called: the segments that pass the test, in their order. Assumes nothing.
-use mathlib.Core.Path.{_≡_, refl, ap, ap₂, sym, subst₂, _∙_, fun-ext}
-use mathlib.Core.Bool.{Bool, true, false, cond, not}
-use mathlib.Core.Logic.{⊎-elim}
-use mathlib.Core.List.{List, [], _∷_, _++_}
-use Prim.Native.Nat.{ℕ, zero, suc, _+_, _-_, _≤_, _<_}
-use native.Mathlib.Nat.{zero-add}
-use native.Mathlib.Omega.{arith}
-use borrow.Author.Tests.{lt-ltb, le-ltb, le-leb, lt-leb}
-use lib.Dec.{ltb, leb, eqb}
-use lib.ListN.{length, getD, take, drop, take-append-drop, length-take, length-drop}
-use lib.Seq.{getD-take, getD-drop}
-use Rattle.laws.specs.Lists.{all, filter}
-use Rattle.laws.specs.Sum.{countBy}
-use Rattle.laws.proofs.Every.{all-intro}
-use Rattle.laws.proofs.Orders.{le-or-lt}
-use Rattle.laws.proofs.Filtered.{filter-all, filter-none, filter-append, filter-middle, filter-ext}
+use Rattle.laws.proofs.Prelude.{_≡_, refl, ap, ap₂, sym, subst₂, _∙_, fun-ext, Bool, true, false, cond, not, ⊎-elim, List, [], _∷_, _++_, ℕ, zero}
+use Rattle.laws.proofs.Prelude.{suc, _+_, _-_, _≤_, _<_, zero-add, arith, lt-ltb, le-ltb, le-leb, lt-leb, ltb, leb, eqb, length, getD, take, drop}
+use Rattle.laws.proofs.Prelude.{take-append-drop, length-take, length-drop, getD-take, getD-drop, all, filter, countBy, all-intro, le-or-lt}
+use Rattle.laws.proofs.Prelude.{filter-all, filter-none, filter-ext}
+use Rattle.laws.proofs.Filtered.{filter-append, filter-middle}
 use Rattle.pixel_segment.specs.Field.{cpu, tileOf, tileXOf, layerIdOf}
 use Rattle.pixel_segment.specs.Order.{isLt, isEq, compareOf, compareBool}
 use Rattle.pixel_segment.proofs.Heights.{cpu-keyed}

@@ -1,9 +1,5 @@
 -- What the inner function of the searches gives.
-use mathlib.Core.Path.{_≡_}
-use mathlib.Core.Bool.{Bool, cond}
-use mathlib.Core.List.{List}
-use Prim.Native.Nat.{ℕ, _+_, _-_, _/_}
-use lib.ListN.{getD}
+use Rattle.laws.specs.Prelude.{_≡_, Bool, cond, List, ℕ, _+_, _-_, _/_, getD}
 use Rattle.segment_rows.specs.declared.search.Rest.{Rest}
 
 -- what is left after a halving of the `len` elements from `start` on

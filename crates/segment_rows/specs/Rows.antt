@@ -1,10 +1,5 @@
 -- A row in order. Stands for what refusal 3 asks of a row: its segments don't descend, and none has another tile y.
-use mathlib.Core.Bool.{Bool, true, _&&_}
-use mathlib.Core.List.{List, [], _∷_}
-use Prim.Native.Nat.{ℕ, _^_, _≤_, _<_}
-use lib.Dec.{leb, eqb}
-use lib.ListN.{length, getD}
-use Rattle.laws.specs.Lists.{all}
+use Rattle.laws.specs.Prelude.{Bool, true, _&&_, List, [], _∷_, ℕ, _^_, _≤_, _<_, leb, eqb, length, getD, all}
 use Rattle.pixel_segment.specs.Field.{tileYOf}
 use Rattle.pixel_segment.specs.Order.{orderKey}
 

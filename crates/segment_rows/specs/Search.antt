@@ -1,14 +1,8 @@
 -- `search_last_by_key`: the Rust's halving. `at w` is the rank of the element w: how its key compares with the key that is looked for, so
 -- one definition serves every key. Keys and parts take the table of widths as a parameter. On a slice that the key does not sort, the halving decides; on a sorted one see proofs/Sorted. Stands for
 -- the clause on `search_last_by_key`, P5.
-use mathlib.Core.Path.{_≡_}
-use mathlib.Core.Bool.{Bool, false, cond}
-use mathlib.Core.List.{List, [], _∷_}
-use Prim.Native.Nat.{ℕ, zero, suc, _+_, _-_, _/_, _≤_}
-use lib.Dec.{ltb, leb}
-use lib.IntN.{ℤ, pos}
-use lib.ListN.{length, getD, take, drop}
-use lib.Signed.{leZ}
+use Rattle.laws.specs.Prelude.{_≡_, Bool, false, cond, List, [], _∷_, ℕ, zero, suc, _+_, _-_, _/_, _≤_, ltb, leb, ℤ, pos, length, getD, take, drop}
+use Rattle.laws.specs.Prelude.{leZ}
 use Rattle.pixel_segment.specs.Field.{cpu, tileXOf, tileYOf, layerIdOf, tileOf}
 use Rattle.pixel_segment.specs.Order.{isGt, compareOf, compareℤ, compareBool}
 use Rattle.segment_rows.specs.declared.search.Found.{Found}

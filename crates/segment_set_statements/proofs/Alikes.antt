@@ -1,17 +1,7 @@
 -- Taking in is judged as a beginning with one word more is; so sets with the same words are answered alike. Assumes nothing.
-use mathlib.Core.Path.{_≡_, refl, sym, ap, _∙_}
-use mathlib.Core.Bool.{Bool, true, false, not, _&&_}
-use mathlib.Core.List.{List, _∷_}
-use mathlib.Core.Logic.{⊎-elim}
-use Prim.Native.Nat.{ℕ, suc, _+_, _≤_, _<_}
-use native.Mathlib.Omega.{arith}
-use borrow.Author.Tests.{lt-ltb, le-ltb, ltb-true, leb-true, le-leb}
-use lib.Dec.{leb, ltb}
-use lib.IntN.{ℤ}
-use lib.ListN.{length, getD, length-set}
-use Rattle.laws.specs.Lists.{all}
-use Rattle.laws.proofs.Bools.{same, not-true}
-use Rattle.laws.proofs.Orders.{le-or-lt}
+use Rattle.laws.proofs.Prelude.{_≡_, refl, sym, ap, _∙_, Bool, true, false, not, _&&_, List, _∷_, ⊎-elim, ℕ, suc, _+_, _≤_, _<_, arith, lt-ltb}
+use Rattle.laws.proofs.Prelude.{le-ltb, ltb-true, leb-true, le-leb, leb, ltb, ℤ, length, getD, length-set, all, same, le-or-lt}
+use Rattle.laws.proofs.Bools.{not-true}
 use Rattle.refusals.specs.Refusal.{Judgement, pass, refuse, unless}
 use Rattle.pixel_segment.specs.Field.{cpu, localYOf}
 use Rattle.cover_statements.specs.Carry.{absCover, isLight}

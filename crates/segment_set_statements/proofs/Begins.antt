@@ -1,19 +1,8 @@
 -- A set begun with nothing and then word by word is the fresh working of the part. Assumes nothing.
-use mathlib.Core.Path.{_≡_, refl, sym, ap, ap₂, _∙_}
-use mathlib.Core.Bool.{Bool, true, false, cond}
-use mathlib.Core.List.{List, [], _∷_, _++_, map}
-use Prim.Native.Nat.{ℕ, suc, _+_, _*_, _/_, _%_, _≤_, _<_}
-use native.Mathlib.Numerals.{add-one}
-use native.Mathlib.Omega.{arith}
-use borrow.Author.Tests.{ltb-false, not-false}
-use lib.Dec.{eqb, ltb}
-use lib.IntN.{ℤ, pos, natAbs, _+ℤ_, _*ℤ_, +ℤ-idr}
-use lib.ListN.{length, getD, take, drop, set, length-set, length-append, length-map, take-append-drop, List·getD-map}
-use lib.Seq.{take-at, drop-at, take-suc, take-all, length-take-le}
-use Rattle.laws.specs.Lists.{over, all}
-use Rattle.laws.specs.Sum.{countBy}
-use Rattle.laws.proofs.Rows.{filled, filled-more, filled-all, is-tabulate, length-over}
-use Rattle.laws.proofs.Sums.{sum-append}
+use Rattle.laws.proofs.Prelude.{_≡_, refl, sym, ap, ap₂, _∙_, Bool, true, false, cond, List, [], _∷_, _++_, map, ℕ, suc, _+_, _*_, _/_, _%_, _≤_, _<_}
+use Rattle.laws.proofs.Prelude.{add-one, arith, ltb-false, not-false, eqb, ltb, ℤ, pos, natAbs, _+ℤ_, _*ℤ_, +ℤ-idr, length, getD, take, drop, set}
+use Rattle.laws.proofs.Prelude.{length-set, length-append, length-map, take-append-drop, List·getD-map, take-at, drop-at, take-suc, take-all}
+use Rattle.laws.proofs.Prelude.{length-take-le, over, all, countBy, filled, filled-more, filled-all, is-tabulate, length-over, sum-append}
 use Rattle.refusals.specs.Refusal.{Judgement, pass, unless}
 use Rattle.refusals.proofs.Judging.{passed}
 use Rattle.pixel_segment.specs.Field.{cpu, localYOf}

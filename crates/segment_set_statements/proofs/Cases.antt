@@ -1,6 +1,5 @@
 -- The cases of specs/Edges, computed. Assumes nothing.
-use mathlib.Core.Path.{refl}
-use Rattle.laws.specs.Lists.{over}
+use Rattle.laws.proofs.Prelude.{refl, over}
 use Rattle.pixel_segment.specs.Field.{tileOf, coverOf, doubleAreaOf}
 use Rattle.cover_statements.specs.Area.{doubledArea, areasOf}
 use Rattle.cover_statements.specs.Carry.{isLight, carryOf}

@@ -1,8 +1,5 @@
 -- A set whose carry and loads are written anew is the changed set. Assumes nothing.
-use mathlib.Core.Path.{_≡_, ap₂}
-use mathlib.Core.List.{List}
-use Prim.Native.Nat.{ℕ}
-use lib.IntN.{ℤ}
+use Rattle.laws.proofs.Prelude.{_≡_, ap₂, List, ℕ, ℤ}
 use Rattle.pixel_segment.specs.Field.{cpu}
 use Rattle.cover.specs.declared.Cover.{Cover}
 use Rattle.segment_set_statements.specs.Effect.{carryAfter, loadsAfter}

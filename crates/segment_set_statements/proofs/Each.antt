@@ -1,15 +1,6 @@
 -- Beginning with a part is beginning with none and taking its words in, one after the other. Assumes nothing.
-use mathlib.Core.Path.{_≡_, refl, sym, ap, _∙_}
-use mathlib.Core.Bool.{true}
-use mathlib.Core.List.{List, [], _∷_}
-use Prim.Native.Nat.{ℕ, zero, suc, _+_, _≤_, _<_}
-use native.Mathlib.Numerals.{add-one}
-use native.Mathlib.Omega.{arith}
-use borrow.Author.Tests.{le-ltb, lt-leb}
-use lib.IntN.{ℤ}
-use lib.ListN.{length, getD, drop, drop-of-length-le}
-use lib.Seq.{drop-cons}
-use Rattle.laws.proofs.Every.{all-at}
+use Rattle.laws.proofs.Prelude.{_≡_, refl, sym, ap, _∙_, true, List, [], _∷_, ℕ, zero, suc, _+_, _≤_, _<_, add-one, arith, le-ltb, lt-leb, ℤ, length}
+use Rattle.laws.proofs.Prelude.{getD, drop, drop-of-length-le, drop-cons, all-at}
 use Rattle.refusals.specs.Refusal.{Judgement, pass}
 use Rattle.pixel_segment.specs.Field.{cpu, localYOf}
 use Rattle.cover_statements.specs.Carry.{absCover}

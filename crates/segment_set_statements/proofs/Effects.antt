@@ -1,16 +1,8 @@
 -- Laws of what one segment adds, over any widths: to d of a pixel, to the covers and to the load of a pixel row. Assumes nothing.
-use mathlib.Core.Path.{_≡_, refl}
-use mathlib.Core.Bool.{Bool, true, false, cond, _&&_}
-use mathlib.Core.List.{List, _∷_}
-use mathlib.Core.Logic.{⊎-elim}
-use Prim.Native.Nat.{ℕ, _+_, _≤_, _<_}
-use native.Mathlib.Omega.{arith}
-use borrow.Author.Tests.{ltb-true, eqb-true, leb-true, leb-false, lt-ltb, le-ltb, eq-eqb, ne-eqb}
-use lib.Dec.{eqb, leb, ltb}
-use lib.IntN.{ℤ, pos, _+ℤ_, _*ℤ_, +ℤ-comm}
-use Rattle.laws.proofs.Bools.{right}
-use Rattle.laws.proofs.Orders.{eq-or-ne, le-or-lt}
-use Rattle.laws.proofs.Parts.{equal, added, times}
+use Rattle.laws.proofs.Prelude.{_≡_, refl, Bool, true, false, cond, _&&_, List, _∷_, ⊎-elim, ℕ, _+_, _≤_, _<_, arith, ltb-true, eqb-true, leb-true}
+use Rattle.laws.proofs.Prelude.{leb-false, lt-ltb, le-ltb, eq-eqb, ne-eqb, eqb, leb, ltb, ℤ, pos, _+ℤ_, _*ℤ_, right, eq-or-ne, le-or-lt, equal, added}
+use Rattle.laws.proofs.Prelude.{times}
+use lib.IntN.{+ℤ-comm}
 use Rattle.pixel_segment.specs.Field.{localXOf, coverOf, doubleAreaOf}
 use Rattle.cover_statements.specs.Area.{isBefore, isOwn, coverBefore, ownArea, doubledArea}
 use Rattle.cover_statements.specs.Carry.{inRow, absCover, coverIn, loadIn}

@@ -1,22 +1,9 @@
 -- The sets that were begun and edited are kept. Assumes nothing.
-use mathlib.Core.Path.{_≡_, refl, sym, ap, _∙_}
-use mathlib.Core.Bool.{Bool, true, false, cond, not}
-use mathlib.Core.List.{List, [], _∷_, _++_}
-use mathlib.Core.Logic.{⊎-elim}
-use Prim.Native.Nat.{ℕ, zero, suc, _+_, _-_, _≤_, _<_, min}
-use native.Mathlib.Numerals.{add-one}
-use native.Mathlib.Omega.{arith}
-use borrow.Author.Tests.{ltb-true, ltb-false, leb-false, not-false}
-use lib.Dec.{eqb, leb, ltb}
-use lib.IntN.{ℤ, _+ℤ_, _-ℤ_}
-use lib.ListN.{length, getD, take, set, length-set, length-take}
-use lib.Seq.{take-suc, take-all, take-suc-set, take-set-le, take-set-lt, take-take, getD-take, length-take-le}
-use Rattle.laws.specs.Lists.{over, all}
-use Rattle.laws.specs.Sum.{countBy}
-use Rattle.laws.proofs.Bools.{both, right}
-use Rattle.laws.proofs.Orders.{eq-or-ne, le-or-lt}
-use Rattle.laws.proofs.Rows.{length-over}
-use Rattle.laws.proofs.Sums.{sum-append}
+use Rattle.laws.proofs.Prelude.{_≡_, refl, sym, ap, _∙_, Bool, true, false, cond, not, List, [], _∷_, _++_, ⊎-elim, ℕ, zero, suc, _+_, _-_, _≤_, _<_}
+use Rattle.laws.proofs.Prelude.{min, add-one, arith, ltb-true, ltb-false, leb-false, not-false, eqb, leb, ltb, ℤ, _+ℤ_, _-ℤ_, length, getD, take, set}
+use Rattle.laws.proofs.Prelude.{length-set, length-take, take-suc, take-all, getD-take, length-take-le, over, all, countBy, both, right, eq-or-ne}
+use Rattle.laws.proofs.Prelude.{le-or-lt, length-over, sum-append}
+use lib.Seq.{take-suc-set, take-set-le, take-set-lt, take-take}
 use Rattle.refusals.specs.Refusal.{Judgement, pass, refuse, unless}
 use Rattle.refusals.proofs.Judging.{passed}
 use Rattle.pixel_segment.specs.Field.{cpu, localYOf}

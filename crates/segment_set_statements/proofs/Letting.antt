@@ -1,16 +1,6 @@
 -- Letting out, as the code judges it: by the place of the word among the held ones. Assumes nothing.
-use mathlib.Core.Path.{_≡_, refl, sym, ap, ap₂, _∙_}
-use mathlib.Core.Bool.{Bool, true, false}
-use mathlib.Core.List.{List}
-use mathlib.Core.Logic.{⊎-elim}
-use Prim.Native.Nat.{ℕ, _≤_, _<_, min}
-use native.Mathlib.Omega.{arith}
-use borrow.Author.Tests.{ltb-true}
-use lib.Dec.{ltb}
-use lib.IntN.{ℤ}
-use lib.ListN.{length, take, length-take}
-use lib.Seq.{take-all}
-use Rattle.laws.proofs.Orders.{le-or-lt}
+use Rattle.laws.proofs.Prelude.{_≡_, refl, sym, ap, ap₂, _∙_, Bool, true, false, List, ⊎-elim, ℕ, _≤_, _<_, min, arith, ltb-true, ltb, ℤ, length}
+use Rattle.laws.proofs.Prelude.{take, length-take, take-all, le-or-lt}
 use Rattle.refusals.specs.Refusal.{pass}
 use Rattle.segment_set_statements.specs.Set.{SetState, state, heldOf, isWordHeld, heldPlace, letVerdict}
 use Rattle.segment_set_statements.specs.InnerSpread.{letVerdictBy, Removable}

@@ -1,11 +1,6 @@
 -- Laws of lists given by their elements, and of a list written over another, place by place. Assumes nothing.
-use mathlib.Core.Path.{_≡_, refl, sym, ap, ap₂, _∙_}
-use mathlib.Core.List.{List, _∷_}
-use Prim.Native.Nat.{ℕ, zero, suc, _+_, _-_, _≤_, _<_}
-use native.Mathlib.Omega.{arith}
-use lib.ListN.{length, getD, drop, List·getD-append}
-use lib.Seq.{getD-drop, getD-append-add}
-use Rattle.laws.specs.Lists.{tabulate, over}
+use Rattle.laws.proofs.Prelude.{_≡_, refl, sym, ap, ap₂, _∙_, List, _∷_, ℕ, zero, suc, _+_, _-_, _≤_, _<_, arith, length, getD, drop}
+use Rattle.laws.proofs.Prelude.{List·getD-append, getD-drop, getD-append-add, tabulate, over}
 
 pub tabulate-ext {ℓ} : {A : Type ℓ} (n : ℕ) (f g : ℕ → A) → ((i : ℕ) → i < n → f i ≡ g i) → tabulate n f ≡ tabulate n g
 tabulate-ext zero f g h = refl

@@ -1,18 +1,8 @@
 -- Two lists with the same words, each as often, are worked alike: order within a set carries no meaning. Over any widths and height.
 -- Assumes nothing.
-use mathlib.Core.Path.{_≡_, refl, sym, ap, ap₂, _∙_}
-use mathlib.Core.Bool.{Bool, true, false, cond, not, _&&_, _||_}
-use mathlib.Core.List.{List, [], _∷_}
-use Prim.Native.Nat.{ℕ, _+_, _*_, _/_, _%_}
-use native.Mathlib.Omega.{arith}
-use borrow.Author.Tests.{lt-ltb, le-ltb}
-use lib.IntN.{ℤ, pos, natAbs, _+ℤ_, _*ℤ_}
-use lib.Dec.{eqb, leb, ltb}
-use lib.ListN.{length}
-use Rattle.laws.specs.Lists.{tabulate, all, every}
-use Rattle.laws.specs.Sum.{countBy}
-use Rattle.laws.proofs.Bools.{both, left, right}
-use Rattle.laws.proofs.Sums.{sumℤ-same, sumℕ-same}
+use Rattle.laws.proofs.Prelude.{_≡_, refl, sym, ap, ap₂, _∙_, Bool, true, false, cond, not, _&&_, _||_, List, [], _∷_, ℕ, _+_, _*_, _/_, _%_, arith}
+use Rattle.laws.proofs.Prelude.{lt-ltb, le-ltb, ℤ, pos, natAbs, _+ℤ_, _*ℤ_, eqb, leb, ltb, length, tabulate, all, every, countBy, both, left, right}
+use Rattle.laws.proofs.Prelude.{sumℤ-same, sumℕ-same}
 use Rattle.pixel_segment.specs.Field.{coverOf, doubleAreaOf}
 use Rattle.cover_statements.specs.Area.{isBefore, isOwn, coverBefore, ownArea, doubledArea, areasOf}
 use Rattle.cover_statements.specs.Carry.{inRow, absCover, coverIn, loadIn, lightAt, isLight, carryOf}

@@ -1,18 +1,7 @@
 -- The loop that changes d in one pixel row, one column after another: the columns passed are changed, all else is as it was. Assumes nothing.
-use mathlib.Core.Path.{_≡_, refl, sym, ap, ap₂, _∙_}
-use mathlib.Core.Bool.{Bool, true, false, cond, _&&_}
-use mathlib.Core.List.{List}
-use mathlib.Core.Logic.{⊎-elim}
-use Prim.Native.Nat.{ℕ, _+_, _*_, _/_, _%_, _≤_, _<_}
-use native.Mathlib.Omega.{arith}
-use borrow.Author.Tests.{le-leb, lt-leb, lt-ltb, le-ltb, eq-eqb, ne-eqb}
-use lib.Dec.{eqb, leb, ltb}
-use lib.IntN.{ℤ, pos, _+ℤ_, _*ℤ_}
-use lib.ListN.{length, set, length-set}
-use lib.Seq.{ext-getD, getD-set-same, getD-set-other}
-use Rattle.laws.proofs.Orders.{eq-or-ne, le-or-lt}
-use Rattle.laws.proofs.Rows.{length-tabulate, getD-tabulate, length-over}
-use Rattle.laws.specs.Lists.{tabulate, over}
+use Rattle.laws.proofs.Prelude.{_≡_, refl, sym, ap, ap₂, _∙_, Bool, true, false, cond, _&&_, List, ⊎-elim, ℕ, _+_, _*_, _/_, _%_, _≤_, _<_, arith}
+use Rattle.laws.proofs.Prelude.{le-leb, lt-leb, lt-ltb, le-ltb, eq-eqb, ne-eqb, eqb, leb, ltb, ℤ, pos, _+ℤ_, _*ℤ_, length, set, length-set, ext-getD}
+use Rattle.laws.proofs.Prelude.{getD-set-same, getD-set-other, eq-or-ne, le-or-lt, length-tabulate, getD-tabulate, length-over, tabulate, over}
 use Rattle.pixel_segment.specs.Field.{localXOf, localYOf, coverOf, doubleAreaOf}
 use Rattle.cover_statements.specs.Cover.{coverAt}
 use Rattle.cover_statements.proofs.Areas.{and-false, below-next}

@@ -1,18 +1,7 @@
 -- What an edit leaves alone, and an edit undone. Assumes nothing.
-use mathlib.Core.Path.{_≡_, refl, sym, ap, _∙_}
-use mathlib.Core.Bool.{Bool, true, false, _||_}
-use mathlib.Core.List.{List, [], _∷_, _++_}
-use mathlib.Core.Logic.{⊎-elim}
-use Prim.Native.Nat.{ℕ, _*_, _/_, _%_, _≤_, _<_}
-use native.Mathlib.Omega.{arith}
-use borrow.Author.Tests.{eq-eqb}
-use lib.Dec.{eqb}
-use lib.IntN.{ℤ, pos}
-use lib.ListN.{length, take, drop, take-append-drop}
-use lib.Seq.{getD-set-other, length-take-le}
-use Rattle.laws.specs.Lists.{tabulate, over}
-use Rattle.laws.proofs.Orders.{le-or-lt}
-use Rattle.laws.proofs.Rows.{length-tabulate, getD-tabulate}
+use Rattle.laws.proofs.Prelude.{_≡_, refl, sym, ap, _∙_, Bool, true, false, _||_, List, [], _∷_, _++_, ⊎-elim, ℕ, _*_, _/_, _%_, _≤_, _<_, arith}
+use Rattle.laws.proofs.Prelude.{eq-eqb, eqb, ℤ, pos, length, take, drop, take-append-drop, getD-set-other, length-take-le, tabulate, over, le-or-lt}
+use Rattle.laws.proofs.Prelude.{length-tabulate, getD-tabulate}
 use Rattle.refusals.specs.Refusal.{pass}
 use Rattle.pixel_segment.specs.Field.{cpu, localYOf}
 use Rattle.cover_statements.specs.Area.{areasOf}

@@ -1,16 +1,10 @@
 -- Laws of wrapped numbers, over half the number of values that a width has. Assumes nothing.
-use mathlib.Core.Path.{_≡_, refl, sym, ap, _∙_}
-use Prim.Native.Nat.{ℕ, _+_, _*_, _^_, _≤_, _<_, _/_, _%_}
+use Rattle.laws.proofs.Prelude.{_≡_, refl, sym, ap, _∙_, ℕ, _+_, _*_, _^_, _≤_, _<_, _/_, _%_, arith, ℤ, pos, negsuc, natAbs, subℕ, _+ℤ_, _-ℤ_, SFits}
+use Rattle.laws.proofs.Prelude.{plus, minus, modℤ, Within, within, sfits, small, unique, lifted, remainder, whole, equal, added, taken, difference}
 use native.Mathlib.Nat.{div-le-self}
-use native.Mathlib.Omega.{arith}
-use lib.IntN.{ℤ, pos, negsuc, natAbs, subℕ, _+ℤ_, _-ℤ_}
 use lib.Signed.{remZ, quotZ}
 use mir.Syntax.{Width}
-use mir.Val.{SFits, hbits}
-use Rattle.laws.specs.Integer.{plus, minus, modℤ}
-use Rattle.laws.proofs.Machine.{Within, within, sfits, small}
-use Rattle.laws.proofs.Mod.{unique, lifted, remainder}
-use Rattle.laws.proofs.Parts.{whole, equal, added, taken, difference}
+use mir.Val.{hbits}
 use Rattle.segment_set_statements.specs.Effect.{wrap}
 
 -- z brought into -h to h - 1

@@ -1,10 +1,6 @@
 -- Order within a set carries no meaning for its verdicts either. Stands for W-207: of two kept sets with the same words, each as often, and as many
 -- slots, each edit is answered alike, and both are alike again after it. proofs/Alikes proves it.
-use mathlib.Core.Path.{_≡_}
-use mathlib.Core.List.{List}
-use Prim.Native.Nat.{ℕ}
-use lib.IntN.{ℤ}
-use lib.ListN.{length}
+use Rattle.laws.specs.Prelude.{_≡_, List, ℕ, ℤ, length}
 use Rattle.segment_set_statements.specs.Set.{SetState, heldOf, takeVerdict, takeOf, letVerdict, letOf}
 use Rattle.segment_set_statements.specs.Kept.{Kept, SameWords}
 

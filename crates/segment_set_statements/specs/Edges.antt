@@ -1,9 +1,5 @@
 -- Worked cases of a kept set: layer 5 in tile 2 of row 0, each row of the incoming cover the same. Stands for W-207.
-use mathlib.Core.Path.{_≡_}
-use mathlib.Core.List.{List, [], _∷_, _++_}
-use Prim.Native.Nat.{ℕ}
-use lib.IntN.{ℤ, pos, negsuc, _+ℤ_}
-use lib.ListN.{replicate}
+use Rattle.laws.specs.Prelude.{_≡_, List, [], _∷_, _++_, ℕ, ℤ, pos, negsuc, _+ℤ_, replicate}
 use Rattle.refusals.specs.Refusal.{Judgement, pass, refuse}
 use Rattle.pixel_segment.specs.Field.{cpu}
 use Rattle.cover_statements.specs.Cover.{coverAt}

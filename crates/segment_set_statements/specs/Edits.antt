@@ -1,11 +1,7 @@
 -- Any list of edits after an accepted beginning, refused ones included. The premise of each edit is the operation's own contract, at what the caller
 -- holds; between edits the caller may lend other slots, longer ones say, or another d. `ins` are the words of the part and those taken in since,
 -- `outs` those let out, each as often as it was accepted.
-use mathlib.Core.Path.{_≡_}
-use mathlib.Core.List.{List, [], _∷_}
-use Prim.Native.Nat.{ℕ}
-use lib.IntN.{ℤ}
-use lib.ListN.{take}
+use Rattle.laws.specs.Prelude.{_≡_, List, [], _∷_, ℕ, ℤ, take}
 use Rattle.refusals.specs.Refusal.{Judgement, pass, refuse}
 use Rattle.segment_set_statements.specs.Set.{SetState, state, heldOf, Beginning, Gives, beginVerdict, beginOf, takeVerdict, takeOf, letVerdict, letOf}
 use Rattle.segment_set_statements.specs.Kept.{SameWords}

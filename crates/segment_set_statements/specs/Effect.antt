@@ -1,14 +1,7 @@
 -- What one segment changes: d of the pixels of its row, from its column rightward, and its row's carry and load. Stands for W-207, 'only the
 -- segment's pixel row, from its column rightward, and that row's carry may differ'. Each change is written with the operation that makes it:
 -- a sum where the segment is taken in, a difference where it is let out. The field widths `ws` and the tile's height n are parameters.
-use mathlib.Core.Bool.{Bool, cond, _&&_}
-use mathlib.Core.List.{List}
-use Prim.Native.Nat.{ℕ, _-_, _*_, _/_, _%_, _^_}
-use lib.Dec.{leb}
-use lib.IntN.{ℤ, pos, subℕ, _+ℤ_, _*ℤ_}
-use lib.ListN.{getD, set}
-use Rattle.laws.specs.Integer.{modℤ}
-use Rattle.laws.specs.Lists.{tabulate, over}
+use Rattle.laws.specs.Prelude.{Bool, cond, _&&_, List, ℕ, _-_, _*_, _/_, _%_, _^_, leb, ℤ, pos, subℕ, _+ℤ_, _*ℤ_, getD, set, modℤ, tabulate, over}
 use Rattle.pixel_segment.specs.Field.{localXOf, localYOf, coverOf, doubleAreaOf}
 use Rattle.cover_statements.specs.Area.{isOwn, isBefore}
 use Rattle.cover_statements.specs.Carry.{inRow, absCover}

@@ -1,12 +1,6 @@
 -- How the code changes d: an amount added in one column of a row, another right of it.
-use mathlib.Core.Bool.{Bool, cond, not, _&&_}
-use mathlib.Core.List.{List}
-use mathlib.Core.Path.{_≡_}
-use Prim.Native.Nat.{ℕ, _+_, _*_, _/_, _%_, _≤_, _<_}
-use lib.Dec.{eqb, leb, ltb}
-use lib.IntN.{ℤ, _+ℤ_}
-use lib.ListN.{length, getD}
-use Rattle.laws.specs.Lists.{tabulate, over}
+use Rattle.laws.specs.Prelude.{Bool, cond, not, _&&_, List, _≡_, ℕ, _+_, _*_, _/_, _%_, _≤_, _<_, eqb, leb, ltb, ℤ, _+ℤ_, length, getD, tabulate}
+use Rattle.laws.specs.Prelude.{over}
 use Rattle.refusals.specs.Refusal.{Judgement, pass, unless}
 use Rattle.pixel_segment.specs.Field.{cpu, localYOf}
 use Rattle.cover_statements.specs.Carry.{absCover}

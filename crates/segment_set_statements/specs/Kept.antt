@@ -1,14 +1,6 @@
 -- When a set is kept: all that it holds equals a fresh working of its held words from the incoming cover it was begun with. Stands for W-207,
 -- 'after each edit all of it equals what a fresh working of the set gives'; and words that are the same, each as often, in any order.
-use mathlib.Core.Path.{_≡_}
-use mathlib.Core.Bool.{true}
-use mathlib.Core.List.{List}
-use Prim.Native.Nat.{ℕ, _+_, _≤_}
-use lib.Dec.{eqb}
-use lib.IntN.{ℤ}
-use lib.ListN.{length, take}
-use Rattle.laws.specs.Lists.{all}
-use Rattle.laws.specs.Sum.{countBy}
+use Rattle.laws.specs.Prelude.{_≡_, true, List, ℕ, _+_, _≤_, eqb, ℤ, length, take, all, countBy}
 use Rattle.pixel_segment.specs.Field.{cpu}
 use Rattle.cover_statements.specs.Area.{areasOf}
 use Rattle.cover_statements.specs.Carry.{isLight, carryOf}

@@ -1,14 +1,8 @@
 -- A kept set of segments and its three operations: begun from a part and an incoming cover, a segment taken in, one equal segment let out. Stands
 -- for W-207 and for its refusals: 1 where the lent d has fewer than 256 numbers, 3 for a segment of another layer or tile, 9 for absolute covers
 -- above 127 in a pixel row, 12 for a segment that is not held, 13 where all lent slots are held. A refusal leaves set and lists as they were.
-use mathlib.Core.Path.{_≡_}
-use mathlib.Core.Bool.{Bool, cond, not, _&&_}
-use mathlib.Core.List.{List, [], _∷_}
-use Prim.Native.Nat.{ℕ, suc, _+_, _-_}
-use lib.Dec.{eqb, leb, ltb}
-use lib.IntN.{ℤ, pos, natAbs, _+ℤ_, _-ℤ_}
-use lib.ListN.{length, getD, take, set, replicate}
-use Rattle.laws.specs.Lists.{tabulate, over, all, any}
+use Rattle.laws.specs.Prelude.{_≡_, Bool, cond, not, _&&_, List, [], _∷_, ℕ, suc, _+_, _-_, eqb, leb, ltb, ℤ, pos, natAbs, _+ℤ_, _-ℤ_, length, getD}
+use Rattle.laws.specs.Prelude.{take, set, replicate, tabulate, over, all, any}
 use Rattle.refusals.specs.Refusal.{Judgement, pass, refuse, judgementIn, unless}
 use Rattle.pixel_segment.specs.Field.{cpu, layerIdOf, tileXOf, tileYOf, tileOf, localYOf}
 use Rattle.pixel_segment.specs.Order.{isEq, compareℤ}

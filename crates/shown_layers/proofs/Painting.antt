@@ -1,15 +1,6 @@
 -- The shown layers of a painted tile, painted in one walk: each step goes by `Tallying`, with the layer that the walk meets. Assumes nothing.
-use mathlib.Core.Path.{_≡_, refl, ap, sym, subst, _∙_}
-use mathlib.Core.Bool.{Bool, true, false, cond, false≢true}
-use mathlib.Core.List.{List}
-use mathlib.Core.Option.{Option}
-use Prim.Native.Nat.{ℕ, _+_, _≤_, _<_}
-use native.Mathlib.Omega.{arith}
-use lib.Count.{ones}
-use lib.Ieee.{Float}
-use lib.IntN.{ℤ}
-use lib.ListN.{length, take, getD}
-use Rattle.laws.specs.Answer.{Answer, refused, given, isGiven}
+use Rattle.laws.proofs.Prelude.{_≡_, refl, ap, sym, subst, _∙_, Bool, true, false, cond, false≢true, List, Option, ℕ, _+_, _≤_, _<_, arith, ones}
+use Rattle.laws.proofs.Prelude.{Float, ℤ, length, take, getD, Answer, refused, given, isGiven}
 use Rattle.layer_table.specs.Lookup.{lookup}
 use Rattle.styling.specs.declared.Layer.{Layer}
 use Rattle.queue_statements.specs.Queue.{Carry, queueOf}

@@ -1,12 +1,6 @@
 -- The shown layers of a list from a place on, and any walk over them, step by step. Assumes nothing.
-use mathlib.Core.Path.{_≡_, refl, ap, ap₂, sym, _∙_}
-use mathlib.Core.Bool.{Bool, true, false, cond}
-use mathlib.Core.List.{List, [], _∷_}
-use Prim.Native.Nat.{ℕ, suc, _+_, _≤_, _<_}
-use native.Mathlib.Numerals.{add-one}
-use native.Mathlib.Omega.{arith}
-use lib.ListN.{length, drop, take, getD, drop-of-length-le}
-use lib.Seq.{drop-cons, getD-take, length-take-le}
+use Rattle.laws.proofs.Prelude.{_≡_, refl, ap, ap₂, sym, _∙_, Bool, true, false, cond, List, [], _∷_, ℕ, suc, _+_, _≤_, _<_, add-one, arith, length}
+use Rattle.laws.proofs.Prelude.{drop, take, getD, drop-of-length-le, drop-cons, getD-take, length-take-le}
 use Rattle.row_lines.specs.Shown.{flagged, shownIn}
 
 module _ (ids : List ℕ) (shown : List Bool) (n i : ℕ) (li : length ids ≡ n) (ls : n ≤ length shown) where

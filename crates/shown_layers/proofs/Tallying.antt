@@ -1,11 +1,6 @@
 -- The walk over a tile's shown layers: what is tallied, with what is left, gives what the whole list gives. Assumes nothing.
-use mathlib.Core.Path.{_≡_, refl, ap, sym, _∙_}
-use mathlib.Core.Bool.{Bool, true, false, cond}
-use mathlib.Core.List.{List, [], _∷_}
-use Prim.Native.Nat.{ℕ, zero, suc, _+_, _*_, _≤_, _<_}
-use native.Mathlib.Nat.{le-of-suc-le-suc, add-zero}
-use native.Mathlib.Omega.{arith}
-use lib.ListN.{length, take, getD, length-map}
+use Rattle.laws.proofs.Prelude.{_≡_, refl, ap, sym, _∙_, Bool, true, false, cond, List, [], _∷_, ℕ, zero, suc, _+_, _*_, _≤_, _<_, le-of-suc-le-suc}
+use Rattle.laws.proofs.Prelude.{add-zero, arith, length, take, getD, length-map}
 use Rattle.styling.specs.declared.Layer.{Layer}
 use Rattle.queue_statements.specs.Queue.{Carry, idsIn}
 use Rattle.tile_layers.specs.Listing.{Listed, noListed, layersIn, incomingOf}

@@ -1,9 +1,5 @@
 -- What the walk over a tile's shown layers asks and gives.
-use mathlib.Core.Bool.{Bool, true, false}
-use mathlib.Core.List.{List, [], _∷_}
-use mathlib.Core.Option.{Option, none}
-use Prim.Native.Nat.{ℕ, _+_}
-use lib.Count.{ones}
+use Rattle.laws.specs.Prelude.{Bool, true, false, List, [], _∷_, Option, none, ℕ, _+_, ones}
 use Rattle.styling.specs.declared.Layer.{Layer}
 use Rattle.queue_statements.specs.Queue.{Carry, idsIn}
 use Rattle.tile_layers.specs.Listing.{layersIn, incomingOf}

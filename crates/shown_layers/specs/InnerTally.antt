@@ -1,10 +1,5 @@
 -- What the inner functions of the walk over a tile's shown layers ask and give.
-use mathlib.Core.Path.{_≡_}
-use mathlib.Core.Bool.{Bool, true, cond}
-use mathlib.Core.List.{List}
-use Prim.Native.Nat.{ℕ, _+_, _≤_, _<_}
-use lib.IntN.{ℤ}
-use lib.ListN.{length}
+use Rattle.laws.specs.Prelude.{_≡_, Bool, true, cond, List, ℕ, _+_, _≤_, _<_, ℤ, length}
 use Rattle.styling.specs.declared.Layer.{Layer}
 use Rattle.queue_statements.specs.Queue.{Carry, queueOf}
 use Rattle.tile_layers.specs.Listing.{layersIn}

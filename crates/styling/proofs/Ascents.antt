@@ -1,14 +1,6 @@
 -- Laws of lists that ascend strictly. Assumes nothing.
-use mathlib.Core.Path.{_≡_, refl}
-use mathlib.Core.Bool.{true}
-use mathlib.Core.List.{List, [], _∷_}
-use Prim.Native.Nat.{ℕ, zero, suc, _≤_, _<_}
-use native.Mathlib.Nat.{not-suc-le-zero, le-of-suc-le-suc}
-use native.Mathlib.Omega.{arith}
-use borrow.Author.Tests.{leb-true, le-leb}
-use lib.Dec.{leb}
-use lib.ListN.{length, getD}
-use Rattle.laws.proofs.Bools.{both, left, right}
+use Rattle.laws.proofs.Prelude.{_≡_, refl, true, List, [], _∷_, ℕ, zero, suc, _≤_, _<_, not-suc-le-zero, le-of-suc-le-suc, arith, leb-true, le-leb}
+use Rattle.laws.proofs.Prelude.{leb, length, getD, both, left, right}
 use Rattle.styling.specs.Ascending.{strictlyAscendsFrom}
 
 module _ (low x : ℕ) (xs : List ℕ) (h : strictlyAscendsFrom low (x ∷ xs) ≡ true) where

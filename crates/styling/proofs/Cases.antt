@@ -1,11 +1,7 @@
 -- Cases of the scope on colours, as theorems over the definitions: NaN equals nothing, both zeros agree, and how 1 is stored. Assumes
 -- nothing.
-use mathlib.Core.Path.{_≡_, refl}
-use mathlib.Core.Bool.{true, false, _&&_}
-use mathlib.Core.Logic.{_⊎_, ⊎-elim}
-use lib.Ieee.{Float, nan, inf, fin, eq, ofBits, ofInt, binary32}
-use lib.IntN.{pos}
-use Rattle.laws.proofs.Bools.{not-left, not-right}
+use Rattle.laws.proofs.Prelude.{_≡_, refl, true, false, _&&_, _⊎_, ⊎-elim, Float, nan, inf, fin, eq, ofBits, ofInt, binary32, pos, not-left}
+use Rattle.laws.proofs.Prelude.{not-right}
 use Rattle.styling.specs.declared.Color.{Color}
 use Rattle.styling.specs.Color.{sameColor}
 

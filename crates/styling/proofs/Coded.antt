@@ -1,13 +1,6 @@
 -- The case of a number has that number, and the number of a case is in range and gives the case again. Assumes nothing.
-use mathlib.Core.Path.{_≡_, refl}
-use mathlib.Core.List.{List, [], _∷_, _++_}
-use Prim.Native.Nat.{ℕ, zero, suc, _≤_, _<_}
-use native.Mathlib.Nat.{not-suc-le-zero, le-of-suc-le-suc}
-use native.Mathlib.Omega.{arith}
-use borrow.Author.Tests.{eqb-true}
-use lib.ListN.{length, getD}
-use lib.Dec.{eqb}
-use Rattle.laws.proofs.Every.{every-at}
+use Rattle.laws.proofs.Prelude.{_≡_, refl, List, [], _∷_, _++_, ℕ, zero, suc, _≤_, _<_, not-suc-le-zero, le-of-suc-le-suc, arith, eqb-true, length}
+use Rattle.laws.proofs.Prelude.{getD, eqb, every-at}
 use Rattle.styling.specs.Codes.{ruleCode, ruleOf, fillCode, fillOf, modeCode, modeOf}
 use Rattle.styling.specs.declared.Color.{Color}
 use Rattle.styling.specs.declared.FillRule.{FillRule}

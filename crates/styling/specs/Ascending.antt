@@ -1,8 +1,5 @@
 -- A list of numbers that ascends strictly: what refusal 4 asks of the ids of a table, and refusal 5 of those of a queue.
-use mathlib.Core.Bool.{Bool, true, _&&_}
-use mathlib.Core.List.{List, [], _∷_}
-use Prim.Native.Nat.{ℕ, suc}
-use lib.Dec.{leb}
+use Rattle.laws.specs.Prelude.{Bool, true, _&&_, List, [], _∷_, ℕ, suc, leb}
 
 -- the first number is `low` or more, and each other is above the one before it
 unfoldable pub strictlyAscendsFrom : ℕ → List ℕ → Bool

@@ -1,7 +1,6 @@
 -- When two colours are the same. Stands for 'a colour is four binary32 numbers, red, green, blue and alpha, compared by ==, so NaN equals
 -- nothing and both zeros agree': `eq` is the == of IEEE 754.
-use mathlib.Core.Bool.{Bool, _&&_}
-use lib.Ieee.{eq}
+use Rattle.laws.specs.Prelude.{Bool, _&&_, eq}
 use Rattle.styling.specs.declared.Color.{Color}
 
 abbrev pub sameColor : Color → Color → Bool

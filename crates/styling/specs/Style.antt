@@ -1,9 +1,6 @@
 -- What the passes ask of a layer. Stands for 'opaque is fill 0, blend mode 0, alpha 1', for the clipped draw, and for the colour that a
 -- solid tile is mixed from. A clip is no draw, whatever else its record says.
-use mathlib.Core.Bool.{Bool, false, _&&_}
-use mathlib.Core.Option.{Option, some, none}
-use lib.Dec.{eqb}
-use lib.Ieee.{eq, ofBits, binary32}
+use Rattle.laws.specs.Prelude.{Bool, false, _&&_, Option, some, none, eqb, eq, ofBits, binary32}
 use Rattle.styling.specs.declared.Color.{Color}
 use Rattle.styling.specs.declared.Fill.{Fill}
 use Rattle.styling.specs.declared.Fill.the-variants.{Solid, Gradient, Texture}

@@ -1,13 +1,6 @@
 -- A batch as the loop over its tiles goes: what is left, from where it stands, gives what the whole batch gives. Assumes nothing.
-use mathlib.Core.Path.{_≡_, refl, ap, ap₂, sym, subst, _∙_}
-use mathlib.Core.Bool.{Bool, true, false, cond, _&&_}
-use mathlib.Core.List.{List}
-use Prim.Native.Nat.{ℕ, suc, _+_, _-_, _^_, _≤_, _<_}
-use native.Mathlib.Omega.{arith}
-use borrow.Author.Tests.{le-leb, lt-leb, ltb-false, ltb-true, leb-true}
-use lib.Dec.{ltb, leb}
-use lib.IntN.{pos}
-use Rattle.laws.proofs.Bools.{left, right}
+use Rattle.laws.proofs.Prelude.{_≡_, refl, ap, ap₂, sym, subst, _∙_, Bool, true, false, cond, _&&_, List, ℕ, suc, _+_, _-_, _^_, _≤_, _<_, arith}
+use Rattle.laws.proofs.Prelude.{le-leb, lt-leb, ltb-false, ltb-true, leb-true, ltb, leb, pos, left, right}
 use Rattle.refusals.specs.Refusal.{Judgement, pass, refuse, judgementIn}
 use Rattle.segment_rows.specs.Search.{tilePart}
 use Rattle.row_statements.specs.Lent.{ListColumns, isListShort}

@@ -1,16 +1,7 @@
 -- The shown layers of a tile that is accepted: none of their paintings is refused, and the walk over them is the succession of the paintings. Assumes
 -- nothing.
-use mathlib.Core.Path.{_≡_, refl, ap, sym, _∙_}
-use mathlib.Core.Bool.{Bool, true, false, cond}
-use mathlib.Core.List.{List, [], _∷_}
-use mathlib.Core.Option.{Option}
-use Prim.Native.Nat.{ℕ, _+_, _*_, _≤_, _<_}
-use native.Mathlib.Omega.{arith}
-use borrow.Author.Tests.{le-ltb, lt-leb, eq-eqb}
-use lib.Ieee.{Float}
-use lib.ListN.{length, drop, length-drop}
-use lib.Seq.{sets, length-sets, length-take-le}
-use Rattle.laws.specs.Lists.{over}
+use Rattle.laws.proofs.Prelude.{_≡_, refl, ap, sym, _∙_, Bool, true, false, cond, List, [], _∷_, Option, ℕ, _+_, _*_, _≤_, _<_, arith, le-ltb, lt-leb}
+use Rattle.laws.proofs.Prelude.{eq-eqb, Float, length, drop, length-drop, sets, length-sets, length-take-le, over}
 use Rattle.refusals.specs.Refusal.{Judgement, pass, andThen}
 use Rattle.segment_rows.specs.Search.{tilePart}
 use Rattle.styling.specs.declared.Layer.{Layer}

@@ -1,14 +1,7 @@
 -- A batch before its first tile: what 1 to 5 leave lets the tiles be worked, and where none is worked, or the first is refused, everything is as it was.
 -- Assumes nothing.
-use mathlib.Core.Path.{_≡_, refl, ap, sym, subst, _∙_}
-use mathlib.Core.Bool.{Bool, true, false, not, cond, _&&_, _||_}
-use mathlib.Core.List.{List}
-use Prim.Native.Nat.{ℕ, suc, _+_, _-_, _*_, _/_, _≤_, _<_, min}
-use native.Mathlib.Omega.{arith}
-use borrow.Author.Tests.{not-false}
-use lib.Dec.{ltb}
-use lib.IntN.{ℤ, pos}
-use lib.ListN.{length}
+use Rattle.laws.proofs.Prelude.{_≡_, refl, ap, sym, subst, _∙_, Bool, true, false, not, cond, _&&_, _||_, List, ℕ, suc, _+_, _-_, _*_, _/_, _≤_, _<_}
+use Rattle.laws.proofs.Prelude.{min, arith, not-false, ltb, ℤ, pos, length}
 use Rattle.refusals.specs.Refusal.{Judgement, pass, refuse, unless, andThen, judgementIn}
 use Rattle.refusals.specs.declared.Verdict.{Verdict}
 use Rattle.refusals.proofs.Judging.{passed, or-left, or-right}

@@ -1,19 +1,8 @@
 -- A tile of a batch: what stands after 1 to 5 lets its work pass without judging the row, the table and the carries again, none of its paintings is
 -- refused, and the same stands after it. Assumes nothing.
-use mathlib.Core.Path.{_≡_, refl, ap, ap₂, sym, subst, _∙_}
-use mathlib.Core.Bool.{Bool, true, false, cond, not, _||_}
-use mathlib.Core.List.{List, [], _∷_}
-use mathlib.Core.Option.{none}
-use Prim.Native.Nat.{ℕ, suc, _+_, _*_, _≤_, _<_, min}
-use native.Mathlib.Omega.{arith}
-use borrow.Author.Tests.{le-ltb, lt-leb, eq-eqb, leb-false}
-use lib.Dec.{leb}
-use lib.Ieee.{Float}
-use lib.IntN.{ℤ, pos}
-use lib.ListN.{length, take}
-use lib.Seq.{sets, length-sets}
-use Rattle.laws.specs.Answer.{refused}
-use Rattle.laws.specs.Integer.{plus}
+use Rattle.laws.proofs.Prelude.{_≡_, refl, ap, ap₂, sym, subst, _∙_, Bool, true, false, cond, not, _||_, List, [], _∷_, none, ℕ, suc, _+_, _*_, _≤_}
+use Rattle.laws.proofs.Prelude.{_<_, min, arith, le-ltb, lt-leb, eq-eqb, leb-false, leb, Float, ℤ, pos, length, take, sets, length-sets, refused}
+use Rattle.laws.proofs.Prelude.{plus}
 use Rattle.refusals.specs.Refusal.{Judgement, pass, refuse, unless, andThen, numberOf}
 use Rattle.refusals.specs.declared.Refusal.{Refusal}
 use Rattle.refusals.specs.declared.Verdict.the-variants as verdict

@@ -1,12 +1,5 @@
 -- What the inner functions of a batch ask and give: a tile from where the batch stands, and the tiles one after the other.
-use mathlib.Core.Path.{_≡_}
-use mathlib.Core.Bool.{Bool, true, false, not, _||_}
-use mathlib.Core.List.{List}
-use Prim.Native.Nat.{ℕ, suc, _+_, _*_, _≤_, _<_, min}
-use lib.Ieee.{Float}
-use lib.IntN.{pos}
-use lib.ListN.{length, take}
-use lib.Seq.{sets}
+use Rattle.laws.specs.Prelude.{_≡_, Bool, true, false, not, _||_, List, ℕ, suc, _+_, _*_, _≤_, _<_, min, Float, pos, length, take, sets}
 use Rattle.refusals.specs.Refusal.{pass, judgementIn}
 use Rattle.pixel_segment.specs.Field.{cpu}
 use Rattle.segment_rows.specs.Rows.{Words, isRow}

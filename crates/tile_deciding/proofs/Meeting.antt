@@ -1,21 +1,9 @@
 -- Which of ascending ids a table has, by going through its records once: each record is held against the first id that no record before it had.
 -- Assumes nothing.
-use mathlib.Core.Path.{_≡_, refl, sym, ap, subst, _∙_}
-use mathlib.Core.Bool.{Bool, true, false, cond, _&&_}
-use mathlib.Core.List.{List}
-use mathlib.Core.Logic.{⊎-elim}
-use Prim.Native.Nat.{ℕ, _+_, _≤_, _<_}
-use native.Mathlib.Nat.{eq-or-lt-of-le}
-use native.Mathlib.Omega.{arith}
-use borrow.Author.Tests.{ltb-true, lt-ltb, eqb-true, eq-eqb, ne-eqb}
-use lib.Dec.{eqb, ltb}
-use lib.Ieee.{Float}
-use lib.ListN.{length, getD, take, length-take}
-use lib.Seq.{getD-take}
-use Rattle.laws.specs.Answer.{Answer, isGiven}
-use Rattle.laws.specs.Lists.{all}
-use Rattle.laws.proofs.Bools.{both, left, right, clash, not-true}
-use Rattle.laws.proofs.Every.{all-at, all-intro}
+use Rattle.laws.proofs.Prelude.{_≡_, refl, sym, ap, subst, _∙_, Bool, true, false, cond, _&&_, List, ⊎-elim, ℕ, _+_, _≤_, _<_, eq-or-lt-of-le, arith}
+use Rattle.laws.proofs.Prelude.{ltb-true, lt-ltb, eqb-true, eq-eqb, ne-eqb, eqb, ltb, Float, length, getD, take, length-take, getD-take, Answer}
+use Rattle.laws.proofs.Prelude.{isGiven, all, both, left, right, clash, all-at, all-intro}
+use Rattle.laws.proofs.Bools.{not-true}
 use Rattle.styling.specs.declared.Layer.{Layer}
 use Rattle.styling.specs.Ascending.{strictlyAscends}
 use Rattle.styling.proofs.Ascents.{ascends-lt}

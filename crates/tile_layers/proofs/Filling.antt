@@ -1,21 +1,8 @@
 -- The columns of a list or a queue, filled from the front, one entry after the other. Assumes nothing.
-use mathlib.Core.Path.{_≡_, ap, ap₂, sym, _∙_}
-use mathlib.Core.Bool.{true}
-use mathlib.Core.Logic.{⊎-elim}
-use mathlib.Core.List.{List, [], _∷_, _++_, append-assoc}
-use Prim.Native.Nat.{ℕ, zero, suc, _+_, _-_, _*_, _≤_, _<_}
-use native.Mathlib.Nat.{not-suc-le-zero}
-use native.Mathlib.Omega.{arith}
-use borrow.Author.Tests.{lt-ltb, le-ltb, eqb-true}
-use lib.Dec.{ltb}
-use lib.IntN.{ℤ}
-use lib.ListN.{length, getD, take, drop, length-drop}
-use lib.Seq.{take-at, drop-at, drop-append-add, take-add, drop-drop, length-take-le, drop-cons}
-use Rattle.laws.specs.Lists.{over}
-use Rattle.laws.proofs.Bools.{left, right}
-use Rattle.laws.proofs.Drops.{cons-lt}
-use Rattle.laws.proofs.Orders.{le-or-lt}
-use Rattle.laws.proofs.Rows.{filled}
+use Rattle.laws.proofs.Prelude.{_≡_, ap, ap₂, sym, _∙_, true, ⊎-elim, List, [], _∷_, _++_, append-assoc, ℕ, zero, suc, _+_, _-_, _*_, _≤_, _<_}
+use Rattle.laws.proofs.Prelude.{not-suc-le-zero, arith, lt-ltb, le-ltb, eqb-true, ltb, ℤ, length, getD, take, drop, length-drop, take-at, drop-at}
+use Rattle.laws.proofs.Prelude.{take-add, drop-drop, length-take-le, drop-cons, over, left, right, cons-lt, le-or-lt, filled}
+use lib.Seq.{drop-append-add}
 use Rattle.segment_rows.specs.Search.{between}
 use Rattle.cover_statements.specs.Entry.{putEntry}
 use Rattle.queue_statements.specs.Queue.{Carry, coversIn}

@@ -1,14 +1,7 @@
 -- The column of flags: written from a place on, and read back. Assumes nothing.
-use mathlib.Core.Path.{_≡_, sym, ap, _∙_}
-use mathlib.Core.Bool.{Bool, false}
-use mathlib.Core.List.{List, [], _∷_, _++_}
-use Prim.Native.Nat.{ℕ, _+_, _≤_, _<_}
-use native.Mathlib.Nat.{zero-add, suc-add}
-use native.Mathlib.Omega.{arith}
-use lib.ListN.{length, getD, set, take, drop, length-append, length-drop, length-map, List·getD-append}
-use lib.Seq.{getD-append-add, getD-take, length-take-le}
-use Rattle.laws.specs.Lists.{over}
-use Rattle.laws.proofs.Rows.{length-over}
+use Rattle.laws.proofs.Prelude.{_≡_, sym, ap, _∙_, Bool, false, List, [], _∷_, _++_, ℕ, _+_, _≤_, _<_, zero-add, suc-add, arith, length, getD, set}
+use Rattle.laws.proofs.Prelude.{take, drop, length-append, length-drop, length-map, List·getD-append, getD-append-add, getD-take, length-take-le}
+use Rattle.laws.proofs.Prelude.{over, length-over}
 use Rattle.styling.specs.declared.Layer.{Layer}
 use Rattle.tile_layers.specs.Listing.{Listed, hasAny, segmentsOf, isChanged, changedOf, overFrom, flagsOver}
 

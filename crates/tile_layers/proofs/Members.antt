@@ -1,14 +1,7 @@
 -- A layer is listed exactly where it has a carry or a segment. Assumes nothing.
-use mathlib.Core.Path.{_≡_, refl, sym, ap, _∙_}
-use mathlib.Core.Bool.{Bool, true, false, cond, _||_, or-true, or-false, or-assoc, or-self-left}
-use mathlib.Core.List.{List, [], _∷_, map}
-use Prim.Native.Nat.{ℕ, zero, suc, _<_}
-use native.Mathlib.Nat.{not-suc-le-zero, le-of-suc-le-suc}
-use native.Mathlib.Omega.{arith}
-use borrow.Author.Tests.{ltb-false, eqb-true, eq-eqb}
-use lib.Dec.{ltb, eqb}
-use lib.ListN.{length, getD}
-use Rattle.laws.specs.Lists.{any}
+use Rattle.laws.proofs.Prelude.{_≡_, refl, sym, ap, _∙_, Bool, true, false, cond, _||_, List, [], _∷_, map, ℕ, zero, suc, _<_, not-suc-le-zero}
+use Rattle.laws.proofs.Prelude.{le-of-suc-le-suc, arith, ltb-false, eqb-true, eq-eqb, ltb, eqb, length, getD, any}
+use mathlib.Core.Bool.{or-true, or-false, or-assoc, or-self-left}
 use Rattle.pixel_segment.specs.Field.{cpu, layerIdOf}
 use Rattle.queue_statements.specs.Queue.{Carry}
 use Rattle.tile_layers.specs.Groups.{Group, single, joinTo, groupsOf}

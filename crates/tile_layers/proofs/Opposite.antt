@@ -1,15 +1,9 @@
 -- The layers of a tile of the opposite row: the row's, each with its incoming cover negated and its own segments opposite; they are judged alike.
 -- Assumes nothing.
-use mathlib.Core.Path.{_≡_, refl, ap, ap₂, sym, _∙_}
-use mathlib.Core.Bool.{Bool, true, false, cond, _&&_}
-use mathlib.Core.List.{List, [], _∷_, map, map-map}
-use Prim.Native.Nat.{ℕ}
-use lib.Dec.{eqb, ltb, lit<}
-use lib.ListN.{length-map}
-use Rattle.laws.specs.Answer.{isGiven}
-use Rattle.laws.specs.Lists.{all}
-use Rattle.laws.proofs.Bools.{both, left, right}
-use Rattle.laws.proofs.Maps.{all-map, map-cond}
+use Rattle.laws.proofs.Prelude.{_≡_, refl, ap, ap₂, sym, _∙_, Bool, true, false, cond, _&&_, List, [], _∷_, map, ℕ, eqb, ltb, lit<, length-map}
+use Rattle.laws.proofs.Prelude.{isGiven, all, both, left, right, all-map}
+use mathlib.Core.List.{map-map}
+use Rattle.laws.proofs.Maps.{map-cond}
 use Rattle.pixel_segment.specs.Field.{cpu, layerIdOf}
 use Rattle.pixel_segment.specs.Opposite.{oppositeOf}
 use Rattle.pixel_segment.proofs.Opposite.{isMild, areMild, cpu-wide, opposite-field}

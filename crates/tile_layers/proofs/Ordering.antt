@@ -1,13 +1,6 @@
 -- The list of a tile strictly ascends by layer id, where the queue does and the part ascends: each layer is listed once. Assumes nothing.
-use mathlib.Core.Path.{_≡_, refl, ap}
-use mathlib.Core.Bool.{Bool, true, false, cond}
-use mathlib.Core.List.{List, [], _∷_, map}
-use Prim.Native.Nat.{ℕ, suc, _≤_, _<_}
-use native.Mathlib.Omega.{arith}
-use borrow.Author.Tests.{le-leb, ltb-true, ltb-false, eqb-true, eqb-false}
-use lib.Dec.{leb, ltb, eqb}
-use lib.ListN.{length, getD}
-use Rattle.laws.proofs.Bools.{both}
+use Rattle.laws.proofs.Prelude.{_≡_, refl, ap, Bool, true, false, cond, List, [], _∷_, map, ℕ, suc, _≤_, _<_, arith, le-leb, ltb-true, ltb-false}
+use Rattle.laws.proofs.Prelude.{eqb-true, eqb-false, leb, ltb, eqb, length, getD, both}
 use Rattle.pixel_segment.specs.Field.{cpu, layerIdOf}
 use Rattle.segment_rows.specs.Rows.{Ordered}
 use Rattle.styling.specs.Ascending.{strictlyAscendsFrom, strictlyAscends}

@@ -1,15 +1,7 @@
 -- The groups of a part: a run of segments of one layer, with another layer or nothing after it, is a group. Assumes nothing.
-use mathlib.Core.Path.{_≡_, refl, ap, ap₂, sym, subst₂, _∙_}
-use mathlib.Core.Bool.{Bool, true, false, cond}
-use mathlib.Core.List.{List, [], _∷_}
-use Prim.Native.Nat.{ℕ, zero, suc, _+_, _-_, _≤_, _<_}
-use native.Mathlib.Nat.{not-suc-le-zero, le-of-suc-le-suc, zero-add, add-zero}
-use native.Mathlib.Omega.{arith}
-use borrow.Author.Tests.{eq-eqb, ne-eqb, eqb-true}
-use lib.Dec.{eqb}
-use lib.ListN.{length, getD, take, drop, length-drop}
-use lib.Seq.{getD-drop, drop-drop}
-use Rattle.laws.specs.Sum.{countBy}
+use Rattle.laws.proofs.Prelude.{_≡_, refl, ap, ap₂, sym, subst₂, _∙_, Bool, true, false, cond, List, [], _∷_, ℕ, zero, suc, _+_, _-_, _≤_, _<_}
+use Rattle.laws.proofs.Prelude.{not-suc-le-zero, le-of-suc-le-suc, zero-add, add-zero, arith, eq-eqb, ne-eqb, eqb-true, eqb, length, getD, take, drop}
+use Rattle.laws.proofs.Prelude.{length-drop, getD-drop, drop-drop, countBy}
 use Rattle.pixel_segment.specs.Field.{cpu, layerIdOf}
 use Rattle.pixel_segment.specs.Order.{compareOf, isLt, isEq}
 use Rattle.segment_rows.specs.Rows.{Ordered}

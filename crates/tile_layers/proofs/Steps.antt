@@ -1,21 +1,8 @@
 -- Laws of the walk's steps: which layer comes next. Assumes nothing.
-use mathlib.Core.Path.{_≡_, refl, ap, ap₂, sym, subst, _∙_}
-use mathlib.Core.Bool.{Bool, true, false, _&&_, false≢true}
-use mathlib.Core.List.{List, [], _∷_}
-use mathlib.Core.Logic.{⊎-elim}
-use Prim.Native.Nat.{ℕ, suc, _+_, _≤_, _<_}
-use native.Mathlib.Omega.{arith}
-use native.Mathlib.Numerals.{add-one}
-use native.Mathlib.Nat.{add-zero, sub-self}
-use borrow.Author.Tests.{lt-ltb, le-ltb, ltb-true, leb-true, leb-false}
-use lib.Dec.{ltb, leb}
-use lib.ListN.{length, getD, drop, take, drop-of-length-le}
-use lib.Seq.{drop-cons}
-use lib.IntN.{ℤ}
-use mir.Val.{boolByte}
-use Rattle.laws.proofs.Bools.{left, right}
-use Rattle.laws.proofs.Orders.{le-or-lt}
-use Rattle.laws.proofs.Rows.{length-tabulate, getD-tabulate}
+use Rattle.laws.proofs.Prelude.{_≡_, refl, ap, ap₂, sym, subst, _∙_, Bool, true, false, _&&_, false≢true, List, [], _∷_, ⊎-elim, ℕ, suc, _+_, _≤_}
+use Rattle.laws.proofs.Prelude.{_<_, arith, add-one, add-zero, lt-ltb, le-ltb, ltb-true, leb-true, leb-false, ltb, leb, length, getD, drop, take}
+use Rattle.laws.proofs.Prelude.{drop-of-length-le, drop-cons, ℤ, boolByte, left, right, le-or-lt, length-tabulate, getD-tabulate}
+use native.Mathlib.Nat.{sub-self}
 use Rattle.pixel_segment.specs.Field.{cpu, layerIdOf}
 use Rattle.segment_rows.specs.Search.{between}
 use Rattle.cover_statements.specs.Entry.{coverEntry}

@@ -1,11 +1,6 @@
 -- A loop over the layers of a tile: the k-th layer comes next, and what is left is the list from there on. Assumes nothing.
-use mathlib.Core.Path.{_≡_, refl, ap, ap₂, _∙_}
-use mathlib.Core.List.{List, [], _∷_}
-use Prim.Native.Nat.{ℕ, _+_, _≤_}
-use native.Mathlib.Omega.{arith}
-use lib.IntN.{ℤ}
-use lib.ListN.{length, drop, drop-of-length-le}
-use Rattle.laws.proofs.Drops.{nil-le, cons-lt, cons-rest}
+use Rattle.laws.proofs.Prelude.{_≡_, refl, ap, ap₂, _∙_, List, [], _∷_, ℕ, _+_, _≤_, arith, ℤ, length, drop, drop-of-length-le, nil-le, cons-lt}
+use Rattle.laws.proofs.Prelude.{cons-rest}
 use Rattle.queue_statements.specs.Queue.{queueOf}
 use Rattle.tile_layers.specs.Groups.{groupsOf}
 use Rattle.tile_layers.specs.Listing.{listOf, layersIn}

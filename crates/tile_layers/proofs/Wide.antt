@@ -1,16 +1,6 @@
 -- Every cover of a tile's layers has a number for each of 16 pixel rows. Assumes nothing.
-use mathlib.Core.Path.{_≡_, refl, ap, _∙_}
-use mathlib.Core.Bool.{Bool, true, false, cond}
-use mathlib.Core.List.{List, [], _∷_, map}
-use Prim.Native.Nat.{ℕ, _*_, _≤_, _<_}
-use native.Mathlib.Omega.{arith}
-use borrow.Author.Tests.{eq-eqb}
-use lib.Dec.{ltb}
-use lib.IntN.{ℤ}
-use lib.ListN.{length}
-use Rattle.laws.proofs.Bools.{left, right, both}
-use Rattle.laws.proofs.Every.{all-intro}
-use Rattle.laws.proofs.Rows.{length-tabulate, getD-tabulate}
+use Rattle.laws.proofs.Prelude.{_≡_, refl, ap, _∙_, Bool, true, false, cond, List, [], _∷_, map, ℕ, _*_, _≤_, _<_, arith, eq-eqb, ltb, ℤ, length}
+use Rattle.laws.proofs.Prelude.{left, right, both, all-intro, length-tabulate, getD-tabulate}
 use Rattle.cover_statements.specs.Entry.{coverEntry}
 use Rattle.cover_statements.proofs.Entries.{entry-length}
 use Rattle.queue_statements.specs.Queue.{Carry, carryAt, queueOf}

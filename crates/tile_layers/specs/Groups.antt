@@ -1,8 +1,5 @@
 -- A tile's part of a row, grouped by layer: the segments of one layer stand together, since the part ascends.
-use mathlib.Core.Bool.{cond}
-use mathlib.Core.List.{List, [], _∷_}
-use Prim.Native.Nat.{ℕ}
-use lib.Dec.{eqb}
+use Rattle.laws.specs.Prelude.{cond, List, [], _∷_, ℕ, eqb}
 use Rattle.pixel_segment.specs.Field.{cpu, layerIdOf}
 
 -- a layer and its segments

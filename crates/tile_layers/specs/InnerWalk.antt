@@ -1,10 +1,5 @@
 -- How the code walks over a queue and a tile's part in step: what the next layer is. `i` counts the carries that are passed, `j` the segments.
-use mathlib.Core.Path.{_≡_}
-use mathlib.Core.Bool.{true, cond}
-use mathlib.Core.List.{List, _∷_}
-use Prim.Native.Nat.{ℕ, _+_, _≤_, _<_}
-use lib.IntN.{ℤ}
-use lib.ListN.{length, drop, getD}
+use Rattle.laws.specs.Prelude.{_≡_, true, cond, List, _∷_, ℕ, _+_, _≤_, _<_, ℤ, length, drop, getD}
 use Rattle.pixel_segment.specs.Field.{cpu, layerIdOf}
 use Rattle.segment_rows.specs.Rows.{Ordered}
 use Rattle.segment_rows.specs.Search.{between}

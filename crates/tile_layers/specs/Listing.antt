@@ -1,14 +1,7 @@
 -- The layers of a tile: each layer with a segment in the tile or a carry in the incoming queue, once, ascending (`populate_layers`). Stands for
 -- 'the list has each layer with a segment or carry, once, ascending' and for refusals 7, 8 and 9 of a list.
-use mathlib.Core.Path.{_≡_}
-use mathlib.Core.Bool.{Bool, true, false, cond, not}
-use mathlib.Core.List.{List, [], _∷_, _++_, map}
-use Prim.Native.Nat.{ℕ, _+_, _*_, _≤_}
-use lib.Dec.{ltb, eqb}
-use lib.IntN.{ℤ}
-use lib.ListN.{length, take, drop}
-use Rattle.laws.specs.Answer.{Answer, refused, given, isGiven}
-use Rattle.laws.specs.Lists.{all, any, over}
+use Rattle.laws.specs.Prelude.{_≡_, Bool, true, false, cond, not, List, [], _∷_, _++_, map, ℕ, _+_, _*_, _≤_, ltb, eqb, ℤ, length, take, drop, Answer}
+use Rattle.laws.specs.Prelude.{refused, given, isGiven, all, any, over}
 use Rattle.pixel_segment.specs.Field.{cpu, layerIdOf}
 use Rattle.cover_statements.specs.Carry.{isLight}
 use Rattle.layer_table.specs.Lookup.{lookup}

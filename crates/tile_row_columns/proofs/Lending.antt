@@ -1,8 +1,5 @@
 -- What was read is lent as far as it counts: n entries, where n is that number. Assumes nothing.
-use mathlib.Core.Path.{_≡_, subst}
-use mathlib.Core.List.{List}
-use Prim.Native.Nat.{ℕ, min}
-use lib.Ieee.{Float}
+use Rattle.laws.proofs.Prelude.{_≡_, subst, List, ℕ, min, Float}
 use Rattle.queue_records.specs.declared.Columns as read
 use Rattle.row_statements.specs.Lent.{Columns}
 use Rattle.row_statements.specs.TileWork.{WorkCall, WorkLent, workOf, GivesWork}

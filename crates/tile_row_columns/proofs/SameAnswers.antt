@@ -1,12 +1,6 @@
 -- Tile work and painting answer and leave the same with the columns that were read as with the records' own: all that they ask of a queue is whether it is short,
 -- whether it is in order, and where neither refuses, its carries. Assumes nothing.
-use mathlib.Core.Path.{_≡_, refl, ap, subst, _∙_}
-use mathlib.Core.Bool.{Bool, true, false, not, _||_}
-use mathlib.Core.List.{List}
-use Prim.Native.Nat.{ℕ, suc}
-use lib.Dec.{ltb}
-use lib.Ieee.{Float}
-use lib.ListN.{length}
+use Rattle.laws.proofs.Prelude.{_≡_, refl, ap, subst, _∙_, Bool, true, false, not, _||_, List, ℕ, suc, ltb, Float, length}
 use Rattle.refusals.specs.Refusal.{Judgement, pass, refuse, unless, andThen}
 use Rattle.pixel_segment.specs.Field.{cpu}
 use Rattle.segment_rows.specs.Rows.{isRow}

@@ -1,8 +1,6 @@
 -- A queue of carry records as columns, and how the code lends what it read of the records: as many entries of the columns as the slice has records, 256
 -- at most, so that refusal 1 is told from the columns as from the records.
-use mathlib.Core.List.{List}
-use Prim.Native.Nat.{ℕ, _*_, min}
-use lib.ListN.{take}
+use Rattle.laws.specs.Prelude.{List, ℕ, _*_, min, take}
 use Rattle.queue_records.specs.Records.{recordIds, recordCovers}
 use Rattle.queue_records.specs.declared.CarryRecord.{CarryRecord}
 use Rattle.queue_records.specs.declared.Columns as read

@@ -1,11 +1,5 @@
 -- The claims of specs/Steps: records that hold the caller's carries are memory that holds the same carries. Assumes nothing.
-use mathlib.Core.Path.{_≡_, sym, ap, _∙_}
-use mathlib.Core.Bool.{false, _&&_}
-use mathlib.Core.List.{List}
-use Prim.Native.Nat.{ℕ, _≤_}
-use native.Mathlib.Omega.{arith}
-use lib.Dec.{leb}
-use lib.ListN.{length, take}
+use Rattle.laws.proofs.Prelude.{_≡_, sym, ap, _∙_, false, _&&_, List, ℕ, _≤_, arith, leb, length, take}
 use Rattle.styling.specs.Ascending.{strictlyAscends}
 use Rattle.queue_statements.specs.Queue.{isQueue, idsIn}
 use Rattle.queue_statements.proofs.Judging.{room}

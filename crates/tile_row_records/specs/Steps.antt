@@ -1,10 +1,6 @@
 -- A caller that keeps its carries as records: what is asked of them so that its calls are steps of a
 -- run (row_statements/specs/Run), and the claim that they are, after every opening and any calls.
-use mathlib.Core.Path.{_≡_}
-use mathlib.Core.List.{List}
-use Prim.Native.Nat.{ℕ, _≤_}
-use lib.Ieee.{Float}
-use lib.ListN.{length, take}
+use Rattle.laws.specs.Prelude.{_≡_, List, ℕ, _≤_, Float, length, take}
 use Rattle.segment_rows.specs.Rows.{Words}
 use Rattle.queue_records.specs.Records.{carriesOf}
 use Rattle.queue_records.specs.declared.CarryRecord.{CarryRecord}

@@ -1,13 +1,5 @@
 -- Two runs over rows that agree on a layer: what their calls say of the layer is the same. Assumes nothing.
-use mathlib.Core.Path.{_≡_, refl, ap, ap₂, sym, _∙_}
-use mathlib.Core.List.{List, _∷_, map}
-use Prim.Native.Nat.{ℕ, suc, _+_, _-_}
-use native.Mathlib.Omega.{arith}
-use lib.Ieee.{Float}
-use lib.ListN.{length, take}
-use lib.Seq.{take-at}
-use Rattle.laws.specs.Answer.{given}
-use Rattle.laws.specs.Lists.{over}
+use Rattle.laws.proofs.Prelude.{_≡_, refl, ap, ap₂, sym, _∙_, List, _∷_, map, ℕ, suc, _+_, _-_, arith, Float, length, take, take-at, given, over}
 use Rattle.refusals.specs.Refusal.{Judgement, pass, refuse}
 use Rattle.pixel_segment.specs.Field.{cpu}
 use Rattle.cover_statements.specs.Plane.{pixelOf}

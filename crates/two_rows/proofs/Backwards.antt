@@ -1,15 +1,7 @@
 -- Two runs over a row of mild covers and over its opposite, by the same calls: the claims of specs/Backwards. Each call of a run gives what is due of it
 -- (listing_runs), and what is due of it on the two rows is alike (proofs/Turned). Assumes nothing.
-use mathlib.Core.Path.{_≡_, refl, ap, ap₂, sym, subst, _∙_}
-use mathlib.Core.Bool.{Bool, true, not, _||_}
-use mathlib.Core.List.{List, map}
-use Prim.Native.Nat.{ℕ, suc, _-_}
-use lib.Ieee.{Float}
-use lib.ListN.{length, take}
-use lib.Seq.{take-at}
-use Rattle.laws.specs.Answer.{Answer, given}
-use Rattle.laws.specs.Integer.{plus}
-use Rattle.laws.specs.Lists.{over}
+use Rattle.laws.proofs.Prelude.{_≡_, refl, ap, ap₂, sym, subst, _∙_, Bool, true, not, _||_, List, map, ℕ, suc, _-_, Float, length, take, take-at}
+use Rattle.laws.proofs.Prelude.{Answer, given, plus, over}
 use Rattle.refusals.specs.Refusal.{Judgement, pass, refuse, unless}
 use Rattle.pixel_segment.specs.Field.{cpu}
 use Rattle.pixel_segment.proofs.Opposite.{areMild, are-mild}

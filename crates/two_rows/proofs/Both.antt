@@ -1,9 +1,6 @@
 -- For every list of choices there are two runs whose calls are alike, over a row of mild covers and over its opposite: specs/Backwards' last claim.
 -- Assumes nothing.
-use mathlib.Core.Path.{_≡_, refl, ap, sym, subst, _∙_}
-use mathlib.Core.Bool.{Bool, true, false}
-use mathlib.Core.List.{List, [], _∷_}
-use Prim.Native.Nat.{ℕ}
+use Rattle.laws.proofs.Prelude.{_≡_, refl, ap, sym, subst, _∙_, Bool, true, false, List, [], _∷_, ℕ}
 use Rattle.refusals.specs.Refusal.{Judgement, pass, refuse}
 use Rattle.pixel_segment.specs.Field.{cpu}
 use Rattle.pixel_segment.proofs.Opposite.{areMild, are-mild}

@@ -1,8 +1,5 @@
 -- The example of specs/Example, computed. Assumes nothing.
-use mathlib.Core.Path.{_≡_, refl, ap, _∙_}
-use native.Mathlib.Omega.{arith}
-use lib.Ieee.{eq, ofBits}
-use lib.ListN.{replicate}
+use Rattle.laws.proofs.Prelude.{_≡_, refl, ap, _∙_, arith, eq, ofBits, replicate}
 use Rattle.pixel_segment.specs.Field.{coverOf, doubleAreaOf, tileOf}
 use Rattle.segment_rows.specs.Rows.{ascendsFrom}
 use Rattle.segment_rows.specs.Search.{halved, searchOf, leftPart, tilePart, layerPart}

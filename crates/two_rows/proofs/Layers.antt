@@ -1,17 +1,6 @@
 -- What a queue and a list say of one layer: whether they have it, its cover, its segments. Assumes nothing.
-use mathlib.Core.Path.{_≡_, refl, ap, ap₂, sym, _∙_}
-use mathlib.Core.Bool.{Bool, true, false, cond, not, _&&_, _||_, and-false}
-use mathlib.Core.Logic.{⊎-elim}
-use mathlib.Core.List.{List, [], _∷_, map}
-use mathlib.Core.Option.{Option, some, none}
-use Prim.Native.Nat.{ℕ, suc, _+_, _≤_, _<_}
-use native.Mathlib.Omega.{arith}
-use borrow.Author.Tests.{eq-eqb, ne-eqb, eqb-true, lt-ltb}
-use lib.Dec.{eqb, ltb}
-use lib.IntN.{ℤ}
-use Rattle.laws.specs.Lists.{any, filter}
-use Rattle.laws.specs.Sum.{sumℕ}
-use Rattle.laws.proofs.Orders.{eq-or-ne}
+use Rattle.laws.proofs.Prelude.{_≡_, refl, ap, ap₂, sym, _∙_, Bool, true, false, cond, not, _&&_, _||_, and-false, ⊎-elim, List, [], _∷_, map, Option}
+use Rattle.laws.proofs.Prelude.{some, none, ℕ, suc, _+_, _≤_, _<_, arith, eq-eqb, ne-eqb, eqb-true, lt-ltb, eqb, ltb, ℤ, any, filter, sumℕ, eq-or-ne}
 use Rattle.pixel_segment.specs.Field.{cpu}
 use Rattle.styling.specs.Ascending.{strictlyAscendsFrom}
 use Rattle.styling.specs.declared.Layer.{Layer}

@@ -1,14 +1,5 @@
 -- The example of specs/Lowest, computed. Assumes nothing.
-use mathlib.Core.Path.{_≡_, refl, ap, sym, _∙_}
-use mathlib.Core.Bool.{true, false, false≢true}
-use mathlib.Core.List.{List, map}
-use Prim.Native.Nat.{ℕ}
-use native.Mathlib.Omega.{arith}
-use lib.Ieee.{Float, nan, odd}
-use lib.IntN.{natAbs}
-use lib.ListN.{getD}
-use Rattle.laws.specs.Answer.{given}
-use Rattle.laws.specs.Lists.{over}
+use Rattle.laws.proofs.Prelude.{_≡_, refl, ap, sym, _∙_, true, false, false≢true, List, map, ℕ, arith, Float, nan, odd, natAbs, getD, given, over}
 use Rattle.pixel_segment.specs.Field.{coverOf, doubleAreaOf, tileOf}
 use Rattle.pixel_segment.specs.Opposite.{oppositeOf}
 use Rattle.pixel_segment.specs.Pack.{withCover}

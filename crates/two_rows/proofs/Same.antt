@@ -1,15 +1,6 @@
 -- Two rows that agree on a layer: its sums, its carries, its entries and its coverages are the same in each tile. Assumes nothing.
-use mathlib.Core.Path.{_≡_, refl, ap, ap₂, sym, _∙_}
-use mathlib.Core.Bool.{Bool, true, cond, not, _&&_, _||_}
-use mathlib.Core.List.{List, [], _∷_, map}
-use mathlib.Core.Option.{some, none}
-use Prim.Native.Nat.{ℕ, zero, suc, _+_}
-use native.Mathlib.Omega.{arith}
-use lib.Dec.{eqb, ltb}
-use lib.IntN.{ℤ, pos, _+ℤ_, _*ℤ_, +ℤ-idl}
-use Rattle.laws.specs.Lists.{tabulate, filter}
-use Rattle.laws.specs.Sum.{sumℤ, countBy}
-use Rattle.laws.proofs.Sums.{sumℤ-same, sumℕ-same}
+use Rattle.laws.proofs.Prelude.{_≡_, refl, ap, ap₂, sym, _∙_, Bool, true, cond, not, _&&_, _||_, List, [], _∷_, map, some, none, ℕ, zero, suc, _+_}
+use Rattle.laws.proofs.Prelude.{arith, eqb, ltb, ℤ, pos, _+ℤ_, _*ℤ_, +ℤ-idl, tabulate, filter, sumℤ, countBy, sumℤ-same, sumℕ-same}
 use Rattle.pixel_segment.specs.Field.{cpu, tileXOf, layerIdOf, coverOf, doubleAreaOf}
 use Rattle.segment_rows.specs.Search as search
 use Rattle.segment_rows.specs.Search.{tilePart}

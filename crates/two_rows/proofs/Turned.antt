@@ -1,16 +1,7 @@
 -- What is due of each call on the opposite row, by what is due of it on the row: the same verdicts, states, decisions, marks and planes, the same
 -- lists and carries with their covers negated. Assumes nothing.
-use mathlib.Core.Path.{_≡_, refl, ap, ap₂, sym, _∙_}
-use mathlib.Core.Bool.{true, not}
-use mathlib.Core.List.{List, map}
-use mathlib.Core.Option.{Option}
-use Prim.Native.Nat.{ℕ, zero, suc, _+_, _-_}
-use lib.Dec.{ltb}
-use lib.Ieee.{Float}
-use lib.IntN.{pos}
-use lib.ListN.{length, length-map}
-use Rattle.laws.specs.Answer.{isGiven}
-use Rattle.laws.specs.Integer.{plus}
+use Rattle.laws.proofs.Prelude.{_≡_, refl, ap, ap₂, sym, _∙_, true, not, List, map, Option, ℕ, zero, suc, _+_, _-_, ltb, Float, pos, length}
+use Rattle.laws.proofs.Prelude.{length-map, isGiven, plus}
 use Rattle.refusals.specs.Refusal.{pass, unless}
 use Rattle.pixel_segment.specs.Field.{cpu}
 use Rattle.pixel_segment.specs.Opposite.{oppositeOf}

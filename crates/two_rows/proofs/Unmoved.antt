@@ -1,13 +1,6 @@
 -- Where only another layer's segments change, a layer's planes stay. Assumes nothing.
-use mathlib.Core.Path.{_≡_, refl, ap, ap₂, sym, _∙_}
-use mathlib.Core.Bool.{Bool, true, false, cond, not}
-use mathlib.Core.List.{List, [], _∷_, map}
-use Prim.Native.Nat.{ℕ, suc, _+_}
-use native.Mathlib.Omega.{arith}
-use borrow.Author.Tests.{eqb-true, ne-eqb}
-use lib.Dec.{eqb}
-use Rattle.laws.specs.Lists.{filter}
-use Rattle.laws.specs.Sum.{countBy}
+use Rattle.laws.proofs.Prelude.{_≡_, refl, ap, ap₂, sym, _∙_, Bool, true, false, cond, not, List, [], _∷_, map, ℕ, suc, _+_, arith, eqb-true, ne-eqb}
+use Rattle.laws.proofs.Prelude.{eqb, filter, countBy}
 use Rattle.pixel_segment.specs.Field.{cpu, layerIdOf}
 use Rattle.styling.specs.declared.FillRule.{FillRule}
 use Rattle.cover_statements.specs.WholeRow.{rowPlane}

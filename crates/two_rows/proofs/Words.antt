@@ -1,14 +1,6 @@
 -- What is summed over a layer's segments depends on no tile y. Assumes nothing.
-use mathlib.Core.Path.{_≡_, refl, ap, ap₂, sym, _∙_}
-use mathlib.Core.Bool.{Bool, true, false, cond, _&&_}
-use mathlib.Core.List.{List, [], _∷_, map}
-use Prim.Native.Nat.{ℕ, _+_, _%_, _/_, _^_}
-use native.Mathlib.Omega.{arith}
-use lib.Dec.{eqb}
-use lib.IntN.{ℤ, pos, _*ℤ_}
-use Rattle.laws.specs.Lists.{filter}
-use Rattle.laws.specs.Sum.{sumBy}
-use Rattle.laws.proofs.Sums.{sum-ext, sum-filter}
+use Rattle.laws.proofs.Prelude.{_≡_, refl, ap, ap₂, sym, _∙_, Bool, true, false, cond, _&&_, List, [], _∷_, map, ℕ, _+_, _%_, _/_, _^_, arith, eqb, ℤ}
+use Rattle.laws.proofs.Prelude.{pos, _*ℤ_, filter, sumBy, sum-ext, sum-filter}
 use Rattle.pixel_segment.specs.Field.{cpu, tileXOf, layerIdOf, localXOf, localYOf, multiplierOf, signedOf, coverOf, doubleAreaOf}
 use Rattle.two_rows.specs.Apart.{belowTileY, layerSegments}
 

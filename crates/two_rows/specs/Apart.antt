@@ -1,16 +1,5 @@
 -- W-214: two rows that agree on one layer's segments and its fill rule, and may differ in all else, say the same of that layer.
-use mathlib.Core.Path.{_≡_}
-use mathlib.Core.Bool.{Bool, cond}
-use mathlib.Core.List.{List, [], _∷_, map}
-use mathlib.Core.Option.{Option, some, none}
-use Prim.Native.Nat.{ℕ, _%_, _^_}
-use lib.Dec.{eqb}
-use lib.Ieee.{Float}
-use lib.IntN.{ℤ}
-use lib.ListN.{take}
-use Rattle.laws.specs.Answer.{given}
-use Rattle.laws.specs.Lists.{filter}
-use Rattle.laws.specs.Sum.{countBy}
+use Rattle.laws.specs.Prelude.{_≡_, Bool, cond, List, [], _∷_, map, Option, some, none, ℕ, _%_, _^_, eqb, Float, ℤ, take, given, filter, countBy}
 use Rattle.pixel_segment.specs.Field.{cpu, shiftOf, layerIdOf}
 use Rattle.segment_rows.specs.Rows.{Words}
 use Rattle.queue_statements.specs.Queue.{Carry}

@@ -1,13 +1,7 @@
 -- W-210: outlines run backwards. A row whose covers lie in -31 to 31 and the row with every cover negated are worked by the same calls, refused ones
 -- included: listings, decidings, works and paintings. Then every call answers the same, and every carry is negated, exactly. Mildness is asked of the
 -- whole row, right of its last tile too. What the two runs' memory held before is free; what is lent has room for both or for neither.
-use mathlib.Core.Path.{_≡_}
-use mathlib.Core.Bool.{Bool}
-use mathlib.Core.List.{List, [], _∷_, map}
-use Prim.Native.Nat.{ℕ}
-use lib.Ieee.{Float}
-use lib.ListN.{length, take}
-use Rattle.laws.specs.Answer.{Answer, refused, given}
+use Rattle.laws.specs.Prelude.{_≡_, Bool, List, [], _∷_, map, ℕ, Float, length, take, Answer, refused, given}
 use Rattle.refusals.specs.Refusal.{refuse}
 use Rattle.pixel_segment.specs.Field.{cpu}
 use Rattle.pixel_segment.specs.Opposite.{oppositeOf, Mild}

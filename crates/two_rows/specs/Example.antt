@@ -1,14 +1,7 @@
 -- Two rows that agree on layer 5, a clipped draw, and differ in its table's word and in what rests on other layers: whether it is changed, which layers
 -- are masked off, how many are skipped, the decision, and the layer's mark. In the first it stands alone; in the second a clip lies below it and an opaque draw over it. proofs/Example has it.
-use mathlib.Core.Path.{_≡_}
-use mathlib.Core.Bool.{Bool, true, false}
-use mathlib.Core.List.{List, [], _∷_, _++_, map}
-use mathlib.Core.Option.{some, none}
-use Prim.Native.Nat.{ℕ}
-use lib.Ieee.{Float, binary32, ofBits}
-use lib.IntN.{pos, negsuc}
-use lib.ListN.{length, replicate}
-use Rattle.laws.specs.Lists.{tabulate}
+use Rattle.laws.specs.Prelude.{_≡_, Bool, true, false, List, [], _∷_, _++_, map, some, none, ℕ, Float, binary32, ofBits, pos, negsuc, length}
+use Rattle.laws.specs.Prelude.{replicate, tabulate}
 use Rattle.pixel_segment.specs.Field.{cpu}
 use Rattle.pixel_segment.specs.Pack.{wordOf}
 use Rattle.styling.specs.declared.Color.{Color}

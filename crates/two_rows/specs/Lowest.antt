@@ -1,12 +1,7 @@
 -- Where W-210 ends: -32 is a cover that the field of a segment holds, and 32 is not. A row with one cover of -32 and its opposite are both opened, and
 -- the carries are not opposite, nor are the coverages the same. So the claim of specs/Backwards is false of rows whose covers lie in -32 to 31.
 -- proofs/Lowest has it.
-use mathlib.Core.Path.{_≡_}
-use mathlib.Core.List.{[], _∷_, map}
-use Prim.Native.Nat.{ℕ}
-use lib.Ieee.{binary32, ofBits}
-use lib.IntN.{ℤ, pos, negsuc}
-use lib.ListN.{replicate}
+use Rattle.laws.specs.Prelude.{_≡_, [], _∷_, map, ℕ, binary32, ofBits, ℤ, pos, negsuc, replicate}
 use Rattle.pixel_segment.specs.Field.{cpu, coverOf}
 use Rattle.pixel_segment.specs.Pack.{wordOf}
 use Rattle.segment_rows.specs.Rows.{Words}

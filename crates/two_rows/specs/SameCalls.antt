@@ -1,12 +1,7 @@
 -- Calls of two runs that are the same but for the memory that is lent: kind by kind, the same tile, layer, cached tile and clear colours, and room for
 -- both or for neither. Refused calls are included. Stands for W-210's 'by the same calls, with the same layer table, cached tiles and clear colours, and
 -- each list decided as listed'.
-use mathlib.Core.Path.{_≡_}
-use mathlib.Core.Bool.{Bool, _||_}
-use mathlib.Core.List.{List, [], _∷_}
-use lib.Dec.{ltb}
-use lib.Ieee.{Float}
-use lib.ListN.{length}
+use Rattle.laws.specs.Prelude.{_≡_, Bool, _||_, List, [], _∷_, ltb, Float, length}
 use Rattle.row_statements.specs.Lent.{isQueueShort, isListShort}
 use Rattle.row_statements.specs.TileWork.{WorkCall, WorkLent}
 use Rattle.row_statements.specs.Painting.{PaintCall}

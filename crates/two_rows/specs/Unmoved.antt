@@ -1,11 +1,6 @@
 -- W-214, for the reviewer who approves a layer: where only another layer's segments change, every plane of the approved layer stays, in every tile of
 -- the row. It needs no run: the whole row says it.
-use mathlib.Core.Path.{_≡_}
-use mathlib.Core.Bool.{not}
-use mathlib.Core.List.{List}
-use Prim.Native.Nat.{ℕ}
-use lib.Dec.{eqb}
-use Rattle.laws.specs.Lists.{filter}
+use Rattle.laws.specs.Prelude.{_≡_, not, List, ℕ, eqb, filter}
 use Rattle.pixel_segment.specs.Field.{cpu, layerIdOf}
 use Rattle.row_statements.specs.Due.{OpenRow, planeOn}
 use Rattle.two_rows.specs.Apart.{AgreeOn}

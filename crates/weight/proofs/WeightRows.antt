@@ -1,14 +1,6 @@
 -- A row of weights that stand by columns of a tile n high: its numbers, that they are weights, and its coverages. Assumes nothing.
-use mathlib.Core.Path.{_≡_, sym, ap, _∙_}
-use mathlib.Core.List.{List}
-use Prim.Native.Nat.{ℕ, _+_, _*_, _≤_, _<_}
-use native.Mathlib.Omega.{arith}
-use lib.Arith.{digits-lt}
-use lib.Ieee.{nan}
-use lib.IntN.{ℤ, pos}
-use lib.ListN.{length, getD, length-map}
-use Rattle.laws.proofs.Rows.{length-tabulate, getD-tabulate, is-tabulate}
-use Rattle.laws.specs.Lists.{tabulate}
+use Rattle.laws.proofs.Prelude.{_≡_, sym, ap, _∙_, List, ℕ, _+_, _*_, _≤_, _<_, arith, digits-lt, nan, ℤ, pos, length, getD, length-map}
+use Rattle.laws.proofs.Prelude.{length-tabulate, getD-tabulate, is-tabulate, tabulate}
 use Rattle.cover_statements.specs.Cover.{coverAt}
 use Rattle.cover_statements.specs.InnerWeighed.{Weighed, coverageIn, coveragesIn, weightsRow}
 use Rattle.cover_statements.proofs.Weighings.{map-lt}

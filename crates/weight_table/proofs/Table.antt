@@ -1,12 +1,6 @@
 -- A list that passes the test of every entry is the curve: the rule of the table, at each entry. Assumes nothing.
-use mathlib.Core.Path.{_≡_}
-use mathlib.Core.Bool.{Bool}
-use mathlib.Core.List.{List}
-use Prim.Native.Nat.{ℕ, _<_}
-use native.Mathlib.Omega.{arith}
-use lib.Dec.{T, eqb, eqb→eq}
-use lib.ListN.{length, getD}
-use Rattle.laws.proofs.Rows.{is-tabulate, getD-tabulate}
+use Rattle.laws.proofs.Prelude.{_≡_, Bool, List, ℕ, _<_, arith, T, eqb, length, getD, is-tabulate, getD-tabulate}
+use lib.Dec.{eqb→eq}
 use Rattle.laws.proofs.Table.{every, at}
 use Rattle.weight_table.specs.Rest.{restWeight, curve}
 

@@ -1,8 +1,5 @@
 -- The EvenOdd weight of a remainder by 1,024, by the formula; and the weights of all remainders.
-use mathlib.Core.List.{List}
-use Prim.Native.Nat.{ℕ, _-_}
-use lib.IntN.{natAbs, subℕ}
-use Rattle.laws.specs.Lists.{tabulate}
+use Rattle.laws.specs.Prelude.{List, ℕ, _-_, natAbs, subℕ, tabulate}
 
 -- the EvenOdd weight of a remainder by 1,024: 512 - |rest - 512|
 abbrev pub restWeight : ℕ → ℕ

@@ -1,6 +1,5 @@
 -- `mix_entry` meets its contract. Assumes nothing.
-use borrow.Author.Needs.{needs}
-use borrow.Author.Tests.{not-true, not-false}
+use Rattle.laws.proofs.Prelude.{needs, not-true, not-false}
 use Rattle.batch_statements.specs.BatchLent.{wordsAt}
 use Rattle.batch_mixing.proofs.Mixed.{passed-over, is-noted}
 use Rattle.batch_mixing.proofs.mix_entry.Statement.{statement}

@@ -1,9 +1,5 @@
 -- `mix_listed` meets its contract: the invariant and its steps are those of `Walking`. Assumes nothing.
-use mathlib.Core.Path.{_≡_, refl, _∙_}
-use Prim.Native.Nat.{_-_}
-use native.Mathlib.Omega.{arith}
-use borrow.Author.Needs.{needs}
-use lib.ListN.{length}
+use Rattle.laws.proofs.Prelude.{_≡_, refl, _∙_, _-_, arith, needs, length}
 use Rattle.batch_mixing.specs.InnerMixing.{MixAt, mixAt}
 use Rattle.batch_mixing.proofs.Mixed.{Walking, start, next, end}
 use Rattle.batch_mixing.proofs.mix_listed.Statement.{statement}

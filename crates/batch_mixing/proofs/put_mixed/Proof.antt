@@ -1,6 +1,5 @@
 -- `put_mixed` meets its contract. Assumes nothing.
-use mathlib.Core.Path.{refl}
-use borrow.Author.Needs.{needs}
+use Rattle.laws.proofs.Prelude.{refl, needs}
 use Rattle.batch_statements.specs.BatchLent.{wordsAt}
 use Rattle.batch_mixing.proofs.Mixed.{none-mixed}
 use Rattle.batch_mixing.proofs.put_mixed.Statement.{statement}

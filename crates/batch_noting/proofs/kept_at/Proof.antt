@@ -1,10 +1,5 @@
 -- `kept_at` meets its contract. Assumes nothing.
-use mathlib.Core.Path.{_≡_, ap, _∙_}
-use mathlib.Core.Bool.{true}
-use Prim.Native.Nat.{ℕ, _+_, _*_, _-_}
-use native.Mathlib.Omega.{arith}
-use borrow.Author.Needs.{needs}
-use lib.ListN.{take, drop}
+use Rattle.laws.proofs.Prelude.{_≡_, ap, _∙_, true, ℕ, _+_, _*_, _-_, arith, needs, take, drop}
 use Rattle.ffi_numbers.specs.Cached.{keptOf}
 use Rattle.batch_noting.proofs.kept_at.Statement.{statement}
 use Rattle.batch_noting.proofs.kept_at.Tie as tie

@@ -1,6 +1,5 @@
 -- `put_kept` meets its contract. Assumes nothing.
-use native.Mathlib.Omega.{arith}
-use borrow.Author.Needs.{needs}
+use Rattle.laws.proofs.Prelude.{arith, needs}
 use Rattle.batch_noting.proofs.put_kept.Statement.{statement}
 use Rattle.batch_noting.proofs.put_kept.Tie as tie
 

@@ -1,9 +1,5 @@
 -- `put_six` meets its contract. Assumes nothing.
-use mathlib.Core.Path.{_≡_, _∙_}
-use Prim.Native.Nat.{suc, _+_, _<_}
-use native.Mathlib.Omega.{arith}
-use borrow.Author.Needs.{needs}
-use lib.ListN.{length, set, length-set}
+use Rattle.laws.proofs.Prelude.{_≡_, _∙_, suc, _+_, _<_, arith, needs, length, set, length-set}
 use Rattle.batch_noting.proofs.Stores.{below}
 use Rattle.batch_noting.proofs.put_six.Statement.{statement}
 use Rattle.batch_noting.proofs.put_six.Tie as tie

@@ -1,5 +1,5 @@
 -- `put_told` meets its contract. Assumes nothing.
-use borrow.Author.Needs.{needs}
+use Rattle.laws.proofs.Prelude.{needs}
 use Rattle.batch_noting.proofs.put_told.Statement.{statement}
 use Rattle.batch_noting.proofs.put_told.Tie as tie
 

@@ -1,5 +1,5 @@
 -- `tile_from` meets its contract. Assumes nothing.
-use borrow.Author.Needs.{needs}
+use Rattle.laws.proofs.Prelude.{needs}
 use Rattle.batch_noting.proofs.tile_from.Statement.{statement}
 use Rattle.batch_noting.proofs.tile_from.Tie as tie
 

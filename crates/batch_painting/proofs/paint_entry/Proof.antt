@@ -1,5 +1,5 @@
 -- `paint_entry` meets its contract. Assumes nothing.
-use borrow.Author.Needs.{needs}
+use Rattle.laws.proofs.Prelude.{needs}
 use Rattle.batch_painting.proofs.Walking.{entry-passed}
 use Rattle.batch_painting.proofs.paint_entry.Statement.{statement}
 use Rattle.batch_painting.proofs.paint_entry.Tie as tie

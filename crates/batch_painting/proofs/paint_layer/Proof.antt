@@ -1,6 +1,5 @@
 -- `paint_layer` meets its contract. Assumes nothing.
-use native.Mathlib.Omega.{arith}
-use borrow.Author.Needs.{needs}
+use Rattle.laws.proofs.Prelude.{arith, needs}
 use Rattle.layer_table.specs.Table.{tableOf}
 use Rattle.batch_painting.proofs.Stores.{put-plane}
 use Rattle.batch_painting.proofs.Walking.{entry-painted}

@@ -1,9 +1,5 @@
 -- `paint_listed` meets its contract: the invariant and its steps are those of `Walking`. Assumes nothing.
-use mathlib.Core.Path.{_≡_, refl, _∙_}
-use Prim.Native.Nat.{_-_}
-use native.Mathlib.Omega.{arith}
-use borrow.Author.Needs.{needs}
-use lib.ListN.{length}
+use Rattle.laws.proofs.Prelude.{_≡_, refl, _∙_, _-_, arith, needs, length}
 use Rattle.layer_table.specs.Table.{tableOf}
 use Rattle.batch_painting.proofs.Walking.{Walked, walked-start, walked-next, walked-end}
 use Rattle.batch_painting.proofs.paint_listed.Statement.{statement}

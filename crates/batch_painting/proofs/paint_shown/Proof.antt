@@ -1,5 +1,5 @@
 -- `paint_shown` meets its contract. Assumes nothing.
-use borrow.Author.Needs.{needs}
+use Rattle.laws.proofs.Prelude.{needs}
 use Rattle.layer_table.specs.Table.{tableOf}
 use Rattle.batch_painting.proofs.Walking.{all-painted, not-painted}
 use Rattle.batch_painting.proofs.paint_shown.Statement.{statement}

@@ -1,9 +1,7 @@
 -- `answer_of` meets its contract. Assumes nothing.
-use mathlib.Core.Path.{ap, _∙_}
+use Rattle.laws.proofs.Prelude.{ap, _∙_, given, needs}
 use Rattle.batch_steps.proofs.Rooms.{ended-given}
-use Rattle.laws.specs.Answer.{given}
 use Rattle.row_statements.specs.State.{stateIn}
-use borrow.Author.Needs.{needs}
 use Rattle.batch_steps.proofs.answer_of.Statement.{statement}
 use Rattle.batch_steps.proofs.answer_of.Tie as tie
 use Rattle.batch_steps.proofs.end_of.Reads as end-of-reads

@@ -1,5 +1,5 @@
 -- `end_of` meets its contract. Assumes nothing.
-use borrow.Author.Tests.{le-leb, lt-leb}
+use Rattle.laws.proofs.Prelude.{le-leb, lt-leb}
 use Rattle.batch_steps.proofs.end_of.Statement.{statement}
 use Rattle.batch_steps.proofs.end_of.Tie as tie
 

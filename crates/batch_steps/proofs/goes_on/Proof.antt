@@ -1,5 +1,5 @@
 -- `goes_on` meets its contract. Assumes nothing.
-use borrow.Author.Needs.{needs}
+use Rattle.laws.proofs.Prelude.{needs}
 use Rattle.batch_steps.proofs.goes_on.Statement.{statement}
 use Rattle.batch_steps.proofs.goes_on.Tie as tie
 use Rattle.batch_steps.proofs.has_room.Reads as has-room-reads

@@ -1,7 +1,5 @@
 -- `has_room` meets its contract. Assumes nothing.
-use mathlib.Core.Path.{ap}
-use lib.Dec.{ltb}
-use mathlib.Core.Bool.{Bool, _&&_}
+use Rattle.laws.proofs.Prelude.{ap, ltb, Bool, _&&_}
 use Rattle.batch_steps.proofs.Rooms.{no-planes, shifted}
 use Rattle.batch_steps.proofs.has_room.Statement.{statement}
 use Rattle.batch_steps.proofs.has_room.Tie as tie

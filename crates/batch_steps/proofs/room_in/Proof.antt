@@ -1,5 +1,5 @@
 -- `room_in` meets its contract. Assumes nothing.
-use borrow.Author.Needs.{needs}
+use Rattle.laws.proofs.Prelude.{needs}
 use Rattle.batch_steps.proofs.room_in.Statement.{statement}
 use Rattle.batch_steps.proofs.room_in.Tie as tie
 use Rattle.batch_steps.proofs.least.Reads as least-reads

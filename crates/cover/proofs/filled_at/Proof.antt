@@ -1,8 +1,5 @@
 -- `cover::filled_at` meets its contract. Assumes nothing.
-use mathlib.Core.Path.{sym, ap, _∙_}
-use mathlib.Core.Bool.{Bool, cond}
-use native.Mathlib.Omega.{arith}
-use mir.Facts.{toZ-ofZ}
+use Rattle.laws.proofs.Prelude.{sym, ap, _∙_, Bool, cond, arith, toZ-ofZ}
 use Rattle.cover.proofs.filled_at.Statement.{statement}
 use Rattle.cover.proofs.filled_at.Tie as tie
 

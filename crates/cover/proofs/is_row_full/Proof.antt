@@ -1,6 +1,5 @@
 -- `cover::is_row_full` meets its contract. Assumes nothing.
-use borrow.Author.Needs.{needs}
-use mir.Facts.{toZ-ofZ}
+use Rattle.laws.proofs.Prelude.{needs, toZ-ofZ}
 use Rattle.cover.proofs.is_row_full.Statement.{statement}
 use Rattle.cover.proofs.is_row_full.Tie as tie
 

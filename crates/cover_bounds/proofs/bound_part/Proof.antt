@@ -1,7 +1,5 @@
 -- `bound_part` meets its contract: judged, and then d at both sides and the planes. Assumes nothing.
-use mathlib.Core.Path.{_≡_, refl, sym, ap, _∙_}
-use borrow.Author.Needs.{needs}
-use mir.Facts.{toZ-ofZ}
+use Rattle.laws.proofs.Prelude.{_≡_, refl, sym, ap, _∙_, needs, toZ-ofZ}
 use Rattle.refusals.specs.Refusal.{judgementIn}
 use Rattle.cover_statements.specs.InnerCell.{noCells}
 use Rattle.cover_bounds_statements.specs.Within.{boundsCall, boundPlanes, boundsVerdict}

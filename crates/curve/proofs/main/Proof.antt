@@ -1,9 +1,5 @@
 -- `main` meets its contract: what is written is the front of the buffer that the text fills. Assumes nothing.
-use mathlib.Core.Path.{ap, sym}
-use native.Mathlib.Omega.{arith}
-use borrow.Author.Needs.{needs}
-use lib.ListN.{length}
-use lib.Seq.{length-sets, length-take-le}
+use Rattle.laws.proofs.Prelude.{ap, sym, arith, needs, length, length-sets, length-take-le}
 use Rattle.curve.proofs.main.Statement.{statement}
 use Rattle.curve.proofs.main.Tie as tie
 

@@ -1,10 +1,6 @@
 -- `line_of` meets its contract: both numbers are small enough for every width that they pass.
 -- Assumes nothing.
-use mathlib.Core.Path.{_≡_, ap, _∙_}
-use native.Mathlib.Omega.{arith}
-use borrow.Author.Needs.{needs}
-use lib.IntN.{pos}
-use mir.Syntax.{w16, w32}
+use Rattle.laws.proofs.Prelude.{_≡_, ap, _∙_, arith, needs, pos, w16, w32}
 use mir.ValLaws.{toZ-pos}
 use Rattle.styling.specs.declared.FillRule.the-variants.{EvenOdd}
 use Rattle.cover_statements.specs.Weight.{weightOf}

@@ -1,9 +1,5 @@
 -- `print_curve` meets its contract: the text is written to an array of its own and copied from there. Assumes nothing.
-use mathlib.Core.Path.{refl, sym, ap}
-use native.Mathlib.Omega.{arith}
-use borrow.Author.Needs.{needs}
-use lib.ListN.{length}
-use lib.Seq.{length-take-le}
+use Rattle.laws.proofs.Prelude.{refl, sym, ap, arith, needs, length, length-take-le}
 use Rattle.report.proofs.Putting.{front, copied}
 use Rattle.curve_text.proofs.Examples.{fills}
 use Rattle.curve_text.proofs.print_curve.Statement.{statement}

@@ -1,10 +1,8 @@
 -- `print_decimal`, which calls itself, meets its contract: the last digit after the print of the others. The measure is the number.
 -- Assumes nothing.
-use Prim.Native.Nat.{ℕ, _<_}
-use native.Mathlib.Omega.{arith}
+use Rattle.laws.proofs.Prelude.{ℕ, _<_, arith, length-set}
 use borrow.Fn.Kinds.{In}
 use borrow.Fn.PlainCycle.{Measures, is, falls, and}
-use lib.ListN.{length-set}
 use Rattle.decimal.proofs.Print.{length-one, length-more, print-one, print-more}
 use Rattle.decimal.proofs.print_decimal.Reads as print-decimal
 use Rattle.decimal.proofs.print_decimal.Kinds as print-decimal-kinds

@@ -1,10 +1,6 @@
 -- `print_signed` meets its contract: the laws are those of `SignedPrint`.
 -- Assumes nothing.
-use mathlib.Core.Path.{_∙_}
-use native.Mathlib.Omega.{arith}
-use borrow.Author.Needs.{needs}
-use lib.ListN.{length-set}
-use mir.Facts.{toZ-ofZ}
+use Rattle.laws.proofs.Prelude.{_∙_, arith, needs, length-set, toZ-ofZ}
 use Rattle.decimal.proofs.Print.{ten}
 use Rattle.decimal.proofs.SignedPrint.{wide, fits-opposite, kept-opposite, cast-below, print-below, cast-above, print-above}
 use Rattle.decimal.proofs.print_signed.Statement.{statement}

@@ -1,7 +1,6 @@
 -- `read_signed` meets its contract: each answer is a law of `Signs`.
 -- Assumes nothing.
-use native.Mathlib.Omega.{arith}
-use borrow.Author.Needs.{needs}
+use Rattle.laws.proofs.Prelude.{arith, needs}
 use Rattle.decimal.proofs.Signs.{past, positive-value, positive-none, negative-value, negative-zero, negative-none, fits, fits-difference, as-signed, as-negative}
 use Rattle.decimal.proofs.read_signed.Statement.{statement}
 use Rattle.decimal.proofs.read_signed.Tie as tie

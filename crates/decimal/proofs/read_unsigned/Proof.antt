@@ -1,9 +1,6 @@
 -- `read_unsigned` meets its contract. The invariant and its steps are those of `Reading`; the measure is what is left of the text.
 -- Assumes nothing.
-use Prim.Native.Nat.{_-_}
-use native.Mathlib.Omega.{arith}
-use borrow.Author.Needs.{needs}
-use lib.ListN.{length, getD}
+use Rattle.laws.proofs.Prelude.{_-_, arith, needs, length, getD}
 use Rattle.decimal.proofs.Steps.{digit-range, is-false, is-true}
 use Rattle.decimal.proofs.Reading.{Reading, past, none, start, stop, end, after-zero, too-large, next}
 use Rattle.decimal.proofs.read_unsigned.Statement.{statement}

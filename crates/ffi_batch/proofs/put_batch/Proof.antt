@@ -1,6 +1,5 @@
 -- `put_batch` meets its contract. Assumes nothing.
-use mathlib.Core.Path.{refl}
-use borrow.Author.Needs.{needs}
+use Rattle.laws.proofs.Prelude.{refl, needs}
 use Rattle.ffi_batch.proofs.put_batch.Statement.{statement}
 use Rattle.ffi_batch.proofs.put_batch.Tie as tie
 

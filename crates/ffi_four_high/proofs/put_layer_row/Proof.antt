@@ -1,6 +1,5 @@
 -- `put_layer_row` meets its contract. Assumes nothing.
-use mathlib.Core.Path.{refl}
-use borrow.Author.Needs.{needs}
+use Rattle.laws.proofs.Prelude.{refl, needs}
 use Rattle.ffi_four_high.proofs.put_layer_row.Statement.{statement}
 use Rattle.ffi_four_high.proofs.put_layer_row.Tie as tie
 

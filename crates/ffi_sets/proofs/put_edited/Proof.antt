@@ -1,6 +1,5 @@
 -- `put_edited` meets its contract. Assumes nothing.
-use mathlib.Core.Path.{refl}
-use borrow.Author.Needs.{needs}
+use Rattle.laws.proofs.Prelude.{refl, needs}
 use Rattle.ffi_sets.proofs.put_edited.Statement.{statement}
 use Rattle.ffi_sets.proofs.put_edited.Tie as tie
 

@@ -1,8 +1,5 @@
 -- `put_place` meets its contract. Assumes nothing.
-use mathlib.Core.Path.{refl}
-use borrow.Author.Needs.{needs}
-use mir.Syntax.{w16}
-use Rattle.laws.proofs.Machine.{kept}
+use Rattle.laws.proofs.Prelude.{refl, needs, w16, kept}
 use Rattle.ffi_sets.proofs.put_place.Statement.{statement}
 use Rattle.ffi_sets.proofs.put_place.Tie as tie
 

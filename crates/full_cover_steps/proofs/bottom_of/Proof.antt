@@ -1,5 +1,5 @@
 -- `full_cover_steps::bottom_of` meets its contract. Assumes nothing.
-use borrow.Author.Needs.{needs}
+use Rattle.laws.proofs.Prelude.{needs}
 use Rattle.pass_statements.proofs.Deciding.{bottom-kept, bottom-opaque, bottom-clear, bottom-paint}
 use Rattle.full_cover_steps.proofs.bottom_of.Statement.{statement}
 use Rattle.full_cover_steps.proofs.bottom_of.Tie as tie

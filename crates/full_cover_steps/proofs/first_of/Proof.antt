@@ -1,6 +1,5 @@
 -- `full_cover_steps::first_of` meets its contract. Assumes nothing.
-use mathlib.Core.Path.{sym, ap}
-use borrow.Author.Needs.{needs}
+use Rattle.laws.proofs.Prelude.{sym, ap, needs}
 use Rattle.pass_statements.specs.Covered.{firstOf}
 use Rattle.pass_statements.specs.declared.covered.InterestingCover.{InterestingCover}
 use Rattle.full_cover_steps.proofs.first_of.Statement.{statement}

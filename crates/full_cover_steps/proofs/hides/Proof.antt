@@ -1,5 +1,5 @@
 -- `full_cover_steps::hides` meets its contract. Assumes nothing.
-use borrow.Author.Needs.{needs}
+use Rattle.laws.proofs.Prelude.{needs}
 use Rattle.full_cover_steps.proofs.hides.Statement.{statement}
 use Rattle.full_cover_steps.proofs.hides.Tie as tie
 

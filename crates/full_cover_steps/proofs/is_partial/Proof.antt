@@ -1,5 +1,5 @@
 -- `full_cover_steps::is_partial` meets its contract. Assumes nothing.
-use borrow.Author.Needs.{needs}
+use Rattle.laws.proofs.Prelude.{needs}
 use Rattle.full_cover_steps.proofs.is_partial.Statement.{statement}
 use Rattle.full_cover_steps.proofs.is_partial.Tie as tie
 

@@ -1,5 +1,5 @@
 -- `full_cover_steps::look_at` meets its contract. Assumes nothing.
-use borrow.Author.Needs.{needs}
+use Rattle.laws.proofs.Prelude.{needs}
 use Rattle.pass_statements.proofs.Looks.{looked}
 use Rattle.full_cover_steps.proofs.look_at.Statement.{statement}
 use Rattle.full_cover_steps.proofs.look_at.Tie as tie

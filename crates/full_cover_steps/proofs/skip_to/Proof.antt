@@ -1,5 +1,5 @@
 -- `full_cover_steps::skip_to` meets its contract. Assumes nothing.
-use borrow.Author.Needs.{needs}
+use Rattle.laws.proofs.Prelude.{needs}
 use Rattle.full_cover_steps.proofs.skip_to.Statement.{statement}
 use Rattle.full_cover_steps.proofs.skip_to.Tie as tie
 

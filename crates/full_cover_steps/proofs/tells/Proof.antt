@@ -1,5 +1,5 @@
 -- `full_cover_steps::tells` meets its contract. Assumes nothing.
-use borrow.Author.Needs.{needs}
+use Rattle.laws.proofs.Prelude.{needs}
 use Rattle.pass_statements.proofs.Looks.{tells-partial, tells-opaque, tells-nothing}
 use Rattle.full_cover_steps.proofs.tells.Statement.{statement}
 use Rattle.full_cover_steps.proofs.tells.Tie as tie

@@ -1,6 +1,5 @@
 -- `full_cover_steps::to_opaque` meets its contract. Assumes nothing.
-use mathlib.Core.Path.{sym, ap}
-use borrow.Author.Needs.{needs}
+use Rattle.laws.proofs.Prelude.{sym, ap, needs}
 use Rattle.styling.specs.declared.Paint.{Paint}
 use Rattle.styling.specs.Style.{colorIn}
 use Rattle.pass_statements.specs.Covered.{opaqueOf}

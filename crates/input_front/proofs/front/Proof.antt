@@ -1,8 +1,5 @@
 -- `front` meets its contract: a buffer of no more than n bytes is its own front. Assumes nothing.
-use mathlib.Core.Path.{sym}
-use native.Mathlib.Omega.{arith}
-use borrow.Author.Needs.{needs}
-use lib.Seq.{length-take-le, take-all}
+use Rattle.laws.proofs.Prelude.{sym, arith, needs, length-take-le, take-all}
 use Rattle.input_front.proofs.front.Statement.{statement}
 use Rattle.input_front.proofs.front.Tie as tie
 

@@ -1,5 +1,5 @@
 -- `read_job` meets its contract: each answer is a law of `Outcomes`. Assumes nothing.
-use borrow.Author.Needs.{needs}
+use Rattle.laws.proofs.Prelude.{needs}
 use Rattle.job_statements.proofs.Outcomes.{judged, reads, refuses}
 use Rattle.job.proofs.read_job.Statement.{statement}
 use Rattle.job.proofs.read_job.Tie as tie

@@ -1,9 +1,5 @@
 -- `write_job` meets its contract: each answer is a law of `Outcomes`. Assumes nothing.
-use native.Mathlib.Omega.{arith}
-use borrow.Author.Tests.{not-true, not-false}
-use borrow.Author.Needs.{needs}
-use mir.Syntax.{w32}
-use Rattle.laws.proofs.Machine.{kept}
+use Rattle.laws.proofs.Prelude.{arith, not-true, not-false, needs, w32, kept}
 use Rattle.job_statements.proofs.Outcomes.{no-room, room, written}
 use Rattle.job.proofs.write_job.Statement.{statement}
 use Rattle.job.proofs.write_job.Tie as tie

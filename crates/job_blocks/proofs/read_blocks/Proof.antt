@@ -1,7 +1,6 @@
 -- `read_blocks` meets its contract: each answer is a law of `Answers`.
 -- Assumes nothing.
-use native.Mathlib.Omega.{arith}
-use borrow.Author.Needs.{needs}
+use Rattle.laws.proofs.Prelude.{arith, needs}
 use Rattle.job_text_statements.proofs.Forms.{too-long}
 use Rattle.job_text_statements.proofs.Answers.{cut-head, not-one, cut-layers, cut-segments, left-over, done}
 use Rattle.job_blocks.proofs.read_blocks.Statement.{statement}

@@ -1,6 +1,5 @@
 -- `read_front` meets its contract: the first 65,537 bytes of an input decide the job that it is. Assumes nothing.
-use native.Mathlib.Omega.{arith}
-use borrow.Author.Needs.{needs}
+use Rattle.laws.proofs.Prelude.{arith, needs}
 use Rattle.input_front.proofs.Held.{held}
 use Rattle.job_front.specs.Front.{inputRoom}
 use Rattle.job_front.proofs.Fronts.{reads-whole}

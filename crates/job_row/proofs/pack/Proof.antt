@@ -1,9 +1,5 @@
 -- `pack` meets its contract: packing takes the fields, so it answers the word. Assumes nothing.
-use native.Mathlib.Omega.{arith}
-use borrow.Author.Needs.{needs}
-use mir.Syntax.{w8, w16}
-use mir.Facts.{toZ-ofZ}
-use Rattle.laws.proofs.Machine.{kept}
+use Rattle.laws.proofs.Prelude.{arith, needs, w8, w16, toZ-ofZ, kept}
 use Rattle.job_statements.proofs.Packing.{down-in-tile, segment-is, never-refused}
 use Rattle.job_row.proofs.pack.Statement.{statement}
 use Rattle.job_row.proofs.pack.Tie as tie

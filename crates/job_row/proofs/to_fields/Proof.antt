@@ -1,13 +1,5 @@
 -- `to_fields` meets its contract: the rule on a line keeps each number within its field's type. Assumes nothing.
-use mathlib.Core.Path.{_≡_}
-use native.Mathlib.Omega.{arith}
-use lib.IntN.{ℤ, natAbs}
-use mir.Syntax.{w8, w16, w32}
-use mir.Val.{SFits}
-use mir.Facts.{toZ-ofZ}
-use Rattle.laws.specs.Integer.{plus, minus}
-use Rattle.laws.proofs.Machine.{kept, sfits, unsigned}
-use Rattle.laws.proofs.Parts.{whole}
+use Rattle.laws.proofs.Prelude.{_≡_, arith, ℤ, natAbs, w8, w16, w32, SFits, toZ-ofZ, plus, minus, kept, sfits, unsigned, whole}
 use Rattle.job_lines.specs.declared.segment.SegmentLine.{SegmentLine}
 use Rattle.job_lines.proofs.Ranges.{InTile, in-tile}
 use Rattle.job_row.proofs.to_fields.Statement.{statement}

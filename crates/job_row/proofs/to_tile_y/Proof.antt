@@ -1,12 +1,5 @@
 -- `to_tile_y` meets its contract: packing the row number beside zeros judges it alone, and the word reads back as it. Assumes nothing.
-use mathlib.Core.Path.{_≡_, ap, sym, _∙_}
-use mathlib.Core.Bool.{true, false}
-use borrow.Author.Needs.{needs}
-use lib.IntN.{pos}
-use mir.Syntax.{w16, w64}
-use mir.Val.{SFits}
-use mir.Facts.{toZ-ofZ, sfits-widen}
-use Rattle.laws.proofs.Machine.{kept}
+use Rattle.laws.proofs.Prelude.{_≡_, ap, sym, _∙_, true, false, needs, pos, w16, w64, SFits, toZ-ofZ, sfits-widen, kept}
 use Rattle.pixel_segment.specs.Field.{cpu}
 use Rattle.pixel_segment.specs.Pack.{packedAnswer, Packs}
 use Rattle.pixel_segment.proofs.Ranges.{cpu-layout}

@@ -1,11 +1,5 @@
 -- `write_row` meets its contract: the invariant and its steps are those of `Rows`. Assumes nothing.
-use Prim.Native.Nat.{_-_}
-use native.Mathlib.Omega.{arith}
-use borrow.Author.Needs.{needs}
-use mir.Syntax.{w16, w32}
-use mir.Val.{toZ, ofZ}
-use mir.Facts.{toZ-ofZ}
-use Rattle.laws.proofs.Machine.{kept}
+use Rattle.laws.proofs.Prelude.{_-_, arith, needs, w16, w32, toZ, ofZ, toZ-ofZ, kept}
 use Rattle.job_text_statements.proofs.Counting.{rule-at}
 use Rattle.job_statements.proofs.Packing.{row-tile}
 use Rattle.job_statements.proofs.Rows.{Writing, start, line-room, next, end}

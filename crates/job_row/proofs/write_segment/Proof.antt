@@ -1,9 +1,5 @@
 -- `write_segment` meets its contract: the invariant and its steps are those of `Rows`. Assumes nothing.
-use Prim.Native.Nat.{_-_}
-use native.Mathlib.Omega.{arith}
-use mir.Syntax.{w16}
-use mir.Val.{toZ}
-use mir.Facts.{toZ-ofZ}
+use Rattle.laws.proofs.Prelude.{_-_, arith, w16, toZ, toZ-ofZ}
 use Rattle.job_statements.proofs.Rows.{Repeating, first, few-rows, packs-at, long, repeat, last}
 use Rattle.job_row.proofs.write_segment.Statement.{statement}
 use Rattle.job_row.proofs.write_segment.Tie as tie

@@ -1,9 +1,5 @@
 -- `color_at` meets its contract. Assumes nothing.
-use Prim.Native.Nat.{_+_, _*_, _/_}
-use borrow.Author.Tests.{eq-eqb, ne-eqb}
-use borrow.Author.Needs.{needs}
-use mir.Syntax.{w32}
-use Rattle.laws.proofs.Machine.{kept}
+use Rattle.laws.proofs.Prelude.{_+_, _*_, _/_, eq-eqb, ne-eqb, needs, w32, kept}
 use Rattle.job_text_statements.specs.Numbers.{numberAt}
 use Rattle.job_statements.specs.Entries.{jobColorAt}
 use Rattle.job_table.proofs.color_at.Statement.{statement}

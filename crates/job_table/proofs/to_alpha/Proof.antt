@@ -1,13 +1,5 @@
 -- `to_alpha` meets its contract: that the product with 1/256 is exact is one test over all 257 numbers. Assumes nothing.
-use mathlib.Core.Path.{_≡_}
-use native.Mathlib.Omega.{arith}
-use borrow.Author.Needs.{needs}
-use lib.IntN.{natAbs}
-use mir.Syntax.{w16}
-use mir.Facts.{toZ-ofZ}
-use Rattle.laws.specs.Integer.{plus}
-use Rattle.laws.proofs.Machine.{unsigned}
-use Rattle.laws.proofs.Parts.{whole}
+use Rattle.laws.proofs.Prelude.{_≡_, arith, needs, natAbs, w16, toZ-ofZ, plus, unsigned, whole}
 use Rattle.job_statements.proofs.Alphas.{alpha-product}
 use Rattle.job_table.proofs.to_alpha.Statement.{statement}
 use Rattle.job_table.proofs.to_alpha.Tie as tie

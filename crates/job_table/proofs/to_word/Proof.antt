@@ -1,16 +1,6 @@
 -- `to_word` meets its contract. 2^32 more is not negative, and has the same low 32 bits. Assumes nothing.
-use mathlib.Core.Path.{ap}
-use Prim.Native.Nat.{ℕ, _%_}
-use native.Mathlib.Omega.{arith}
-use borrow.Author.Needs.{needs}
-use lib.Dec.{lit<}
-use lib.IntN.{pos, _+ℤ_}
-use mir.Syntax.{w32, w64}
-use mir.Val.{SFits}
-use mir.Facts.{toZ-ofZ, sfits-widen}
-use Rattle.laws.proofs.Parts.{Sum, added}
-use Rattle.laws.proofs.Mod.{lifted}
-use Rattle.laws.proofs.Machine.{Within, within, sfits, unsigned}
+use Rattle.laws.proofs.Prelude.{ap, ℕ, _%_, arith, needs, lit<, pos, _+ℤ_, w32, w64, SFits, toZ-ofZ, sfits-widen, Sum, added, lifted, Within, within}
+use Rattle.laws.proofs.Prelude.{sfits, unsigned}
 use Rattle.job_table.proofs.to_word.Statement.{statement}
 use Rattle.job_table.proofs.to_word.Tie as tie
 

@@ -1,8 +1,5 @@
 -- `word_at` meets its contract. Assumes nothing.
-use borrow.Author.Tests.{eq-eqb, ne-eqb}
-use borrow.Author.Needs.{needs}
-use mir.Syntax.{w32}
-use Rattle.laws.proofs.Machine.{kept}
+use Rattle.laws.proofs.Prelude.{eq-eqb, ne-eqb, needs, w32, kept}
 use Rattle.job_text_statements.specs.Numbers.{numberAt}
 use Rattle.job_statements.specs.Entries.{wordAt}
 use Rattle.job_table.proofs.word_at.Statement.{statement}

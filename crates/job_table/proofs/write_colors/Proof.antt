@@ -1,10 +1,5 @@
 -- `write_colors` meets its contract: the invariant and its steps are those of `Filling`. Assumes nothing.
-use mathlib.Core.Path.{ap, _∙_}
-use mathlib.Core.List.{List}
-use Prim.Native.Nat.{_*_, _-_}
-use native.Mathlib.Omega.{arith}
-use lib.Ieee.{Float}
-use Rattle.laws.specs.Lists.{over}
+use Rattle.laws.proofs.Prelude.{ap, _∙_, List, _*_, _-_, arith, Float, over}
 use Rattle.job_statements.specs.Entries.{jobColorAt}
 use Rattle.job_statements.proofs.Filling.{Filling, start, long, next, end}
 use Rattle.job_statements.proofs.Tables.{colors-are, alpha-at}

@@ -1,9 +1,5 @@
 -- `write_words` meets its contract: the invariant and its steps are those of `Filling`. Assumes nothing.
-use mathlib.Core.Path.{ap, _∙_}
-use mathlib.Core.List.{List}
-use Prim.Native.Nat.{ℕ, _*_, _-_}
-use native.Mathlib.Omega.{arith}
-use Rattle.laws.specs.Lists.{over}
+use Rattle.laws.proofs.Prelude.{ap, _∙_, List, ℕ, _*_, _-_, arith, over}
 use Rattle.job_statements.specs.Entries.{wordAt}
 use Rattle.job_statements.proofs.Filling.{Filling, start, long, next, end}
 use Rattle.job_statements.proofs.Tables.{words-are}

@@ -1,5 +1,5 @@
 -- `read_numbers` meets its contract: each answer is a law of `Verdicts`. Assumes nothing.
-use borrow.Author.Needs.{needs}
+use Rattle.laws.proofs.Prelude.{needs}
 use Rattle.decimal.proofs.Steps.{is-true, is-false}
 use Rattle.job_text_statements.proofs.Verdicts.{broken, few-lines, layers-long, segments-long, bad-layers, bad-segments, too-many, good}
 use Rattle.job_text.proofs.read_numbers.Statement.{statement}

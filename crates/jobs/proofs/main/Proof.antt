@@ -1,6 +1,5 @@
 -- `main` is safe and ends. The measure is the number of arguments that are left; nothing has to hold from turn to turn. Assumes nothing.
-use Prim.Native.Nat.{_-_}
-use native.Mathlib.Omega.{arith}
+use Rattle.laws.proofs.Prelude.{_-_, arith}
 use Rattle.jobs.proofs.main.Statement.{statement}
 use Rattle.jobs.proofs.main.Tie as tie
 

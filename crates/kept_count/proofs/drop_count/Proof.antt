@@ -1,6 +1,5 @@
 -- `drop_count` meets its contract. Assumes nothing.
-use mathlib.Core.Path.{refl}
-use borrow.Author.Needs.{needs}
+use Rattle.laws.proofs.Prelude.{refl, needs}
 use Rattle.kept_count.proofs.drop_count.Statement.{statement}
 use Rattle.kept_count.proofs.drop_count.Tie as tie
 

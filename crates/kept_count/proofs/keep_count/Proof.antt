@@ -1,6 +1,5 @@
 -- `keep_count` meets its contract. Assumes nothing.
-use mathlib.Core.Path.{_≡_, sym, ap, _∙_}
-use borrow.Author.Needs.{needs}
+use Rattle.laws.proofs.Prelude.{_≡_, sym, ap, _∙_, needs}
 use Rattle.refusals.specs.Refusal.{pass, judgementIn}
 use Rattle.kept_count.specs.Keeping.{LentMembers, lentMembers, keepVerdict}
 use Rattle.kept_count.proofs.Verdicts.{keep-passed, refused-by, done-by}

@@ -1,6 +1,5 @@
 -- `keep_or_drop` meets its contract. Assumes nothing.
-use mathlib.Core.Path.{refl}
-use borrow.Author.Needs.{needs}
+use Rattle.laws.proofs.Prelude.{refl, needs}
 use Rattle.kept_count.proofs.keep_or_drop.Statement.{statement}
 use Rattle.kept_count.proofs.keep_or_drop.Tie as tie
 

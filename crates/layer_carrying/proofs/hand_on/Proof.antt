@@ -1,11 +1,5 @@
 -- `hand_on` meets its contract. Assumes nothing.
-use mathlib.Core.List.{List}
-use mathlib.Core.Path.{_≡_, ap, ap₂, sym, _∙_}
-use mathlib.Core.Bool.{true, not}
-use Prim.Native.Nat.{_-_}
-use native.Mathlib.Omega.{arith}
-use borrow.Author.Needs.{needs}
-use lib.ListN.{length}
+use Rattle.laws.proofs.Prelude.{List, _≡_, ap, ap₂, sym, _∙_, true, not, _-_, arith, needs, length}
 use Rattle.styling.specs.declared.Layer.{Layer}
 use Rattle.cover_statements.specs.Cover.{isEmpty}
 use Rattle.layer_table.specs.Table.{tableOf}

@@ -1,6 +1,5 @@
 -- `carrying::put_carry` meets its contract. Assumes nothing.
-use mathlib.Core.Path.{refl}
-use borrow.Author.Needs.{needs}
+use Rattle.laws.proofs.Prelude.{refl, needs}
 use Rattle.layer_carrying.proofs.put_carry.Statement.{statement}
 use Rattle.layer_carrying.proofs.put_carry.Tie as tie
 

@@ -1,6 +1,5 @@
 -- `carrying::rule_of` meets its contract. Assumes nothing.
-use native.Mathlib.Omega.{arith}
-use borrow.Author.Needs.{needs}
+use Rattle.laws.proofs.Prelude.{arith, needs}
 use Rattle.layer_table.proofs.Looking.{at-place, at-none}
 use Rattle.layer_carrying.proofs.rule_of.Statement.{statement}
 use Rattle.layer_carrying.proofs.rule_of.Tie as tie

@@ -1,5 +1,5 @@
 -- `listing::is_known` meets its contract. Assumes nothing.
-use borrow.Author.Needs.{needs}
+use Rattle.laws.proofs.Prelude.{needs}
 use Rattle.layer_table.proofs.Looking.{at-place, at-none}
 use Rattle.layer_listing.proofs.is_known.Statement.{statement}
 use Rattle.layer_listing.proofs.is_known.Tie as tie

@@ -1,6 +1,5 @@
 -- `keep_carry` meets its contract. Assumes nothing.
-use borrow.Author.Needs.{needs}
-use borrow.Author.Tests.{lt-ltb, le-ltb}
+use Rattle.laws.proofs.Prelude.{needs, lt-ltb, le-ltb}
 use Rattle.layer_listing.proofs.keep_carry.Statement.{statement}
 use Rattle.layer_listing.proofs.keep_carry.Tie as tie
 

@@ -1,8 +1,5 @@
 -- `listing::survey_layers` meets its contract. Assumes nothing.
-use Prim.Native.Nat.{_+_, _-_}
-use native.Mathlib.Omega.{arith}
-use borrow.Author.Needs.{needs}
-use lib.ListN.{length}
+use Rattle.laws.proofs.Prelude.{_+_, _-_, arith, needs, length}
 use Rattle.layer_table.specs.Table.{tableOf}
 use Rattle.layer_listing.proofs.Surveying.{Surveying, survey-start, survey-next, survey-end}
 use Rattle.layer_listing.proofs.survey_layers.Statement.{statement}

@@ -1,6 +1,4 @@
-use Prim.Native.Nat.{_+_, _-_}
-use native.Mathlib.Omega.{arith}
-use lib.ListN.{length}
+use Rattle.laws.proofs.Prelude.{_+_, _-_, arith, length}
 use Rattle.layer_listing.proofs.Writing.{Writing, write-start, write-lengths, write-room, write-next, write-end}
 use Rattle.layer_listing.proofs.write_layers.Statement.{statement}
 use Rattle.layer_listing.proofs.write_layers.Tie as tie

@@ -1,5 +1,5 @@
 -- `closed` meets its contract. Assumes nothing.
-use borrow.Author.Needs.{needs}
+use Rattle.laws.proofs.Prelude.{needs}
 use Rattle.layer_row_gpu.proofs.closed.Statement.{statement}
 use Rattle.layer_row_gpu.proofs.closed.Tie as tie
 

@@ -1,6 +1,5 @@
 -- `drop_empty` meets its contract. Assumes nothing.
-use mathlib.Core.Path.{sym, _∙_}
-use borrow.Author.Needs.{needs}
+use Rattle.laws.proofs.Prelude.{sym, _∙_, needs}
 use Rattle.layer_row_gpu.proofs.drop_empty.Statement.{statement}
 use Rattle.layer_row_gpu.proofs.drop_empty.Tie as tie
 

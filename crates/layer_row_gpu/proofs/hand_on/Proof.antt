@@ -1,7 +1,5 @@
 -- `hand_on` meets its contract. Assumes nothing.
-use Prim.Native.Nat.{_+_}
-use native.Mathlib.Omega.{arith}
-use borrow.Author.Needs.{needs}
+use Rattle.laws.proofs.Prelude.{_+_, arith, needs}
 use Rattle.layer_row_gpu.proofs.hand_on.Statement.{statement}
 use Rattle.layer_row_gpu.proofs.hand_on.Tie as tie
 

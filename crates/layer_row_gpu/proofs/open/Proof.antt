@@ -1,12 +1,5 @@
 -- `open` meets its contract. Assumes nothing.
-use mathlib.Core.Path.{_≡_, ap, _∙_}
-use native.Mathlib.Omega.{arith}
-use borrow.Author.Needs.{needs}
-use mir.Syntax.{w16}
-use mir.Val.{SFits}
-use mir.Facts.{toZ-ofZ}
-use Rattle.laws.specs.Integer.{plus}
-use Rattle.laws.proofs.Machine.{sfits}
+use Rattle.laws.proofs.Prelude.{_≡_, ap, _∙_, arith, needs, w16, SFits, toZ-ofZ, plus, sfits}
 use Rattle.pixel_segment.specs.Field.{gpu}
 use Rattle.cover_statements.specs.Carry.{isLight, carryOf}
 use Rattle.cover_statements.specs.Cover.{noCover}

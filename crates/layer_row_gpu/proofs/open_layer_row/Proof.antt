@@ -1,7 +1,5 @@
 -- `open_layer_row` meets its contract. Assumes nothing.
-use mathlib.Core.Path.{_≡_, sym, ap, _∙_}
-use borrow.Author.Needs.{needs}
-use mir.Facts.{toZ-ofZ}
+use Rattle.laws.proofs.Prelude.{_≡_, sym, ap, _∙_, needs, toZ-ofZ}
 use Rattle.refusals.specs.Refusal.{Judgement, judgementIn, pass}
 use Rattle.layer_row_gpu.specs.OpenLayer.{LayerCall, layerCall, callVerdictOf, openedState}
 use Rattle.layer_row_gpu.proofs.Verdicts.{openable}

@@ -1,9 +1,5 @@
 -- `work_tile` meets its contract. Assumes nothing.
-use mathlib.Core.Path.{_≡_, sym, ap, _∙_}
-use borrow.Author.Needs.{needs}
-use lib.IntN.{ℤ}
-use mir.Facts.{toZ-ofZ}
-use Rattle.laws.specs.Lists.{over}
+use Rattle.laws.proofs.Prelude.{_≡_, sym, ap, _∙_, needs, ℤ, toZ-ofZ, over}
 use Rattle.refusals.specs.Refusal.{Judgement, judgementIn, pass}
 use Rattle.pixel_segment.specs.Field.{gpu}
 use Rattle.cover_statements.specs.Cover.{coverAt}

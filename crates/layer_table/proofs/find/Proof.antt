@@ -1,7 +1,6 @@
 -- `layer_table::find` meets its contract. What holds of the places that are left is `Halving`.
 -- Assumes nothing.
-use mathlib.Core.Path.{sym, _∙_}
-use native.Mathlib.Omega.{arith}
+use Rattle.laws.proofs.Prelude.{sym, _∙_, arith}
 use Rattle.layer_table.proofs.Halving.{Halving, begin, upper, lower, found, absent, none}
 use Rattle.layer_table.proofs.find.Statement.{statement}
 use Rattle.layer_table.proofs.find.Tie as tie

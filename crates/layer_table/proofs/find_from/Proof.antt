@@ -1,7 +1,6 @@
 -- `layer_table::find_from` meets its contract: a record that is tried and has the id stands in its place, and else the table is searched.
 -- Assumes nothing.
-use Prim.Native.Nat.{_+_, _-_}
-use borrow.Author.Needs.{needs}
+use Rattle.laws.proofs.Prelude.{_+_, _-_, needs}
 use Rattle.layer_table.proofs.Halving.{tried}
 use Rattle.layer_table.proofs.find_from.Statement.{statement}
 use Rattle.layer_table.proofs.find_from.Tie as tie

@@ -1,7 +1,6 @@
 -- `layer_table::is_short` meets its contract.
 -- Assumes nothing.
-use Prim.Native.Nat.{_/_}
-use lib.ListN.{length}
+use Rattle.laws.proofs.Prelude.{_/_, length}
 use Rattle.layer_table.specs.Table.{isTableShort}
 use Rattle.layer_table.proofs.Judging.{ltb-min}
 use Rattle.layer_table.proofs.is_short.Statement.{statement}

@@ -1,10 +1,6 @@
 -- `layer_table::is_table` meets its contract. What holds while the records are passed is `Judging`.
 -- Assumes nothing.
-use mathlib.Core.Path.{_≡_, sym, _∙_}
-use mathlib.Core.Bool.{false}
-use Prim.Native.Nat.{_-_}
-use native.Mathlib.Omega.{arith}
-use borrow.Author.Needs.{needs}
+use Rattle.laws.proofs.Prelude.{_≡_, sym, _∙_, false, _-_, arith, needs}
 use Rattle.layer_table.specs.Table.{isTableShort}
 use Rattle.layer_table.proofs.Judging.{Judging, begin, next, end, long, table-short, table-long}
 use Rattle.layer_table.proofs.is_table.Statement.{statement}

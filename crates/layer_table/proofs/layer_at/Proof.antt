@@ -1,7 +1,6 @@
 -- `layer_table::layer_at` meets its contract.
 -- Assumes nothing.
-use mathlib.Core.Path.{ap₂, _∙_}
-use borrow.Author.Needs.{needs}
+use Rattle.laws.proofs.Prelude.{ap₂, _∙_, needs}
 use Rattle.layer_table.specs.Record.{layerOf}
 use Rattle.layer_table.specs.Table.{layerAt}
 use Rattle.layer_table.proofs.layer_at.Statement.{statement}

@@ -1,8 +1,6 @@
 -- `layer_table::to_func` meets its contract.
 -- Assumes nothing.
-use mathlib.Core.Path.{refl}
-use borrow.Author.Needs.{needs}
-use borrow.Author.Tests.{eq-eqb, ne-eqb}
+use Rattle.laws.proofs.Prelude.{refl, needs, eq-eqb, ne-eqb}
 use Rattle.layer_table.proofs.to_func.Statement.{statement}
 use Rattle.layer_table.proofs.to_func.Tie as tie
 

@@ -1,7 +1,6 @@
 -- `layer_table::to_layer` meets its contract.
 -- Assumes nothing.
-use mathlib.Core.Path.{refl}
-use borrow.Author.Needs.{needs}
+use Rattle.laws.proofs.Prelude.{refl, needs}
 use Rattle.layer_table.proofs.to_layer.Statement.{statement}
 use Rattle.layer_table.proofs.to_layer.Tie as tie
 

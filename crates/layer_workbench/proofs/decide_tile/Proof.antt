@@ -1,6 +1,5 @@
 -- `decide_tile` meets its contract. Assumes nothing.
-use native.Mathlib.Omega.{arith}
-use borrow.Author.Needs.{needs}
+use Rattle.laws.proofs.Prelude.{arith, needs}
 use Rattle.layer_table.specs.Table.{tableOf}
 use Rattle.pass_statements.specs.Entry.{entriesOf}
 use Rattle.layer_workbench.proofs.Decided.{decided}

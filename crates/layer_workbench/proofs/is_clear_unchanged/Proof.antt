@@ -1,5 +1,5 @@
 -- `is_clear_unchanged` meets its contract. Assumes nothing.
-use borrow.Author.Needs.{needs}
+use Rattle.laws.proofs.Prelude.{needs}
 use Rattle.layer_workbench.proofs.is_clear_unchanged.Statement.{statement}
 use Rattle.layer_workbench.proofs.is_clear_unchanged.Tie as tie
 

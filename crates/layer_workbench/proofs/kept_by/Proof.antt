@@ -1,5 +1,5 @@
 -- `kept_by` meets its contract. Assumes nothing.
-use borrow.Author.Needs.{needs}
+use Rattle.laws.proofs.Prelude.{needs}
 use Rattle.layer_workbench.proofs.kept_by.Statement.{statement}
 use Rattle.layer_workbench.proofs.kept_by.Tie as tie
 

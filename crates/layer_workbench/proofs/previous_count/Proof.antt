@@ -1,5 +1,5 @@
 -- `previous_count` meets its contract. Assumes nothing.
-use borrow.Author.Needs.{needs}
+use Rattle.laws.proofs.Prelude.{needs}
 use Rattle.layer_workbench.proofs.previous_count.Statement.{statement}
 use Rattle.layer_workbench.proofs.previous_count.Tie as tie
 

@@ -1,8 +1,5 @@
 -- `work` meets its contract. Assumes nothing.
-use Prim.Native.Nat.{_≤_}
-use native.Mathlib.Omega.{arith}
-use borrow.Author.Needs.{needs}
-use lib.ListN.{length}
+use Rattle.laws.proofs.Prelude.{_≤_, arith, needs, length}
 use Rattle.layer_table.specs.Table.{tableOf}
 use Rattle.queue_statements.specs.Queue.{queueOf}
 use Rattle.tile_layers.specs.Groups.{groupsOf}

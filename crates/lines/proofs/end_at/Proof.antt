@@ -1,6 +1,6 @@
 -- `end_at` meets its contract.
 -- Assumes nothing.
-use borrow.Author.Needs.{needs}
+use Rattle.laws.proofs.Prelude.{needs}
 use Rattle.lines.proofs.Starting.{space}
 use Rattle.lines.proofs.end_at.Statement.{statement}
 use Rattle.lines.proofs.end_at.Tie as tie

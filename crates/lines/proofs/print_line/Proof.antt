@@ -1,11 +1,6 @@
 -- `print_line` meets its contract. The invariant and its steps are those of `LinePrinting`; the measure is the fields left.
 -- Assumes nothing.
-use Prim.Native.Nat.{_-_}
-use native.Mathlib.Omega.{arith}
-use borrow.Author.Needs.{needs}
-use lib.ListN.{length}
-use mir.Syntax.{w32}
-use Rattle.laws.proofs.Machine.{kept}
+use Rattle.laws.proofs.Prelude.{_-_, arith, needs, length, w32, kept}
 use Rattle.lines.proofs.LinePrinting.{LinePrinting, start, next-field, end}
 use Rattle.lines.proofs.print_line.Statement.{statement}
 use Rattle.lines.proofs.print_line.Tie as tie

@@ -1,6 +1,6 @@
 -- `read_block` meets its contract: the two answers are laws of `Blocks`.
 -- Assumes nothing.
-use borrow.Author.Needs.{needs}
+use Rattle.laws.proofs.Prelude.{needs}
 use Rattle.lines.proofs.Blocks.{no-names, names-then}
 use Rattle.lines.proofs.read_block.Statement.{statement}
 use Rattle.lines.proofs.read_block.Tie as tie

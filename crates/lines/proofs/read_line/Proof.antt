@@ -1,8 +1,6 @@
 -- `read_line` meets its contract. The invariant and its steps are those of `LineReading`; the measure is the fields left.
 -- Assumes nothing.
-use mathlib.Core.Path.{sym, _∙_}
-use native.Mathlib.Omega.{arith}
-use borrow.Author.Needs.{needs}
+use Rattle.laws.proofs.Prelude.{sym, _∙_, arith, needs}
 use Rattle.decimal.proofs.Signs.{kept}
 use Rattle.lines.proofs.LineReading.{LineReading, start, no-number, no-end, other-end, next-field, end}
 use Rattle.lines.proofs.read_line.Statement.{statement}

@@ -1,9 +1,6 @@
 -- `read_lines` meets its contract. The invariant and its steps are those of `LinesReading`; the measure is the lines that may still come.
 -- Assumes nothing.
-use mathlib.Core.Path.{sym, _∙_}
-use native.Mathlib.Omega.{arith}
-use borrow.Author.Tests.{not-true, not-false}
-use borrow.Author.Needs.{needs}
+use Rattle.laws.proofs.Prelude.{sym, _∙_, arith, not-true, not-false, needs}
 use Rattle.lines.proofs.LinesReading.{LinesReading, start, room-line, no-number, cut, next-line, end}
 use Rattle.lines.proofs.read_lines.Statement.{statement}
 use Rattle.lines.proofs.read_lines.Tie as tie

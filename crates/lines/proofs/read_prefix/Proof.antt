@@ -1,8 +1,6 @@
 -- `read_prefix` meets its contract. The invariant and its steps are those of `PrefixReading`; the measure is what is left of the prefix.
 -- Assumes nothing.
-use Prim.Native.Nat.{_-_}
-use native.Mathlib.Omega.{arith}
-use lib.ListN.{length}
+use Rattle.laws.proofs.Prelude.{_-_, arith, length}
 use Rattle.lines.proofs.PrefixReading.{PrefixReading, start, short, other, next, end}
 use Rattle.lines.proofs.read_prefix.Statement.{statement}
 use Rattle.lines.proofs.read_prefix.Tie as tie

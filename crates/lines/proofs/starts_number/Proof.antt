@@ -1,7 +1,6 @@
 -- `starts_number` meets its contract: each answer is a law of `Starting`.
 -- Assumes nothing.
-use native.Mathlib.Omega.{arith}
-use borrow.Author.Needs.{needs}
+use Rattle.laws.proofs.Prelude.{arith, needs}
 use Rattle.lines.proofs.Starting.{past, first}
 use Rattle.lines.proofs.starts_number.Statement.{statement}
 use Rattle.lines.proofs.starts_number.Tie as tie

@@ -1,5 +1,5 @@
 -- `free_after` meets its contract. Assumes nothing.
-use borrow.Author.Needs.{needs}
+use Rattle.laws.proofs.Prelude.{needs}
 use Rattle.listed_painting.proofs.free_after.Statement.{statement}
 use Rattle.listed_painting.proofs.free_after.Tie as tie
 

@@ -1,5 +1,5 @@
 -- `needs_clip` meets its contract. Assumes nothing.
-use borrow.Author.Needs.{needs}
+use Rattle.laws.proofs.Prelude.{needs}
 use Rattle.listed_painting.proofs.needs_clip.Statement.{statement}
 use Rattle.listed_painting.proofs.needs_clip.Tie as tie
 

@@ -1,8 +1,5 @@
 -- `pass_over` meets its contract. Assumes nothing.
-use mathlib.Core.Path.{sym, ap, _∙_}
-use native.Mathlib.Omega.{arith}
-use borrow.Author.Needs.{needs}
-use Rattle.laws.specs.Answer.{given}
+use Rattle.laws.proofs.Prelude.{sym, ap, _∙_, arith, needs, given}
 use Rattle.layer_table.specs.Table.{tableOf}
 use Rattle.layer_table.proofs.Looking.{at-place, at-none}
 use Rattle.listed_painting.proofs.Walks.{more, over-known, over-missing}

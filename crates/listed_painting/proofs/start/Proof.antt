@@ -1,5 +1,5 @@
 -- `start` meets its contract. Assumes nothing.
-use mathlib.Core.Path.{refl}
+use Rattle.laws.proofs.Prelude.{refl}
 use Rattle.painter.specs.declared.Clip.the-variants.{Absent}
 use Rattle.listed_painting.proofs.Walks.{begun}
 use Rattle.listed_painting.proofs.start.Statement.{statement}

@@ -1,9 +1,5 @@
 -- `start_past` meets its contract: the layers are passed one after the other. Assumes nothing.
-use mathlib.Core.Path.{_≡_, ap, _∙_}
-use mathlib.Core.Option.{none}
-use Prim.Native.Nat.{_-_, _≤_}
-use native.Mathlib.Omega.{arith}
-use borrow.Author.Needs.{needs}
+use Rattle.laws.proofs.Prelude.{_≡_, ap, _∙_, none, _-_, _≤_, arith, needs}
 use Rattle.layer_table.specs.Table.{tableOf}
 use Rattle.painter.specs.Clip.{clipIn}
 use Rattle.listed_painting.specs.InnerWalk.{WalkHolds}

@@ -1,5 +1,5 @@
 -- `answer` meets its contract: the two answers, by what is read of the text. Assumes nothing.
-use borrow.Author.Needs.{needs}
+use Rattle.laws.proofs.Prelude.{needs}
 use Rattle.load_text.proofs.Printing.{in-range, answered}
 use Rattle.load_text.proofs.answer.Statement.{statement}
 use Rattle.load_text.proofs.answer.Tie as tie

@@ -1,6 +1,5 @@
 -- `answer_front` meets its contract: the first 21 bytes of an input decide its answer. Assumes nothing.
-use native.Mathlib.Omega.{arith}
-use borrow.Author.Needs.{needs}
+use Rattle.laws.proofs.Prelude.{arith, needs}
 use Rattle.input_front.proofs.Held.{held}
 use Rattle.load_statements.specs.Length.{inputRoom}
 use Rattle.load_text.proofs.Printing.{by-front}

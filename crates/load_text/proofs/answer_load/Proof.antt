@@ -1,10 +1,6 @@
 -- `answer_load` meets its contract: the text is written to an array of its own, and copied from there: no text is longer than `out`.
 -- Assumes nothing.
-use mathlib.Core.Path.{refl, sym, ap}
-use native.Mathlib.Omega.{arith}
-use borrow.Author.Needs.{needs}
-use lib.ListN.{length}
-use lib.Seq.{length-take-le}
+use Rattle.laws.proofs.Prelude.{refl, sym, ap, arith, needs, length, length-take-le}
 use Rattle.report.proofs.Putting.{front, copied}
 use Rattle.load_statements.proofs.Forming.{text-long}
 use Rattle.load_text.proofs.answer_load.Statement.{statement}

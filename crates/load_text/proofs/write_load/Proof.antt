@@ -1,6 +1,5 @@
 -- `write_load` meets its contract: the three blocks, one after another. Assumes nothing.
-use native.Mathlib.Omega.{arith}
-use borrow.Author.Needs.{needs}
+use Rattle.laws.proofs.Prelude.{arith, needs}
 use Rattle.load_text.proofs.Printing.{text-printed}
 use Rattle.load_text.proofs.write_load.Statement.{statement}
 use Rattle.load_text.proofs.write_load.Tie as tie

@@ -1,5 +1,5 @@
 -- `mark::is_used` meets its contract. Assumes nothing.
-use borrow.Author.Needs.{needs}
+use Rattle.laws.proofs.Prelude.{needs}
 use Rattle.cover_statements.proofs.Marks.{used-eight}
 use Rattle.mark.proofs.is_used.Statement.{statement}
 use Rattle.mark.proofs.is_used.Tie as tie

@@ -1,6 +1,5 @@
 -- `mark::mark_of` meets its contract. Assumes nothing.
-use native.Mathlib.Omega.{arith}
-use borrow.Author.Needs.{needs}
+use Rattle.laws.proofs.Prelude.{arith, needs}
 use Rattle.cover_statements.proofs.Marks.{Marking, mark-start, mark-small, mark-next, mark-end, bit-lt}
 use Rattle.mark.proofs.mark_of.Statement.{statement}
 use Rattle.mark.proofs.mark_of.Tie as tie

@@ -1,6 +1,5 @@
 -- `mark::mark_plane` meets its contract. Assumes nothing.
-use borrow.Author.Tests.{lt-ltb, le-ltb}
-use borrow.Author.Needs.{needs}
+use Rattle.laws.proofs.Prelude.{lt-ltb, le-ltb, needs}
 use Rattle.mark.proofs.mark_plane.Statement.{statement}
 use Rattle.mark.proofs.mark_plane.Tie as tie
 

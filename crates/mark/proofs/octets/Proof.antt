@@ -1,6 +1,5 @@
 -- `mark::octets` meets its contract. Assumes nothing.
-use mathlib.Core.Path.{refl, ap, _∙_}
-use lib.Count.{ones}
+use Rattle.laws.proofs.Prelude.{refl, ap, _∙_, ones}
 use Rattle.cover_statements.proofs.Marks.{ones-mark}
 use Rattle.mark.proofs.octets.Statement.{statement}
 use Rattle.mark.proofs.octets.Tie as tie

@@ -2,9 +2,7 @@
 -- (`queue_records/proofs/LentArray.antt`). Slices that are only read are had twice, once for the call and once for the exit; those that are written go to the callee at their own lifetimes (`gave-slice`).
 -- All that the proof knows of `paint_layer` is that it meets its contract.
 -- Assumes nothing.
-use mathlib.Core.Path.{_≡_, refl}
-use mathlib.Core.List.{List, [], _∷_}
-use Prim.Native.Nat.{ℕ}
+use Rattle.laws.proofs.Prelude.{_≡_, refl, List, [], _∷_, ℕ, lit<, Float, ℤ, length, named, w32, w64, tyArray, Val, vint, ofZ}
 use contract.Monad.{Fun, fact}
 use contract.Running.{givenOf, tables, tablesOf}
 use denote.Laws.{Is, shows, Tells}
@@ -26,12 +24,6 @@ use denote.Triple.Clauses.{Lasts, ensured, lasts}
 use denote.Triple.Table.{entered, cited}
 use denote.Triple.Walked.{says, Stays, stay-none, stay-none-slice, gave-slice, walkOf, goes-none, goes-none-slice, goes-gave-slice, Walks, ends-at, walked, walk-meets}
 use denote.Exit.{yes}
-use lib.Dec.{lit<}
-use lib.Ieee.{Float}
-use lib.IntN.{ℤ}
-use lib.ListN.{length}
-use mir.Syntax.{named, w32, w64, tyArray}
-use mir.Val.{Val, vint, ofZ}
 use Rattle.row_statements.specs.declared.RowState.{RowState}
 use Rattle.row_statements.specs.declared.Painted.{Painted}
 use Rattle.queue_records.specs.declared.CarryRecord.{CarryRecord}

@@ -1,17 +1,7 @@
 -- `cover_bits` meets its contract. 256 is a multiple of 64, and with it no cover is negative. Assumes nothing.
 -- the cover's range, and the sum's parts
-use mathlib.Core.Path.{ap}
-use Prim.Native.Nat.{ℕ, _%_}
-use native.Mathlib.Omega.{arith}
-use borrow.Author.Needs.{needs}
-use lib.Dec.{lit<}
-use lib.IntN.{pos, _+ℤ_}
-use mir.Syntax.{w8, w16, w64}
-use mir.Val.{SFits}
-use mir.Facts.{toZ-ofZ, sfits-widen}
-use Rattle.laws.proofs.Parts.{Sum, added}
-use Rattle.laws.proofs.Mod.{lifted}
-use Rattle.laws.proofs.Machine.{Within, within, sfits, unsigned}
+use Rattle.laws.proofs.Prelude.{ap, ℕ, _%_, arith, needs, lit<, pos, _+ℤ_, w8, w16, w64, SFits, toZ-ofZ, sfits-widen, Sum, added, lifted, Within}
+use Rattle.laws.proofs.Prelude.{within, sfits, unsigned}
 use Rattle.pixel_segment.proofs.cover_bits.Statement.{statement}
 use Rattle.pixel_segment.proofs.cover_bits.Tie as tie
 

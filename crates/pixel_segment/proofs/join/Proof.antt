@@ -1,8 +1,5 @@
 -- `join` meets its contract: the word is put together by seven steps of one definition. Assumes nothing.
-use native.Mathlib.Omega.{arith}
-use borrow.Author.Needs.{needs}
-use lib.Pow.{pow-pos}
-use mir.Facts.{toZ-ofZ}
+use Rattle.laws.proofs.Prelude.{arith, needs, pow-pos, toZ-ofZ}
 use Rattle.pixel_segment.specs.declared.consts.Layout.{Layout}
 use Rattle.pixel_segment.proofs.Joining.{Held, room, held-next, joined}
 use Rattle.pixel_segment.proofs.join.Statement.{statement}

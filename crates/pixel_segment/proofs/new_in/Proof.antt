@@ -1,9 +1,5 @@
 -- `new_in` meets its contract: its arguments, widened, are those of `pack_in`. Assumes nothing.
-use native.Mathlib.Omega.{arith}
-use borrow.Author.Needs.{needs}
-use mir.Syntax.{w64}
-use mir.Val.{SFits}
-use mir.Facts.{toZ-ofZ, toZ-pos, sfits-widen}
+use Rattle.laws.proofs.Prelude.{arith, needs, w64, SFits, toZ-ofZ, toZ-pos, sfits-widen}
 use Rattle.pixel_segment.proofs.new_in.Statement.{statement}
 use Rattle.pixel_segment.proofs.new_in.Tie as tie
 

@@ -1,17 +1,6 @@
 -- `pack_in` meets its contract: where every field holds its number, the number fits the type that `join` takes. Assumes nothing.
-use mathlib.Core.Path.{_≡_, sym, _∙_}
-use mathlib.Core.Bool.{true}
-use Prim.Native.Nat.{_≤_, _<_}
-use native.Mathlib.Omega.{arith}
-use borrow.Author.Needs.{needs}
-use borrow.Author.Tests.{not-true, not-false}
-use lib.IntN.{ℤ, pos, natAbs}
-use mir.Syntax.{w8, w16, w32}
-use mir.Val.{SFits}
-use mir.Facts.{toZ-ofZ}
-use Rattle.laws.specs.Integer.{plus, minus}
-use Rattle.laws.proofs.Machine.{sfits, unsigned}
-use Rattle.laws.proofs.Parts.{whole, added}
+use Rattle.laws.proofs.Prelude.{_≡_, sym, _∙_, true, _≤_, _<_, arith, needs, not-true, not-false, ℤ, pos, natAbs, w8, w16, w32, SFits, toZ-ofZ, plus}
+use Rattle.laws.proofs.Prelude.{minus, sfits, unsigned, whole, added}
 use Rattle.pixel_segment.specs.Field.{widthsOf}
 use Rattle.pixel_segment.specs.Pack.{storedOf, isPackable, FieldsInRange}
 use Rattle.pixel_segment.specs.declared.Packed.the-variants.{Segment, FieldOutOfRange}

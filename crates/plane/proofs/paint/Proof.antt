@@ -1,9 +1,5 @@
 -- `plane::paint` meets its contract: what is judged again is not refused. Assumes nothing.
-use mathlib.Core.Path.{_≡_, sym, ap, _∙_}
-use Prim.Native.Nat.{ℕ}
-use native.Mathlib.Omega.{arith}
-use borrow.Author.Needs.{needs}
-use Rattle.laws.specs.Answer.{Answer, refused, given}
+use Rattle.laws.proofs.Prelude.{_≡_, sym, ap, _∙_, ℕ, arith, needs, Answer, refused, given}
 use Rattle.cover_statements.specs.Paint.{paintedAnswer}
 use Rattle.cover_statements.proofs.Paintings.{paint-answer, paint-plane}
 use Rattle.plane.proofs.paint.Statement.{statement}

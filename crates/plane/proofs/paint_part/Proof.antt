@@ -1,6 +1,5 @@
 -- `plane::paint_part` meets its contract. Assumes nothing.
-use mathlib.Core.Bool.{false≢true}
-use borrow.Author.Needs.{needs}
+use Rattle.laws.proofs.Prelude.{false≢true, needs}
 use Rattle.cover_statements.proofs.Paintings.{paint-short}
 use Rattle.plane.proofs.paint_part.Statement.{statement}
 use Rattle.plane.proofs.paint_part.Tie as tie

@@ -1,6 +1,5 @@
 -- `plane::sum_areas` meets its contract. Assumes nothing.
-use mathlib.Core.Path.{sym}
-use borrow.Author.Needs.{needs}
+use Rattle.laws.proofs.Prelude.{sym, needs}
 use Rattle.plane.proofs.sum_areas.Statement.{statement}
 use Rattle.plane.proofs.sum_areas.Tie as tie
 

@@ -1,14 +1,5 @@
 -- `cast` meets its contract: the remainder is a small number, so the machine's difference is the definition's. Assumes nothing.
-use mathlib.Core.Path.{_≡_, ap}
-use Prim.Native.Nat.{ℕ, _+_, _%_, _<_}
-use native.Mathlib.Omega.{arith}
-use borrow.Author.Needs.{needs}
-use lib.IntN.{subℕ}
-use mir.Syntax.{w16, w32}
-use mir.Val.{SFits}
-use mir.Facts.{toZ-pos, toZ-ofZ}
-use Rattle.laws.proofs.Parts.{difference}
-use Rattle.laws.proofs.Machine.{sfits}
+use Rattle.laws.proofs.Prelude.{_≡_, ap, ℕ, _+_, _%_, _<_, arith, needs, subℕ, w16, w32, SFits, toZ-pos, toZ-ofZ, difference, sfits}
 use Rattle.plate.specs.Rows.{castOf}
 use Rattle.plate.proofs.cast.Statement.{statement}
 use Rattle.plate.proofs.cast.Tie as tie

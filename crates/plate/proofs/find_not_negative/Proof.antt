@@ -1,9 +1,5 @@
 -- `find_not_negative` meets its contract. Assumes nothing.
-use mathlib.Core.Path.{_≡_, ap, sym, _∙_}
-use mathlib.Core.Bool.{false}
-use native.Mathlib.Omega.{arith}
-use native.Mathlib.Numerals.{add-one}
-use borrow.Author.Needs.{needs}
+use Rattle.laws.proofs.Prelude.{_≡_, ap, sym, _∙_, false, arith, add-one, needs}
 use Rattle.segment_rows.specs.Search.{found, placeIn, searchOf, orderAt}
 use Rattle.segment_rows.specs.declared.search.Key.the-variants.{TileYNotNegative}
 use Rattle.segment_rows.proofs.Halving.{found-lt}

@@ -1,13 +1,5 @@
 -- `find_row` meets its contract: what is found has the tile y that is looked for, so the row above it has a number. Assumes nothing.
-use mathlib.Core.Path.{_≡_, ap, sym, _∙_}
-use native.Mathlib.Omega.{arith}
-use borrow.Author.Needs.{needs}
-use lib.IntN.{pos, _-ℤ_}
-use lib.ListN.{length-take}
-use mir.Syntax.{w16}
-use mir.Val.{SFits, toZ, ofZ}
-use mir.Facts.{toZ-ofZ}
-use Rattle.laws.proofs.Machine.{kept}
+use Rattle.laws.proofs.Prelude.{_≡_, ap, sym, _∙_, arith, needs, pos, _-ℤ_, length-take, w16, SFits, toZ, ofZ, toZ-ofZ, kept}
 use Rattle.segment_rows.specs.Search.{found, placeIn, searchOf, orderAt, afterOf}
 use Rattle.segment_rows.specs.declared.search.Key.the-variants.{TileY}
 use Rattle.segment_rows.proofs.Halving.{told-le, found-lt}

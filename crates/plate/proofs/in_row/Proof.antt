@@ -1,6 +1,5 @@
 -- `in_row` meets its contract. Assumes nothing.
-use mathlib.Core.Path.{ap, _∙_}
-use borrow.Author.Needs.{needs}
+use Rattle.laws.proofs.Prelude.{ap, _∙_, needs}
 use Rattle.segment_rows.specs.Search.{between}
 use Rattle.plate.specs.Rows.{castOf, rowPart}
 use Rattle.plate.specs.declared.Part.{Part}

@@ -1,5 +1,5 @@
 -- `is_in_crop` meets its contract. Assumes nothing.
-use borrow.Author.Needs.{needs}
+use Rattle.laws.proofs.Prelude.{needs}
 use Rattle.plate.proofs.is_in_crop.Statement.{statement}
 use Rattle.plate.proofs.is_in_crop.Tie as tie
 

@@ -1,6 +1,5 @@
 -- `print_row` meets its contract: a case for each answer of the crop. Assumes nothing.
-use mathlib.Core.Path.{ap, sym, _∙_}
-use borrow.Author.Needs.{needs}
+use Rattle.laws.proofs.Prelude.{ap, sym, _∙_, needs}
 use Rattle.plate.specs.declared.Part.{Part}
 use Rattle.plate.specs.Print.{row}
 use Rattle.plate.proofs.print_row.Statement.{statement}

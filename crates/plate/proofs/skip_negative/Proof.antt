@@ -1,10 +1,5 @@
 -- `skip_negative` meets its contract. Assumes nothing.
-use mathlib.Core.Path.{ap, _∙_}
-use Prim.Native.Nat.{ℕ, _-_, _≤_}
-use native.Mathlib.Omega.{arith}
-use borrow.Author.Needs.{needs}
-use lib.ListN.{length, drop, length-drop}
-use lib.Seq.{take-all}
+use Rattle.laws.proofs.Prelude.{ap, _∙_, ℕ, _-_, _≤_, arith, needs, length, drop, length-drop, take-all}
 use Rattle.plate.specs.Rows.{notNegative}
 use Rattle.plate.proofs.Finding.{start-le}
 use Rattle.plate.proofs.skip_negative.Statement.{statement}

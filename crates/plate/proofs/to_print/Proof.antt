@@ -1,6 +1,5 @@
 -- `to_print` meets its contract. Assumes nothing.
-use mathlib.Core.Path.{_≡_, ap, sym, _∙_}
-use borrow.Author.Needs.{needs}
+use Rattle.laws.proofs.Prelude.{_≡_, ap, sym, _∙_, needs}
 use Rattle.plate.specs.Print.{RowPrinting, row, printingIn, printRow, partIn}
 use Rattle.plate.proofs.Finding.{printed-inside}
 use Rattle.plate.proofs.to_print.Statement.{statement}

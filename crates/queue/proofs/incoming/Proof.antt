@@ -1,9 +1,5 @@
 -- `queue::incoming` meets its contract. Assumes nothing.
-use mathlib.Core.Path.{sym, _∙_}
-use native.Mathlib.Omega.{arith}
-use borrow.Author.Needs.{needs}
-use lib.ListN.{take}
-use lib.Seq.{length-take-le}
+use Rattle.laws.proofs.Prelude.{sym, _∙_, arith, needs, take, length-take-le}
 use Rattle.queue_statements.proofs.Ranks.{Held, held}
 use Rattle.queue_statements.proofs.Queues.{held-lent, missed-lent}
 use Rattle.queue.proofs.incoming.Statement.{statement}

@@ -1,7 +1,5 @@
 -- `queue::is_queue` meets its contract. What holds while the ids are passed is `Judging`. Assumes nothing.
-use Prim.Native.Nat.{_-_}
-use native.Mathlib.Omega.{arith}
-use borrow.Author.Needs.{needs}
+use Rattle.laws.proofs.Prelude.{_-_, arith, needs}
 use Rattle.queue_statements.proofs.Judging.{Judging, begin, next, end, many}
 use Rattle.queue.proofs.is_queue.Statement.{statement}
 use Rattle.queue.proofs.is_queue.Tie as tie

@@ -1,6 +1,5 @@
 -- `queue::is_short` meets its contract. Assumes nothing.
-use Prim.Native.Nat.{_/_}
-use lib.ListN.{length}
+use Rattle.laws.proofs.Prelude.{_/_, length}
 use Rattle.layer_table.proofs.Judging.{ltb-min}
 use Rattle.queue.proofs.is_short.Statement.{statement}
 use Rattle.queue.proofs.is_short.Tie as tie

@@ -1,9 +1,5 @@
 -- `queue_opening::copy_covers` meets its contract. Assumes nothing.
-use Prim.Native.Nat.{_-_}
-use native.Mathlib.Omega.{arith}
-use lib.IntN.{pos}
-use mir.Syntax.{w8}
-use Rattle.laws.proofs.Machine.{kept}
+use Rattle.laws.proofs.Prelude.{_-_, arith, pos, w8, kept}
 use Rattle.queue_statements.proofs.Copying.{Copying, copy-start, copy-next, copy-end}
 use Rattle.queue_opening.proofs.copy_covers.Statement.{statement}
 use Rattle.queue_opening.proofs.copy_covers.Tie as tie

@@ -1,7 +1,5 @@
 -- `queue_opening::copy_ids` meets its contract. Assumes nothing.
-use mathlib.Core.Path.{refl}
-use Prim.Native.Nat.{_-_}
-use native.Mathlib.Omega.{arith}
+use Rattle.laws.proofs.Prelude.{refl, _-_, arith}
 use Rattle.queue_statements.proofs.Copying.{Copying, copy-start, copy-next, copy-end}
 use Rattle.queue_opening.proofs.copy_ids.Statement.{statement}
 use Rattle.queue_opening.proofs.copy_ids.Tie as tie

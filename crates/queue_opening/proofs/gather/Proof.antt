@@ -1,6 +1,5 @@
 -- `queue_opening::gather` meets its contract. Assumes nothing.
-use mathlib.Core.Path.{_∙_}
-use borrow.Author.Needs.{needs}
+use Rattle.laws.proofs.Prelude.{_∙_, needs}
 use Rattle.queue_statements.proofs.Gathering.{many, summing, light, heavy}
 use Rattle.queue_opening.proofs.gather.Statement.{statement}
 use Rattle.queue_opening.proofs.gather.Tie as tie

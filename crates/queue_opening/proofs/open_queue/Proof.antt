@@ -1,7 +1,5 @@
 -- `queue_opening::open_queue` meets its contract. Assumes nothing.
-use mathlib.Core.Path.{refl, ap}
-use borrow.Author.Needs.{needs}
-use lib.IntN.{natAbs}
+use Rattle.laws.proofs.Prelude.{refl, ap, needs, natAbs}
 use Rattle.cover_statements.proofs.Filled.{getD-default}
 use Rattle.queue_statements.proofs.Gathering.{opens}
 use Rattle.queue_opening.proofs.open_queue.Statement.{statement}

@@ -1,5 +1,5 @@
 -- `queue_records::columns_with` meets its contract. Assumes nothing.
-use borrow.Author.Needs.{needs}
+use Rattle.laws.proofs.Prelude.{needs}
 use Rattle.queue_records.proofs.columns_with.Statement.{statement}
 use Rattle.queue_records.proofs.columns_with.Tie as tie
 

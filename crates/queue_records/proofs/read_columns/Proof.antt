@@ -1,9 +1,8 @@
 -- `queue_records::read_columns` meets its contract: a walk of its MIR, by hand. Two arrays of this function's own are lent to `read_queue`, each for a lifetime that is made for the call (`proofs/LentArray.antt`), come back as it left them, and go by value to `columns_with`.
 -- What the queue owns is had twice, once for the call and once for the exit. All that the proof knows of the functions that it calls is that each meets its contract.
 -- Assumes nothing.
-use mathlib.Core.Path.{_≡_, refl}
-use mathlib.Core.List.{List, [], _∷_}
-use Prim.Native.Nat.{ℕ, _<_, _^_, min}
+use Rattle.laws.proofs.Prelude.{_≡_, refl, List, [], _∷_, ℕ, _<_, _^_, min, T, lit<, ℤ, pos, length, take, replicate, named, w8, w32, w64, Val, vint}
+use Rattle.laws.proofs.Prelude.{over}
 use contract.Monad.{Fun, fact}
 use contract.Running.{givenOf, tables, tablesOf}
 use denote.RattleType.{RattleType, owns}
@@ -26,12 +25,7 @@ use denote.Triple.Clauses.{Lasts, ensured, lasts}
 use denote.Triple.Table.{entered, cited}
 use denote.Triple.Walked.{says, Stays, stay-none, stay-none-slice, walkOf, goes-none, goes-none-slice, Walks, ends-at, walked, walk-meets}
 use denote.Exit.{yes}
-use lib.Dec.{T, lit<}
-use lib.IntN.{ℤ, pos}
-use lib.ListN.{length, take, replicate}
-use mir.Syntax.{named, w8, w32, w64}
-use mir.Val.{Val, vint, hasTy, WT}
-use Rattle.laws.specs.Lists.{over}
+use mir.Val.{hasTy, WT}
 use Rattle.queue_records.specs.Records.{recordIds, recordCovers, readable, columnsOf}
 use Rattle.queue_records.specs.declared.CarryRecord.{CarryRecord}
 use Rattle.queue_records.specs.declared.Columns.{Columns}

@@ -2,13 +2,9 @@
 -- A turn reads a carry by `record_at`, for which what the queue owns is had twice, and lends the two lists again to `put_record`, each for a lifetime that is made for the call (`proofs/Again.antt`).
 -- All that the proof knows of the functions that it calls is that each meets its contract.
 -- Assumes nothing.
-use mathlib.Core.Path.{_≡_, refl, sym, _∙_, ap}
-use mathlib.Core.Bool.{Bool, true, false}
-use mathlib.Core.List.{List, [], _∷_}
+use Rattle.laws.proofs.Prelude.{_≡_, refl, sym, _∙_, ap, Bool, true, false, List, [], _∷_, ℕ, _+_, _*_, _-_, _≤_, _<_, _^_, arith, ltb-true}
+use Rattle.laws.proofs.Prelude.{ltb-false, ltb, lit<, ℤ, length, getD, set, length-map, named, w8, w32, w64, Val, vint}
 use mathlib.Core.WellFounded.{WellFounded, InvImage·wf}
-use Prim.Native.Nat.{ℕ, _+_, _*_, _-_, _≤_, _<_, _^_}
-use native.Mathlib.Omega.{arith}
-use borrow.Author.Tests.{ltb-true, ltb-false}
 use contract.Monad.{Fun, fact}
 use contract.Running.{givenOf, tables, tablesOf}
 use denote.RattleType.{owns}
@@ -29,12 +25,9 @@ use denote.Triple.Clauses.{Lasts, ensured, lasts}
 use denote.Triple.Table.{entered, cited}
 use denote.Triple.Walked.{says, Stays, stay-none, stay-none-slice, stay-slice, walkOf, goes-none, goes-none-slice, goes-slice, Walks, ends-at, walked, walk-meets}
 use denote.Exit.{yes}
-use lib.Dec.{ltb, lit<}
-use lib.IntN.{ℤ}
-use lib.ListN.{length, getD, set, length-map}
 use lib.WfN.{Nat·lt-wfRel}
-use mir.Syntax.{Ty, named, erased, imm, mut, w8, w32, w64, tyInt, tyBool, tyUnit, tyRef, loop}
-use mir.Val.{Val, vbool, vint}
+use mir.Syntax.{Ty, erased, imm, mut, tyInt, tyBool, tyUnit, tyRef, loop}
+use mir.Val.{vbool}
 use Rattle.cover_statements.specs.Entry.{putEntry}
 use Rattle.queue_records.specs.Records.{noRecord, readable}
 use Rattle.queue_records.specs.declared.CarryRecord.{CarryRecord}

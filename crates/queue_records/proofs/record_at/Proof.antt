@@ -1,10 +1,7 @@
 -- `queue_records::record_at` meets its contract: a walk of its MIR, by hand. The place of `queue[i]` is twenty times i past the slice's pointer, and the whole record is read there.
 -- The slice is looked into, for some share of its elements, of which element i is taken out and put back. The code has no check of the bound: it is the contract's to ask.
 -- Assumes nothing.
-use mathlib.Core.Path.{refl, sym}
-use mathlib.Core.List.{List, [], _∷_}
-use Prim.Native.Nat.{ℕ, _<_, _^_, _*_}
-use native.Mathlib.Omega.{arith}
+use Rattle.laws.proofs.Prelude.{refl, sym, List, [], _∷_, ℕ, _<_, _^_, _*_, arith, length, getD, named, w64, Val, vint, vptr}
 use contract.Monad.{Fun}
 use contract.Running.{givenOf, tables, tablesOf}
 use denote.RattleType.{owns}
@@ -21,9 +18,7 @@ use denote.Triple.Spec.{Meets, tripleOf}
 use denote.Triple.Table.{entered}
 use denote.Triple.Walked.{says, needs, Stays, stay-none, stay-none-slice, walkOf, goes-none, goes-none-slice, Walks, ends-at, walked, walk-meets}
 use denote.Exit.{yes}
-use lib.ListN.{length, getD}
-use mir.Syntax.{named, w64, tyPtr}
-use mir.Val.{Val, vint, vptr}
+use mir.Syntax.{tyPtr}
 use Rattle.queue_records.specs.Records.{noRecord}
 use Rattle.queue_records.specs.declared.CarryRecord.{CarryRecord}
 use Rattle.queue_records.proofs.CarryRecord as T

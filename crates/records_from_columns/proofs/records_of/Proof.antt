@@ -1,7 +1,5 @@
 -- `records_of` meets its contract. Assumes nothing.
-use mathlib.Core.Path.{refl}
-use Prim.Native.Nat.{_-_}
-use native.Mathlib.Omega.{arith}
+use Rattle.laws.proofs.Prelude.{refl, _-_, arith}
 use Rattle.records_from_columns.proofs.Making.{Making, make-start, make-next, make-end}
 use Rattle.records_from_columns.proofs.records_of.Statement.{statement}
 use Rattle.records_from_columns.proofs.records_of.Tie as tie

@@ -1,8 +1,5 @@
 -- `print_refusal` meets its contract: the line is written to a buffer of its own and put from there. Assumes nothing.
-use mathlib.Core.Path.{refl, sym}
-use native.Mathlib.Omega.{arith}
-use borrow.Author.Needs.{needs}
-use lib.Seq.{length-take-le}
+use Rattle.laws.proofs.Prelude.{refl, sym, arith, needs, length-take-le}
 use Rattle.report.proofs.Putting.{put-line}
 use Rattle.report.proofs.print_refusal.Statement.{statement}
 use Rattle.report.proofs.print_refusal.Tie as tie

@@ -1,8 +1,5 @@
 -- `judge_records` meets its contract: the answers of `Verdicts`, in the order of the tests. Assumes nothing.
-use mathlib.Core.Path.{sym, _∙_}
-use native.Mathlib.Omega.{arith}
-use borrow.Author.Needs.{needs}
-use borrow.Author.Tests.{not-true, not-false, lt-ltb, le-ltb}
+use Rattle.laws.proofs.Prelude.{sym, _∙_, arith, needs, not-true, not-false, lt-ltb, le-ltb}
 use Rattle.revision_statements.proofs.Verdicts.{says-4, says-15, says-1, says-pass}
 use Rattle.revisions.proofs.judge_records.Statement.{statement}
 use Rattle.revisions.proofs.judge_records.Tie as tie

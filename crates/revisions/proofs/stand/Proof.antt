@@ -1,7 +1,5 @@
 -- `stand` meets its contract: a refusal leaves all as it was, and what passes is written. Assumes nothing.
-use mathlib.Core.Path.{sym, ap, _∙_}
-use native.Mathlib.Omega.{arith}
-use borrow.Author.Needs.{needs}
+use Rattle.laws.proofs.Prelude.{sym, ap, _∙_, arith, needs}
 use Rattle.refusals.specs.Refusal.{judgementIn}
 use Rattle.revision_statements.proofs.Verdicts.{passes, judged, stands-refused, stands-written}
 use Rattle.revisions.proofs.stand.Statement.{statement}

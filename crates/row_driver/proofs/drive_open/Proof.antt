@@ -1,5 +1,5 @@
 -- `drive_open` meets its contract. Assumes nothing.
-use borrow.Author.Needs.{needs}
+use Rattle.laws.proofs.Prelude.{needs}
 use Rattle.row_driver.proofs.drive_open.Statement.{statement}
 use Rattle.row_driver.proofs.drive_open.Tie as tie
 use Rattle.row_driver.proofs.Opening.{drivable}

@@ -1,7 +1,5 @@
 -- `drive_row` meets its contract: the opening and what it leaves are laws of `Opening`. Assumes nothing.
-use mathlib.Core.Path.{_≡_}
-use borrow.Author.Needs.{needs}
-use mir.Facts.{toZ-ofZ}
+use Rattle.laws.proofs.Prelude.{_≡_, needs, toZ-ofZ}
 use Rattle.row_statements.specs.Lent.{lentTable}
 use Rattle.row_statements.specs.Opening.{OpenCall, openCall}
 use Rattle.row_lines.specs.Driven.{dueTiles}

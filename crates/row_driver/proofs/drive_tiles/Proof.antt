@@ -1,16 +1,5 @@
 -- `drive_tiles` meets its contract: each turn is a tile of `Turning`, and the lines that are written go by `Driving`. Assumes nothing.
-use mathlib.Core.Path.{_≡_, refl, ap, _∙_}
-use mathlib.Core.Option.{none}
-use Prim.Native.Nat.{_+_, _*_, _-_, _≤_, _<_}
-use native.Mathlib.Numerals.{add-one}
-use native.Mathlib.Omega.{arith}
-use borrow.Author.Needs.{needs}
-use lib.IntN.{pos}
-use lib.ListN.{length}
-use lib.Seq.{sets}
-use mir.Syntax.{w16}
-use mir.Facts.{toZ-pos}
-use Rattle.laws.proofs.Machine.{small}
+use Rattle.laws.proofs.Prelude.{_≡_, refl, ap, _∙_, none, _+_, _*_, _-_, _≤_, _<_, add-one, arith, needs, pos, length, sets, w16, toZ-pos, small}
 use Rattle.segment_rows.specs.Search.{leftPart, tilePart}
 use Rattle.row_statements.specs.InnerHolding.{Holds}
 use Rattle.row_statements.specs.Lent.{Columns, ListColumns}

@@ -1,7 +1,5 @@
 -- `due_tiles` meets its contract. Assumes nothing.
-use native.Mathlib.Omega.{arith}
-use borrow.Author.Needs.{needs}
-use mir.Facts.{toZ-ofZ}
+use Rattle.laws.proofs.Prelude.{arith, needs, toZ-ofZ}
 use Rattle.row_driver.proofs.due_tiles.Statement.{statement}
 use Rattle.row_driver.proofs.due_tiles.Tie as tie
 

@@ -1,10 +1,5 @@
 -- `write_line` meets its contract. Assumes nothing.
-use mathlib.Core.Path.{_≡_}
-use mathlib.Core.List.{List}
-use Prim.Native.Nat.{ℕ, suc, _+_, _<_}
-use native.Mathlib.Omega.{arith}
-use borrow.Author.Needs.{needs}
-use lib.ListN.{length, set, length-set}
+use Rattle.laws.proofs.Prelude.{_≡_, List, ℕ, suc, _+_, _<_, arith, needs, length, set, length-set}
 use Rattle.row_driver.proofs.write_line.Statement.{statement}
 use Rattle.row_driver.proofs.write_line.Tie as tie
 

@@ -1,11 +1,6 @@
 -- `opening::judge_opening` meets its contract: a line for each condition, the lowest first. Assumes nothing.
 -- whether the row is in order, as the definition asks it
-use mathlib.Core.Path.{_≡_, ap, _∙_}
-use Prim.Native.Nat.{ℕ, suc}
-use native.Mathlib.Numerals.{add-one}
-use borrow.Author.Needs.{needs}
-use mir.Facts.{toZ-ofZ}
-use Rattle.laws.specs.Integer.{plus}
+use Rattle.laws.proofs.Prelude.{_≡_, ap, _∙_, ℕ, suc, add-one, needs, toZ-ofZ, plus}
 use Rattle.pixel_segment.specs.Field.{cpu}
 use Rattle.segment_rows.specs.Rows.{isRow}
 use Rattle.row_statements.specs.Opening.{openVerdict, hasBadEnds}

@@ -1,12 +1,5 @@
 -- `open_tile_row` meets its contract. Assumes nothing.
-use mathlib.Core.Path.{_≡_, sym, ap, _∙_}
-use native.Mathlib.Omega.{arith}
-use borrow.Author.Needs.{needs}
-use mir.Syntax.{w16}
-use mir.Val.{SFits}
-use mir.Facts.{toZ-ofZ}
-use Rattle.laws.proofs.Machine.{sfits}
-use Rattle.laws.proofs.Parts.{whole}
+use Rattle.laws.proofs.Prelude.{_≡_, sym, ap, _∙_, arith, needs, w16, SFits, toZ-ofZ, sfits, whole}
 use Rattle.refusals.specs.Refusal.{judgementIn, pass}
 use Rattle.queue_statements.proofs.Judging.{room}
 use Rattle.row_statements.specs.Lent.{Columns, columns, lentTable}

@@ -1,6 +1,5 @@
 -- `opening::opened` meets its contract. Assumes nothing.
-use borrow.Author.Needs.{needs}
-use mir.Facts.{toZ-ofZ}
+use Rattle.laws.proofs.Prelude.{needs, toZ-ofZ}
 use Rattle.row_opening.proofs.opened.Statement.{statement}
 use Rattle.row_opening.proofs.opened.Tie as tie
 

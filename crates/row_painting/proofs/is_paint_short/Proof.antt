@@ -1,5 +1,5 @@
 -- `is_paint_short` meets its contract. Assumes nothing.
-use borrow.Author.Needs.{needs}
+use Rattle.laws.proofs.Prelude.{needs}
 use Rattle.row_painting.proofs.is_paint_short.Statement.{statement}
 use Rattle.row_painting.proofs.is_paint_short.Tie as tie
 

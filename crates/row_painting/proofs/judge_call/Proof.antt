@@ -1,9 +1,5 @@
 -- `judge_call` meets its contract. Assumes nothing.
-use mathlib.Core.Path.{_≡_, ap, _∙_}
-use Prim.Native.Nat.{ℕ, suc}
-use native.Mathlib.Numerals.{add-one}
-use borrow.Author.Needs.{needs}
-use mir.Facts.{toZ-ofZ}
+use Rattle.laws.proofs.Prelude.{_≡_, ap, _∙_, ℕ, suc, add-one, needs, toZ-ofZ}
 use Rattle.pixel_segment.specs.Field.{cpu}
 use Rattle.segment_rows.specs.Rows.{isRow}
 use Rattle.row_statements.specs.State.{stateIn, isWrongWorked}

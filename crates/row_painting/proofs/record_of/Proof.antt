@@ -1,6 +1,5 @@
 -- `record_of` meets its contract. Assumes nothing.
-use native.Mathlib.Omega.{arith}
-use borrow.Author.Needs.{needs}
+use Rattle.laws.proofs.Prelude.{arith, needs}
 use Rattle.layer_table.proofs.Looking.{at-place, at-none}
 use Rattle.row_painting.proofs.record_of.Statement.{statement}
 use Rattle.row_painting.proofs.record_of.Tie as tie

@@ -1,5 +1,5 @@
 -- `op_of` meets its contract. Assumes nothing.
-use borrow.Author.Tests.{eq-eqb, ne-eqb}
+use Rattle.laws.proofs.Prelude.{eq-eqb, ne-eqb}
 use Rattle.row_printing.proofs.op_of.Statement.{statement}
 use Rattle.row_printing.proofs.op_of.Tie as tie
 

@@ -1,7 +1,5 @@
 -- `print_driven` meets its contract: names, lines and refusal one after another. Assumes nothing.
-use mathlib.Core.Path.{ap}
-use native.Mathlib.Omega.{arith}
-use borrow.Author.Needs.{needs}
+use Rattle.laws.proofs.Prelude.{ap, arith, needs}
 use Rattle.row_lines.specs.Driven.{linesWritten}
 use Rattle.row_printing.proofs.Lining.{asks, last-room, done, refused}
 use Rattle.row_printing.proofs.print_driven.Statement.{statement}

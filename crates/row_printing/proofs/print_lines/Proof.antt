@@ -1,6 +1,5 @@
 -- `print_lines` meets its contract: the invariant and its steps are those of `Lining`; the measure is the lines left. Assumes nothing.
-use Prim.Native.Nat.{_-_}
-use native.Mathlib.Omega.{arith}
+use Rattle.laws.proofs.Prelude.{_-_, arith}
 use Rattle.row_printing.proofs.Lining.{Lining, start, words-there, line-room, next, end-of}
 use Rattle.row_printing.proofs.print_lines.Statement.{statement}
 use Rattle.row_printing.proofs.print_lines.Tie as tie

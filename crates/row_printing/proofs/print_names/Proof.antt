@@ -1,8 +1,5 @@
 -- `print_names` meets its contract: there is room. Assumes nothing.
-use Prim.Native.Nat.{_+_, _≤_}
-use native.Mathlib.Omega.{arith}
-use borrow.Author.Needs.{needs}
-use lib.ListN.{length}
+use Rattle.laws.proofs.Prelude.{_+_, _≤_, arith, needs, length}
 use Rattle.report.specs.Text.{tileNames}
 use Rattle.row_printing.proofs.Placing.{placed}
 use Rattle.row_printing.proofs.print_names.Statement.{statement}

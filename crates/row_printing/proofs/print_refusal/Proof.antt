@@ -1,5 +1,5 @@
 -- `print_refusal` meets its contract: there is room. Assumes nothing.
-use borrow.Author.Needs.{needs}
+use Rattle.laws.proofs.Prelude.{needs}
 use Rattle.row_printing.proofs.Placing.{refusal-long, placed-in}
 use Rattle.row_printing.proofs.print_refusal.Statement.{statement}
 use Rattle.row_printing.proofs.print_refusal.Tie as tie

@@ -1,5 +1,5 @@
 -- `print_tile` meets its contract: there is room for the longest line. Assumes nothing.
-use borrow.Author.Needs.{needs}
+use Rattle.laws.proofs.Prelude.{needs}
 use Rattle.row_printing.proofs.Placing.{tile-placed}
 use Rattle.row_printing.proofs.print_tile.Statement.{statement}
 use Rattle.row_printing.proofs.print_tile.Tie as tie

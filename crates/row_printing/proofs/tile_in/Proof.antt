@@ -1,5 +1,5 @@
 -- `tile_in` meets its contract. Assumes nothing.
-use borrow.Author.Needs.{needs}
+use Rattle.laws.proofs.Prelude.{needs}
 use Rattle.row_printing.proofs.tile_in.Statement.{statement}
 use Rattle.row_printing.proofs.tile_in.Tie as tie
 

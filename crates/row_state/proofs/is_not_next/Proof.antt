@@ -1,6 +1,5 @@
 -- `is_not_next` meets its contract. Assumes nothing.
-use borrow.Author.Needs.{needs}
-use mir.Facts.{toZ-ofZ}
+use Rattle.laws.proofs.Prelude.{needs, toZ-ofZ}
 use Rattle.row_state.proofs.is_not_next.Statement.{statement}
 use Rattle.row_state.proofs.is_not_next.Tie as tie
 

@@ -1,9 +1,5 @@
 -- `is_not_worked` meets its contract. Assumes nothing.
-use native.Mathlib.Omega.{arith}
-use borrow.Author.Needs.{needs}
-use mir.Syntax.{w32}
-use mir.Facts.{toZ-ofZ}
-use Rattle.laws.proofs.Machine.{within}
+use Rattle.laws.proofs.Prelude.{arith, needs, w32, toZ-ofZ, within}
 use Rattle.row_state.proofs.is_not_worked.Statement.{statement}
 use Rattle.row_state.proofs.is_not_worked.Tie as tie
 

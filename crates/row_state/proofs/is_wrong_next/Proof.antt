@@ -1,6 +1,5 @@
 -- `is_wrong_next` meets its contract. Assumes nothing.
-use borrow.Author.Needs.{needs}
-use mir.Facts.{toZ-ofZ}
+use Rattle.laws.proofs.Prelude.{needs, toZ-ofZ}
 use Rattle.row_state.proofs.is_wrong_next.Statement.{statement}
 use Rattle.row_state.proofs.is_wrong_next.Tie as tie
 

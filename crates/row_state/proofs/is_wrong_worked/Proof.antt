@@ -1,6 +1,5 @@
 -- `is_wrong_worked` meets its contract. Assumes nothing.
-use borrow.Author.Needs.{needs}
-use mir.Facts.{toZ-ofZ}
+use Rattle.laws.proofs.Prelude.{needs, toZ-ofZ}
 use Rattle.row_state.proofs.is_wrong_worked.Statement.{statement}
 use Rattle.row_state.proofs.is_wrong_worked.Tie as tie
 

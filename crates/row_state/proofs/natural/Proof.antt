@@ -1,6 +1,5 @@
 -- `natural` meets its contract. Assumes nothing.
-use borrow.Author.Needs.{needs}
-use mir.Facts.{toZ-ofZ}
+use Rattle.laws.proofs.Prelude.{needs, toZ-ofZ}
 use Rattle.row_state.proofs.natural.Statement.{statement}
 use Rattle.row_state.proofs.natural.Tie as tie
 

@@ -1,9 +1,5 @@
 -- `answer` meets its contract: what is lent to be driven is the job that was read, and arrays of these lengths hold every job. Assumes nothing.
-use mathlib.Core.Path.{refl, sym}
-use Prim.Native.Nat.{_*_}
-use native.Mathlib.Omega.{arith}
-use borrow.Author.Needs.{needs}
-use lib.Seq.{length-take-le}
+use Rattle.laws.proofs.Prelude.{refl, sym, _*_, arith, needs, length-take-le}
 use Rattle.report.proofs.Lines.{at-front}
 use Rattle.row_answer.proofs.Reading.{accepts, has-room, refuses, same-text}
 use Rattle.row_text.proofs.answer.Statement.{statement}

@@ -1,6 +1,5 @@
 -- `answer_front` meets its contract: the first 65,537 bytes of an input decide its answer. Assumes nothing.
-use native.Mathlib.Omega.{arith}
-use borrow.Author.Needs.{needs}
+use Rattle.laws.proofs.Prelude.{arith, needs}
 use Rattle.input_front.proofs.Held.{held}
 use Rattle.job_front.specs.Front.{inputRoom}
 use Rattle.row_answer.proofs.Reading.{same-text}

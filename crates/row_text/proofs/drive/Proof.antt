@@ -1,12 +1,6 @@
 -- `drive` meets its contract: what the driver told, with room for every row. Assumes nothing.
-use mathlib.Core.Path.{_≡_, sym}
-use native.Mathlib.Omega.{arith}
-use borrow.Author.Needs.{needs}
-use lib.ListN.{replicate}
-use mir.Syntax.{w32}
-use Rattle.laws.specs.Integer.{plus}
+use Rattle.laws.proofs.Prelude.{_≡_, sym, arith, needs, replicate, w32, plus, kept}
 use Rattle.laws.proofs.Machine as machine
-use Rattle.laws.proofs.Machine.{kept}
 use Rattle.row_lines.specs.Driven.{Drives}
 use Rattle.row_answer.specs.Answer.{headDriving}
 use Rattle.row_text.proofs.Telling.{all-told, text-is}

@@ -1,12 +1,5 @@
 -- `work_judged` meets its contract. Assumes nothing.
-use mathlib.Core.Path.{_≡_}
-use native.Mathlib.Omega.{arith}
-use borrow.Author.Needs.{needs}
-use mir.Syntax.{w16}
-use mir.Val.{SFits}
-use mir.Facts.{toZ-ofZ}
-use Rattle.laws.proofs.Machine.{sfits}
-use Rattle.laws.proofs.Parts.{whole}
+use Rattle.laws.proofs.Prelude.{_≡_, arith, needs, w16, SFits, toZ-ofZ, sfits, whole}
 use Rattle.segment_rows.specs.Search.{tilePart}
 use Rattle.row_working.proofs.PartLaws.{part-judged}
 use Rattle.row_working.proofs.work_judged.Statement.{statement}

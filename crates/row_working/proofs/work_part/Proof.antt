@@ -1,10 +1,5 @@
 -- `work_part` meets its contract. Assumes nothing.
-use mathlib.Core.Path.{_≡_, refl, sym, ap, _∙_}
-use mathlib.Core.List.{List}
-use Prim.Native.Nat.{ℕ}
-use native.Mathlib.Omega.{arith}
-use borrow.Author.Needs.{needs}
-use lib.IntN.{ℤ}
+use Rattle.laws.proofs.Prelude.{_≡_, refl, sym, ap, _∙_, List, ℕ, arith, needs, ℤ}
 use Rattle.refusals.specs.Refusal.{judgementIn}
 use Rattle.row_statements.specs.Lent.{columns, listColumns, lentTable}
 use Rattle.row_statements.specs.State.{stateIn}

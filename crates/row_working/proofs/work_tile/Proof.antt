@@ -1,7 +1,5 @@
 -- `work_tile` meets its contract. Assumes nothing.
-use mathlib.Core.Path.{_≡_, refl, sym, ap, _∙_}
-use borrow.Author.Needs.{needs}
-use mir.Facts.{toZ-ofZ}
+use Rattle.laws.proofs.Prelude.{_≡_, refl, sym, ap, _∙_, needs, toZ-ofZ}
 use Rattle.refusals.specs.Refusal.{Judgement, pass, judgementIn, andThen}
 use Rattle.row_statements.specs.Lent.{columns, listColumns, lentTable}
 use Rattle.row_statements.specs.State.{stateIn}

@@ -1,9 +1,5 @@
 -- `add_areas` meets its contract. Assumes nothing.
-use borrow.Author.Needs.{needs}
-use mathlib.Core.Path.{_∙_}
-use lib.IntN.{ℤ}
-use mir.Syntax.{w16}
-use Rattle.laws.proofs.Machine.{kept}
+use Rattle.laws.proofs.Prelude.{needs, _∙_, ℤ, w16, kept}
 use Rattle.pixel_segment.specs.Field.{cpu}
 use Rattle.segment_set_statements.proofs.Spreading.{spread-is}
 use Rattle.segment_effect.proofs.add_areas.Statement.{statement}

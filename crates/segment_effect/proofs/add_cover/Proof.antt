@@ -1,9 +1,5 @@
 -- `add_cover` meets its contract: the sum is wrapped in 16 bits. Assumes nothing.
-use mathlib.Core.Path.{refl}
-use lib.Dec.{lit<}
-use mir.Facts.{toZ-ofZ, sfits-widen}
-use mir.Syntax.{w8, w16}
-use mir.Val.{SFits}
+use Rattle.laws.proofs.Prelude.{refl, lit<, toZ-ofZ, sfits-widen, w8, w16, SFits}
 use Rattle.segment_set_statements.specs.Effect.{wrap}
 use Rattle.segment_set_statements.proofs.Wrapping.{Wraps, wraps}
 use Rattle.segment_effect.proofs.add_cover.Statement.{statement}

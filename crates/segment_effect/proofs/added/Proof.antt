@@ -1,10 +1,5 @@
 -- `added` meets its contract. Assumes nothing.
-use borrow.Author.Needs.{needs}
-use native.Mathlib.Omega.{arith}
-use Prim.Native.Nat.{_+_}
-use lib.IntN.{_+ℤ_}
-use mir.Syntax.{w8}
-use Rattle.laws.proofs.Machine.{kept}
+use Rattle.laws.proofs.Prelude.{needs, arith, _+_, _+ℤ_, w8, kept}
 use Rattle.segment_set_statements.specs.Effect.{carryAfter, loadsAfter}
 use Rattle.segment_set_statements.proofs.Changes.{changes}
 use Rattle.segment_effect.proofs.added.Statement.{statement}

@@ -1,11 +1,5 @@
 -- `carry_with` meets its contract. Assumes nothing.
-use mathlib.Core.Path.{ap, _∙_}
-use borrow.Author.Needs.{needs, sfits-of}
-use lib.IntN.{ℤ}
-use lib.ListN.{set}
-use mir.Facts.{toZ-ofZ}
-use mir.Syntax.{w8}
-use Rattle.laws.proofs.Machine.{kept}
+use Rattle.laws.proofs.Prelude.{ap, _∙_, needs, sfits-of, ℤ, set, toZ-ofZ, w8, kept}
 use Rattle.segment_effect.proofs.carry_with.Statement.{statement}
 use Rattle.segment_effect.proofs.carry_with.Tie as tie
 

@@ -1,5 +1,5 @@
 -- `lower` meets its contract. Assumes nothing.
-use borrow.Author.Needs.{needs}
+use Rattle.laws.proofs.Prelude.{needs}
 use Rattle.segment_effect.proofs.lower.Statement.{statement}
 use Rattle.segment_effect.proofs.lower.Tie as tie
 

@@ -1,12 +1,5 @@
 -- `past_cover` meets its contract. Assumes nothing.
-use borrow.Author.Needs.{needs}
-use native.Mathlib.Omega.{arith}
-use lib.IntN.{pos, _*ℤ_}
-use mir.Facts.{toZ-ofZ, sfits-widen}
-use mir.Syntax.{w8, w16}
-use mir.Val.{SFits}
-use Rattle.laws.proofs.Machine.{small, kept}
-use Rattle.laws.proofs.Parts.{whole, times}
+use Rattle.laws.proofs.Prelude.{needs, arith, pos, _*ℤ_, toZ-ofZ, sfits-widen, w8, w16, SFits, small, kept, whole, times}
 use Rattle.pixel_segment.specs.Field.{cpu, coverOf}
 use Rattle.pixel_segment.proofs.Widths.{in-cover, cover-fits}
 use Rattle.segment_effect.proofs.past_cover.Statement.{statement}

@@ -1,12 +1,5 @@
 -- `remove_areas` meets its contract. Assumes nothing.
-use borrow.Author.Needs.{needs}
-use mathlib.Core.Path.{_∙_}
-use native.Mathlib.Omega.{arith}
-use lib.IntN.{pos, negℤ, _*ℤ_, +ℤ-idl}
-use mir.Facts.{toZ-ofZ}
-use mir.Syntax.{w16}
-use Rattle.laws.proofs.Machine.{kept}
-use Rattle.laws.proofs.Parts.{whole, times}
+use Rattle.laws.proofs.Prelude.{needs, _∙_, arith, pos, negℤ, _*ℤ_, +ℤ-idl, toZ-ofZ, w16, kept, whole, times}
 use Rattle.pixel_segment.specs.Field.{cpu, coverOf, doubleAreaOf}
 use Rattle.pixel_segment.proofs.Widths.{in-cover, area-le}
 use Rattle.segment_set_statements.proofs.Spreading.{spread-is}

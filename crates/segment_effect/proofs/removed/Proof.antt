@@ -1,11 +1,5 @@
 -- `removed` meets its contract. Assumes nothing.
-use borrow.Author.Needs.{needs}
-use native.Mathlib.Omega.{arith}
-use Prim.Native.Nat.{_-_}
-use lib.IntN.{negℤ, _-ℤ_, +ℤ-idl}
-use mir.Facts.{toZ-ofZ}
-use mir.Syntax.{w8}
-use Rattle.laws.proofs.Machine.{kept}
+use Rattle.laws.proofs.Prelude.{needs, arith, _-_, negℤ, _-ℤ_, +ℤ-idl, toZ-ofZ, w8, kept}
 use Rattle.pixel_segment.specs.Field.{cpu, coverOf}
 use Rattle.pixel_segment.proofs.Widths.{in-cover}
 use Rattle.segment_set_statements.specs.Effect.{carryAfter, loadsAfter}

@@ -1,14 +1,5 @@
 -- `spread` meets its contract. Assumes nothing.
-use mathlib.Core.Path.{_≡_, refl, _∙_}
-use mathlib.Core.Bool.{cond}
-use Prim.Native.Nat.{_+_, _-_, _*_}
-use native.Mathlib.Omega.{arith}
-use borrow.Author.Tests.{eq-eqb, ne-eqb}
-use lib.Dec.{eqb}
-use mir.Facts.{toZ-ofZ}
-use mir.Syntax.{w16}
-use mir.Val.{toZ}
-use Rattle.laws.proofs.Machine.{kept}
+use Rattle.laws.proofs.Prelude.{_≡_, refl, _∙_, cond, _+_, _-_, _*_, arith, eq-eqb, ne-eqb, eqb, toZ-ofZ, w16, toZ, kept}
 use Rattle.cover_statements.specs.Cover.{coverAt}
 use Rattle.segment_set_statements.proofs.Spreading.{Spreading, spread-start, spread-next, spread-end}
 use Rattle.segment_effect.proofs.spread.Statement.{statement}

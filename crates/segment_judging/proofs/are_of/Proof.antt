@@ -1,12 +1,5 @@
 -- `are_of` meets its contract. Assumes nothing.
-use mathlib.Core.Path.{refl}
-use Prim.Native.Nat.{_-_}
-use native.Mathlib.Omega.{arith}
-use borrow.Author.Needs.{needs}
-use lib.ListN.{length}
-use mir.Facts.{toZ-ofZ}
-use mir.Syntax.{w16}
-use mir.Val.{toZ}
+use Rattle.laws.proofs.Prelude.{refl, _-_, arith, needs, length, toZ-ofZ, w16, toZ}
 use Rattle.cover_statements.proofs.Testing.{Testing, test-start, test-next, test-end}
 use Rattle.segment_set_statements.specs.Set.{isOf}
 use Rattle.segment_judging.proofs.are_of.Statement.{statement}

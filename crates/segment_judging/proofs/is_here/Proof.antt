@@ -1,7 +1,5 @@
 -- `is_here` meets its contract. Assumes nothing.
-use borrow.Author.Needs.{needs}
-use mir.Syntax.{w16}
-use Rattle.laws.proofs.Machine.{kept}
+use Rattle.laws.proofs.Prelude.{needs, w16, kept}
 use Rattle.segment_judging.proofs.is_here.Statement.{statement}
 use Rattle.segment_judging.proofs.is_here.Tie as tie
 

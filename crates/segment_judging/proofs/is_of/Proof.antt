@@ -1,9 +1,5 @@
 -- `is_of` meets its contract. Assumes nothing.
-use borrow.Author.Needs.{needs}
-use mathlib.Core.Path.{refl}
-use mir.Facts.{toZ-ofZ}
-use mir.Syntax.{w16}
-use Rattle.laws.proofs.Machine.{kept}
+use Rattle.laws.proofs.Prelude.{needs, refl, toZ-ofZ, w16, kept}
 use Rattle.segment_judging.proofs.is_of.Statement.{statement}
 use Rattle.segment_judging.proofs.is_of.Tie as tie
 

@@ -1,8 +1,5 @@
 -- `is_same` meets its contract. Assumes nothing.
-use mathlib.Core.Path.{_≡_, refl}
-use mathlib.Core.Bool.{Bool, true, false, cond, not, _||_}
-use lib.Signed.{ltZ}
-use mir.Facts.{toZ-ofZ}
+use Rattle.laws.proofs.Prelude.{_≡_, refl, Bool, true, false, cond, not, _||_, ltZ, toZ-ofZ}
 use Rattle.pixel_segment.specs.Order.{isEq}
 use Rattle.segment_judging.proofs.is_same.Statement.{statement}
 use Rattle.segment_judging.proofs.is_same.Tie as tie

@@ -1,9 +1,5 @@
 -- `judge_beginning` meets its contract. Assumes nothing.
-use borrow.Author.Needs.{needs}
-use mathlib.Core.Path.{_≡_}
-use borrow.Author.Tests.{lt-ltb, le-ltb}
-use mir.Facts.{toZ-ofZ}
-use Rattle.laws.specs.Lists.{all}
+use Rattle.laws.proofs.Prelude.{needs, _≡_, lt-ltb, le-ltb, toZ-ofZ, all}
 use Rattle.segment_set_statements.specs.Set.{isOf, beginVerdict}
 use Rattle.segment_judging.proofs.judge_beginning.Statement.{statement}
 use Rattle.segment_judging.proofs.judge_beginning.Tie as tie

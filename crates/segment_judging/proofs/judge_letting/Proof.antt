@@ -1,6 +1,5 @@
 -- `judge_letting` meets its contract. Assumes nothing.
-use borrow.Author.Needs.{needs}
-use borrow.Author.Tests.{lt-ltb, le-ltb}
+use Rattle.laws.proofs.Prelude.{needs, lt-ltb, le-ltb}
 use Rattle.segment_set_statements.specs.InnerSpread.{letVerdictBy}
 use Rattle.segment_judging.proofs.judge_letting.Statement.{statement}
 use Rattle.segment_judging.proofs.judge_letting.Tie as tie

@@ -1,6 +1,5 @@
 -- `judge_taking` meets its contract. Assumes nothing.
-use borrow.Author.Needs.{needs}
-use borrow.Author.Tests.{lt-ltb, le-ltb}
+use Rattle.laws.proofs.Prelude.{needs, lt-ltb, le-ltb}
 use Rattle.segment_set_statements.specs.Set.{takeVerdict}
 use Rattle.segment_judging.proofs.judge_taking.Statement.{statement}
 use Rattle.segment_judging.proofs.judge_taking.Tie as tie

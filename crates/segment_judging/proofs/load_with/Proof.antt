@@ -1,8 +1,5 @@
 -- `load_with` meets its contract. Assumes nothing.
-use borrow.Author.Needs.{needs}
-use mathlib.Core.Path.{_∙_}
-use mir.Syntax.{w8}
-use Rattle.laws.proofs.Machine.{kept}
+use Rattle.laws.proofs.Prelude.{needs, _∙_, w8, kept}
 use Rattle.segment_judging.proofs.load_with.Statement.{statement}
 use Rattle.segment_judging.proofs.load_with.Tie as tie
 

@@ -1,7 +1,5 @@
 -- `begin` meets its contract. Assumes nothing.
-use borrow.Author.Needs.{needs}
-use mathlib.Core.Path.{_≡_, sym, ap, _∙_}
-use mir.Facts.{toZ-ofZ}
+use Rattle.laws.proofs.Prelude.{needs, _≡_, sym, ap, _∙_, toZ-ofZ}
 use Rattle.refusals.specs.Refusal.{Judgement, judgementIn}
 use Rattle.segment_set_statements.specs.Set.{Beginning, state, nothing, beginning, beginVerdict, freshState, settled}
 use Rattle.segment_set_statements.specs.declared.SegmentSet.{SegmentSet}

@@ -1,8 +1,5 @@
 -- `empty_set` meets its contract. Assumes nothing.
-use borrow.Author.Needs.{needs}
-use mathlib.Core.Path.{ap}
-use mathlib.Core.List.{List}
-use lib.IntN.{ℤ}
+use Rattle.laws.proofs.Prelude.{needs, ap, List, ℤ}
 use Rattle.segment_set_statements.specs.Set.{nothing}
 use Rattle.segment_set_statements.proofs.Changes.{with}
 use Rattle.segment_set.proofs.empty_set.Statement.{statement}

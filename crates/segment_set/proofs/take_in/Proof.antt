@@ -1,6 +1,5 @@
 -- `take_in` meets its contract. Assumes nothing.
-use borrow.Author.Needs.{needs}
-use mathlib.Core.Path.{_≡_, sym, ap, _∙_}
+use Rattle.laws.proofs.Prelude.{needs, _≡_, sym, ap, _∙_}
 use Rattle.refusals.specs.Refusal.{Judgement, pass, judgementIn}
 use Rattle.segment_set_statements.specs.Set.{SetState, state, takeVerdict, takenIn, settled}
 use Rattle.segment_set_statements.proofs.Keeping.{take-passed}

@@ -1,7 +1,5 @@
 -- `count_shown` meets its contract: the invariant and its steps are those of `Counting`. Assumes nothing.
-use Prim.Native.Nat.{_-_}
-use native.Mathlib.Omega.{arith}
-use borrow.Author.Needs.{needs}
+use Rattle.laws.proofs.Prelude.{_-_, arith, needs}
 use Rattle.shown_layers.proofs.Tallying.{Counting, count-start, count-next, count-end}
 use Rattle.shown_layers.proofs.count_shown.Statement.{statement}
 use Rattle.shown_layers.proofs.count_shown.Tie as tie

@@ -1,5 +1,5 @@
 -- `counted` meets its contract. Assumes nothing.
-use borrow.Author.Needs.{needs}
+use Rattle.laws.proofs.Prelude.{needs}
 use Rattle.shown_layers.proofs.counted.Statement.{statement}
 use Rattle.shown_layers.proofs.counted.Tie as tie
 

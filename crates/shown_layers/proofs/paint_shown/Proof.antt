@@ -1,9 +1,5 @@
 -- `paint_shown` meets its contract: the invariant and its steps are those of `Painting`. Assumes nothing.
-use mathlib.Core.Path.{_≡_, refl, _∙_}
-use Prim.Native.Nat.{_-_}
-use native.Mathlib.Omega.{arith}
-use borrow.Author.Needs.{needs}
-use lib.ListN.{length}
+use Rattle.laws.proofs.Prelude.{_≡_, refl, _∙_, _-_, arith, needs, length}
 use Rattle.layer_table.specs.Table.{tableOf}
 use Rattle.shown_layers.proofs.Painting.{Shown, shown-start, shown-next, shown-end}
 use Rattle.shown_layers.proofs.paint_shown.Statement.{statement}

@@ -1,5 +1,5 @@
 -- `tally_entry` meets its contract. Assumes nothing.
-use borrow.Author.Needs.{needs}
+use Rattle.laws.proofs.Prelude.{needs}
 use Rattle.shown_layers.proofs.Painting.{entry-painted, entry-passed}
 use Rattle.shown_layers.proofs.tally_entry.Statement.{statement}
 use Rattle.shown_layers.proofs.tally_entry.Tie as tie

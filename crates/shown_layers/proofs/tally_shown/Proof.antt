@@ -1,5 +1,5 @@
 -- `tally_shown` meets its contract. Assumes nothing.
-use borrow.Author.Needs.{needs}
+use Rattle.laws.proofs.Prelude.{needs}
 use Rattle.layer_table.specs.Table.{tableOf}
 use Rattle.shown_layers.proofs.Painting.{not-painted}
 use Rattle.shown_layers.proofs.tally_shown.Statement.{statement}

@@ -1,6 +1,5 @@
 -- `used_octets` meets its contract. Assumes nothing.
-use native.Mathlib.Omega.{arith}
-use borrow.Author.Needs.{needs}
+use Rattle.laws.proofs.Prelude.{arith, needs}
 use lib.Count.{ones-le}
 use Rattle.shown_layers.proofs.used_octets.Statement.{statement}
 use Rattle.shown_layers.proofs.used_octets.Tie as tie

@@ -1,5 +1,5 @@
 -- `is_short` meets its contract. Assumes nothing.
-use borrow.Author.Needs.{needs}
+use Rattle.laws.proofs.Prelude.{needs}
 use Rattle.tile_batch.proofs.is_short.Statement.{statement}
 use Rattle.tile_batch.proofs.is_short.Tie as tie
 

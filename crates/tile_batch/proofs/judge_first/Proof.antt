@@ -1,6 +1,5 @@
 -- `judge_first` meets its contract. Assumes nothing.
-use borrow.Author.Needs.{needs}
-use mir.Facts.{toZ-ofZ}
+use Rattle.laws.proofs.Prelude.{needs, toZ-ofZ}
 use Rattle.tile_batch.proofs.judge_first.Statement.{statement}
 use Rattle.tile_batch.proofs.judge_first.Tie as tie
 

@@ -1,14 +1,5 @@
 -- `work_many` meets its contract: each turn is a tile of `Turning`, and what is left goes by `Going`. Assumes nothing.
-use mathlib.Core.Path.{_≡_, refl, ap, ap₂, sym, subst, _∙_}
-use mathlib.Core.Bool.{false}
-use Prim.Native.Nat.{ℕ, _+_, _-_, _≤_}
-use native.Mathlib.Omega.{arith}
-use borrow.Author.Needs.{needs}
-use lib.IntN.{pos}
-use lib.ListN.{length}
-use mir.Syntax.{w16}
-use mir.Facts.{toZ-pos}
-use Rattle.laws.proofs.Machine.{small}
+use Rattle.laws.proofs.Prelude.{_≡_, refl, ap, ap₂, sym, subst, _∙_, false, ℕ, _+_, _-_, _≤_, arith, needs, pos, length, w16, toZ-pos, small}
 use Rattle.refusals.specs.Refusal.{Judgement, pass, judgementIn}
 use Rattle.segment_rows.specs.Search.{leftPart, tilePart}
 use Rattle.row_statements.specs.State.{State}

@@ -1,7 +1,5 @@
 -- `work_tiles` meets its contract. Assumes nothing.
-use mathlib.Core.Path.{_≡_, ap, sym, _∙_}
-use borrow.Author.Needs.{needs}
-use mir.Facts.{toZ-ofZ}
+use Rattle.laws.proofs.Prelude.{_≡_, ap, sym, _∙_, needs, toZ-ofZ}
 use Rattle.refusals.specs.Refusal.{pass, judgementIn}
 use Rattle.row_statements.specs.Lent.{columns, lentTable}
 use Rattle.batch_statements.specs.BatchLent.{BatchLent, batchLent}

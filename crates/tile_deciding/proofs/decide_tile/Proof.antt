@@ -1,8 +1,5 @@
 -- `decide_tile` meets its contract. Assumes nothing.
-use mathlib.Core.Path.{_≡_, sym, ap, _∙_}
-use mathlib.Core.Bool.{Bool}
-use mathlib.Core.List.{List}
-use borrow.Author.Needs.{needs}
+use Rattle.laws.proofs.Prelude.{_≡_, sym, ap, _∙_, Bool, List, needs}
 use Rattle.refusals.specs.Refusal.{pass, judgementIn}
 use Rattle.row_statements.specs.Lent.{lentTable}
 use Rattle.listing_statements.specs.Listing.{tileList}

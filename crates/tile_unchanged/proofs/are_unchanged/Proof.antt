@@ -1,8 +1,5 @@
 -- `tile_unchanged::are_unchanged` meets its contract. Assumes nothing.
-use mathlib.Core.Path.{ap}
-use mathlib.Core.Bool.{Bool}
-use Prim.Native.Nat.{_-_}
-use native.Mathlib.Omega.{arith}
+use Rattle.laws.proofs.Prelude.{ap, Bool, _-_, arith}
 use Rattle.layer_table.specs.Table.{tableOf}
 use Rattle.cover_statements.proofs.Testing.{Testing, test-start, test-next, test-end}
 use Rattle.pass_statements.specs.declared.item.Item.{Item}

@@ -1,5 +1,5 @@
 -- `tile_unchanged::is_kept` meets its contract. Assumes nothing.
-use borrow.Author.Needs.{needs}
+use Rattle.laws.proofs.Prelude.{needs}
 use Rattle.pass_statements.proofs.Keeping.{kept-all, kept-not}
 use Rattle.pass_statements.proofs.Listing.{length-items}
 use Rattle.tile_unchanged.proofs.is_kept.Statement.{statement}

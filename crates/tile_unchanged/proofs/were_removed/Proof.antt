@@ -1,6 +1,5 @@
 -- `tile_unchanged::were_removed` meets its contract. Assumes nothing.
-use mathlib.Core.Path.{sym, ap}
-use borrow.Author.Needs.{needs}
+use Rattle.laws.proofs.Prelude.{sym, ap, needs}
 use Rattle.pass_statements.specs.declared.unchanged.PreviousCount.{PreviousCount}
 use Rattle.pass_statements.specs.Unchanged.{wereRemoved}
 use Rattle.tile_unchanged.proofs.were_removed.Statement.{statement}

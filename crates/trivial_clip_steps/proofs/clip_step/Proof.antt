@@ -1,5 +1,5 @@
 -- `trivial_clip_steps::clip_step` meets its contract. Assumes nothing.
-use borrow.Author.Needs.{needs}
+use Rattle.laws.proofs.Prelude.{needs}
 use Rattle.pass_statements.proofs.Steps.{composed}
 use Rattle.trivial_clip_steps.proofs.clip_step.Statement.{statement}
 use Rattle.trivial_clip_steps.proofs.clip_step.Tie as tie

@@ -1,5 +1,5 @@
 -- `trivial_clip_steps::close_clip` meets its contract. Assumes nothing.
-use borrow.Author.Needs.{needs}
+use Rattle.laws.proofs.Prelude.{needs}
 use Rattle.pass_statements.proofs.Steps.{stays-none, ends, goes-on}
 use Rattle.trivial_clip_steps.proofs.close_clip.Statement.{statement}
 use Rattle.trivial_clip_steps.proofs.close_clip.Tie as tie

@@ -1,5 +1,5 @@
 -- `trivial_clip_steps::draw` meets its contract. Assumes nothing.
-use borrow.Author.Needs.{needs}
+use Rattle.laws.proofs.Prelude.{needs}
 use Rattle.pass_statements.proofs.Steps.{draws-clipped, draws-unclipped}
 use Rattle.trivial_clip_steps.proofs.draw.Statement.{statement}
 use Rattle.trivial_clip_steps.proofs.draw.Tie as tie

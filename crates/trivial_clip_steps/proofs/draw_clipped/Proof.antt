@@ -1,5 +1,5 @@
 -- `trivial_clip_steps::draw_clipped` meets its contract. Assumes nothing.
-use borrow.Author.Needs.{needs}
+use Rattle.laws.proofs.Prelude.{needs}
 use Rattle.pass_statements.proofs.Steps.{no-clip, outside, inside}
 use Rattle.trivial_clip_steps.proofs.draw_clipped.Statement.{statement}
 use Rattle.trivial_clip_steps.proofs.draw_clipped.Tie as tie

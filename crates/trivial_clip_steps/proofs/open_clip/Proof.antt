@@ -1,5 +1,5 @@
 -- `trivial_clip_steps::open_clip` meets its contract. Assumes nothing.
-use borrow.Author.Needs.{needs}
+use Rattle.laws.proofs.Prelude.{needs}
 use Rattle.pass_statements.proofs.Steps.{opens}
 use Rattle.trivial_clip_steps.proofs.open_clip.Statement.{statement}
 use Rattle.trivial_clip_steps.proofs.open_clip.Tie as tie

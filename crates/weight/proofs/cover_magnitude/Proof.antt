@@ -1,13 +1,5 @@
 -- `weight::cover_magnitude` meets its contract. Assumes nothing.
-use mathlib.Core.Path.{_≡_}
-use native.Mathlib.Omega.{arith}
-use borrow.Author.Needs.{needs}
-use lib.IntN.{natAbs}
-use mir.Facts.{toZ-ofZ, sfits-widen}
-use mir.Syntax.{w8, w16}
-use mir.Val.{SFits}
-use Rattle.laws.proofs.Machine.{within}
-use Rattle.laws.proofs.Parts.{whole}
+use Rattle.laws.proofs.Prelude.{_≡_, arith, needs, natAbs, toZ-ofZ, sfits-widen, w8, w16, SFits, within, whole}
 use Rattle.weight.proofs.cover_magnitude.Statement.{statement}
 use Rattle.weight.proofs.cover_magnitude.Tie as tie
 

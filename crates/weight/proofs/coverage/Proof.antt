@@ -1,5 +1,5 @@
 -- `weight::coverage` meets its contract: that the product with 1/512 is exact is one test over all 513 weights. Assumes nothing.
-use borrow.Author.Needs.{needs}
+use Rattle.laws.proofs.Prelude.{needs}
 use Rattle.cover_statements.proofs.Coverages.{coverage-product}
 use Rattle.weight.proofs.coverage.Statement.{statement}
 use Rattle.weight.proofs.coverage.Tie as tie

@@ -1,7 +1,5 @@
 -- `weight::doubled_area_to_coverage` meets its contract. Assumes nothing.
-use mathlib.Core.Path.{_≡_, ap, _∙_}
-use borrow.Author.Needs.{needs}
-use mir.Facts.{toZ-ofZ}
+use Rattle.laws.proofs.Prelude.{_≡_, ap, _∙_, needs, toZ-ofZ}
 use Rattle.cover_statements.specs.Coverage.{coverageOf}
 use Rattle.cover_statements.specs.Weight.{weightOf}
 use Rattle.cover_statements.proofs.Weights.{weight-le}

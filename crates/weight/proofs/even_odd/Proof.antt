@@ -1,6 +1,5 @@
 -- `weight::even_odd` meets its contract. Assumes nothing.
-use borrow.Author.Needs.{needs}
-use mir.Facts.{toZ-ofZ}
+use Rattle.laws.proofs.Prelude.{needs, toZ-ofZ}
 use Rattle.weight.proofs.even_odd.Statement.{statement}
 use Rattle.weight.proofs.even_odd.Tie as tie
 

@@ -1,14 +1,5 @@
 -- `weight::even_odd_in` meets its contract. Assumes nothing.
-use mathlib.Core.Path.{_≡_, ap, _∙_}
-use mathlib.Core.List.{List}
-use Prim.Native.Nat.{ℕ, _<_}
-use native.Mathlib.Omega.{arith}
-use borrow.Author.Needs.{needs}
-use lib.Dec.{lit<}
-use lib.ListN.{getD}
-use mir.Facts.{toZ-ofZ}
-use Rattle.laws.proofs.Mod.{remainder}
-use Rattle.laws.specs.Integer.{modℤ}
+use Rattle.laws.proofs.Prelude.{_≡_, ap, _∙_, List, ℕ, _<_, arith, needs, lit<, getD, toZ-ofZ, remainder, modℤ}
 use Rattle.weight_table.proofs.Table.{curve-at}
 use Rattle.weight_table.specs.Rest.{restWeight}
 use Rattle.weight.proofs.even_odd_in.Statement.{statement}

@@ -1,12 +1,6 @@
 -- `weight::magnitude` meets its contract. Assumes nothing.
-use native.Mathlib.Omega.{arith}
-use borrow.Author.Needs.{needs}
-use lib.IntN.{pos, _-ℤ_}
-use mir.Facts.{toZ-ofZ, sfits-widen}
-use mir.Syntax.{w16, w32}
-use mir.Val.{SFits}
-use Rattle.laws.proofs.Machine.{sfits, within, unsigned}
-use Rattle.laws.proofs.Parts.{whole, taken, lt-true, lt-false}
+use Rattle.laws.proofs.Prelude.{arith, needs, pos, _-ℤ_, toZ-ofZ, sfits-widen, w16, w32, SFits, sfits, within, unsigned, whole, taken, lt-true}
+use Rattle.laws.proofs.Prelude.{lt-false}
 use Rattle.weight.proofs.magnitude.Statement.{statement}
 use Rattle.weight.proofs.magnitude.Tie as tie
 

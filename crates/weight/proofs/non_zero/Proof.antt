@@ -1,7 +1,5 @@
 -- `weight::non_zero` meets its contract. Assumes nothing.
-use native.Mathlib.Omega.{arith}
-use borrow.Author.Needs.{needs}
-use mir.Facts.{toZ-ofZ}
+use Rattle.laws.proofs.Prelude.{arith, needs, toZ-ofZ}
 use Rattle.weight.proofs.non_zero.Statement.{statement}
 use Rattle.weight.proofs.non_zero.Tie as tie
 

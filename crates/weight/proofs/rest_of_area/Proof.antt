@@ -1,18 +1,7 @@
 -- `weight::rest_of_area` meets its contract. With 32,768, a multiple of 1,024, no d is negative, and its remainder is the machine's.
 -- Assumes nothing.
-use mathlib.Core.Path.{ap}
-use Prim.Native.Nat.{ℕ, _%_, _<_, _≤_}
-use native.Mathlib.Omega.{arith}
-use borrow.Author.Needs.{needs}
-use lib.Dec.{T, lit<, lit≤}
-use lib.IntN.{pos, natAbs, _+ℤ_}
-use lib.Signed.{nonNeg}
-use mir.Facts.{toZ-ofZ, sfits-widen}
-use mir.Syntax.{w16, w32}
-use mir.Val.{SFits, Fits}
-use Rattle.laws.proofs.Machine.{sfits, within, unsigned}
-use Rattle.laws.proofs.Mod.{lifted}
-use Rattle.laws.proofs.Parts.{added}
+use Rattle.laws.proofs.Prelude.{ap, ℕ, _%_, _<_, _≤_, arith, needs, T, lit<, lit≤, pos, natAbs, _+ℤ_, nonNeg, toZ-ofZ, sfits-widen, w16, w32, SFits}
+use Rattle.laws.proofs.Prelude.{Fits, sfits, within, unsigned, lifted, added}
 use Rattle.weight.proofs.rest_of_area.Statement.{statement}
 use Rattle.weight.proofs.rest_of_area.Tie as tie
 

@@ -1,16 +1,7 @@
 -- `weight::rest_of_cover` meets its contract. With 128, a multiple of 32, no cover is negative, and its remainder is the machine's.
 -- Assumes nothing.
-use mathlib.Core.Path.{ap}
-use Prim.Native.Nat.{ℕ, _%_}
-use native.Mathlib.Omega.{arith}
-use lib.Dec.{lit<}
-use lib.IntN.{pos, _+ℤ_}
-use mir.Facts.{toZ-ofZ, sfits-widen}
-use mir.Syntax.{w8, w16}
-use mir.Val.{SFits}
-use Rattle.laws.proofs.Machine.{Within, sfits, within, unsigned}
-use Rattle.laws.proofs.Mod.{lifted}
-use Rattle.laws.proofs.Parts.{Sum, added}
+use Rattle.laws.proofs.Prelude.{ap, ℕ, _%_, arith, lit<, pos, _+ℤ_, toZ-ofZ, sfits-widen, w8, w16, SFits, Within, sfits, within, unsigned, lifted}
+use Rattle.laws.proofs.Prelude.{Sum, added}
 use Rattle.weight.proofs.rest_of_cover.Statement.{statement}
 use Rattle.weight.proofs.rest_of_cover.Tie as tie
 

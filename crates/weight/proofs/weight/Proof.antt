@@ -1,6 +1,5 @@
 -- `weight::weight` meets its contract. Assumes nothing.
-use borrow.Author.Needs.{needs}
-use mir.Facts.{toZ-ofZ}
+use Rattle.laws.proofs.Prelude.{needs, toZ-ofZ}
 use Rattle.weight.proofs.weight.Statement.{statement}
 use Rattle.weight.proofs.weight.Tie as tie
 

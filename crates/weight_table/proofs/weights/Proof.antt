@@ -1,5 +1,5 @@
 -- `weight_table::weights` meets its contract: one test that antt computes over all 1,024 entries. Assumes nothing.
-use mathlib.Core.Path.{refl}
+use Rattle.laws.proofs.Prelude.{refl}
 use Rattle.weight_table.proofs.Table.{is-curve}
 use Rattle.weight_table.proofs.weights.Statement.{statement}
 use Rattle.weight_table.proofs.weights.Tie as tie

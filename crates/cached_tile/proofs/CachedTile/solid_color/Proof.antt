@@ -1,7 +1,6 @@
 -- `cached_tile::CachedTile::solid_color` meets its contract.
 -- Assumes nothing.
-use mathlib.Core.Path.{refl}
-use borrow.Author.Needs.{needs}
+use Rattle.laws.proofs.Prelude.{refl, needs}
 use Rattle.cached_tile.proofs.CachedTile.solid_color.Statement.{statement}
 use Rattle.cached_tile.proofs.CachedTile.solid_color.Tie as tie
 

@@ -1,7 +1,6 @@
 -- `cached_tile::CachedTile::update_layer_count` meets its contract.
 -- Assumes nothing.
-use mathlib.Core.Path.{sym, ap, _∙_}
-use borrow.Author.Needs.{needs}
+use Rattle.laws.proofs.Prelude.{sym, ap, _∙_, needs}
 use Rattle.cached_tile.specs.declared.LayerCount.{LayerCount}
 use Rattle.cached_tile.specs.Tile.{countIn, updateCount}
 use Rattle.cached_tile.proofs.CachedTile.update_layer_count.Statement.{statement}

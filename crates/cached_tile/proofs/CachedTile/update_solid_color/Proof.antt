@@ -1,6 +1,6 @@
 -- `cached_tile::CachedTile::update_solid_color` meets its contract.
 -- Assumes nothing.
-use borrow.Author.Needs.{needs}
+use Rattle.laws.proofs.Prelude.{needs}
 use Rattle.cached_tile.proofs.CachedTile.update_solid_color.Statement.{statement}
 use Rattle.cached_tile.proofs.CachedTile.update_solid_color.Tie as tie
 

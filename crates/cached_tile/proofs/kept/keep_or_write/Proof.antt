@@ -1,6 +1,6 @@
 -- `cached_tile::kept::keep_or_write` meets its contract.
 -- Assumes nothing.
-use mathlib.Core.Path.{refl}
+use Rattle.laws.proofs.Prelude.{refl}
 use Rattle.cached_tile.proofs.kept.keep_or_write.Statement.{statement}
 use Rattle.cached_tile.proofs.kept.keep_or_write.Tie as tie
 

@@ -1,7 +1,6 @@
 -- `cached_tile::kept::settle` meets its contract.
 -- Assumes nothing.
-use mathlib.Core.Path.{refl, sym, _∙_}
-use borrow.Author.Needs.{needs}
+use Rattle.laws.proofs.Prelude.{refl, sym, _∙_, needs}
 use Rattle.cached_tile.proofs.kept.settle.Statement.{statement}
 use Rattle.cached_tile.proofs.kept.settle.Tie as tie
 

@@ -1,7 +1,6 @@
 -- `cached_tile::kept::settle_tile` meets its contract.
 -- Assumes nothing.
-use mathlib.Core.Path.{refl}
-use borrow.Author.Needs.{needs}
+use Rattle.laws.proofs.Prelude.{refl, needs}
 use Rattle.cached_tile.proofs.kept.settle_tile.Statement.{statement}
 use Rattle.cached_tile.proofs.kept.settle_tile.Tie as tie
 

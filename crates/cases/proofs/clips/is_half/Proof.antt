@@ -1,9 +1,5 @@
 -- `clips::is_half` meets its contract. Assumes nothing.
-use mathlib.Core.Path.{refl}
-use Prim.Native.Nat.{_-_}
-use native.Mathlib.Omega.{arith}
-use lib.Ieee.{nan}
-use lib.ListN.{length}
+use Rattle.laws.proofs.Prelude.{refl, _-_, arith, nan, length}
 use Rattle.cover_statements.proofs.Testing.{Testing, test-start, test-next, test-end}
 use Rattle.cases.specs.Answers.{isHalf}
 use Rattle.cases.proofs.clips.is_half.Statement.{statement}

@@ -1,6 +1,5 @@
 -- P7, from the contracts. Assumes nothing.
-use mathlib.Core.Path.{refl}
-use borrow.Author.Needs.{needs}
+use Rattle.laws.proofs.Prelude.{refl, needs}
 use Rattle.cases.proofs.Tile.{first-known, second-known, draw-known, first-seen, second-seen, draw-seen}
 use Rattle.cases.proofs.clips.p7.Statement.{statement}
 use Rattle.cases.proofs.clips.p7.Tie as tie

@@ -1,7 +1,5 @@
 -- `clips::paint` meets its contract. Assumes nothing.
-use mathlib.Core.Path.{refl}
-use borrow.Author.Needs.{needs}
-use borrow.Author.Tests.{leb-true}
+use Rattle.laws.proofs.Prelude.{refl, needs, leb-true}
 use Rattle.layer_table.specs.Table.{layerAt, tableOf}
 use Rattle.cover_statements.specs.Entry.{coverEntry}
 use Rattle.queue_statements.specs.Queue.{queueOf}

@@ -1,7 +1,5 @@
 -- `clips::paint_anew` meets its contract. Assumes nothing.
-use mathlib.Core.Path.{ap, _∙_}
-use borrow.Author.Needs.{needs}
-use Rattle.laws.specs.Lists.{all}
+use Rattle.laws.proofs.Prelude.{ap, _∙_, needs, all}
 use Rattle.cases.specs.Answers.{isHalf}
 use Rattle.cases.proofs.clips.paint_anew.Statement.{statement}
 use Rattle.cases.proofs.clips.paint_anew.Tie as tie

@@ -1,7 +1,5 @@
 -- P10, from the contracts. Assumes nothing.
-use mathlib.Core.Path.{_∙_}
-use borrow.Author.Needs.{needs}
-use lib.Ieee.{eq, ofBits}
+use Rattle.laws.proofs.Prelude.{_∙_, needs, eq, ofBits}
 use Rattle.cases.proofs.Table.{cases}
 use Rattle.cases.proofs.covers.p10.Statement.{statement}
 use Rattle.cases.proofs.covers.p10.Tie as tie

@@ -1,7 +1,5 @@
 -- What is carried in P11, from the contract of carrying. Assumes nothing.
-use mathlib.Core.Path.{_∙_, ap}
-use borrow.Author.Needs.{needs}
-use Rattle.laws.specs.Answer.{isGiven}
+use Rattle.laws.proofs.Prelude.{_∙_, ap, needs, isGiven}
 use Rattle.cover_statements.specs.Carry.{isLight, carryOf}
 use Rattle.pixel_segment.specs.Field.{coverOf}
 use Rattle.cases.proofs.Accepted.{accepted-is}

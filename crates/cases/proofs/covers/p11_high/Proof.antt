@@ -1,5 +1,5 @@
 -- P11, from the contracts. Assumes nothing.
-use borrow.Author.Needs.{needs}
+use Rattle.laws.proofs.Prelude.{needs}
 use Rattle.cases.proofs.covers.p11_high.Statement.{statement}
 use Rattle.cases.proofs.covers.p11_high.Tie as tie
 

@@ -1,7 +1,5 @@
 -- Number 9, from the contracts. Assumes nothing.
-use mathlib.Core.Path.{_∙_, ap}
-use borrow.Author.Needs.{needs}
-use Rattle.laws.specs.Answer.{isGiven}
+use Rattle.laws.proofs.Prelude.{_∙_, ap, needs, isGiven}
 use Rattle.cases.proofs.Accepted.{accepted-is}
 use Rattle.cases.proofs.Table.{edges}
 use Rattle.cases.proofs.covers.p11_passed.Statement.{statement}

@@ -1,8 +1,5 @@
 -- Number 9, from the contracts. Assumes nothing.
-use mathlib.Core.Path.{_∙_, ap}
-use mathlib.Core.Bool.{not}
-use borrow.Author.Needs.{needs}
-use Rattle.laws.specs.Answer.{isGiven}
+use Rattle.laws.proofs.Prelude.{_∙_, ap, not, needs, isGiven}
 use Rattle.cases.proofs.Accepted.{accepted-is}
 use Rattle.cases.proofs.Table.{edges}
 use Rattle.cases.proofs.covers.p11_refused.Statement.{statement}

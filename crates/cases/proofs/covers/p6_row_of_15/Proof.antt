@@ -1,6 +1,5 @@
 -- A cover that one row keeps from being full, from the contracts. Assumes nothing.
-use mathlib.Core.Path.{_∙_}
-use borrow.Author.Needs.{needs}
+use Rattle.laws.proofs.Prelude.{_∙_, needs}
 use Rattle.cases.proofs.Table.{edges}
 use Rattle.cases.proofs.covers.p6_row_of_15.Statement.{statement}
 use Rattle.cases.proofs.covers.p6_row_of_15.Tie as tie

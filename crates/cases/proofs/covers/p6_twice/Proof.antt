@@ -1,6 +1,5 @@
 -- P6, from the contracts. Assumes nothing.
-use mathlib.Core.Path.{_∙_}
-use borrow.Author.Needs.{needs}
+use Rattle.laws.proofs.Prelude.{_∙_, needs}
 use Rattle.cases.proofs.Table.{cases}
 use Rattle.cases.proofs.covers.p6_twice.Statement.{statement}
 use Rattle.cases.proofs.covers.p6_twice.Tie as tie

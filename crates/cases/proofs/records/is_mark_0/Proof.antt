@@ -1,5 +1,5 @@
 -- `records::is_mark_0` meets its contract. Assumes nothing.
-use borrow.Author.Needs.{needs}
+use Rattle.laws.proofs.Prelude.{needs}
 use Rattle.cases.proofs.records.is_mark_0.Statement.{statement}
 use Rattle.cases.proofs.records.is_mark_0.Tie as tie
 

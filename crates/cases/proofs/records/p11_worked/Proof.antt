@@ -1,5 +1,5 @@
 -- P11 by the work on its tile, from the contracts. Assumes nothing.
-use borrow.Author.Needs.{needs}
+use Rattle.laws.proofs.Prelude.{needs}
 use Rattle.cases.proofs.records.p11_worked.Statement.{statement}
 use Rattle.cases.proofs.records.p11_worked.Tie as tie
 

@@ -1,7 +1,5 @@
 -- P7's draw by its painting, from the contracts: the call is that of specs/RecordCalls. Assumes nothing.
-use mathlib.Core.Path.{ap₂, _∙_}
-use mathlib.Core.Bool.{_&&_}
-use borrow.Author.Needs.{needs}
+use Rattle.laws.proofs.Prelude.{ap₂, _∙_, _&&_, needs}
 use Rattle.cases.proofs.RecordCalls.{p7-mark, p7-half}
 use Rattle.cases.proofs.records.p7_painted.Statement.{statement}
 use Rattle.cases.proofs.records.p7_painted.Tie as tie

@@ -1,6 +1,5 @@
 -- `records::work_p11` meets its contract: the call is that of specs/RecordCalls. Assumes nothing.
-use mathlib.Core.Path.{_∙_}
-use borrow.Author.Needs.{needs}
+use Rattle.laws.proofs.Prelude.{_∙_, needs}
 use Rattle.cases.proofs.RecordCalls.{p11-handed}
 use Rattle.cases.proofs.records.work_p11.Statement.{statement}
 use Rattle.cases.proofs.records.work_p11.Tie as tie

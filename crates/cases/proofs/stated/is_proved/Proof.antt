@@ -1,5 +1,5 @@
 -- `stated::is_proved` meets its contract: the tables, cited. Assumes nothing.
-use mathlib.Core.Path.{refl}
+use Rattle.laws.proofs.Prelude.{refl}
 use Rattle.cases.proofs.Table.{cases, edges}
 use Rattle.cases.proofs.stated.is_proved.Statement.{statement}
 use Rattle.cases.proofs.stated.is_proved.Tie as tie

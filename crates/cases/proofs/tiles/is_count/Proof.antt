@@ -1,5 +1,5 @@
 -- `tiles::is_count` meets its contract. Assumes nothing.
-use borrow.Author.Needs.{needs}
+use Rattle.laws.proofs.Prelude.{needs}
 use Rattle.cases.proofs.tiles.is_count.Statement.{statement}
 use Rattle.cases.proofs.tiles.is_count.Tie as tie
 

@@ -1,5 +1,5 @@
 -- P12's bytes by the update of a tile that is lent, from the contracts. Assumes nothing.
-use borrow.Author.Needs.{needs}
+use Rattle.laws.proofs.Prelude.{needs}
 use Rattle.cases.proofs.tiles.p12_in_place.Statement.{statement}
 use Rattle.cases.proofs.tiles.p12_in_place.Tie as tie
 

@@ -1,5 +1,5 @@
 -- P12, from the contracts. Assumes nothing.
-use borrow.Author.Needs.{needs}
+use Rattle.laws.proofs.Prelude.{needs}
 use Rattle.cases.proofs.tiles.p12_without.Statement.{statement}
 use Rattle.cases.proofs.tiles.p12_without.Tie as tie
 

@@ -1,5 +1,5 @@
 -- P8, from the contracts. Assumes nothing.
-use borrow.Author.Needs.{needs}
+use Rattle.laws.proofs.Prelude.{needs}
 use Rattle.cases.proofs.tiles.p8_dropped.Statement.{statement}
 use Rattle.cases.proofs.tiles.p8_dropped.Tie as tie
 

@@ -1,5 +1,5 @@
 -- `words::is_absent` meets its contract. Assumes nothing.
-use borrow.Author.Needs.{needs}
+use Rattle.laws.proofs.Prelude.{needs}
 use Rattle.cases.proofs.words.is_absent.Statement.{statement}
 use Rattle.cases.proofs.words.is_absent.Tie as tie
 

@@ -1,6 +1,5 @@
 -- P2, from the contracts. Assumes nothing.
-use mathlib.Core.Path.{_∙_}
-use borrow.Author.Needs.{needs}
+use Rattle.laws.proofs.Prelude.{_∙_, needs}
 use Rattle.pixel_segment.specs.Field.{doubleAreaOf, coverOf}
 use Rattle.cases.proofs.Table.{cases}
 use Rattle.cases.proofs.words.p2.Statement.{statement}

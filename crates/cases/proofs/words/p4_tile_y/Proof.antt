@@ -1,7 +1,5 @@
 -- P4, from the contracts. Assumes nothing.
-use mathlib.Core.Path.{_∙_}
-use borrow.Author.Needs.{needs}
-use lib.IntN.{pos}
+use Rattle.laws.proofs.Prelude.{_∙_, needs, pos}
 use Rattle.pixel_segment.specs.Field.{tileOf}
 use Rattle.cases.proofs.Table.{cases}
 use Rattle.cases.proofs.words.p4_tile_y.Statement.{statement}

@@ -1,5 +1,5 @@
 -- P5, from the contracts. Assumes nothing.
-use borrow.Author.Needs.{needs}
+use Rattle.laws.proofs.Prelude.{needs}
 use Rattle.segment_rows.specs.Search.{searchOf, halved}
 use Rattle.cases.proofs.words.p5_empty.Statement.{statement}
 use Rattle.cases.proofs.words.p5_empty.Tie as tie

@@ -1,9 +1,5 @@
 -- `kept::history` is safe and ends. Assumes nothing.
-use mathlib.Core.Path.{_≡_, refl, _∙_}
-use Prim.Native.Nat.{_-_}
-use native.Mathlib.Omega.{arith}
-use borrow.Author.Needs.{needs}
-use lib.ListN.{length}
+use Rattle.laws.proofs.Prelude.{_≡_, refl, _∙_, _-_, arith, needs, length}
 use Rattle.compare.proofs.kept.history.Statement.{statement}
 use Rattle.compare.proofs.kept.history.Tie as tie
 

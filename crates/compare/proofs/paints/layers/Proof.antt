@@ -1,7 +1,5 @@
 -- `paints::layers` is safe and ends. Assumes nothing.
-use Prim.Native.Nat.{_-_}
-use native.Mathlib.Omega.{arith}
-use borrow.Author.Needs.{needs}
+use Rattle.laws.proofs.Prelude.{_-_, arith, needs}
 use Rattle.compare.proofs.paints.layers.Statement.{statement}
 use Rattle.compare.proofs.paints.layers.Tie as tie
 

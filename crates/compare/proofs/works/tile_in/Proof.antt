@@ -1,5 +1,5 @@
 -- `works::tile_in` is safe and ends. Assumes nothing.
-use borrow.Author.Needs.{needs}
+use Rattle.laws.proofs.Prelude.{needs}
 use Rattle.compare.proofs.works.tile_in.Statement.{statement}
 use Rattle.compare.proofs.works.tile_in.Tie as tie
 

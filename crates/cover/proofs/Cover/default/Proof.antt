@@ -1,5 +1,5 @@
 -- `cover::Cover::default` meets its contract. Assumes nothing.
-use mathlib.Core.Path.{refl}
+use Rattle.laws.proofs.Prelude.{refl}
 use Rattle.cover_statements.specs.Cover.{noCover}
 use Rattle.cover.proofs.Cover.default.Statement.{statement}
 use Rattle.cover.proofs.Cover.default.Tie as tie

@@ -1,8 +1,5 @@
 -- `cover::Cover::is_empty` meets its contract. Assumes nothing.
-use mathlib.Core.Path.{_≡_}
-use native.Mathlib.Omega.{arith}
-use borrow.Author.Needs.{needs}
-use lib.ListN.{length}
+use Rattle.laws.proofs.Prelude.{_≡_, arith, needs, length}
 use Rattle.cover.proofs.Cover.is_empty.Statement.{statement}
 use Rattle.cover.proofs.Cover.is_empty.Tie as tie
 

@@ -1,10 +1,5 @@
 -- `cover::carry::add_loads` meets its contract. Assumes nothing.
-use Prim.Native.Nat.{_-_}
-use native.Mathlib.Omega.{arith}
-use borrow.Author.Needs.{needs}
-use lib.ListN.{length}
-use mir.Syntax.{w8}
-use Rattle.laws.proofs.Machine.{kept}
+use Rattle.laws.proofs.Prelude.{_-_, arith, needs, length, w8, kept}
 use Rattle.pixel_segment.specs.Field.{cpu}
 use Rattle.cover_statements.proofs.Loads.{Loading, load-start, load-next, load-end}
 use Rattle.cover.proofs.carry.add_loads.Statement.{statement}

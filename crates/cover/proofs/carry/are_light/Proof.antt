@@ -1,8 +1,5 @@
 -- `cover::carry::are_light` meets its contract. Assumes nothing.
-use mathlib.Core.Path.{_≡_}
-use native.Mathlib.Omega.{arith}
-use borrow.Author.Needs.{needs}
-use lib.ListN.{length}
+use Rattle.laws.proofs.Prelude.{_≡_, arith, needs, length}
 use Rattle.cover.proofs.carry.are_light.Statement.{statement}
 use Rattle.cover.proofs.carry.are_light.Tie as tie
 

@@ -1,8 +1,5 @@
 -- `cover::carry::carry` meets its contract. Assumes nothing.
-use mathlib.Core.Path.{_≡_, sym, ap, _∙_}
-use borrow.Author.Needs.{needs}
-use borrow.Author.Tests.{not-true, not-false}
-use lib.ListN.{length}
+use Rattle.laws.proofs.Prelude.{_≡_, sym, ap, _∙_, needs, not-true, not-false, length}
 use Rattle.pixel_segment.specs.Field.{cpu}
 use Rattle.cover_statements.specs.InnerLoad.{allLight}
 use Rattle.cover_statements.proofs.Loads.{incoming-heavy}

@@ -1,8 +1,5 @@
 -- `cover::carry::is_light` meets its contract. Assumes nothing.
-use mathlib.Core.Path.{ap, _∙_}
-use mathlib.Core.List.{List}
-use Prim.Native.Nat.{ℕ}
-use borrow.Author.Needs.{needs}
+use Rattle.laws.proofs.Prelude.{ap, _∙_, List, ℕ, needs}
 use Rattle.pixel_segment.specs.Field.{cpu}
 use Rattle.cover_statements.specs.InnerLoad.{loadsOf, allLight}
 use Rattle.cover_statements.proofs.Loads.{loads-judge}

@@ -1,9 +1,5 @@
 -- `cover::carry::raised` meets its contract. Assumes nothing.
-use mathlib.Core.Path.{_≡_}
-use native.Mathlib.Omega.{arith}
-use borrow.Author.Needs.{needs}
-use lib.IntN.{natAbs}
-use mir.Facts.{toZ-ofZ}
+use Rattle.laws.proofs.Prelude.{_≡_, arith, needs, natAbs, toZ-ofZ}
 use Rattle.cover.proofs.carry.raised.Statement.{statement}
 use Rattle.cover.proofs.carry.raised.Tie as tie
 

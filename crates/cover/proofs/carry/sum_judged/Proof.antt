@@ -1,14 +1,5 @@
 -- `cover::carry::sum_judged` meets its contract: the covers of the rows are summed while loads are judged. Assumes nothing.
-use mathlib.Core.Path.{_≡_, ap, _∙_, sym}
-use mathlib.Core.List.{List}
-use Prim.Native.Nat.{ℕ, _+_, _-_}
-use native.Mathlib.Omega.{arith}
-use borrow.Author.Needs.{needs}
-use lib.IntN.{pos}
-use lib.ListN.{length, getD}
-use mir.Facts.{toZ-ofZ}
-use mir.Syntax.{w8}
-use Rattle.laws.proofs.Machine.{small, kept}
+use Rattle.laws.proofs.Prelude.{_≡_, ap, _∙_, sym, List, ℕ, _+_, _-_, arith, needs, pos, length, getD, toZ-ofZ, w8, small, kept}
 use Rattle.pixel_segment.specs.Field.{cpu}
 use Rattle.cover_statements.specs.Carry.{absCover, isLight}
 use Rattle.cover_statements.specs.InnerLoad.{loadsOf, allLight}

@@ -1,11 +1,5 @@
 -- `cover::entry::read_cover` meets its contract. Assumes nothing.
-use mathlib.Core.Path.{refl}
-use Prim.Native.Nat.{_+_, _*_, _-_}
-use native.Mathlib.Omega.{arith}
-use lib.IntN.{pos}
-use lib.ListN.{getD}
-use mir.Syntax.{w8}
-use Rattle.laws.proofs.Machine.{kept}
+use Rattle.laws.proofs.Prelude.{refl, _+_, _*_, _-_, arith, pos, getD, w8, kept}
 use Rattle.cover_statements.proofs.Entries.{Reading, read-start, read-next, read-end}
 use Rattle.cover.proofs.entry.read_cover.Statement.{statement}
 use Rattle.cover.proofs.entry.read_cover.Tie as tie

@@ -1,12 +1,5 @@
 -- `cover::entry::write_cover` meets its contract. Assumes nothing.
-use mathlib.Core.Path.{refl}
-use Prim.Native.Nat.{_-_}
-use native.Mathlib.Omega.{arith}
-use borrow.Author.Needs.{needs}
-use lib.IntN.{pos}
-use lib.ListN.{getD}
-use mir.Syntax.{w8}
-use Rattle.laws.proofs.Machine.{kept}
+use Rattle.laws.proofs.Prelude.{refl, _-_, arith, needs, pos, getD, w8, kept}
 use Rattle.cover_statements.proofs.Entries.{Writing, write-start, write-next, write-end}
 use Rattle.cover.proofs.entry.write_cover.Statement.{statement}
 use Rattle.cover.proofs.entry.write_cover.Tie as tie

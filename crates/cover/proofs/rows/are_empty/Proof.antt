@@ -1,15 +1,6 @@
 -- `cover::rows::are_empty` meets its contract. Assumes nothing.
-use mathlib.Core.Path.{_≡_, refl, sym, ap, _∙_}
-use mathlib.Core.Bool.{Bool, true, false, cond, _&&_}
-use Prim.Native.Nat.{ℕ, _+_, _-_, _≤_}
-use native.Mathlib.Omega.{arith}
-use borrow.Author.Needs.{needs, sfits-of}
-use borrow.Author.Tests.{ne-eqb}
-use lib.Dec.{eqb}
-use lib.IntN.{pos}
-use lib.ListN.{length}
-use mir.Facts.{toZ-ofZ}
-use mir.Syntax.{w8}
+use Rattle.laws.proofs.Prelude.{_≡_, refl, sym, ap, _∙_, Bool, true, false, cond, _&&_, ℕ, _+_, _-_, _≤_, arith, needs, sfits-of, ne-eqb, eqb, pos}
+use Rattle.laws.proofs.Prelude.{length, toZ-ofZ, w8}
 use Rattle.cover_statements.specs.Cover.{emptyAt, isEmpty}
 use Rattle.cover_statements.proofs.Areas.{and-false}
 use Rattle.cover_statements.proofs.Testing.{Testing, test-start, test-next, test-end, and-true}

@@ -1,12 +1,5 @@
 -- `cover::rows::are_full` meets its contract. Assumes nothing.
-use mathlib.Core.Path.{refl}
-use Prim.Native.Nat.{_-_}
-use native.Mathlib.Omega.{arith}
-use borrow.Author.Needs.{needs, sfits-of}
-use lib.IntN.{pos}
-use lib.ListN.{length}
-use mir.Facts.{toZ-ofZ}
-use mir.Syntax.{w8}
+use Rattle.laws.proofs.Prelude.{refl, _-_, arith, needs, sfits-of, pos, length, toZ-ofZ, w8}
 use Rattle.cover_statements.specs.Cover.{fullAt, isFull}
 use Rattle.cover_statements.proofs.Testing.{Testing, test-start, test-next, test-end}
 use Rattle.cover.proofs.rows.are_full.Statement.{statement}

@@ -1,14 +1,7 @@
 -- `cover::rows::are_light` meets its contract. Assumes nothing.
-use mathlib.Core.Path.{_≡_, refl, sym, _∙_}
-use mathlib.Core.Bool.{Bool, true, false, _&&_}
-use Prim.Native.Nat.{ℕ, _+_, _-_, _≤_, compare·suc-suc}
-use native.Mathlib.Numerals.{add-one}
-use native.Mathlib.Omega.{arith}
-use borrow.Author.Needs.{needs}
-use borrow.Author.Tests.{ne-eqb}
-use lib.Dec.{leb, eqb}
-use lib.ListN.{length, getD}
-use mir.Val.{boolByte}
+use Rattle.laws.proofs.Prelude.{_≡_, refl, sym, _∙_, Bool, true, false, _&&_, ℕ, _+_, _-_, _≤_, add-one, arith, needs, ne-eqb, leb, eqb, length, getD}
+use Rattle.laws.proofs.Prelude.{boolByte}
+use Prim.Native.Nat.{compare·suc-suc}
 use Rattle.cover_statements.specs.InnerLoad.{allLight}
 use Rattle.cover_statements.proofs.Areas.{and-false}
 use Rattle.cover_statements.proofs.Testing.{Testing, test-start, test-next, test-end, and-true}

@@ -1,11 +1,5 @@
 -- `cover::rows::magnitudes` meets its contract. Assumes nothing.
-use mathlib.Core.Path.{refl, sym, ap, _∙_}
-use Prim.Native.Nat.{_-_}
-use native.Mathlib.Omega.{arith}
-use borrow.Author.Needs.{needs, sfits-of}
-use lib.ListN.{length, length-replicate}
-use mir.Facts.{toZ-ofZ}
-use mir.Syntax.{w8}
+use Rattle.laws.proofs.Prelude.{refl, sym, ap, _∙_, _-_, arith, needs, sfits-of, length, length-replicate, toZ-ofZ, w8}
 use Rattle.cover_statements.proofs.Loads.{Measuring, measure-start, measure-next, measure-end}
 use Rattle.cover.proofs.rows.magnitudes.Statement.{statement}
 use Rattle.cover.proofs.rows.magnitudes.Tie as tie

@@ -1,12 +1,5 @@
 -- `area::add_bounds` meets its contract. Assumes nothing.
-use mathlib.Core.Path.{_≡_, sym, _∙_}
-use Prim.Native.Nat.{_-_, _≤_, _<_}
-use native.Mathlib.Omega.{arith}
-use lib.IntN.{pos}
-use lib.ListN.{length, getD}
-use mir.Facts.{toZ-ofZ}
-use mir.Syntax.{w8, w16}
-use Rattle.laws.proofs.Machine.{small, kept}
+use Rattle.laws.proofs.Prelude.{_≡_, sym, _∙_, _-_, _≤_, _<_, arith, pos, length, getD, toZ-ofZ, w8, w16, small, kept}
 use Rattle.pixel_segment.specs.Field.{cpu, coverOf, doubleAreaOf}
 use Rattle.pixel_segment.proofs.Ranges.{cpu-layout}
 use Rattle.cover_statements.specs.InnerCell.{cellOf}

@@ -1,15 +1,6 @@
 -- `area::double_area` meets its contract: a multiplier is at most 63 and a byte at most 128. Assumes nothing.
-use mathlib.Core.Path.{_∙_}
-use Prim.Native.Nat.{_≤_}
-use native.Mathlib.Nat.{mul-le-mul}
-use native.Mathlib.Omega.{arith}
-use borrow.Author.Needs.{needs}
-use lib.IntN.{pos, natAbs, _*ℤ_}
-use mir.Facts.{toZ-ofZ, toZ-pos, sfits-widen}
-use mir.Syntax.{w8, w16}
-use mir.Val.{SFits}
-use Rattle.laws.proofs.Machine.{small, within}
-use Rattle.laws.proofs.Parts.{whole, abs-times}
+use Rattle.laws.proofs.Prelude.{_∙_, _≤_, mul-le-mul, arith, needs, pos, natAbs, _*ℤ_, toZ-ofZ, toZ-pos, sfits-widen, w8, w16, SFits, small, within}
+use Rattle.laws.proofs.Prelude.{whole, abs-times}
 use Rattle.pixel_segment.specs.Field.{cpu, multiplierOf}
 use Rattle.cover_bounds.proofs.area.double_area.Statement.{statement}
 use Rattle.cover_bounds.proofs.area.double_area.Tie as tie

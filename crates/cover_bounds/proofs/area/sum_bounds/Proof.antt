@@ -1,6 +1,5 @@
 -- `area::sum_bounds` meets its contract. Assumes nothing.
-use mathlib.Core.Path.{refl}
-use borrow.Author.Needs.{needs}
+use Rattle.laws.proofs.Prelude.{refl, needs}
 use Rattle.cover_statements.specs.InnerCell.{noCells}
 use Rattle.cover_bounds.proofs.area.sum_bounds.Statement.{statement}
 use Rattle.cover_bounds.proofs.area.sum_bounds.Tie as tie

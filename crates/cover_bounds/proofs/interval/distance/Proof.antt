@@ -1,14 +1,6 @@
 -- `interval::distance` meets its contract. Assumes nothing.
-use mathlib.Core.Path.{_≡_}
-use Prim.Native.Nat.{_≤_}
-use native.Mathlib.Omega.{arith}
-use lib.IntN.{_-ℤ_}
-use mir.Facts.{toZ-ofZ, sfits-widen}
-use mir.Syntax.{w16, w32}
-use mir.Val.{SFits}
-use Rattle.laws.specs.Integer.{plus, minus}
-use Rattle.laws.proofs.Machine.{sfits, within, unsigned}
-use Rattle.laws.proofs.Parts.{whole, taken, le-true}
+use Rattle.laws.proofs.Prelude.{_≡_, _≤_, arith, _-ℤ_, toZ-ofZ, sfits-widen, w16, w32, SFits, plus, minus, sfits, within, unsigned, whole, taken}
+use Rattle.laws.proofs.Prelude.{le-true}
 use Rattle.cover_bounds.proofs.interval.distance.Statement.{statement}
 use Rattle.cover_bounds.proofs.interval.distance.Tie as tie
 

@@ -1,8 +1,5 @@
 -- `interval::greatest_even_odd` meets its contract. Assumes nothing.
-use mathlib.Core.Path.{sym, ap₂, _∙_}
-use Prim.Native.Nat.{max}
-use borrow.Author.Needs.{needs}
-use mir.Facts.{toZ-ofZ}
+use Rattle.laws.proofs.Prelude.{sym, ap₂, _∙_, max, needs, toZ-ofZ}
 use Rattle.cover_bounds_statements.proofs.Ends.{greatest-found, greatest-of-ends}
 use Rattle.cover_bounds.proofs.interval.greatest_even_odd.Statement.{statement}
 use Rattle.cover_bounds.proofs.interval.greatest_even_odd.Tie as tie

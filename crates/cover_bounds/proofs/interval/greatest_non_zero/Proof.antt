@@ -1,8 +1,5 @@
 -- `interval::greatest_non_zero` meets its contract. Assumes nothing.
-use mathlib.Core.Path.{ap₂, _∙_}
-use Prim.Native.Nat.{max}
-use borrow.Author.Needs.{needs}
-use mir.Facts.{toZ-ofZ}
+use Rattle.laws.proofs.Prelude.{ap₂, _∙_, max, needs, toZ-ofZ}
 use Rattle.cover_bounds_statements.proofs.Ends.{greatest-of-both}
 use Rattle.cover_bounds.proofs.interval.greatest_non_zero.Statement.{statement}
 use Rattle.cover_bounds.proofs.interval.greatest_non_zero.Tie as tie

@@ -1,7 +1,5 @@
 -- `interval::has_multiple` meets its contract. Assumes nothing.
-use native.Mathlib.Omega.{arith}
-use borrow.Author.Needs.{needs}
-use mir.Facts.{toZ-ofZ}
+use Rattle.laws.proofs.Prelude.{arith, needs, toZ-ofZ}
 use Rattle.cover_bounds_statements.specs.InnerEnds.{hasMultiple}
 use Rattle.cover_bounds.proofs.interval.has_multiple.Statement.{statement}
 use Rattle.cover_bounds.proofs.interval.has_multiple.Tie as tie

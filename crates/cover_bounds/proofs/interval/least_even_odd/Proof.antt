@@ -1,8 +1,5 @@
 -- `interval::least_even_odd` meets its contract. Assumes nothing.
-use mathlib.Core.Path.{sym, ap₂, _∙_}
-use Prim.Native.Nat.{min}
-use borrow.Author.Needs.{needs}
-use mir.Facts.{toZ-ofZ}
+use Rattle.laws.proofs.Prelude.{sym, ap₂, _∙_, min, needs, toZ-ofZ}
 use Rattle.styling.specs.declared.FillRule.the-variants.{EvenOdd}
 use Rattle.cover_bounds_statements.proofs.Ends.{least-found, least-of-ends}
 use Rattle.cover_bounds.proofs.interval.least_even_odd.Statement.{statement}

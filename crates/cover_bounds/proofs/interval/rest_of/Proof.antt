@@ -1,18 +1,7 @@
 -- `interval::rest_of` meets its contract. With 32,768, a multiple of 1,024, no number is negative, and its remainder is the machine's.
 -- Assumes nothing.
-use mathlib.Core.Path.{_≡_, ap}
-use Prim.Native.Nat.{ℕ, _%_}
-use native.Mathlib.Omega.{arith}
-use borrow.Author.Needs.{needs}
-use lib.Dec.{T, lit<}
-use lib.IntN.{pos, natAbs, _+ℤ_}
-use lib.Signed.{nonNeg}
-use mir.Facts.{toZ-ofZ, toZ-pos, sfits-widen}
-use mir.Syntax.{w16, w32}
-use mir.Val.{SFits, Fits, toZ}
-use Rattle.laws.proofs.Machine.{sfits, within, unsigned}
-use Rattle.laws.proofs.Mod.{lifted}
-use Rattle.laws.proofs.Parts.{added}
+use Rattle.laws.proofs.Prelude.{_≡_, ap, ℕ, _%_, arith, needs, T, lit<, pos, natAbs, _+ℤ_, nonNeg, toZ-ofZ, toZ-pos, sfits-widen, w16, w32, SFits}
+use Rattle.laws.proofs.Prelude.{Fits, toZ, sfits, within, unsigned, lifted, added}
 use Rattle.cover_bounds.proofs.interval.rest_of.Statement.{statement}
 use Rattle.cover_bounds.proofs.interval.rest_of.Tie as tie
 

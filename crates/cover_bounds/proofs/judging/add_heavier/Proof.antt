@@ -1,12 +1,5 @@
 -- `judging::add_heavier` meets its contract. Assumes nothing.
-use mathlib.Core.Path.{_≡_, sym, _∙_}
-use Prim.Native.Nat.{ℕ, _-_, _<_}
-use native.Mathlib.Omega.{arith}
-use borrow.Author.Needs.{needs}
-use lib.IntN.{ℤ}
-use lib.ListN.{length}
-use mir.Syntax.{w8}
-use Rattle.laws.proofs.Machine.{kept}
+use Rattle.laws.proofs.Prelude.{_≡_, sym, _∙_, ℕ, _-_, _<_, arith, needs, ℤ, length, w8, kept}
 use Rattle.pixel_segment.specs.Field.{cpu}
 use Rattle.pixel_segment.proofs.Ranges.{cpu-layout}
 use Rattle.cover_statements.proofs.Loads.{Loading, load-start, load-next, load-end}

@@ -1,8 +1,5 @@
 -- `judging::are_bounded` meets its contract. Assumes nothing.
-use Prim.Native.Nat.{_-_}
-use native.Mathlib.Omega.{arith}
-use mir.Syntax.{w8}
-use Rattle.laws.proofs.Machine.{kept}
+use Rattle.laws.proofs.Prelude.{_-_, arith, w8, kept}
 use Rattle.cover_bounds_statements.specs.Within.{boundAt, isBounded}
 use Rattle.cover_bounds_statements.proofs.Loops.{Passing, pass-start, pass-next, pass-end}
 use Rattle.cover_bounds.proofs.judging.are_bounded.Statement.{statement}

@@ -1,10 +1,5 @@
 -- `judging::heavier` meets its contract. Assumes nothing.
-use Prim.Native.Nat.{_≤_, _<_}
-use native.Mathlib.Omega.{arith}
-use borrow.Author.Needs.{needs}
-use borrow.Author.Tests.{le-leb, lt-leb}
-use lib.IntN.{natAbs}
-use mir.Facts.{toZ-ofZ}
+use Rattle.laws.proofs.Prelude.{_≤_, _<_, arith, needs, le-leb, lt-leb, natAbs, toZ-ofZ}
 use Rattle.cover_bounds.proofs.judging.heavier.Statement.{statement}
 use Rattle.cover_bounds.proofs.judging.heavier.Tie as tie
 

@@ -1,11 +1,5 @@
 -- `judging::heavier_carry` meets its contract. Assumes nothing.
-use mathlib.Core.Path.{_∙_}
-use Prim.Native.Nat.{_-_}
-use native.Mathlib.Omega.{arith}
-use borrow.Author.Needs.{needs, sfits-of}
-use mir.Facts.{toZ-ofZ}
-use mir.Syntax.{w8}
-use Rattle.laws.proofs.Machine.{kept}
+use Rattle.laws.proofs.Prelude.{_∙_, _-_, arith, needs, sfits-of, toZ-ofZ, w8, kept}
 use Rattle.cover_statements.specs.Cover.{coverAt}
 use Rattle.cover_bounds_statements.specs.Chosen.{heavier}
 use Rattle.cover_bounds_statements.proofs.Loops.{Placing, place-start, place-next, place-whole}

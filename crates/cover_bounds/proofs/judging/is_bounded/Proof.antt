@@ -1,6 +1,5 @@
 -- `judging::is_bounded` meets its contract. Assumes nothing.
-use borrow.Author.Needs.{needs}
-use mir.Facts.{toZ-ofZ}
+use Rattle.laws.proofs.Prelude.{needs, toZ-ofZ}
 use Rattle.cover_bounds.proofs.judging.is_bounded.Statement.{statement}
 use Rattle.cover_bounds.proofs.judging.is_bounded.Tie as tie
 

@@ -1,10 +1,5 @@
 -- `judging::is_carry_bounded` meets its contract. Assumes nothing.
-use Prim.Native.Nat.{_-_}
-use native.Mathlib.Omega.{arith}
-use borrow.Author.Needs.{sfits-of}
-use lib.Signed.{leZ}
-use mir.Facts.{toZ-ofZ}
-use mir.Syntax.{w8}
+use Rattle.laws.proofs.Prelude.{_-_, arith, sfits-of, leZ, toZ-ofZ, w8}
 use Rattle.cover_statements.specs.Cover.{coverAt}
 use Rattle.cover_bounds_statements.proofs.Loops.{Passing, pass-start, pass-next, pass-end}
 use Rattle.cover_bounds.proofs.judging.is_carry_bounded.Statement.{statement}

@@ -1,6 +1,5 @@
 -- `judging::is_cover` meets its contract. Assumes nothing.
-use mir.Facts.{toZ-ofZ}
-use Rattle.laws.specs.Integer.{isWithin}
+use Rattle.laws.proofs.Prelude.{toZ-ofZ, isWithin}
 use Rattle.cover_bounds.proofs.judging.is_cover.Statement.{statement}
 use Rattle.cover_bounds.proofs.judging.is_cover.Tie as tie
 

@@ -1,10 +1,5 @@
 -- `judging::is_light_within` meets its contract. Assumes nothing.
-use mathlib.Core.Path.{ap, _∙_}
-use mathlib.Core.List.{List, map}
-use Prim.Native.Nat.{ℕ}
-use borrow.Author.Needs.{needs}
-use lib.IntN.{natAbs}
-use Rattle.laws.specs.Lists.{tabulate}
+use Rattle.laws.proofs.Prelude.{ap, _∙_, List, map, ℕ, needs, natAbs, tabulate}
 use Rattle.pixel_segment.specs.Field.{cpu}
 use Rattle.cover_statements.specs.Cover.{coverAt}
 use Rattle.cover_statements.specs.InnerLoad.{loadsOf, allLight}

@@ -1,10 +1,5 @@
 -- `judging::judge_bounds` meets its contract. Assumes nothing.
-use mathlib.Core.Path.{_≡_, sym, _∙_}
-use borrow.Author.Needs.{needs}
-use borrow.Author.Tests.{not-false}
-use mir.Facts.{toZ-ofZ}
-use Rattle.laws.specs.Lists.{all}
-use Rattle.laws.proofs.Bools.{left}
+use Rattle.laws.proofs.Prelude.{_≡_, sym, _∙_, needs, not-false, toZ-ofZ, all, left}
 use Rattle.segment_set_statements.specs.Set.{isOf}
 use Rattle.cover_bounds_statements.specs.Within.{boundsCall, boundPlanes, lacksRoom, boundsVerdict}
 use Rattle.cover_bounds_statements.proofs.Calls.{pairs-there}

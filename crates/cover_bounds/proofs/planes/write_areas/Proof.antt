@@ -1,9 +1,5 @@
 -- `planes::write_areas` meets its contract. Assumes nothing.
-use mathlib.Core.Path.{ap, _∙_}
-use Prim.Native.Nat.{_-_}
-use native.Mathlib.Omega.{arith}
-use mir.Syntax.{w16}
-use Rattle.laws.proofs.Machine.{kept}
+use Rattle.laws.proofs.Prelude.{ap, _∙_, _-_, arith, w16, kept}
 use Rattle.cover_statements.specs.Cover.{coverAt}
 use Rattle.cover_statements.specs.Plane.{columnOf, rowOf, inPlaces}
 use Rattle.cover_bounds_statements.specs.InnerPlanes.{areaIn}

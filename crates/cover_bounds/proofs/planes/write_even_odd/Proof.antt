@@ -1,9 +1,5 @@
 -- `planes::write_even_odd` meets its contract. Assumes nothing.
-use mathlib.Core.Path.{ap, _∙_}
-use Prim.Native.Nat.{ℕ, _-_}
-use native.Mathlib.Omega.{arith}
-use mir.Syntax.{w16}
-use Rattle.laws.proofs.Machine.{kept}
+use Rattle.laws.proofs.Prelude.{ap, _∙_, ℕ, _-_, arith, w16, kept}
 use Rattle.styling.specs.declared.FillRule.the-variants.{EvenOdd}
 use Rattle.cover_statements.specs.Cover.{coverAt}
 use Rattle.cover_statements.specs.Plane.{columnOf, rowOf, inPlaces}

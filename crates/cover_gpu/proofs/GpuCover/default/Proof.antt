@@ -1,5 +1,5 @@
 -- `GpuCover::default` meets its contract. Assumes nothing.
-use mathlib.Core.Path.{refl}
+use Rattle.laws.proofs.Prelude.{refl}
 use Rattle.cover_statements.specs.Cover.{noCover}
 use Rattle.cover_gpu.proofs.GpuCover.default.Statement.{statement}
 use Rattle.cover_gpu.proofs.GpuCover.default.Tie as tie

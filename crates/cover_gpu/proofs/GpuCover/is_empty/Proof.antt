@@ -1,8 +1,5 @@
 -- `cover_gpu::GpuCover::is_empty` meets its contract. Assumes nothing.
-use mathlib.Core.Path.{_≡_}
-use native.Mathlib.Omega.{arith}
-use borrow.Author.Needs.{needs}
-use lib.ListN.{length}
+use Rattle.laws.proofs.Prelude.{_≡_, arith, needs, length}
 use Rattle.cover_gpu.proofs.GpuCover.is_empty.Statement.{statement}
 use Rattle.cover_gpu.proofs.GpuCover.is_empty.Tie as tie
 

@@ -1,14 +1,6 @@
 -- `area::shade_row` meets its contract. Assumes nothing.
-use mathlib.Core.Path.{_≡_, refl, sym, _∙_}
-use mathlib.Core.List.{List}
-use Prim.Native.Nat.{ℕ, _+_, _-_, _*_, _≤_, _<_}
-use native.Mathlib.Omega.{arith}
-use lib.IntN.{ℤ, pos, _+ℤ_, _*ℤ_}
-use mir.Facts.{toZ-ofZ}
-use mir.Syntax.{w8, w16}
-use mir.Val.{SFits, toZ, ofZ}
-use Rattle.laws.proofs.Machine.{sfits, small, kept}
-use Rattle.laws.proofs.Parts.{times, whole}
+use Rattle.laws.proofs.Prelude.{_≡_, refl, sym, _∙_, List, ℕ, _+_, _-_, _*_, _≤_, _<_, arith, ℤ, pos, _+ℤ_, _*ℤ_, toZ-ofZ, w8, w16, SFits, toZ, ofZ}
+use Rattle.laws.proofs.Prelude.{sfits, small, kept, times, whole}
 use Rattle.pixel_segment.specs.Field.{gpu, localYOf}
 use Rattle.cover_statements.specs.Area.{coverBefore}
 use Rattle.cover_statements.specs.Cover.{coverAt}

@@ -1,10 +1,5 @@
 -- `area::sum_rows` meets its contract. Assumes nothing.
-use mathlib.Core.Path.{_≡_, sym}
-use mathlib.Core.List.{List}
-use Prim.Native.Nat.{ℕ, _-_, _≤_}
-use native.Mathlib.Omega.{arith}
-use mir.Syntax.{w8}
-use Rattle.laws.proofs.Machine.{kept}
+use Rattle.laws.proofs.Prelude.{_≡_, sym, List, ℕ, _-_, _≤_, arith, w8, kept}
 use Rattle.pixel_segment.specs.Field.{gpu}
 use Rattle.cover_statements.specs.Cover.{coverAt}
 use Rattle.cover_statements.specs.InnerCell.{Accumulated}

@@ -1,12 +1,5 @@
 -- `carry::add_segments` meets its contract. Assumes nothing.
-use Prim.Native.Nat.{_-_}
-use native.Mathlib.Omega.{arith}
-use borrow.Author.Needs.{needs}
-use lib.IntN.{pos}
-use lib.ListN.{length, getD}
-use mir.Facts.{toZ-ofZ}
-use mir.Syntax.{w8}
-use Rattle.laws.proofs.Machine.{small, kept}
+use Rattle.laws.proofs.Prelude.{_-_, arith, needs, pos, length, getD, toZ-ofZ, w8, small, kept}
 use Rattle.pixel_segment.specs.Field.{gpu, localYOf, coverOf}
 use Rattle.cover_statements.specs.Carry.{carryOf}
 use Rattle.cover_statements.proofs.Carries.{light}

@@ -1,6 +1,5 @@
 -- `carry::carry` meets its contract. Assumes nothing.
-use mathlib.Core.Path.{sym, _∙_}
-use borrow.Author.Needs.{needs}
+use Rattle.laws.proofs.Prelude.{sym, _∙_, needs}
 use Rattle.cover_gpu.proofs.carry.carry.Statement.{statement}
 use Rattle.cover_gpu.proofs.carry.carry.Tie as tie
 

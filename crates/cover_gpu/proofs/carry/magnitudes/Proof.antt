@@ -1,7 +1,5 @@
 -- `cover_gpu::carry::magnitudes` meets its contract. Assumes nothing.
-use mathlib.Core.Path.{_≡_, refl, sym}
-use borrow.Author.Needs.{needs}
-use lib.ListN.{length}
+use Rattle.laws.proofs.Prelude.{_≡_, refl, sym, needs, length}
 use Rattle.cover_gpu.proofs.carry.magnitudes.Statement.{statement}
 use Rattle.cover_gpu.proofs.carry.magnitudes.Tie as tie
 

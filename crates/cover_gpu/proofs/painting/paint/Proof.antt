@@ -1,5 +1,5 @@
 -- `painting::paint` meets its contract: what is judged again is not refused. Assumes nothing.
-use borrow.Author.Needs.{needs}
+use Rattle.laws.proofs.Prelude.{needs}
 use Rattle.cover_gpu.proofs.Paintings.{gpu-plane}
 use Rattle.cover_gpu.proofs.painting.paint.Statement.{statement}
 use Rattle.cover_gpu.proofs.painting.paint.Tie as tie

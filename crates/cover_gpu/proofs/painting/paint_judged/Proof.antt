@@ -1,14 +1,6 @@
 -- `painting::paint_judged` meets its contract. Assumes nothing.
-use mathlib.Core.Path.{_≡_, refl, sym, ap, _∙_}
-use mathlib.Core.Bool.{true}
-use mathlib.Core.List.{List, [], _∷_}
-use Prim.Native.Nat.{ℕ}
-use native.Mathlib.Omega.{arith}
-use borrow.Author.Tests.{not-true, not-false}
-use borrow.Author.Needs.{needs}
-use lib.Ieee.{Float, nan}
-use lib.ListN.{length, length-map}
-use Rattle.laws.specs.Lists.{over}
+use Rattle.laws.proofs.Prelude.{_≡_, refl, sym, ap, _∙_, true, List, [], _∷_, ℕ, arith, not-true, not-false, needs, Float, nan, length, length-map}
+use Rattle.laws.proofs.Prelude.{over}
 use Rattle.pixel_segment.specs.Field.{gpu}
 use Rattle.cover_statements.specs.Area.{areasOf}
 use Rattle.cover_statements.specs.Carry.{isLight}

@@ -1,5 +1,5 @@
 -- `painting::paint_part` meets its contract. Assumes nothing.
-use borrow.Author.Needs.{needs}
+use Rattle.laws.proofs.Prelude.{needs}
 use Rattle.cover_gpu.proofs.Paintings.{gpu-short}
 use Rattle.cover_gpu.proofs.painting.paint_part.Statement.{statement}
 use Rattle.cover_gpu.proofs.painting.paint_part.Tie as tie

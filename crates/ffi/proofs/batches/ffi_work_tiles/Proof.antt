@@ -1,6 +1,5 @@
 -- `batches::ffi_work_tiles` meets its contract. It tells what the batch answers. Assumes nothing.
-use borrow.Author.Needs.{needs}
-use mir.Facts.{toZ-ofZ}
+use Rattle.laws.proofs.Prelude.{needs, toZ-ofZ}
 use Rattle.row_statements.specs.Lent.{columns, lentTable}
 use Rattle.row_statements.specs.State.{State}
 use Rattle.batch_statements.specs.BatchLent.{batchLent}

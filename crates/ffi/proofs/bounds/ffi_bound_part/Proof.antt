@@ -1,7 +1,5 @@
 -- `bounds::ffi_bound_part` meets its contract. It tells what `bound_part` answers. Assumes nothing.
-use mathlib.Core.Path.{_≡_, ap, _∙_}
-use borrow.Author.Needs.{needs}
-use mir.Facts.{toZ-ofZ}
+use Rattle.laws.proofs.Prelude.{_≡_, ap, _∙_, needs, toZ-ofZ}
 use Rattle.ffi.specs.Bounds.{boundsNumber}
 use Rattle.ffi.proofs.bounds.ffi_bound_part.Statement.{statement}
 use Rattle.ffi.proofs.bounds.ffi_bound_part.Tie as tie

@@ -1,5 +1,5 @@
 -- `cached::count_if` meets its contract. Assumes nothing.
-use borrow.Author.Needs.{needs}
+use Rattle.laws.proofs.Prelude.{needs}
 use Rattle.ffi.proofs.cached.count_if.Statement.{statement}
 use Rattle.ffi.proofs.cached.count_if.Tie as tie
 

@@ -1,5 +1,5 @@
 -- `cached::ffi_settle` meets its contract: it tells what settling answers, and what the tile keeps now. Assumes nothing.
-use borrow.Author.Needs.{needs}
+use Rattle.laws.proofs.Prelude.{needs}
 use Rattle.ffi.proofs.Told.{settled}
 use Rattle.ffi.proofs.cached.ffi_settle.Statement.{statement}
 use Rattle.ffi.proofs.cached.ffi_settle.Tie as tie

@@ -1,6 +1,5 @@
 -- `cached::ffi_solid_color` meets its contract: it tells what the tile keeps. Assumes nothing.
-use mathlib.Core.Path.{ap, _∙_}
-use borrow.Author.Needs.{needs}
+use Rattle.laws.proofs.Prelude.{ap, _∙_, needs}
 use Rattle.cached_tile.specs.Tile.{solidColorOf}
 use Rattle.ffi.proofs.Told.{colored}
 use Rattle.ffi.proofs.cached.ffi_solid_color.Statement.{statement}

@@ -1,6 +1,5 @@
 -- `cached::ffi_update_layer_count` meets its contract: it tells what the tile kept, and what it keeps now. Assumes nothing.
-use mathlib.Core.Path.{ap, _∙_}
-use borrow.Author.Needs.{needs}
+use Rattle.laws.proofs.Prelude.{ap, _∙_, needs}
 use Rattle.cached_tile.specs.Tile.{layerCountOf}
 use Rattle.ffi_numbers.specs.Cached.{tileBytes}
 use Rattle.ffi.proofs.Told.{optional}

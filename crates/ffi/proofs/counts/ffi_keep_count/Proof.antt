@@ -1,6 +1,6 @@
 -- `counts::ffi_keep_count` meets its contract. It tells what `keep_count` answers. Assumes nothing.
 use Rattle.ffi.proofs.Told.{counted}
-use borrow.Author.Needs.{needs}
+use Rattle.laws.proofs.Prelude.{needs}
 use Rattle.ffi.proofs.counts.ffi_keep_count.Statement.{statement}
 use Rattle.ffi.proofs.counts.ffi_keep_count.Tie as tie
 

@@ -1,5 +1,5 @@
 -- `covers::ffi_carry` meets its contract: it tells what adding answers. Assumes nothing.
-use borrow.Author.Needs.{needs}
+use Rattle.laws.proofs.Prelude.{needs}
 use Rattle.ffi.proofs.Told.{answered}
 use Rattle.ffi.proofs.covers.ffi_carry.Statement.{statement}
 use Rattle.ffi.proofs.covers.ffi_carry.Tie as tie

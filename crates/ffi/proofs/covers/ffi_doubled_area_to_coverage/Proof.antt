@@ -1,6 +1,5 @@
 -- `covers::ffi_doubled_area_to_coverage` meets its contract. Assumes nothing.
-use borrow.Author.Needs.{needs}
-use mir.Facts.{toZ-ofZ}
+use Rattle.laws.proofs.Prelude.{needs, toZ-ofZ}
 use Rattle.ffi.proofs.covers.ffi_doubled_area_to_coverage.Statement.{statement}
 use Rattle.ffi.proofs.covers.ffi_doubled_area_to_coverage.Tie as tie
 

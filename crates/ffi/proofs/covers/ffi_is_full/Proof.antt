@@ -1,5 +1,5 @@
 -- `covers::ffi_is_full` meets its contract: the rule of the number. Assumes nothing.
-use borrow.Author.Needs.{needs}
+use Rattle.laws.proofs.Prelude.{needs}
 use Rattle.ffi.proofs.covers.ffi_is_full.Statement.{statement}
 use Rattle.ffi.proofs.covers.ffi_is_full.Tie as tie
 

@@ -1,5 +1,5 @@
 -- `covers::ffi_mark_plane` meets its contract: it tells what marking answers. Assumes nothing.
-use borrow.Author.Needs.{needs}
+use Rattle.laws.proofs.Prelude.{needs}
 use Rattle.ffi.proofs.Told.{answered}
 use Rattle.ffi.proofs.covers.ffi_mark_plane.Statement.{statement}
 use Rattle.ffi.proofs.covers.ffi_mark_plane.Tie as tie

@@ -1,5 +1,5 @@
 -- `covers::ffi_paint_part` meets its contract: it tells what painting answers, and what the plane holds. Assumes nothing.
-use borrow.Author.Needs.{needs}
+use Rattle.laws.proofs.Prelude.{needs}
 use Rattle.ffi.proofs.Told.{answered}
 use Rattle.ffi.proofs.covers.ffi_paint_part.Statement.{statement}
 use Rattle.ffi.proofs.covers.ffi_paint_part.Tie as tie

@@ -1,6 +1,6 @@
 -- `deciding::ffi_decide_tile` meets its contract. It tells what the deciding answers. Assumes nothing.
 use Rattle.ffi.proofs.Told.{decided}
-use borrow.Author.Needs.{needs}
+use Rattle.laws.proofs.Prelude.{needs}
 use Rattle.ffi.proofs.deciding.ffi_decide_tile.Statement.{statement}
 use Rattle.ffi.proofs.deciding.ffi_decide_tile.Tie as tie
 

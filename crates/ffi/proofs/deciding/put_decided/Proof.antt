@@ -1,7 +1,5 @@
 -- `deciding::put_decided` meets its contract. Assumes nothing.
-use mathlib.Core.Path.{refl}
-use mathlib.Core.List.{[], _∷_}
-use borrow.Author.Needs.{needs}
+use Rattle.laws.proofs.Prelude.{refl, [], _∷_, needs}
 use Rattle.ffi.proofs.deciding.put_decided.Statement.{statement}
 use Rattle.ffi.proofs.deciding.put_decided.Tie as tie
 

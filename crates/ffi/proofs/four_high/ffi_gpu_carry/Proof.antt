@@ -1,5 +1,5 @@
 -- `four_high::ffi_gpu_carry` meets its contract: it tells what adding answers. Assumes nothing.
-use borrow.Author.Needs.{needs}
+use Rattle.laws.proofs.Prelude.{needs}
 use Rattle.ffi.proofs.Told.{answered}
 use Rattle.ffi.proofs.four_high.ffi_gpu_carry.Statement.{statement}
 use Rattle.ffi.proofs.four_high.ffi_gpu_carry.Tie as tie

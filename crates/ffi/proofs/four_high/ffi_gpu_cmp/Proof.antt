@@ -1,6 +1,5 @@
 -- `four_high::ffi_gpu_cmp` meets its contract: the rank of the order that `cmp` gives. Assumes nothing.
-use mathlib.Core.Path.{_∙_}
-use borrow.Author.Needs.{needs}
+use Rattle.laws.proofs.Prelude.{_∙_, needs}
 use Rattle.ffi.proofs.four_high.ffi_gpu_cmp.Statement.{statement}
 use Rattle.ffi.proofs.four_high.ffi_gpu_cmp.Tie as tie
 

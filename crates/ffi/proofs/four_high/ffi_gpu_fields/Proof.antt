@@ -1,8 +1,5 @@
 -- `four_high::ffi_gpu_fields` meets its contract: each number is that of its reader. Assumes nothing.
-use mathlib.Core.Path.{_∙_}
-use borrow.Author.Needs.{needs}
-use mir.Syntax.{w8, w16}
-use Rattle.laws.proofs.Machine.{kept}
+use Rattle.laws.proofs.Prelude.{_∙_, needs, w8, w16, kept}
 use Rattle.ffi.proofs.four_high.ffi_gpu_fields.Statement.{statement}
 use Rattle.ffi.proofs.four_high.ffi_gpu_fields.Tie as tie
 

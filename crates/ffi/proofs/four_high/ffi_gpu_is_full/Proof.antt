@@ -1,5 +1,5 @@
 -- `four_high::ffi_gpu_is_full` meets its contract: the rule of the number. Assumes nothing.
-use borrow.Author.Needs.{needs}
+use Rattle.laws.proofs.Prelude.{needs}
 use Rattle.ffi.proofs.four_high.ffi_gpu_is_full.Statement.{statement}
 use Rattle.ffi.proofs.four_high.ffi_gpu_is_full.Tie as tie
 

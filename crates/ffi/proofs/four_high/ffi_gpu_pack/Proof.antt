@@ -1,6 +1,5 @@
 -- `four_high::ffi_gpu_pack` meets its contract: it tells what packing answers. Assumes nothing.
-use borrow.Author.Needs.{needs}
-use mir.Facts.{toZ-ofZ}
+use Rattle.laws.proofs.Prelude.{needs, toZ-ofZ}
 use Rattle.ffi.proofs.Told.{answered}
 use Rattle.ffi.proofs.four_high.ffi_gpu_pack.Statement.{statement}
 use Rattle.ffi.proofs.four_high.ffi_gpu_pack.Tie as tie

@@ -1,6 +1,5 @@
 -- `four_high::ffi_gpu_paint_part` meets its contract: it tells what painting answers, and what the plane holds. Assumes nothing.
-use mathlib.Core.Path.{ap, _∙_}
-use borrow.Author.Needs.{needs}
+use Rattle.laws.proofs.Prelude.{ap, _∙_, needs}
 use Rattle.ffi_numbers.specs.Numbers.{refusalNumber}
 use Rattle.ffi.proofs.four_high.ffi_gpu_paint_part.Statement.{statement}
 use Rattle.ffi.proofs.four_high.ffi_gpu_paint_part.Tie as tie

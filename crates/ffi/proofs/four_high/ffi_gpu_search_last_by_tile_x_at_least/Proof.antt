@@ -1,6 +1,5 @@
 -- `four_high::ffi_gpu_search_last_by_tile_x_at_least` meets its contract: it tells what the search found. Assumes nothing.
-use borrow.Author.Needs.{needs}
-use mir.Facts.{toZ-ofZ}
+use Rattle.laws.proofs.Prelude.{needs, toZ-ofZ}
 use Rattle.ffi.proofs.Told.{searched}
 use Rattle.ffi.proofs.four_high.ffi_gpu_search_last_by_tile_x_at_least.Statement.{statement}
 use Rattle.ffi.proofs.four_high.ffi_gpu_search_last_by_tile_x_at_least.Tie as tie

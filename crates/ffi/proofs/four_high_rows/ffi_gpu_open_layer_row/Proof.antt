@@ -1,6 +1,5 @@
 -- `four_high_rows::ffi_gpu_open_layer_row` meets its contract: it tells what opening answers. Assumes nothing.
-use borrow.Author.Needs.{needs}
-use mir.Facts.{toZ-ofZ}
+use Rattle.laws.proofs.Prelude.{needs, toZ-ofZ}
 use Rattle.ffi_four_high.proofs.FourHighTold.{layer-opened}
 use Rattle.ffi.proofs.four_high_rows.ffi_gpu_open_layer_row.Statement.{statement}
 use Rattle.ffi.proofs.four_high_rows.ffi_gpu_open_layer_row.Tie as tie

@@ -1,6 +1,5 @@
 -- `four_high_rows::ffi_gpu_work_tile` meets its contract: it tells what the work answers. Assumes nothing.
-use borrow.Author.Needs.{needs}
-use mir.Facts.{toZ-ofZ}
+use Rattle.laws.proofs.Prelude.{needs, toZ-ofZ}
 use Rattle.ffi_four_high.proofs.FourHighTold.{layer-worked}
 use Rattle.ffi.proofs.four_high_rows.ffi_gpu_work_tile.Statement.{statement}
 use Rattle.ffi.proofs.four_high_rows.ffi_gpu_work_tile.Tie as tie

@@ -1,6 +1,5 @@
 -- `four_high_rows::ffi_gpu_work_tiles` meets its contract: it tells what the range answers. Assumes nothing.
-use borrow.Author.Needs.{needs}
-use mir.Facts.{toZ-ofZ}
+use Rattle.laws.proofs.Prelude.{needs, toZ-ofZ}
 use Rattle.layer_row_gpu.specs.WorkTiles.{tilesChoice}
 use Rattle.ffi_four_high.proofs.FourHighTold.{tiles-worked}
 use Rattle.ffi.proofs.four_high_rows.ffi_gpu_work_tiles.Statement.{statement}

@@ -1,5 +1,5 @@
 -- `layers::ffi_color_eq` meets its contract: the two colours are those of the numbers. Assumes nothing.
-use borrow.Author.Needs.{needs}
+use Rattle.laws.proofs.Prelude.{needs}
 use Rattle.ffi.proofs.layers.ffi_color_eq.Statement.{statement}
 use Rattle.ffi.proofs.layers.ffi_color_eq.Tie as tie
 

@@ -1,6 +1,5 @@
 -- `layers::ffi_is_opaque` meets its contract: the draw is the one of the numbers. Assumes nothing.
-use mathlib.Core.Path.{ap, _∙_}
-use borrow.Author.Needs.{needs}
+use Rattle.laws.proofs.Prelude.{ap, _∙_, needs}
 use Rattle.styling.specs.Codes.{fillOf}
 use Rattle.ffi.proofs.layers.ffi_is_opaque.Statement.{statement}
 use Rattle.ffi.proofs.layers.ffi_is_opaque.Tie as tie

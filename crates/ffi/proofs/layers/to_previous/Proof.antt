@@ -1,6 +1,5 @@
 -- `layers::to_previous` meets its contract. Assumes nothing.
-use mathlib.Core.Path.{ap}
-use borrow.Author.Needs.{needs}
+use Rattle.laws.proofs.Prelude.{ap, needs}
 use Rattle.layer_workbench.specs.declared.PreviousClear.the-variants.{Given}
 use Rattle.ffi.proofs.layers.to_previous.Statement.{statement}
 use Rattle.ffi.proofs.layers.to_previous.Tie as tie

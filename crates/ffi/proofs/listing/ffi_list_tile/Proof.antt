@@ -1,6 +1,5 @@
 -- `listing::ffi_list_tile` meets its contract. It tells what the listing answers. Assumes nothing.
-use borrow.Author.Needs.{needs}
-use mir.Facts.{toZ-ofZ}
+use Rattle.laws.proofs.Prelude.{needs, toZ-ofZ}
 use Rattle.row_statements.specs.Lent.{columns, lentTable}
 use Rattle.row_statements.specs.State.{State}
 use Rattle.listing_statements.specs.Listing.{tileList, listCall, listLent}

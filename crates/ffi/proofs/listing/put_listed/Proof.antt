@@ -1,6 +1,5 @@
 -- `listing::put_listed` meets its contract. Assumes nothing.
-use mathlib.Core.Path.{refl}
-use borrow.Author.Needs.{needs}
+use Rattle.laws.proofs.Prelude.{refl, needs}
 use Rattle.ffi.proofs.listing.put_listed.Statement.{statement}
 use Rattle.ffi.proofs.listing.put_listed.Tie as tie
 

@@ -1,6 +1,5 @@
 -- `painting::ffi_paint_layer` meets its contract. It tells what painting answers. Assumes nothing.
-use borrow.Author.Needs.{needs}
-use mir.Facts.{toZ-ofZ}
+use Rattle.laws.proofs.Prelude.{needs, toZ-ofZ}
 use Rattle.row_statements.specs.Lent.{columns, lentTable}
 use Rattle.row_statements.specs.State.{State}
 use Rattle.row_statements.specs.Painting.{paintCall}

@@ -1,6 +1,5 @@
 -- `painting::put_painted` meets its contract. Assumes nothing.
-use mathlib.Core.Path.{refl}
-use borrow.Author.Needs.{needs}
+use Rattle.laws.proofs.Prelude.{refl, needs}
 use Rattle.ffi.proofs.painting.put_painted.Statement.{statement}
 use Rattle.ffi.proofs.painting.put_painted.Tie as tie
 

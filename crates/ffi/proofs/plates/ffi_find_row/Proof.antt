@@ -1,6 +1,5 @@
 -- `plates::ffi_find_row` meets its contract: it tells the place that was found. Assumes nothing.
-use mathlib.Core.Path.{ap, _∙_}
-use borrow.Author.Needs.{needs}
+use Rattle.laws.proofs.Prelude.{ap, _∙_, needs}
 use Rattle.plate.specs.declared.Part.{Part}
 use Rattle.ffi.proofs.plates.ffi_find_row.Statement.{statement}
 use Rattle.ffi.proofs.plates.ffi_find_row.Tie as tie

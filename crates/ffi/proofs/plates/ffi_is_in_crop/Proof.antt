@@ -1,5 +1,5 @@
 -- `plates::ffi_is_in_crop` meets its contract: the crop is the one of the numbers. Assumes nothing.
-use borrow.Author.Needs.{needs}
+use Rattle.laws.proofs.Prelude.{needs}
 use Rattle.ffi.proofs.plates.ffi_is_in_crop.Statement.{statement}
 use Rattle.ffi.proofs.plates.ffi_is_in_crop.Tie as tie
 

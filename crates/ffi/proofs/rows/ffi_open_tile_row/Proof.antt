@@ -1,6 +1,5 @@
 -- `rows::ffi_open_tile_row` meets its contract. It tells what opening answers. Assumes nothing.
-use borrow.Author.Needs.{needs}
-use mir.Facts.{toZ-ofZ}
+use Rattle.laws.proofs.Prelude.{needs, toZ-ofZ}
 use Rattle.ffi.proofs.Told.{opened}
 use Rattle.ffi.proofs.rows.ffi_open_tile_row.Statement.{statement}
 use Rattle.ffi.proofs.rows.ffi_open_tile_row.Tie as tie

@@ -1,6 +1,5 @@
 -- `sets::ffi_begin_set` meets its contract: it tells what beginning answers, and what it leaves. Assumes nothing.
-use borrow.Author.Needs.{needs}
-use mir.Facts.{toZ-ofZ}
+use Rattle.laws.proofs.Prelude.{needs, toZ-ofZ}
 use Rattle.ffi_sets.proofs.Told.{begun}
 use Rattle.ffi.proofs.sets.ffi_begin_set.Statement.{statement}
 use Rattle.ffi.proofs.sets.ffi_begin_set.Tie as tie

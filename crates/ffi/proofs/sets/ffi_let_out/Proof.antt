@@ -1,5 +1,5 @@
 -- `sets::ffi_let_out` meets its contract: it tells what letting out answers, and what it leaves. Assumes nothing.
-use borrow.Author.Needs.{needs}
+use Rattle.laws.proofs.Prelude.{needs}
 use Rattle.ffi_sets.proofs.Told.{edited}
 use Rattle.ffi.proofs.sets.ffi_let_out.Statement.{statement}
 use Rattle.ffi.proofs.sets.ffi_let_out.Tie as tie

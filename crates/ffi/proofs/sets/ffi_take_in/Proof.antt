@@ -1,5 +1,5 @@
 -- `sets::ffi_take_in` meets its contract: it tells what taking in answers, and what it leaves. Assumes nothing.
-use borrow.Author.Needs.{needs}
+use Rattle.laws.proofs.Prelude.{needs}
 use Rattle.ffi_sets.proofs.Told.{edited}
 use Rattle.ffi.proofs.sets.ffi_take_in.Statement.{statement}
 use Rattle.ffi.proofs.sets.ffi_take_in.Tie as tie

@@ -1,6 +1,5 @@
 -- `standing::ffi_stand` meets its contract. It tells what `stand` answers. Assumes nothing.
-use mathlib.Core.Path.{_≡_, ap, _∙_}
-use borrow.Author.Needs.{needs}
+use Rattle.laws.proofs.Prelude.{_≡_, ap, _∙_, needs}
 use Rattle.ffi_numbers.specs.Numbers.{refusalNumber}
 use Rattle.ffi.proofs.standing.ffi_stand.Statement.{statement}
 use Rattle.ffi.proofs.standing.ffi_stand.Tie as tie

@@ -1,6 +1,5 @@
 -- `words::ffi_pack` meets its contract: it tells what packing answers. Assumes nothing.
-use borrow.Author.Needs.{needs}
-use mir.Facts.{toZ-ofZ}
+use Rattle.laws.proofs.Prelude.{needs, toZ-ofZ}
 use Rattle.ffi.proofs.Told.{answered}
 use Rattle.ffi.proofs.words.ffi_pack.Statement.{statement}
 use Rattle.ffi.proofs.words.ffi_pack.Tie as tie

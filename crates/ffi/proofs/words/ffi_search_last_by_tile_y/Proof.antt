@@ -1,6 +1,5 @@
 -- `words::ffi_search_last_by_tile_y` meets its contract: it tells what the search found. Assumes nothing.
-use borrow.Author.Needs.{needs}
-use mir.Facts.{toZ-ofZ}
+use Rattle.laws.proofs.Prelude.{needs, toZ-ofZ}
 use Rattle.ffi.proofs.Told.{searched}
 use Rattle.ffi.proofs.words.ffi_search_last_by_tile_y.Statement.{statement}
 use Rattle.ffi.proofs.words.ffi_search_last_by_tile_y.Tie as tie

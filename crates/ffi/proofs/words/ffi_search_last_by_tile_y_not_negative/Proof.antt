@@ -1,5 +1,5 @@
 -- `words::ffi_search_last_by_tile_y_not_negative` meets its contract: it tells what the search found. Assumes nothing.
-use borrow.Author.Needs.{needs}
+use Rattle.laws.proofs.Prelude.{needs}
 use Rattle.ffi.proofs.Told.{searched}
 use Rattle.ffi.proofs.words.ffi_search_last_by_tile_y_not_negative.Statement.{statement}
 use Rattle.ffi.proofs.words.ffi_search_last_by_tile_y_not_negative.Tie as tie

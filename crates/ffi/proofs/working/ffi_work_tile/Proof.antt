@@ -1,6 +1,5 @@
 -- `working::ffi_work_tile` meets its contract. It tells what the work answers. Assumes nothing.
-use borrow.Author.Needs.{needs}
-use mir.Facts.{toZ-ofZ}
+use Rattle.laws.proofs.Prelude.{needs, toZ-ofZ}
 use Rattle.row_statements.specs.Lent.{columns, listColumns, lentTable}
 use Rattle.row_statements.specs.State.{State}
 use Rattle.row_statements.specs.TileWork.{workCall, workLent}

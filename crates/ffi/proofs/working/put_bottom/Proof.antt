@@ -1,6 +1,5 @@
 -- `working::put_bottom` meets its contract. Assumes nothing.
-use mathlib.Core.Path.{refl}
-use borrow.Author.Needs.{needs}
+use Rattle.laws.proofs.Prelude.{refl, needs}
 use Rattle.ffi.proofs.working.put_bottom.Statement.{statement}
 use Rattle.ffi.proofs.working.put_bottom.Tie as tie
 

@@ -1,6 +1,5 @@
 -- `working::put_worked` meets its contract. Assumes nothing.
-use mathlib.Core.Path.{refl}
-use borrow.Author.Needs.{needs}
+use Rattle.laws.proofs.Prelude.{refl, needs}
 use Rattle.ffi.proofs.working.put_worked.Statement.{statement}
 use Rattle.ffi.proofs.working.put_worked.Tie as tie
 

@@ -1,5 +1,5 @@
 -- `cached::put_kept` meets its contract. Assumes nothing.
-use borrow.Author.Needs.{needs}
+use Rattle.laws.proofs.Prelude.{needs}
 use Rattle.ffi_numbers.proofs.cached.put_kept.Statement.{statement}
 use Rattle.ffi_numbers.proofs.cached.put_kept.Tie as tie
 

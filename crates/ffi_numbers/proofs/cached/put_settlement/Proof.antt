@@ -1,6 +1,5 @@
 -- `cached::put_settlement` meets its contract. Assumes nothing.
-use mathlib.Core.Path.{refl}
-use borrow.Author.Needs.{needs}
+use Rattle.laws.proofs.Prelude.{refl, needs}
 use Rattle.ffi_numbers.proofs.cached.put_settlement.Statement.{statement}
 use Rattle.ffi_numbers.proofs.cached.put_settlement.Tie as tie
 

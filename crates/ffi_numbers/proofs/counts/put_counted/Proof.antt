@@ -1,7 +1,5 @@
 -- `counts::put_counted` meets its contract. Assumes nothing.
-use mathlib.Core.Path.{refl}
-use mathlib.Core.Bool.{true, false}
-use borrow.Author.Needs.{needs}
+use Rattle.laws.proofs.Prelude.{refl, true, false, needs}
 use Rattle.ffi_numbers.proofs.counts.put_counted.Statement.{statement}
 use Rattle.ffi_numbers.proofs.counts.put_counted.Tie as tie
 

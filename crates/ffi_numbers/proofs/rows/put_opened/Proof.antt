@@ -1,6 +1,5 @@
 -- `rows::put_opened` meets its contract.  Assumes nothing.
-use mathlib.Core.Path.{refl}
-use borrow.Author.Needs.{needs}
+use Rattle.laws.proofs.Prelude.{refl, needs}
 use Rattle.ffi_numbers.proofs.rows.put_opened.Statement.{statement}
 use Rattle.ffi_numbers.proofs.rows.put_opened.Tie as tie
 

@@ -1,6 +1,5 @@
 -- `rows::to_clip` meets its contract. Assumes nothing.
-use mathlib.Core.Path.{refl}
-use borrow.Author.Tests.{eq-eqb, ne-eqb}
+use Rattle.laws.proofs.Prelude.{refl, eq-eqb, ne-eqb}
 use Rattle.ffi_numbers.proofs.rows.to_clip.Statement.{statement}
 use Rattle.ffi_numbers.proofs.rows.to_clip.Tie as tie
 

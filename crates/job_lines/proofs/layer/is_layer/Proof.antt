@@ -1,7 +1,5 @@
 -- `is_layer` meets its contract. Assumes nothing.
-use borrow.Author.Needs.{needs}
-use mir.Syntax.{w32}
-use Rattle.laws.proofs.Machine.{kept}
+use Rattle.laws.proofs.Prelude.{needs, w32, kept}
 use Rattle.job_lines.specs.Rules.{layerRule}
 use Rattle.job_lines.proofs.layer.is_layer.Statement.{statement}
 use Rattle.job_lines.proofs.layer.is_layer.Tie as tie

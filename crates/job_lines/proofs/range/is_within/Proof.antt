@@ -1,6 +1,5 @@
 -- `is_within` meets its contract. Assumes nothing.
-use mir.Facts.{toZ-ofZ}
-use Rattle.laws.specs.Integer.{isWithin}
+use Rattle.laws.proofs.Prelude.{toZ-ofZ, isWithin}
 use Rattle.job_lines.proofs.range.is_within.Statement.{statement}
 use Rattle.job_lines.proofs.range.is_within.Tie as tie
 

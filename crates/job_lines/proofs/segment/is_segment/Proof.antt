@@ -1,16 +1,7 @@
 -- `is_segment` meets its contract: packing answers whether it takes the line's numbers, and where it does, 16 - y is a number. Assumes nothing.
-use mathlib.Core.Path.{_≡_, ap, sym, _∙_}
-use mathlib.Core.Bool.{true}
-use Prim.Native.Nat.{_<_, _^_}
-use borrow.Author.Needs.{needs}
-use lib.IntN.{ℤ, pos}
-use lib.Signed.{mag}
-use mir.Syntax.{w32, w64}
-use mir.Val.{SFits, hbits, toZ, ofZ}
-use mir.Facts.{toZ-ofZ, sfits-widen}
-use Rattle.laws.specs.Answer.{given}
-use Rattle.laws.specs.Integer.{plus, minus}
-use Rattle.laws.proofs.Machine.{kept}
+use Rattle.laws.proofs.Prelude.{_≡_, ap, sym, _∙_, true, _<_, _^_, needs, ℤ, pos, mag, w32, w64, SFits, toZ, ofZ, toZ-ofZ, sfits-widen, given, plus}
+use Rattle.laws.proofs.Prelude.{minus, kept}
+use mir.Val.{hbits}
 use Rattle.pixel_segment.specs.Field.{cpu}
 use Rattle.pixel_segment.specs.Pack.{isPackable, packedAnswer, packOf}
 use Rattle.pixel_segment.proofs.Ranges.{cpu-layout, in-range}

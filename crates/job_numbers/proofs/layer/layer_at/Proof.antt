@@ -1,8 +1,5 @@
 -- `layer_at` meets its contract. Assumes nothing.
-use Prim.Native.Nat.{_+_, _*_}
-use borrow.Author.Needs.{needs}
-use mir.Syntax.{w32}
-use Rattle.laws.proofs.Machine.{kept}
+use Rattle.laws.proofs.Prelude.{_+_, _*_, needs, w32, kept}
 use Rattle.job_text_statements.specs.Numbers.{numberAt, layerLineAt}
 use Rattle.job_numbers.proofs.layer.layer_at.Statement.{statement}
 use Rattle.job_numbers.proofs.layer.layer_at.Tie as tie

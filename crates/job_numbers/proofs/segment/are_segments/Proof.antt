@@ -1,8 +1,5 @@
 -- `are_segments` meets its contract: the invariant and its steps are those of `Judging`. Assumes nothing.
-use mathlib.Core.Path.{ap, _∙_}
-use Prim.Native.Nat.{_-_}
-use native.Mathlib.Omega.{arith}
-use borrow.Author.Needs.{needs}
+use Rattle.laws.proofs.Prelude.{ap, _∙_, _-_, arith, needs}
 use Rattle.job_lines.specs.Rules.{segmentRule}
 use Rattle.job_text_statements.specs.Numbers.{segmentAt}
 use Rattle.job_numbers.proofs.Judging.{Judging, start, next, end}

@@ -1,8 +1,5 @@
 -- `count_segments` meets its contract: the invariant and its steps are those of `Counting`. Assumes nothing.
-use mathlib.Core.Path.{ap, _∙_}
-use Prim.Native.Nat.{_-_}
-use native.Mathlib.Omega.{arith}
-use Rattle.laws.specs.Integer.{plus}
+use Rattle.laws.proofs.Prelude.{ap, _∙_, _-_, arith, plus}
 use Rattle.job_lines.specs.declared.segment.SegmentLine.{SegmentLine}
 use Rattle.job_text_statements.proofs.Counting.{Counting, start, rule-at, next, end}
 use Rattle.job_numbers.proofs.segment.count_segments.Statement.{statement}

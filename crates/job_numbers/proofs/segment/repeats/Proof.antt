@@ -1,8 +1,5 @@
 -- `repeats` meets its contract. Assumes nothing.
-use native.Mathlib.Omega.{arith}
-use mir.Syntax.{w32, w64}
-use Rattle.laws.proofs.Machine.{kept, unsigned}
-use Rattle.laws.proofs.Parts.{whole}
+use Rattle.laws.proofs.Prelude.{arith, w32, w64, kept, unsigned, whole}
 use Rattle.job_lines.proofs.Ranges.{in-tile}
 use Rattle.job_numbers.proofs.segment.repeats.Statement.{statement}
 use Rattle.job_numbers.proofs.segment.repeats.Tie as tie

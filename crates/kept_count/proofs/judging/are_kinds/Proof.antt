@@ -1,11 +1,5 @@
 -- `judging::are_kinds` meets its contract. Assumes nothing.
-use mathlib.Core.Path.{_≡_, refl, ap, _∙_}
-use mathlib.Core.Bool.{Bool, _&&_}
-use Prim.Native.Nat.{_-_, _≤_}
-use native.Mathlib.Numerals.{add-one}
-use native.Mathlib.Omega.{arith}
-use lib.Dec.{leb}
-use lib.ListN.{getD}
+use Rattle.laws.proofs.Prelude.{_≡_, refl, ap, _∙_, Bool, _&&_, _-_, _≤_, add-one, arith, leb, getD}
 use Rattle.kept_count.specs.Keeping.{areKinds}
 use Rattle.kept_count.proofs.judging.are_kinds.Statement.{statement}
 use Rattle.kept_count.proofs.judging.are_kinds.Tie as tie

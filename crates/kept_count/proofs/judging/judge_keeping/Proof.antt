@@ -1,7 +1,5 @@
 -- `judging::judge_keeping` meets its contract: a line for each condition, the lowest first. Assumes nothing.
-use mathlib.Core.Path.{sym, _∙_}
-use native.Mathlib.Omega.{arith}
-use borrow.Author.Needs.{needs}
+use Rattle.laws.proofs.Prelude.{sym, _∙_, arith, needs}
 use Rattle.refusals.proofs.Judging.{or-left, or-right}
 use Rattle.kept_count.specs.Keeping.{keepVerdict}
 use Rattle.kept_count.proofs.Verdicts.{room}

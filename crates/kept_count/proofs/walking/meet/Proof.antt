@@ -1,6 +1,5 @@
 -- `walking::meet` meets its contract. Assumes nothing.
-use mathlib.Core.Bool.{true, false}
-use borrow.Author.Needs.{needs}
+use Rattle.laws.proofs.Prelude.{true, false, needs}
 use Rattle.kept_count.proofs.Members.{meets, meets-none}
 use Rattle.kept_count.proofs.walking.meet.Statement.{statement}
 use Rattle.kept_count.proofs.walking.meet.Tie as tie

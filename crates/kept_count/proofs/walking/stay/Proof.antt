@@ -1,8 +1,5 @@
 -- `walking::stay` meets its contract. Assumes nothing.
-use mathlib.Core.Path.{sym, ap, _∙_}
-use Prim.Native.Nat.{_-_, _≤_}
-use native.Mathlib.Omega.{arith}
-use lib.Dec.{eqb}
+use Rattle.laws.proofs.Prelude.{sym, ap, _∙_, _-_, _≤_, arith, eqb}
 use Rattle.kept_count.specs.Keeping.{memberAt, membersOf}
 use Rattle.kept_count.proofs.Walks.{Walking, start, next, end}
 use Rattle.kept_count.proofs.Members.{members-long, members-next, members-ascend}

@@ -1,6 +1,5 @@
 -- `marks::is_changed` meets its contract. Assumes nothing.
-use native.Mathlib.Omega.{arith}
-use borrow.Author.Needs.{needs}
+use Rattle.laws.proofs.Prelude.{arith, needs}
 use Rattle.layer_table.specs.Table.{tableOf}
 use Rattle.layer_table.proofs.Looking.{at-place, at-none}
 use Rattle.layer_listing.proofs.Marking.{changed-found, changed-missing}

@@ -1,6 +1,5 @@
 -- `marks::mark_changed` meets its contract. Assumes nothing.
-use Prim.Native.Nat.{_-_}
-use native.Mathlib.Omega.{arith}
+use Rattle.laws.proofs.Prelude.{_-_, arith}
 use Rattle.layer_table.specs.Table.{tableOf}
 use Rattle.layer_listing.proofs.Marking.{Marking, mark-start, mark-long, mark-next, mark-end}
 use Rattle.layer_listing.proofs.marks.mark_changed.Statement.{statement}

@@ -1,11 +1,5 @@
 -- `covers::cover_within` meets its contract. Assumes nothing.
-use mathlib.Core.Path.{_≡_, sym, _∙_}
-use mathlib.Core.Bool.{true, false}
-use borrow.Author.Needs.{needs}
-use borrow.Author.Tests.{eq-eqb, ne-eqb}
-use lib.Dec.{eqb}
-use mir.Syntax.{w8}
-use Rattle.laws.proofs.Machine.{kept}
+use Rattle.laws.proofs.Prelude.{_≡_, sym, _∙_, true, false, needs, eq-eqb, ne-eqb, eqb, w8, kept}
 use Rattle.pixel_segment.specs.Field.{gpu, layerIdOf}
 use Rattle.layer_row_gpu.proofs.covers.cover_within.Statement.{statement}
 use Rattle.layer_row_gpu.proofs.covers.cover_within.Tie as tie

@@ -1,6 +1,5 @@
 -- `covers::is_light` meets its contract. Assumes nothing.
-use mathlib.Core.Path.{ap, _∙_}
-use borrow.Author.Needs.{needs}
+use Rattle.laws.proofs.Prelude.{ap, _∙_, needs}
 use Rattle.cover_statements.specs.InnerLoad.{allLight}
 use Rattle.layer_row_gpu.proofs.Within.{judge-within}
 use Rattle.layer_row_gpu.proofs.covers.is_light.Statement.{statement}

@@ -1,12 +1,5 @@
 -- `covers::loads` meets its contract. Assumes nothing.
-use mathlib.Core.Path.{_∙_}
-use Prim.Native.Nat.{ℕ, _-_}
-use native.Mathlib.Omega.{arith}
-use borrow.Author.Needs.{needs}
-use lib.IntN.{natAbs}
-use lib.ListN.{length, replicate, length-replicate}
-use mir.Syntax.{w8}
-use Rattle.laws.proofs.Machine.{kept}
+use Rattle.laws.proofs.Prelude.{_∙_, ℕ, _-_, arith, needs, natAbs, length, replicate, length-replicate, w8, kept}
 use Rattle.pixel_segment.specs.Field.{gpu, localYOf}
 use Rattle.cover_statements.proofs.Loads.{LoadingBy, load-start, load-next, load-end-by}
 use Rattle.cover_statements.proofs.Filled.{getD-default}

@@ -1,13 +1,5 @@
 -- `covers::sum` meets its contract. Assumes nothing.
-use mathlib.Core.Path.{_∙_}
-use Prim.Native.Nat.{_-_}
-use native.Mathlib.Omega.{arith}
-use borrow.Author.Needs.{needs}
-use lib.IntN.{pos}
-use lib.ListN.{length, getD, replicate, length-replicate}
-use mir.Facts.{toZ-ofZ}
-use mir.Syntax.{w8}
-use Rattle.laws.proofs.Machine.{small, kept}
+use Rattle.laws.proofs.Prelude.{_∙_, _-_, arith, needs, pos, length, getD, replicate, length-replicate, toZ-ofZ, w8, small, kept}
 use Rattle.pixel_segment.specs.Field.{gpu, localYOf}
 use Rattle.cover_statements.proofs.Tables.{Filling, fill-start, fill-next, fill-fits, fill-end}
 use Rattle.layer_row_gpu.specs.InnerCovers.{coverWithin}

@@ -1,6 +1,5 @@
 -- `judging::is_other_tile` meets its contract. Assumes nothing.
-use borrow.Author.Needs.{needs}
-use mir.Facts.{toZ-ofZ}
+use Rattle.laws.proofs.Prelude.{needs, toZ-ofZ}
 use Rattle.layer_row_gpu.proofs.judging.is_other_tile.Statement.{statement}
 use Rattle.layer_row_gpu.proofs.judging.is_other_tile.Tie as tie
 

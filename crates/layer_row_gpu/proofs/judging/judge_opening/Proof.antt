@@ -1,16 +1,5 @@
 -- `judging::judge_opening` meets its contract: a line for each condition, the lowest first. Assumes nothing.
-use mathlib.Core.Path.{_≡_, sym, ap, _∙_}
-use mathlib.Core.List.{List}
-use Prim.Native.Nat.{ℕ, suc}
-use native.Mathlib.Numerals.{add-one}
-use native.Mathlib.Omega.{arith}
-use borrow.Author.Needs.{needs}
-use borrow.Author.Tests.{not-false}
-use mir.Syntax.{w16}
-use mir.Val.{SFits}
-use mir.Facts.{toZ-ofZ}
-use Rattle.laws.specs.Integer.{plus}
-use Rattle.laws.proofs.Machine.{sfits}
+use Rattle.laws.proofs.Prelude.{_≡_, sym, ap, _∙_, List, ℕ, suc, add-one, arith, needs, not-false, w16, SFits, toZ-ofZ, plus, sfits}
 use Rattle.pixel_segment.specs.Field.{gpu}
 use Rattle.segment_rows.specs.Rows.{isRow}
 use Rattle.cover_statements.specs.Carry.{isLight}

@@ -1,14 +1,5 @@
 -- `judging::judge_work` meets its contract. Assumes nothing.
-use mathlib.Core.Path.{_≡_, sym, ap, _∙_}
-use Prim.Native.Nat.{ℕ, suc, _≤_, _<_}
-use native.Mathlib.Numerals.{add-one}
-use native.Mathlib.Omega.{arith}
-use borrow.Author.Needs.{needs}
-use borrow.Author.Tests.{not-false, lt-ltb, le-ltb}
-use lib.IntN.{ℤ, pos}
-use lib.ListN.{length}
-use mir.Facts.{toZ-ofZ}
-use Rattle.laws.specs.Integer.{plus}
+use Rattle.laws.proofs.Prelude.{_≡_, sym, ap, _∙_, ℕ, suc, _≤_, _<_, add-one, arith, needs, not-false, lt-ltb, le-ltb, ℤ, pos, length, toZ-ofZ, plus}
 use Rattle.pixel_segment.specs.Field.{gpu}
 use Rattle.segment_rows.specs.Rows.{isRow}
 use Rattle.cover_statements.specs.Carry.{isLight}

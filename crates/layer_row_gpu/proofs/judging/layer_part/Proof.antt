@@ -1,8 +1,5 @@
 -- `judging::layer_part` meets its contract. Assumes nothing.
-use native.Mathlib.Omega.{arith}
-use borrow.Author.Needs.{needs}
-use mir.Syntax.{w16}
-use mir.Facts.{toZ-pos}
+use Rattle.laws.proofs.Prelude.{arith, needs, w16, toZ-pos}
 use Rattle.layer_row_gpu.proofs.judging.layer_part.Statement.{statement}
 use Rattle.layer_row_gpu.proofs.judging.layer_part.Tie as tie
 

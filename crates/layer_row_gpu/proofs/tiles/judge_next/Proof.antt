@@ -1,8 +1,5 @@
 -- `tiles::judge_next` meets its contract. Assumes nothing.
-use mathlib.Core.Path.{_≡_, ap, _∙_}
-use native.Mathlib.Omega.{arith}
-use borrow.Author.Needs.{needs}
-use borrow.Author.Tests.{le-leb, lt-leb}
+use Rattle.laws.proofs.Prelude.{_≡_, ap, _∙_, arith, needs, le-leb, lt-leb}
 use Rattle.pixel_segment.specs.Field.{gpu}
 use Rattle.cover_statements.specs.Carry.{isLight}
 use Rattle.layer_row_gpu.specs.LayerState.{layerStateIn}

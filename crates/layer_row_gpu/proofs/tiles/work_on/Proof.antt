@@ -1,10 +1,5 @@
 -- `tiles::work_on` meets its contract: each turn is a tile of `Going`. Assumes nothing.
-use mathlib.Core.Path.{_≡_, refl, sym, ap, _∙_}
-use Prim.Native.Nat.{ℕ, _-_, _/_}
-use native.Mathlib.Omega.{arith}
-use borrow.Author.Needs.{needs}
-use lib.Dec.{leb}
-use lib.ListN.{length}
+use Rattle.laws.proofs.Prelude.{_≡_, refl, sym, ap, _∙_, ℕ, _-_, _/_, arith, needs, leb, length}
 use Rattle.layer_row_gpu.specs.LayerState.{layerStateIn}
 use Rattle.layer_row_gpu.specs.InnerTiles.{nextIn, nextJudged}
 use Rattle.layer_row_gpu.proofs.Going.{Going, start, all-worked, stops, tile-ready, next, told-so}

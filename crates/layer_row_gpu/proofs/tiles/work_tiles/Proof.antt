@@ -1,7 +1,5 @@
 -- `tiles::work_tiles` meets its contract. Assumes nothing.
-use mathlib.Core.Path.{_≡_, refl, sym, ap, _∙_}
-use borrow.Author.Needs.{needs}
-use mir.Facts.{toZ-ofZ}
+use Rattle.laws.proofs.Prelude.{_≡_, refl, sym, ap, _∙_, needs, toZ-ofZ}
 use Rattle.refusals.specs.Refusal.{judgementIn, pass}
 use Rattle.layer_row_gpu.specs.LayerState.{layerStateIn}
 use Rattle.layer_row_gpu.specs.WorkLayer.{workLayerVerdict}

@@ -1,6 +1,5 @@
 -- `read_field` meets its contract: each answer is a law of `Reading`. Assumes nothing.
-use native.Mathlib.Omega.{arith}
-use borrow.Author.Needs.{needs}
+use Rattle.laws.proofs.Prelude.{arith, needs}
 use Rattle.load_numbers.proofs.Reading.{missing, no-end, other-end, number}
 use Rattle.load_numbers.proofs.input.read_field.Statement.{statement}
 use Rattle.load_numbers.proofs.input.read_field.Tie as tie

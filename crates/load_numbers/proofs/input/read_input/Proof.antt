@@ -1,6 +1,5 @@
 -- `read_input` meets its contract: each answer is a law of `Reading`. Assumes nothing.
-use native.Mathlib.Omega.{arith}
-use borrow.Author.Needs.{needs}
+use Rattle.laws.proofs.Prelude.{arith, needs}
 use Rattle.load_numbers.proofs.Reading.{no-seed, no-tiles, no-count, more-behind, numbers, nothing}
 use Rattle.load_numbers.proofs.input.read_input.Statement.{statement}
 use Rattle.load_numbers.proofs.input.read_input.Tie as tie

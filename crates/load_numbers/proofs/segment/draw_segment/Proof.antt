@@ -1,5 +1,5 @@
 -- `draw_segment` meets its contract: the laws are those of `Drawing`. Assumes nothing.
-use borrow.Author.Needs.{needs}
+use Rattle.laws.proofs.Prelude.{needs}
 use Rattle.load_numbers.proofs.Drawing.{cover-fits, drawn, line-is, state-after}
 use Rattle.load_numbers.proofs.segment.draw_segment.Statement.{statement}
 use Rattle.load_numbers.proofs.segment.draw_segment.Tie as tie

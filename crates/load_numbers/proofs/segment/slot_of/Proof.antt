@@ -1,8 +1,5 @@
 -- `slot_of` meets its contract: the product fits its width. Assumes nothing.
-use Prim.Native.Nat.{_*_}
-use native.Mathlib.Nat.{mul-le-mul}
-use native.Mathlib.Omega.{arith}
-use borrow.Author.Needs.{needs}
+use Rattle.laws.proofs.Prelude.{_*_, mul-le-mul, arith, needs}
 use Rattle.load_statements.specs.Load.{slotOf}
 use Rattle.load_numbers.proofs.segment.slot_of.Statement.{statement}
 use Rattle.load_numbers.proofs.segment.slot_of.Tie as tie

@@ -1,7 +1,5 @@
 -- `head_line` meets its contract: the number of tiles is small enough for both widths. Assumes nothing.
-use native.Mathlib.Omega.{arith}
-use borrow.Author.Needs.{needs}
-use mir.Syntax.{w32}
+use Rattle.laws.proofs.Prelude.{arith, needs, w32}
 use mir.ValLaws.{toZ-pos}
 use Rattle.load_text.proofs.blocks.head_line.Statement.{statement}
 use Rattle.load_text.proofs.blocks.head_line.Tie as tie

@@ -1,7 +1,5 @@
 -- `layer_line` meets its contract: the id is small enough for both widths. Assumes nothing.
-use native.Mathlib.Omega.{arith}
-use borrow.Author.Needs.{needs}
-use mir.Syntax.{w32}
+use Rattle.laws.proofs.Prelude.{arith, needs, w32}
 use mir.ValLaws.{toZ-pos}
 use Rattle.load_statements.specs.Load.{loadLayer}
 use Rattle.load_text.proofs.blocks.layer_line.Statement.{statement}

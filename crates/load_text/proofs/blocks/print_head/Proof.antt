@@ -1,5 +1,5 @@
 -- `print_head` meets its contract: the names, and then the line. Assumes nothing.
-use borrow.Author.Needs.{needs}
+use Rattle.laws.proofs.Prelude.{needs}
 use Rattle.load_text.proofs.Printing.{head-printed}
 use Rattle.load_text.proofs.blocks.print_head.Statement.{statement}
 use Rattle.load_text.proofs.blocks.print_head.Tie as tie

@@ -1,9 +1,6 @@
 -- `print_layers` meets its contract. The invariant is that of lines printed one after another; the measure is the lines left.
 -- Assumes nothing.
-use mathlib.Core.Path.{_∙_}
-use Prim.Native.Nat.{_-_}
-use native.Mathlib.Omega.{arith}
-use borrow.Author.Needs.{needs}
+use Rattle.laws.proofs.Prelude.{_∙_, _-_, arith, needs}
 use Rattle.lines.proofs.LinesPrinting.{LinesPrinting, start, line-room, next}
 use Rattle.job_text_statements.specs.Job.{layerValues}
 use Rattle.load_statements.specs.Load.{loadLayer}

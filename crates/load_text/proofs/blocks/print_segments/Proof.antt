@@ -1,10 +1,7 @@
 -- `print_segments` meets its contract. The invariant is `Making`: the lines so far, and the generator after their draws; the measure is the
 -- lines left.
 -- Assumes nothing.
-use mathlib.Core.Path.{_∙_}
-use Prim.Native.Nat.{_-_}
-use native.Mathlib.Omega.{arith}
-use borrow.Author.Needs.{needs}
+use Rattle.laws.proofs.Prelude.{_∙_, _-_, arith, needs}
 use Rattle.lines.proofs.LinesPrinting.{line-room}
 use Rattle.load_statements.specs.Load.{asked}
 use Rattle.load_statements.proofs.Fields.{slot-small}

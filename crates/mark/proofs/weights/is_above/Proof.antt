@@ -1,6 +1,5 @@
 -- `mark::weights::is_above` meets its contract. Assumes nothing.
-use borrow.Author.Needs.{needs}
-use mir.Facts.{toZ-ofZ}
+use Rattle.laws.proofs.Prelude.{needs, toZ-ofZ}
 use Rattle.mark.proofs.Rests.{rest-above}
 use Rattle.mark.proofs.weights.is_above.Statement.{statement}
 use Rattle.mark.proofs.weights.is_above.Tie as tie

@@ -1,8 +1,5 @@
 -- `mark::weights::is_used` meets its contract. Assumes nothing.
-use Prim.Native.Nat.{_+_, _*_}
-use borrow.Author.Needs.{needs}
-use mir.Syntax.{w16}
-use Rattle.laws.proofs.Machine.{kept}
+use Rattle.laws.proofs.Prelude.{_+_, _*_, needs, w16, kept}
 use Rattle.cover_statements.specs.Cover.{coverAt}
 use Rattle.mark.proofs.Rests.{areas-above}
 use Rattle.mark.proofs.weights.is_used.Statement.{statement}

@@ -1,8 +1,5 @@
 -- `mark::weights::mark_of` meets its contract. Assumes nothing.
-use mathlib.Core.Path.{_∙_}
-use Prim.Native.Nat.{_-_}
-use native.Mathlib.Omega.{arith}
-use borrow.Author.Needs.{needs}
+use Rattle.laws.proofs.Prelude.{_∙_, _-_, arith, needs}
 use Rattle.styling.specs.declared.FillRule.the-variants.{EvenOdd}
 use Rattle.cover_statements.specs.InnerWeighed.{weightsOf, coveragesIn, weightsPlane}
 use Rattle.cover_statements.proofs.Marks.{Marking, mark-start, mark-small, mark-next, mark-end, bit-lt, octet-used}

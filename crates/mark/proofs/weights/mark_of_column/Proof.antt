@@ -1,9 +1,5 @@
 -- `mark::weights::mark_of_column` meets its contract. Assumes nothing.
-use mathlib.Core.Path.{sym, ap, _∙_}
-use mathlib.Core.List.{List}
-use native.Mathlib.Omega.{arith}
-use borrow.Author.Needs.{needs}
-use lib.IntN.{ℤ}
+use Rattle.laws.proofs.Prelude.{sym, ap, _∙_, List, arith, needs, ℤ}
 use Rattle.styling.specs.declared.FillRule.the-variants.{EvenOdd}
 use Rattle.cover_statements.specs.Mark.{markOf}
 use Rattle.cover_statements.specs.InnerWeighed.{weightsOf, coveragesIn, repeated}

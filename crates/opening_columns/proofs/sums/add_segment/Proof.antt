@@ -1,12 +1,5 @@
 -- `opening_columns::sums::add_segment` meets its contract. Assumes nothing.
-use mathlib.Core.Path.{_≡_}
-use native.Mathlib.Omega.{arith}
-use borrow.Author.Needs.{needs}
-use lib.IntN.{pos}
-use lib.ListN.{getD}
-use mir.Facts.{toZ-ofZ}
-use mir.Syntax.{w8}
-use Rattle.laws.proofs.Machine.{small, kept}
+use Rattle.laws.proofs.Prelude.{_≡_, arith, needs, pos, getD, toZ-ofZ, w8, small, kept}
 use Rattle.queue_statements.specs.InnerSums.{loadWith}
 use Rattle.queue_statements.proofs.Placing.{placed-light, placed-heavy, sum-fits}
 use Rattle.opening_columns.proofs.sums.add_segment.Statement.{statement}

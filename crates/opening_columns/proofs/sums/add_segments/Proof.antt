@@ -1,9 +1,5 @@
 -- `opening_columns::sums::add_segments` meets its contract. What holds at a word is `Tallying`. Assumes nothing.
-use mathlib.Core.Path.{_≡_, refl, sym, _∙_}
-use Prim.Native.Nat.{_-_}
-use native.Mathlib.Omega.{arith}
-use borrow.Author.Tests.{not-true, not-false}
-use lib.ListN.{length, getD}
+use Rattle.laws.proofs.Prelude.{_≡_, refl, sym, _∙_, _-_, arith, not-true, not-false, length, getD}
 use Rattle.cover_statements.proofs.Filled.{getD-default}
 use Rattle.queue_statements.proofs.Summing.{keyOf, ascending, start, end, refuse}
 use Rattle.queue_statements.proofs.Tallying.{Tallying, tally-placing, tally-next}

@@ -1,7 +1,5 @@
 -- `opening_columns::sums::load_with` meets its contract. Assumes nothing.
-use native.Mathlib.Omega.{arith}
-use borrow.Author.Needs.{needs}
-use mir.Facts.{toZ-ofZ}
+use Rattle.laws.proofs.Prelude.{arith, needs, toZ-ofZ}
 use Rattle.opening_columns.proofs.sums.load_with.Statement.{statement}
 use Rattle.opening_columns.proofs.sums.load_with.Tie as tie
 

@@ -1,9 +1,5 @@
 -- `opening_columns::sums::place_of` meets its contract. Assumes nothing.
-use Prim.Native.Nat.{_≤_}
-use native.Mathlib.Omega.{arith}
-use borrow.Author.Needs.{needs}
-use lib.ListN.{take}
-use lib.Seq.{length-take-le}
+use Rattle.laws.proofs.Prelude.{_≤_, arith, needs, take, length-take-le}
 use Rattle.queue_statements.specs.InnerSums.{keyIn}
 use Rattle.queue_statements.proofs.Ranks.{ranked}
 use Rattle.opening_columns.proofs.sums.place_of.Statement.{statement}

@@ -1,6 +1,5 @@
 -- `clips::alive_at` meets its contract. Assumes nothing.
-use borrow.Author.Tests.{lt-ltb, le-ltb}
-use borrow.Author.Needs.{needs}
+use Rattle.laws.proofs.Prelude.{lt-ltb, le-ltb, needs}
 use Rattle.painter.proofs.clips.alive_at.Statement.{statement}
 use Rattle.painter.proofs.clips.alive_at.Tie as tie
 

@@ -1,6 +1,5 @@
 -- `clips::clip_after` meets its contract. Assumes nothing.
-use native.Mathlib.Omega.{arith}
-use borrow.Author.Needs.{needs}
+use Rattle.laws.proofs.Prelude.{arith, needs}
 use Rattle.painter.proofs.Lasting.{last-sum}
 use Rattle.painter.proofs.clips.clip_after.Statement.{statement}
 use Rattle.painter.proofs.clips.clip_after.Tie as tie

@@ -1,5 +1,5 @@
 -- `clips::kept_or` meets its contract. Assumes nothing.
-use borrow.Author.Needs.{needs}
+use Rattle.laws.proofs.Prelude.{needs}
 use Rattle.painter.proofs.clips.kept_or.Statement.{statement}
 use Rattle.painter.proofs.clips.kept_or.Tie as tie
 

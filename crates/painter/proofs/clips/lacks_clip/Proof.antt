@@ -1,5 +1,5 @@
 -- `clips::lacks_clip` meets its contract. Assumes nothing.
-use borrow.Author.Needs.{needs}
+use Rattle.laws.proofs.Prelude.{needs}
 use Rattle.painter.proofs.clips.lacks_clip.Statement.{statement}
 use Rattle.painter.proofs.clips.lacks_clip.Tie as tie
 

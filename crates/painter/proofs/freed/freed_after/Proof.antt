@@ -1,6 +1,5 @@
 -- `freed::freed_after` meets its contract. Assumes nothing.
-use borrow.Author.Tests.{lt-ltb, le-ltb}
-use borrow.Author.Needs.{needs}
+use Rattle.laws.proofs.Prelude.{lt-ltb, le-ltb, needs}
 use Rattle.painter.proofs.freed.freed_after.Statement.{statement}
 use Rattle.painter.proofs.freed.freed_after.Tie as tie
 

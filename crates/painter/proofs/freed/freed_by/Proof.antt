@@ -1,6 +1,5 @@
 -- `freed::freed_by` meets its contract. Assumes nothing.
-use native.Mathlib.Omega.{arith}
-use borrow.Author.Needs.{needs}
+use Rattle.laws.proofs.Prelude.{arith, needs}
 use Rattle.layer_table.proofs.Looking.{at-place, at-none}
 use Rattle.painter.proofs.freed.freed_by.Statement.{statement}
 use Rattle.painter.proofs.freed.freed_by.Tie as tie

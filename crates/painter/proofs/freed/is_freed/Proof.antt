@@ -1,7 +1,5 @@
 -- `freed::is_freed` meets its contract. Assumes nothing.
-use Prim.Native.Nat.{_+_, _-_}
-use native.Mathlib.Omega.{arith}
-use lib.ListN.{length}
+use Rattle.laws.proofs.Prelude.{_+_, _-_, arith, length}
 use Rattle.layer_table.specs.Table.{tableOf}
 use Rattle.painter.proofs.Freeing.{Freeing, free-start, free-next, free-end}
 use Rattle.painter.proofs.freed.is_freed.Statement.{statement}

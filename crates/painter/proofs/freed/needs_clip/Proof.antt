@@ -1,5 +1,5 @@
 -- `freed::needs_clip` meets its contract. Assumes nothing.
-use borrow.Author.Needs.{needs}
+use Rattle.laws.proofs.Prelude.{needs}
 use Rattle.painter.proofs.freed.needs_clip.Statement.{statement}
 use Rattle.painter.proofs.freed.needs_clip.Tie as tie
 

@@ -1,5 +1,5 @@
 -- `painting::mark_for` meets its contract. Assumes nothing.
-use borrow.Author.Needs.{needs}
+use Rattle.laws.proofs.Prelude.{needs}
 use Rattle.painter.proofs.painting.mark_for.Statement.{statement}
 use Rattle.painter.proofs.painting.mark_for.Tie as tie
 

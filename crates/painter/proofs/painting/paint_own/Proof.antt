@@ -1,5 +1,5 @@
 -- `painting::paint_own` meets its contract. Assumes nothing.
-use borrow.Author.Needs.{needs}
+use Rattle.laws.proofs.Prelude.{needs}
 use Rattle.painter.proofs.Painted.{painted-own}
 use Rattle.painter.specs.Clip.{clipIn}
 use Rattle.painter.proofs.painting.paint_own.Statement.{statement}

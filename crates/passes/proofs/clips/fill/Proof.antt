@@ -1,6 +1,5 @@
 -- `passes::clips::fill` meets its contract. Assumes nothing.
-use Prim.Native.Nat.{_-_}
-use native.Mathlib.Omega.{arith}
+use Rattle.laws.proofs.Prelude.{_-_, arith}
 use Rattle.pass_statements.proofs.Columns.{Filling, column-start, column-next, column-long, column-end}
 use Rattle.passes.proofs.clips.fill.Statement.{statement}
 use Rattle.passes.proofs.clips.fill.Tie as tie

@@ -1,6 +1,5 @@
 -- `passes::clips::mark` meets its contract. Assumes nothing.
-use mathlib.Core.Path.{refl}
-use borrow.Author.Needs.{needs}
+use Rattle.laws.proofs.Prelude.{refl, needs}
 use Rattle.pass_statements.proofs.Steps.{off-after}
 use Rattle.passes.proofs.clips.mark.Statement.{statement}
 use Rattle.passes.proofs.clips.mark.Tie as tie

@@ -1,5 +1,5 @@
 -- `passes::clips::mask_last` meets its contract. Assumes nothing.
-use borrow.Author.Needs.{needs}
+use Rattle.laws.proofs.Prelude.{needs}
 use Rattle.pass_statements.proofs.Steps.{last-active}
 use Rattle.passes.proofs.clips.mask_last.Statement.{statement}
 use Rattle.passes.proofs.clips.mask_last.Tie as tie

@@ -1,5 +1,5 @@
 -- `passes::clips::mask_off` meets its contract. Assumes nothing.
-use borrow.Author.Needs.{needs}
+use Rattle.laws.proofs.Prelude.{needs}
 use Rattle.pass_statements.proofs.Steps.{off-within, off-past}
 use Rattle.passes.proofs.clips.mask_off.Statement.{statement}
 use Rattle.passes.proofs.clips.mask_off.Tie as tie

@@ -1,7 +1,5 @@
 -- `passes::clips::skip_trivial_clips_pass` meets its contract. Assumes nothing.
-use mathlib.Core.Path.{_∙_}
-use Prim.Native.Nat.{_-_}
-use native.Mathlib.Omega.{arith}
+use Rattle.laws.proofs.Prelude.{_∙_, _-_, arith}
 use Rattle.layer_table.specs.Table.{tableOf}
 use Rattle.pass_statements.specs.Entry.{entriesOf}
 use Rattle.pass_statements.specs.Item.{itemsOf}

@@ -1,7 +1,5 @@
 -- `passes::covered::are_clips_unchanged` meets its contract. Assumes nothing.
-use mathlib.Core.Path.{refl, ap, _∙_}
-use Prim.Native.Nat.{_-_}
-use native.Mathlib.Omega.{arith}
+use Rattle.laws.proofs.Prelude.{refl, ap, _∙_, _-_, arith}
 use Rattle.layer_table.specs.Table.{tableOf}
 use Rattle.cover_statements.proofs.Testing.{Testing, test-start, test-next, test-end}
 use Rattle.pass_statements.specs.Covered.{isClipUnchanged}

@@ -1,6 +1,5 @@
 -- `passes::covered::is_clip_unchanged` meets its contract. Assumes nothing.
-use mathlib.Core.Path.{ap, _∙_}
-use borrow.Author.Needs.{needs}
+use Rattle.laws.proofs.Prelude.{ap, _∙_, needs}
 use Rattle.layer_table.specs.Table.{tableOf}
 use Rattle.pass_statements.specs.declared.item.Item.{Item}
 use Rattle.pass_statements.specs.Clips.{isClip}

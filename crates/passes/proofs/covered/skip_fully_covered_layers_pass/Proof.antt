@@ -1,7 +1,5 @@
 -- `passes::covered::skip_fully_covered_layers_pass` meets its contract. Assumes nothing.
-use Prim.Native.Nat.{_-_}
-use native.Mathlib.Omega.{arith}
-use borrow.Author.Needs.{needs}
+use Rattle.laws.proofs.Prelude.{_-_, arith, needs}
 use Rattle.layer_table.specs.Table.{tableOf}
 use Rattle.pass_statements.specs.Entry.{entriesOf}
 use Rattle.pass_statements.specs.Item.{itemsOf}

@@ -1,5 +1,5 @@
 -- `passes::covered::start` meets its contract. Assumes nothing.
-use borrow.Author.Needs.{needs}
+use Rattle.laws.proofs.Prelude.{needs}
 use Rattle.passes.proofs.covered.start.Statement.{statement}
 use Rattle.passes.proofs.covered.start.Tie as tie
 

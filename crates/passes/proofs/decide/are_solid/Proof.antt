@@ -1,7 +1,5 @@
 -- `passes::decide::are_solid` meets its contract. Assumes nothing.
-use mathlib.Core.Path.{ap, _∙_}
-use Prim.Native.Nat.{_-_}
-use native.Mathlib.Omega.{arith}
+use Rattle.laws.proofs.Prelude.{ap, _∙_, _-_, arith}
 use Rattle.styling.specs.Style.{solidColor}
 use Rattle.layer_table.specs.Table.{tableOf}
 use Rattle.pass_statements.specs.declared.item.Item.{Item}

@@ -1,5 +1,5 @@
 -- `passes::decide::mix` meets its contract. Assumes nothing.
-use borrow.Author.Needs.{needs}
+use Rattle.laws.proofs.Prelude.{needs}
 use Rattle.layer_table.specs.Table.{tableOf}
 use Rattle.pass_statements.specs.Entry.{entriesOf}
 use Rattle.pass_statements.specs.Item.{itemsOf}

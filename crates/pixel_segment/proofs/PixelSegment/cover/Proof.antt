@@ -1,14 +1,6 @@
 -- `PixelSegment::cover` meets its contract. The word plus half the field's size, modulo its size, is a small number, so the machine's
 -- difference is the definition's. Assumes nothing.
-use mathlib.Core.Path.{_≡_, _∙_}
-use Prim.Native.Nat.{_+_, _%_}
-use native.Mathlib.Omega.{arith}
-use borrow.Author.Needs.{needs}
-use lib.IntN.{subℕ}
-use mir.Syntax.{w8}
-use mir.Facts.{toZ-pos, toZ-ofZ}
-use Rattle.laws.proofs.Parts.{difference}
-use Rattle.laws.proofs.Machine.{sfits}
+use Rattle.laws.proofs.Prelude.{_≡_, _∙_, _+_, _%_, arith, needs, subℕ, w8, toZ-pos, toZ-ofZ, difference, sfits}
 use Rattle.pixel_segment.specs.Field.{cpu, fieldOf, coverOf}
 use Rattle.pixel_segment.proofs.PixelSegment.cover.Statement.{statement}
 use Rattle.pixel_segment.proofs.PixelSegment.cover.Tie as tie

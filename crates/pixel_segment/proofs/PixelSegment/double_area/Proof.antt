@@ -1,11 +1,6 @@
 -- `PixelSegment::double_area` meets its contract. The cover is small at 8 bits and at 16, so each read gives the cover itself.
 -- Assumes nothing.
-use mathlib.Core.Path.{_∙_}
-use native.Mathlib.Omega.{arith}
-use borrow.Author.Needs.{needs}
-use mir.Syntax.{w16}
-use mir.Val.{SFits}
-use mir.Facts.{toZ-ofZ, toZ-pos, sfits-widen}
+use Rattle.laws.proofs.Prelude.{_∙_, arith, needs, w16, SFits, toZ-ofZ, toZ-pos, sfits-widen}
 use Rattle.pixel_segment.specs.Field.{cpu, coverOf, multiplierOf, doubleAreaOf}
 use Rattle.pixel_segment.proofs.Widths.{cover-fits, area-fits}
 use Rattle.pixel_segment.proofs.PixelSegment.double_area.Statement.{statement}

@@ -1,6 +1,5 @@
 -- `PixelSegment::pack` meets its contract. Assumes nothing.
-use borrow.Author.Needs.{needs}
-use mir.Facts.{toZ-ofZ}
+use Rattle.laws.proofs.Prelude.{needs, toZ-ofZ}
 use Rattle.pixel_segment.proofs.PixelSegment.pack.Statement.{statement}
 use Rattle.pixel_segment.proofs.PixelSegment.pack.Tie as tie
 

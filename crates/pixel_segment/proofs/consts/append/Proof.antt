@@ -1,10 +1,6 @@
 -- `consts::append` meets its contract. Assumes nothing.
 -- the word with the field below it is within 64 bits
-use Prim.Native.Nat.{ℕ, _<_, _+_, _*_, _^_, _%_}
-use native.Mathlib.Nat.{mod-lt}
-use native.Mathlib.Omega.{arith}
-use borrow.Author.Needs.{needs}
-use lib.Pow.{pow-pos}
+use Rattle.laws.proofs.Prelude.{ℕ, _<_, _+_, _*_, _^_, _%_, mod-lt, arith, needs, pow-pos}
 use Rattle.pixel_segment.specs.Field.{widthsOf, indexOf, widthOf}
 use Rattle.pixel_segment.proofs.Widths.{width-le-of, joined-lt}
 use Rattle.pixel_segment.proofs.consts.append.Statement.{statement}

@@ -1,14 +1,5 @@
 -- `consts::cover_of` meets its contract: the field plus half its size, modulo its size, is a small number. Assumes nothing.
-use mathlib.Core.Path.{sym, ap, _∙_}
-use Prim.Native.Nat.{ℕ, _+_, _%_}
-use native.Mathlib.Nat.{div-one}
-use native.Mathlib.Omega.{arith}
-use borrow.Author.Needs.{needs}
-use lib.IntN.{subℕ}
-use mir.Syntax.{w16}
-use mir.Facts.{toZ-pos, toZ-ofZ}
-use Rattle.laws.proofs.Parts.{difference}
-use Rattle.laws.proofs.Machine.{sfits}
+use Rattle.laws.proofs.Prelude.{sym, ap, _∙_, ℕ, _+_, _%_, div-one, arith, needs, subℕ, w16, toZ-pos, toZ-ofZ, difference, sfits}
 use Rattle.pixel_segment.specs.Field.{coverOf}
 use Rattle.pixel_segment.proofs.consts.cover_of.Statement.{statement}
 use Rattle.pixel_segment.proofs.consts.cover_of.Tie as tie

@@ -1,7 +1,5 @@
 -- `consts::extract` meets its contract. Assumes nothing.
-use native.Mathlib.Omega.{arith}
-use borrow.Author.Needs.{needs}
-use lib.Pow.{pow-pos}
+use Rattle.laws.proofs.Prelude.{arith, needs, pow-pos}
 use Rattle.pixel_segment.specs.Field.{widthsOf, indexOf, widthOf}
 use Rattle.pixel_segment.proofs.Widths.{shift-lt-of}
 use Rattle.pixel_segment.proofs.consts.extract.Statement.{statement}

@@ -1,9 +1,5 @@
 -- `consts::shift` meets its contract. The invariant: what is summed and the widths still to come make the shift. Assumes nothing.
-use mathlib.Core.Path.{_≡_}
-use Prim.Native.Nat.{_+_, _-_, _≤_, _<_}
-use native.Mathlib.Omega.{arith}
-use borrow.Author.Needs.{needs}
-use lib.ListN.{drop, length}
+use Rattle.laws.proofs.Prelude.{_≡_, _+_, _-_, _≤_, _<_, arith, needs, drop, length}
 use Rattle.pixel_segment.specs.declared.consts.Layout.{Layout}
 use Rattle.pixel_segment.specs.Field.{sum, widthsOf}
 use Rattle.pixel_segment.proofs.Widths.{sum-step, sum-past, index-lt, length-of, sum-le-of}

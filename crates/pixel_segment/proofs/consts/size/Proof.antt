@@ -1,6 +1,5 @@
 -- `consts::size` meets its contract. Assumes nothing.
-use native.Mathlib.Omega.{arith}
-use borrow.Author.Needs.{needs}
+use Rattle.laws.proofs.Prelude.{arith, needs}
 use Rattle.pixel_segment.specs.Field.{widthsOf, widthOf, indexOf}
 use Rattle.pixel_segment.proofs.Widths.{width-le-of, shifted, index-lt}
 use Rattle.pixel_segment.proofs.consts.size.Statement.{statement}

@@ -1,10 +1,5 @@
 -- `consts::tile` meets its contract. Assumes nothing.
-use mathlib.Core.Path.{_∙_}
-use Prim.Native.Nat.{_^_, _<_}
-use native.Mathlib.Omega.{arith}
-use borrow.Author.Needs.{needs}
-use mir.Syntax.{w16}
-use mir.Facts.{toZ-pos, toZ-ofZ}
+use Rattle.laws.proofs.Prelude.{_∙_, _^_, _<_, arith, needs, w16, toZ-pos, toZ-ofZ}
 use Rattle.pixel_segment.specs.Field.{widthsOf, indexOf, tileOf}
 use Rattle.pixel_segment.proofs.Widths.{tile-fits, field-lt}
 use Rattle.pixel_segment.proofs.consts.tile.Statement.{statement}

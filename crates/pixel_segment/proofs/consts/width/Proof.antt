@@ -1,5 +1,5 @@
 -- `consts::width` meets its contract. Assumes nothing.
-use borrow.Author.Needs.{needs}
+use Rattle.laws.proofs.Prelude.{needs}
 use Rattle.pixel_segment.proofs.consts.width.Statement.{statement}
 use Rattle.pixel_segment.proofs.consts.width.Tie as tie
 

@@ -1,5 +1,5 @@
 -- `order::compare` meets its contract. Assumes nothing.
-use borrow.Author.Tests.{lt-ltb, le-ltb}
+use Rattle.laws.proofs.Prelude.{lt-ltb, le-ltb}
 use Rattle.pixel_segment.proofs.order.compare.Statement.{statement}
 use Rattle.pixel_segment.proofs.order.compare.Tie as tie
 

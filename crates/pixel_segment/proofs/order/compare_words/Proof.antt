@@ -1,7 +1,5 @@
 -- `order::compare_words` meets its contract. Assumes nothing.
-use Prim.Native.Nat.{_<_}
-use native.Mathlib.Omega.{arith}
-use borrow.Author.Needs.{needs}
+use Rattle.laws.proofs.Prelude.{_<_, arith, needs}
 use Rattle.pixel_segment.proofs.Widths.{shift-lt-of}
 use Rattle.pixel_segment.proofs.order.compare_words.Statement.{statement}
 use Rattle.pixel_segment.proofs.order.compare_words.Tie as tie

@@ -1,12 +1,5 @@
 -- `range::is_among` meets its contract: the number after the last is within 64 bits. Assumes nothing.
-use mathlib.Core.Path.{_≡_}
-use native.Mathlib.Omega.{arith}
-use lib.IntN.{pos, _+ℤ_}
-use mir.Syntax.{w64}
-use mir.Val.{SFits, toZ}
-use mir.Facts.{toZ-ofZ, toZ-pos}
-use Rattle.laws.proofs.Parts.{added}
-use Rattle.laws.proofs.Machine.{within, sfits}
+use Rattle.laws.proofs.Prelude.{_≡_, arith, pos, _+ℤ_, w64, SFits, toZ, toZ-ofZ, toZ-pos, added, within, sfits}
 use Rattle.pixel_segment.proofs.range.is_among.Statement.{statement}
 use Rattle.pixel_segment.proofs.range.is_among.Tie as tie
 

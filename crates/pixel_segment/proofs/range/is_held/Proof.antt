@@ -1,7 +1,5 @@
 -- `range::is_held` meets its contract: no field has more than 2^21 numbers. Assumes nothing.
-use native.Mathlib.Omega.{arith}
-use borrow.Author.Needs.{needs}
-use mir.Facts.{toZ-ofZ}
+use Rattle.laws.proofs.Prelude.{arith, needs, toZ-ofZ}
 use Rattle.pixel_segment.specs.Field.{indexOf}
 use Rattle.pixel_segment.proofs.Widths.{size-le-of}
 use Rattle.pixel_segment.proofs.range.is_held.Statement.{statement}

@@ -1,8 +1,5 @@
 -- `range::is_packable` meets its contract. Assumes nothing.
-use borrow.Author.Needs.{needs}
-use mir.Syntax.{w64}
-use mir.Facts.{toZ-ofZ}
-use Rattle.laws.proofs.Machine.{kept}
+use Rattle.laws.proofs.Prelude.{needs, w64, toZ-ofZ, kept}
 use Rattle.pixel_segment.specs.Pack.{isPackable}
 use Rattle.pixel_segment.proofs.Widths.{cover-width}
 use Rattle.pixel_segment.proofs.range.is_packable.Statement.{statement}

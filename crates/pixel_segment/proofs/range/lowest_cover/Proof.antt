@@ -1,6 +1,5 @@
 -- `range::lowest_cover` meets its contract. Assumes nothing.
-use borrow.Author.Needs.{needs}
-use lib.Dec.{lit<}
+use Rattle.laws.proofs.Prelude.{needs, lit<}
 use Rattle.pixel_segment.proofs.range.lowest_cover.Statement.{statement}
 use Rattle.pixel_segment.proofs.range.lowest_cover.Tie as tie
 

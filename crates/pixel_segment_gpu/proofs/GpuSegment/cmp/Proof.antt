@@ -1,5 +1,5 @@
 -- `GpuSegment::cmp` meets its contract: that of the function over the layout. Assumes nothing.
-use borrow.Author.Needs.{needs}
+use Rattle.laws.proofs.Prelude.{needs}
 use Rattle.pixel_segment_gpu.proofs.GpuSegment.cmp.Statement.{statement}
 use Rattle.pixel_segment_gpu.proofs.GpuSegment.cmp.Tie as tie
 

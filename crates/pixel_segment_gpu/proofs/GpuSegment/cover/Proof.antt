@@ -1,8 +1,5 @@
 -- `GpuSegment::cover` meets its contract. Assumes nothing.
-use mathlib.Core.Path.{_∙_}
-use borrow.Author.Needs.{needs}
-use mir.Syntax.{w8}
-use Rattle.laws.proofs.Machine.{kept}
+use Rattle.laws.proofs.Prelude.{_∙_, needs, w8, kept}
 use Rattle.pixel_segment_gpu.proofs.Widths.{cover-same}
 use Rattle.pixel_segment_gpu.proofs.GpuSegment.cover.Statement.{statement}
 use Rattle.pixel_segment_gpu.proofs.GpuSegment.cover.Tie as tie

@@ -1,8 +1,5 @@
 -- `GpuSegment::double_area` meets its contract. Assumes nothing.
-use mathlib.Core.Path.{_∙_}
-use borrow.Author.Needs.{needs}
-use mir.Syntax.{w16}
-use Rattle.laws.proofs.Machine.{kept}
+use Rattle.laws.proofs.Prelude.{_∙_, needs, w16, kept}
 use Rattle.pixel_segment_gpu.proofs.Widths.{double-area-same}
 use Rattle.pixel_segment_gpu.proofs.GpuSegment.double_area.Statement.{statement}
 use Rattle.pixel_segment_gpu.proofs.GpuSegment.double_area.Tie as tie

@@ -1,6 +1,5 @@
 -- `GpuSegment::new` meets its contract: a case for each answer of packing. Assumes nothing.
-use borrow.Author.Needs.{needs}
-use mir.Facts.{toZ-ofZ}
+use Rattle.laws.proofs.Prelude.{needs, toZ-ofZ}
 use Rattle.pixel_segment_gpu.proofs.GpuSegment.new.Statement.{statement}
 use Rattle.pixel_segment_gpu.proofs.GpuSegment.new.Tie as tie
 

@@ -1,5 +1,5 @@
 -- `order::is_row` meets its contract: that of the function over the layout. Assumes nothing.
-use borrow.Author.Needs.{needs}
+use Rattle.laws.proofs.Prelude.{needs}
 use Rattle.pixel_segment_gpu.proofs.order.is_row.Statement.{statement}
 use Rattle.pixel_segment_gpu.proofs.order.is_row.Tie as tie
 

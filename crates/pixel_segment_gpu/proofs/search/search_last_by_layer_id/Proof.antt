@@ -1,5 +1,5 @@
 -- `search::search_last_by_layer_id` meets its contract: that of the function over the layout. Assumes nothing.
-use borrow.Author.Needs.{needs}
+use Rattle.laws.proofs.Prelude.{needs}
 use Rattle.pixel_segment_gpu.proofs.search.search_last_by_layer_id.Statement.{statement}
 use Rattle.pixel_segment_gpu.proofs.search.search_last_by_layer_id.Tie as tie
 

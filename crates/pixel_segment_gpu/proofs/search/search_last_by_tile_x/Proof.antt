@@ -1,6 +1,5 @@
 -- `search::search_last_by_tile_x` meets its contract. Assumes nothing.
-use borrow.Author.Needs.{needs}
-use mir.Facts.{toZ-ofZ}
+use Rattle.laws.proofs.Prelude.{needs, toZ-ofZ}
 use Rattle.pixel_segment_gpu.proofs.search.search_last_by_tile_x.Statement.{statement}
 use Rattle.pixel_segment_gpu.proofs.search.search_last_by_tile_x.Tie as tie
 

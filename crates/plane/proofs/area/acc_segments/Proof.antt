@@ -1,15 +1,6 @@
 -- `plane::area::acc_segments` meets its contract: two tables are filled, of double areas and of covers, while loads are judged. Assumes nothing.
-use mathlib.Core.Path.{_≡_, refl, sym, ap}
-use mathlib.Core.Bool.{false≢true}
-use Prim.Native.Nat.{ℕ, _+_, _-_, _*_, _%_, _≤_}
-use native.Mathlib.Omega.{arith}
-use borrow.Author.Needs.{needs}
-use lib.IntN.{pos, natAbs}
-use lib.ListN.{length, getD}
-use mir.Facts.{toZ-ofZ}
-use mir.Syntax.{w8, w16}
-use mir.Val.{SFits, toZ, ofZ}
-use Rattle.laws.proofs.Machine.{small, kept}
+use Rattle.laws.proofs.Prelude.{_≡_, refl, sym, ap, false≢true, ℕ, _+_, _-_, _*_, _%_, _≤_, arith, needs, pos, natAbs, length, getD, toZ-ofZ, w8, w16}
+use Rattle.laws.proofs.Prelude.{SFits, toZ, ofZ, small, kept}
 use Rattle.pixel_segment.specs.Field.{cpu, localYOf, coverOf, doubleAreaOf}
 use Rattle.pixel_segment.proofs.Widths.{cover-fits, in-cover}
 use Rattle.cover_statements.specs.Carry.{absCover}

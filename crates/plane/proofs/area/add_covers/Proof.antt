@@ -1,16 +1,6 @@
 -- `plane::area::add_covers` meets its contract: it is the half of shading a column that leaves the areas alone. Assumes nothing.
-use mathlib.Core.Path.{_≡_, refl}
-use mathlib.Core.List.{List}
-use Prim.Native.Nat.{ℕ, _+_, _-_, _*_, _≤_}
-use native.Mathlib.Omega.{arith}
-use borrow.Author.Needs.{needs}
-use borrow.Author.Tests.{lt-ltb}
-use lib.IntN.{ℤ, pos, _+ℤ_, _*ℤ_}
-use lib.ListN.{replicate, set, length-replicate}
-use mir.Facts.{toZ-ofZ}
-use mir.Syntax.{w8}
-use Rattle.laws.proofs.Machine.{small, kept}
-use Rattle.laws.proofs.Rows.{is-tabulate}
+use Rattle.laws.proofs.Prelude.{_≡_, refl, List, ℕ, _+_, _-_, _*_, _≤_, arith, needs, lt-ltb, ℤ, pos, _+ℤ_, _*ℤ_, replicate, set, length-replicate}
+use Rattle.laws.proofs.Prelude.{toZ-ofZ, w8, small, kept, is-tabulate}
 use Rattle.cover_statements.specs.InnerCell.{Shaded}
 use Rattle.cover_statements.specs.Cover.{coverAt}
 use Rattle.cover_statements.proofs.Shades.{shade-start, shade-next}

@@ -1,9 +1,5 @@
 -- `plane::area::area_of` meets its contract. Assumes nothing.
-use mathlib.Core.Path.{_∙_}
-use native.Mathlib.Omega.{arith}
-use borrow.Author.Needs.{needs}
-use mir.Syntax.{w16}
-use mir.Facts.{toZ-ofZ, toZ-pos}
+use Rattle.laws.proofs.Prelude.{_∙_, arith, needs, w16, toZ-ofZ, toZ-pos}
 use Rattle.pixel_segment.specs.Field.{cpu, multiplierOf, doubleAreaOf}
 use Rattle.pixel_segment.proofs.Widths.{area-fits}
 use Rattle.plane.proofs.area.area_of.Statement.{statement}

@@ -1,19 +1,6 @@
 -- `plane::area::compute_doubled_areas` meets its contract. Assumes nothing.
-use mathlib.Core.Path.{_≡_, refl}
-use mathlib.Core.List.{List}
-use Prim.Native.Nat.{ℕ, _+_, _-_, _*_, _^_, _≤_, _<_}
-use native.Mathlib.Omega.{arith}
-use borrow.Author.Needs.{needs, sfits-of}
-use borrow.Author.Tests.{lt-ltb}
-use lib.IntN.{ℤ, pos, _+ℤ_, _*ℤ_}
-use lib.ListN.{set}
-use lib.Signed.{mag}
-use mir.Facts.{toZ-ofZ, sfits-widen}
-use mir.Syntax.{w8, w16}
-use mir.Val.{SFits}
-use Rattle.laws.proofs.Machine.{sfits, within, small, kept}
-use Rattle.laws.proofs.Parts.{times}
-use Rattle.laws.proofs.Rows.{length-tabulate, getD-tabulate}
+use Rattle.laws.proofs.Prelude.{_≡_, refl, List, ℕ, _+_, _-_, _*_, _^_, _≤_, _<_, arith, needs, sfits-of, lt-ltb, ℤ, pos, _+ℤ_, _*ℤ_, set, mag}
+use Rattle.laws.proofs.Prelude.{toZ-ofZ, sfits-widen, w8, w16, SFits, sfits, within, small, kept, times, length-tabulate, getD-tabulate}
 use Rattle.cover_statements.specs.InnerCell.{Shaded}
 use Rattle.cover_statements.specs.Cover.{coverAt}
 use Rattle.cover_statements.proofs.Shades.{shade-start, shade-area, shade-next}

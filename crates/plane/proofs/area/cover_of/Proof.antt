@@ -1,8 +1,5 @@
 -- `plane::area::cover_of` meets its contract: both layouts have the cover in the lowest six bits. Assumes nothing.
-use mathlib.Core.Path.{_∙_}
-use borrow.Author.Needs.{needs}
-use mir.Syntax.{w16}
-use Rattle.laws.proofs.Machine.{kept}
+use Rattle.laws.proofs.Prelude.{_∙_, needs, w16, kept}
 use Rattle.pixel_segment.specs.Field.{coverOf}
 use Rattle.plane.proofs.area.cover_of.Statement.{statement}
 use Rattle.plane.proofs.area.cover_of.Tie as tie

@@ -1,11 +1,5 @@
 -- `plane::area::judged_areas` meets its contract. Assumes nothing.
-use mathlib.Core.Path.{_≡_, refl, sym, ap, _∙_}
-use mathlib.Core.Bool.{true, false≢true}
-use mathlib.Core.List.{List}
-use Prim.Native.Nat.{ℕ}
-use borrow.Author.Needs.{needs}
-use borrow.Author.Tests.{not-true, not-false}
-use lib.ListN.{length}
+use Rattle.laws.proofs.Prelude.{_≡_, refl, sym, ap, _∙_, true, false≢true, List, ℕ, needs, not-true, not-false, length}
 use Rattle.pixel_segment.specs.Field.{cpu}
 use Rattle.cover_statements.specs.Carry.{isLight}
 use Rattle.cover_statements.specs.InnerCell.{noCells}

@@ -1,8 +1,5 @@
 -- `plane::area::sum_columns` meets its contract. Assumes nothing.
-use mathlib.Core.Path.{refl}
-use mathlib.Core.List.{List}
-use Prim.Native.Nat.{ℕ, _-_}
-use native.Mathlib.Omega.{arith}
+use Rattle.laws.proofs.Prelude.{refl, List, ℕ, _-_, arith}
 use Rattle.pixel_segment.specs.Field.{cpu}
 use Rattle.cover_statements.specs.InnerCell.{Accumulated}
 use Rattle.cover_statements.proofs.Carries.{light}

@@ -1,10 +1,5 @@
 -- `plane::column::is_light` meets its contract. Assumes nothing.
-use mathlib.Core.Path.{_≡_, ap, _∙_}
-use mathlib.Core.List.{List, []}
-use Prim.Native.Nat.{ℕ}
-use native.Mathlib.Omega.{arith}
-use borrow.Author.Needs.{needs}
-use lib.ListN.{length}
+use Rattle.laws.proofs.Prelude.{_≡_, ap, _∙_, List, [], ℕ, arith, needs, length}
 use Rattle.pixel_segment.specs.Field.{cpu}
 use Rattle.cover_statements.specs.InnerLoad.{loadsOf, allLight}
 use Rattle.cover_statements.proofs.Loads.{load-start, load-end, loads-judge}

@@ -1,5 +1,5 @@
 -- `plane::column::weigh` meets its contract. Assumes nothing.
-use borrow.Author.Needs.{needs}
+use Rattle.laws.proofs.Prelude.{needs}
 use Rattle.plane.proofs.column.weigh.Statement.{statement}
 use Rattle.plane.proofs.column.weigh.Tie as tie
 

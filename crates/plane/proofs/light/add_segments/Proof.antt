@@ -1,14 +1,5 @@
 -- `plane::light::add_segments` meets its contract: two tables are filled, of double areas and of covers. Assumes nothing.
-use mathlib.Core.Path.{_≡_}
-use Prim.Native.Nat.{_-_}
-use native.Mathlib.Omega.{arith}
-use borrow.Author.Needs.{needs}
-use lib.IntN.{pos}
-use lib.ListN.{length, getD}
-use mir.Facts.{toZ-ofZ}
-use mir.Syntax.{w8, w16}
-use mir.Val.{SFits, toZ, ofZ}
-use Rattle.laws.proofs.Machine.{small, kept}
+use Rattle.laws.proofs.Prelude.{_≡_, _-_, arith, needs, pos, length, getD, toZ-ofZ, w8, w16, SFits, toZ, ofZ, small, kept}
 use Rattle.pixel_segment.proofs.Widths.{cover-fits}
 use Rattle.plane.proofs.LightCells.{LightCells, cells-start, area-within, cover-within, cells-next, cells-end}
 use Rattle.plane.proofs.light.add_segments.Statement.{statement}

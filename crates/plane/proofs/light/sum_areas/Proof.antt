@@ -1,6 +1,5 @@
 -- `plane::light::sum_areas` meets its contract. Assumes nothing.
-use mathlib.Core.Path.{refl}
-use borrow.Author.Needs.{needs}
+use Rattle.laws.proofs.Prelude.{refl, needs}
 use Rattle.cover_statements.specs.InnerCell.{noCells}
 use Rattle.plane.proofs.light.sum_areas.Statement.{statement}
 use Rattle.plane.proofs.light.sum_areas.Tie as tie

@@ -1,5 +1,5 @@
 -- `plane::shade::paint` meets its contract. Assumes nothing.
-use borrow.Author.Needs.{needs}
+use Rattle.laws.proofs.Prelude.{needs}
 use Rattle.plane.proofs.shade.paint.Statement.{statement}
 use Rattle.plane.proofs.shade.paint.Tie as tie
 

@@ -1,5 +1,5 @@
 -- `plane::shade::paint_even_odd` meets its contract. Assumes nothing.
-use borrow.Author.Needs.{needs}
+use Rattle.laws.proofs.Prelude.{needs}
 use Rattle.plane.proofs.shade.paint_even_odd.Statement.{statement}
 use Rattle.plane.proofs.shade.paint_even_odd.Tie as tie
 

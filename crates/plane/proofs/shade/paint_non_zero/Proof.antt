@@ -1,11 +1,5 @@
 -- `plane::shade::paint_non_zero` meets its contract. Assumes nothing.
-use mathlib.Core.Path.{_≡_, ap, _∙_}
-use mathlib.Core.List.{List}
-use native.Mathlib.Omega.{arith}
-use borrow.Author.Needs.{needs}
-use lib.IntN.{ℤ}
-use lib.ListN.{length, length-map}
-use Rattle.laws.specs.Lists.{over}
+use Rattle.laws.proofs.Prelude.{_≡_, ap, _∙_, List, arith, needs, ℤ, length, length-map, over}
 use Rattle.styling.specs.declared.FillRule.the-variants.{NonZero}
 use Rattle.cover_statements.specs.Mark.{markOf}
 use Rattle.cover_statements.specs.InnerWeighed.{Weighed, weightIn, weightsPlane}

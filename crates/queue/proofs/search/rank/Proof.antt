@@ -1,6 +1,5 @@
 -- `queue::search::rank` meets its contract. What holds of the places that are left is `Halving`. Assumes nothing.
-use Prim.Native.Nat.{_-_}
-use native.Mathlib.Omega.{arith}
+use Rattle.laws.proofs.Prelude.{_-_, arith}
 use Rattle.queue_statements.proofs.Ranks.{Halving, begin, upper, lower, end}
 use Rattle.queue.proofs.search.rank.Statement.{statement}
 use Rattle.queue.proofs.search.rank.Tie as tie

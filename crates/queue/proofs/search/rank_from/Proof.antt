@@ -1,7 +1,5 @@
 -- `queue::search::rank_from` meets its contract. Assumes nothing.
-use Prim.Native.Nat.{_+_}
-use native.Mathlib.Omega.{arith}
-use borrow.Author.Needs.{needs}
+use Rattle.laws.proofs.Prelude.{_+_, arith, needs}
 use Rattle.queue_statements.proofs.Ranks.{begin, upper, lower, end, hit}
 use Rattle.queue.proofs.search.rank_from.Statement.{statement}
 use Rattle.queue.proofs.search.rank_from.Tie as tie

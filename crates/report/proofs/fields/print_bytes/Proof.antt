@@ -1,8 +1,6 @@
 -- `print_bytes` meets its contract. The invariant and its steps are those of `Copying`; the measure is the bytes left.
 -- Assumes nothing.
-use Prim.Native.Nat.{_-_}
-use native.Mathlib.Omega.{arith}
-use lib.ListN.{length}
+use Rattle.laws.proofs.Prelude.{_-_, arith, length}
 use Rattle.report.proofs.Copying.{Copying, start, next, end}
 use Rattle.report.proofs.fields.print_bytes.Statement.{statement}
 use Rattle.report.proofs.fields.print_bytes.Tie as tie

@@ -1,7 +1,6 @@
 -- `print_number` meets its contract.
 -- Assumes nothing.
-use native.Mathlib.Omega.{arith}
-use borrow.Author.Needs.{needs}
+use Rattle.laws.proofs.Prelude.{arith, needs}
 use Rattle.decimal.proofs.Print.{ten}
 use Rattle.report.proofs.Lines.{number-after}
 use Rattle.report.proofs.fields.print_number.Statement.{statement}

@@ -1,7 +1,6 @@
 -- `print_op` meets its contract.
 -- Assumes nothing.
-use native.Mathlib.Omega.{arith}
-use borrow.Author.Needs.{needs}
+use Rattle.laws.proofs.Prelude.{arith, needs}
 use Rattle.report.specs.declared.Op.the-variants.{None, Solid, Paint}
 use Rattle.report.proofs.Lines.{op-is}
 use Rattle.report.proofs.fields.print_op.Statement.{statement}

@@ -1,6 +1,5 @@
 -- `write_refusal` meets its contract: its parts, joined. Assumes nothing.
-use native.Mathlib.Omega.{arith}
-use borrow.Author.Needs.{needs}
+use Rattle.laws.proofs.Prelude.{arith, needs}
 use Rattle.report.proofs.Lines.{refusal-of}
 use Rattle.report.proofs.fields.write_refusal.Statement.{statement}
 use Rattle.report.proofs.fields.write_refusal.Tie as tie

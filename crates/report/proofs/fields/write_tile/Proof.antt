@@ -1,6 +1,5 @@
 -- `write_tile` meets its contract: its parts, joined. Assumes nothing.
-use native.Mathlib.Omega.{arith}
-use borrow.Author.Needs.{needs}
+use Rattle.laws.proofs.Prelude.{arith, needs}
 use Rattle.report.proofs.Lines.{line-of}
 use Rattle.report.proofs.fields.write_tile.Statement.{statement}
 use Rattle.report.proofs.fields.write_tile.Tie as tie

@@ -1,6 +1,5 @@
 -- `are_areas` stays inside the array and ends. Assumes nothing.
-use Prim.Native.Nat.{_-_}
-use native.Mathlib.Omega.{arith}
+use Rattle.laws.proofs.Prelude.{_-_, arith}
 use Rattle.requests.proofs.segment_sets.are_areas.Statement.{statement}
 use Rattle.requests.proofs.segment_sets.are_areas.Tie as tie
 

@@ -1,8 +1,5 @@
 -- `first_records` meets its contract: the part ends within the records. Assumes nothing.
-use mathlib.Core.Path.{sym}
-use native.Mathlib.Omega.{arith}
-use lib.Seq.{length-take-le}
-use borrow.Author.Needs.{needs}
+use Rattle.laws.proofs.Prelude.{sym, arith, length-take-le, needs}
 use Rattle.requests.proofs.standing.first_records.Statement.{statement}
 use Rattle.requests.proofs.standing.first_records.Tie as tie
 

@@ -1,8 +1,5 @@
 -- `are_good` meets its contract: `Passing` holds while the records are passed. Assumes nothing.
-use mathlib.Core.List.{List}
-use Prim.Native.Nat.{_≤_, _-_}
-use native.Mathlib.Omega.{arith}
-use lib.Ieee.{Float}
+use Rattle.laws.proofs.Prelude.{List, _≤_, _-_, arith, Float}
 use Rattle.revision_statements.proofs.Judging.{Passing, pass-first, pass-next, pass-last}
 use Rattle.revisions.proofs.judging.are_good.Statement.{statement}
 use Rattle.revisions.proofs.judging.are_good.Tie as tie

@@ -1,7 +1,5 @@
 -- `is_good` meets its contract. Assumes nothing.
-use mathlib.Core.Path.{ap, _∙_}
-use borrow.Author.Needs.{needs}
-use borrow.Author.Tests.{eq-eqb, ne-eqb}
+use Rattle.laws.proofs.Prelude.{ap, _∙_, needs, eq-eqb, ne-eqb}
 use Rattle.layer_table.specs.Record.{inRange}
 use Rattle.revision_statements.specs.Sent.{sentAt, isGood}
 use Rattle.revisions.proofs.judging.is_good.Statement.{statement}

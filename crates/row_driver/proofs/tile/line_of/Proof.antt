@@ -1,5 +1,5 @@
 -- `tile::line_of` meets its contract. Assumes nothing.
-use borrow.Author.Needs.{needs}
+use Rattle.laws.proofs.Prelude.{needs}
 use Rattle.row_driver.proofs.tile.line_of.Statement.{statement}
 use Rattle.row_driver.proofs.tile.line_of.Tie as tie
 

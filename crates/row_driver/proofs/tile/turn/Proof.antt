@@ -1,6 +1,5 @@
 -- `tile::turn` meets its contract: the side whose turn it is is lent as `&`, so it is kept. Assumes nothing.
-use mathlib.Core.Path.{refl}
-use borrow.Author.Needs.{needs}
+use Rattle.laws.proofs.Prelude.{refl, needs}
 use Rattle.row_driver.proofs.tile.turn.Statement.{statement}
 use Rattle.row_driver.proofs.tile.turn.Tie as tie
 

@@ -1,9 +1,5 @@
 -- `tile::work_line` meets its contract. Assumes nothing.
-use mathlib.Core.Path.{_≡_}
-use mathlib.Core.List.{List}
-use Prim.Native.Nat.{ℕ}
-use borrow.Author.Needs.{needs}
-use lib.IntN.{pos}
+use Rattle.laws.proofs.Prelude.{_≡_, List, ℕ, needs, pos}
 use Rattle.segment_rows.specs.Search.{tilePart}
 use Rattle.cached_tile.specs.Kept.{noTile}
 use Rattle.layer_workbench.specs.declared.PreviousClear.the-variants.{Absent}

@@ -1,5 +1,5 @@
 -- `judging::is_list_short` meets its contract. Assumes nothing.
-use borrow.Author.Needs.{needs}
+use Rattle.laws.proofs.Prelude.{needs}
 use Rattle.row_working.proofs.judging.is_list_short.Statement.{statement}
 use Rattle.row_working.proofs.judging.is_list_short.Tie as tie
 

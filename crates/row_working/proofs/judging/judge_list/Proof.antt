@@ -1,10 +1,5 @@
 -- `judging::judge_list` meets its contract: where a number refuses, nothing is said of the carries. Assumes nothing.
-use mathlib.Core.Path.{_≡_, sym}
-use mathlib.Core.Bool.{true, false≢true}
-use Prim.Native.Nat.{ℕ}
-use native.Mathlib.Omega.{arith}
-use borrow.Author.Tests.{lt-ltb, le-ltb, not-false}
-use borrow.Author.Needs.{needs}
+use Rattle.laws.proofs.Prelude.{_≡_, sym, true, false≢true, ℕ, arith, lt-ltb, le-ltb, not-false, needs}
 use Rattle.refusals.specs.Refusal.{pass, refuse}
 use Rattle.refusals.proofs.Judging.{passed}
 use Rattle.row_statements.specs.TileWork.{listVerdict}

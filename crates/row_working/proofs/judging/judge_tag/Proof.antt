@@ -1,5 +1,5 @@
 -- `judging::judge_tag` meets its contract. Assumes nothing.
-use borrow.Author.Needs.{needs}
+use Rattle.laws.proofs.Prelude.{needs}
 use Rattle.row_working.proofs.judging.judge_tag.Statement.{statement}
 use Rattle.row_working.proofs.judging.judge_tag.Tie as tie
 

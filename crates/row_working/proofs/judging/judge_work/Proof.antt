@@ -1,7 +1,5 @@
 -- `judging::judge_work` meets its contract. Assumes nothing.
-use mathlib.Core.Path.{_≡_}
-use borrow.Author.Needs.{needs}
-use mir.Facts.{toZ-ofZ}
+use Rattle.laws.proofs.Prelude.{_≡_, needs, toZ-ofZ}
 use Rattle.refusals.specs.Refusal.{judgementIn}
 use Rattle.row_statements.specs.Lent.{lentTable}
 use Rattle.row_statements.specs.State.{stateIn}

@@ -1,10 +1,7 @@
 -- `order::does_ascend_above` meets its contract. What holds after so many words is `Counted`. Assumes nothing.
-use mathlib.Core.Path.{_≡_, refl}
-use Prim.Native.Nat.{ℕ, _+_, _-_, _*_, _/_, _%_, _^_, _≤_, _<_}
+use Rattle.laws.proofs.Prelude.{_≡_, refl, ℕ, _+_, _-_, _*_, _/_, _%_, _^_, _≤_, _<_, arith, length, getD, pow-pos, pow-mono}
 use native.Mathlib.Nat.{lt-of-le-of-lt}
-use native.Mathlib.Omega.{arith}
-use lib.ListN.{length, getD}
-use lib.Pow.{pow-pos, pow-mono, shr-lt}
+use lib.Pow.{shr-lt}
 use Rattle.pixel_segment.proofs.Widths.{shifted}
 use Rattle.segment_rows.proofs.Ascending.{Counted, counted-begin, counted-next, counted-end}
 use Rattle.segment_rows.proofs.order.does_ascend_above.Statement.{statement}

@@ -1,5 +1,5 @@
 -- `order::does_ascend_in` meets its contract. Assumes nothing.
-use borrow.Author.Needs.{needs}
+use Rattle.laws.proofs.Prelude.{needs}
 use Rattle.pixel_segment.proofs.Widths.{key-above, shift-lt-of}
 use Rattle.segment_rows.proofs.order.does_ascend_in.Statement.{statement}
 use Rattle.segment_rows.proofs.order.does_ascend_in.Tie as tie

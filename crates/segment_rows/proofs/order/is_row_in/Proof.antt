@@ -1,8 +1,5 @@
 -- `order::is_row_in` meets its contract. Assumes nothing.
-use mathlib.Core.Path.{sym, _∙_}
-use native.Mathlib.Omega.{arith}
-use borrow.Author.Tests.{not-true, not-false}
-use borrow.Author.Needs.{needs}
+use Rattle.laws.proofs.Prelude.{sym, _∙_, arith, not-true, not-false, needs}
 use Rattle.pixel_segment.specs.Field.{widthsOf}
 use Rattle.pixel_segment.proofs.Heights.{keyed-of}
 use Rattle.segment_rows.proofs.Rows.{descends, no-words, told-by-ends}

@@ -1,7 +1,5 @@
 -- `parts::end_of` meets its contract. Assumes nothing.
-use native.Mathlib.Numerals.{add-one}
-use native.Mathlib.Omega.{arith}
-use borrow.Author.Needs.{needs}
+use Rattle.laws.proofs.Prelude.{add-one, arith, needs}
 use Rattle.segment_rows.proofs.parts.end_of.Statement.{statement}
 use Rattle.segment_rows.proofs.parts.end_of.Tie as tie
 

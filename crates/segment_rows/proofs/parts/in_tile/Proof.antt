@@ -1,6 +1,5 @@
 -- `parts::in_tile` meets its contract. Assumes nothing.
-use borrow.Author.Needs.{needs}
-use mir.Facts.{toZ-ofZ}
+use Rattle.laws.proofs.Prelude.{needs, toZ-ofZ}
 use Rattle.segment_rows.specs.Search.{tilePart}
 use Rattle.segment_rows.proofs.parts.in_tile.Statement.{statement}
 use Rattle.segment_rows.proofs.parts.in_tile.Tie as tie

@@ -1,6 +1,5 @@
 -- `parts::left_of_tile` meets its contract. Assumes nothing.
-use borrow.Author.Needs.{needs}
-use mir.Facts.{toZ-ofZ}
+use Rattle.laws.proofs.Prelude.{needs, toZ-ofZ}
 use Rattle.segment_rows.specs.Search.{leftPart}
 use Rattle.segment_rows.proofs.parts.left_of_tile.Statement.{statement}
 use Rattle.segment_rows.proofs.parts.left_of_tile.Tie as tie

@@ -1,7 +1,5 @@
 -- `parts::left_of_tile_in` meets its contract. Assumes nothing.
-use native.Mathlib.Omega.{arith}
-use borrow.Author.Needs.{needs}
-use mir.Facts.{toZ-ofZ}
+use Rattle.laws.proofs.Prelude.{arith, needs, toZ-ofZ}
 use Rattle.segment_rows.proofs.Halving.{told-le}
 use Rattle.segment_rows.proofs.parts.left_of_tile_in.Statement.{statement}
 use Rattle.segment_rows.proofs.parts.left_of_tile_in.Tie as tie

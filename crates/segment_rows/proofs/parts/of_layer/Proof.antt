@@ -1,5 +1,5 @@
 -- `parts::of_layer` meets its contract. Assumes nothing.
-use borrow.Author.Needs.{needs}
+use Rattle.laws.proofs.Prelude.{needs}
 use Rattle.segment_rows.specs.Search.{layerPart}
 use Rattle.segment_rows.proofs.parts.of_layer.Statement.{statement}
 use Rattle.segment_rows.proofs.parts.of_layer.Tie as tie

@@ -1,6 +1,5 @@
 -- `parts::of_layer_in` meets its contract. Assumes nothing.
-use native.Mathlib.Omega.{arith}
-use borrow.Author.Needs.{needs}
+use Rattle.laws.proofs.Prelude.{arith, needs}
 use Rattle.segment_rows.proofs.Halving.{told-le}
 use Rattle.segment_rows.proofs.parts.of_layer_in.Statement.{statement}
 use Rattle.segment_rows.proofs.parts.of_layer_in.Tie as tie

@@ -1,9 +1,5 @@
 -- `parts::slice_between` meets its contract. Assumes nothing.
-use mathlib.Core.Path.{_≡_, ap}
-use Prim.Native.Nat.{ℕ, _-_}
-use native.Mathlib.Omega.{arith}
-use borrow.Author.Needs.{needs}
-use lib.ListN.{take, drop}
+use Rattle.laws.proofs.Prelude.{_≡_, ap, ℕ, _-_, arith, needs, take, drop}
 use Rattle.segment_rows.proofs.parts.slice_between.Statement.{statement}
 use Rattle.segment_rows.proofs.parts.slice_between.Tie as tie
 

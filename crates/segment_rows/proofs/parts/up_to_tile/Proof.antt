@@ -1,7 +1,5 @@
 -- `parts::up_to_tile` meets its contract. Assumes nothing.
-use native.Mathlib.Omega.{arith}
-use borrow.Author.Needs.{needs}
-use mir.Facts.{toZ-ofZ}
+use Rattle.laws.proofs.Prelude.{arith, needs, toZ-ofZ}
 use Rattle.segment_rows.specs.Search.{upToTile}
 use Rattle.segment_rows.proofs.Halving.{told-le}
 use Rattle.segment_rows.proofs.parts.up_to_tile.Statement.{statement}

@@ -1,12 +1,5 @@
 -- `search::above_tile` meets its contract. Assumes nothing.
-use native.Mathlib.Omega.{arith}
-use borrow.Author.Needs.{needs}
-use lib.IntN.{pos, _+ℤ_}
-use mir.Syntax.{w16, w32}
-use mir.Facts.{toZ-ofZ}
-use mir.Val.{SFits}
-use Rattle.laws.proofs.Parts.{added}
-use Rattle.laws.proofs.Machine.{within, sfits}
+use Rattle.laws.proofs.Prelude.{arith, needs, pos, _+ℤ_, w16, w32, toZ-ofZ, SFits, added, within, sfits}
 use Rattle.segment_rows.proofs.Above.{wider}
 use Rattle.segment_rows.proofs.search.above_tile.Statement.{statement}
 use Rattle.segment_rows.proofs.search.above_tile.Tie as tie

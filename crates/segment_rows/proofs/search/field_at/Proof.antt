@@ -1,9 +1,5 @@
 -- `search::field_at` meets its contract. Assumes nothing.
-use Prim.Native.Nat.{_/_, _^_}
-use native.Mathlib.Nat.{mod-lt}
-use native.Mathlib.Omega.{arith}
-use borrow.Author.Needs.{needs}
-use lib.ListN.{getD}
+use Rattle.laws.proofs.Prelude.{_/_, _^_, mod-lt, arith, needs, getD}
 use Rattle.segment_rows.proofs.search.field_at.Statement.{statement}
 use Rattle.segment_rows.proofs.search.field_at.Tie as tie
 

@@ -1,5 +1,5 @@
 -- `search::half_of` meets its contract. Assumes nothing.
-use borrow.Author.Needs.{needs}
+use Rattle.laws.proofs.Prelude.{needs}
 use Rattle.segment_rows.proofs.search.half_of.Statement.{statement}
 use Rattle.segment_rows.proofs.search.half_of.Tie as tie
 

@@ -1,9 +1,5 @@
 -- `search::halve` meets its contract. What holds of the part that is left is `Left`. Assumes nothing.
-use mathlib.Core.Bool.{Bool}
-use Prim.Native.Nat.{ℕ, _/_, _%_, _^_}
-use native.Mathlib.Omega.{arith}
-use borrow.Author.Needs.{needs}
-use lib.Dec.{leb}
+use Rattle.laws.proofs.Prelude.{Bool, ℕ, _/_, _%_, _^_, arith, needs, leb}
 use Rattle.segment_rows.proofs.Halving.{Left, begin, half-left, half-some, half-fewer, ends}
 use Rattle.segment_rows.proofs.search.halve.Statement.{statement}
 use Rattle.segment_rows.proofs.search.halve.Tie as tie

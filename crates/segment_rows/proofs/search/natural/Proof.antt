@@ -1,10 +1,5 @@
 -- `search::natural` meets its contract. Assumes nothing.
-use native.Mathlib.Omega.{arith}
-use lib.IntN.{pos}
-use mir.Syntax.{w32}
-use mir.Facts.{toZ-ofZ}
-use Rattle.laws.proofs.Parts.{whole, lt-true, lt-false}
-use Rattle.laws.proofs.Machine.{within, unsigned}
+use Rattle.laws.proofs.Prelude.{arith, pos, w32, toZ-ofZ, whole, lt-true, lt-false, within, unsigned}
 use Rattle.segment_rows.proofs.search.natural.Statement.{statement}
 use Rattle.segment_rows.proofs.search.natural.Tie as tie
 

@@ -1,12 +1,5 @@
 -- `search::search_at_least` meets its contract. Assumes nothing.
-use mathlib.Core.Path.{_≡_, ap, sym}
-use mathlib.Core.Bool.{Bool, true, false}
-use Prim.Native.Nat.{ℕ, _+_, _-_, _/_, _%_, _^_, _<_}
-use native.Mathlib.Omega.{arith}
-use borrow.Author.Needs.{needs}
-use borrow.Author.Tests.{le-leb, lt-leb}
-use lib.Dec.{leb}
-use lib.ListN.{length}
+use Rattle.laws.proofs.Prelude.{_≡_, ap, sym, Bool, true, false, ℕ, _+_, _-_, _/_, _%_, _^_, _<_, arith, needs, le-leb, lt-leb, leb, length}
 use Rattle.pixel_segment.specs.Order.{compareBool}
 use Rattle.segment_rows.specs.Search.{ended, searchOf}
 use Rattle.segment_rows.proofs.Halving.{same-end, end-lt, end-last, search-told, search-empty}

@@ -1,7 +1,5 @@
 -- `search::search_last_by_key_in` meets its contract: a case for each key. Assumes nothing.
-use borrow.Author.Needs.{needs}
-use mir.Syntax.{w16}
-use Rattle.laws.proofs.Machine.{kept}
+use Rattle.laws.proofs.Prelude.{needs, w16, kept}
 use Rattle.segment_rows.proofs.search.search_last_by_key_in.Statement.{statement}
 use Rattle.segment_rows.proofs.search.search_last_by_key_in.Tie as tie
 

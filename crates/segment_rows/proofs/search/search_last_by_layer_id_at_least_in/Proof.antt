@@ -1,6 +1,5 @@
 -- `search::search_last_by_layer_id_at_least_in` meets its contract. Assumes nothing.
-use native.Mathlib.Omega.{arith}
-use borrow.Author.Needs.{needs}
+use Rattle.laws.proofs.Prelude.{arith, needs}
 use Rattle.pixel_segment.proofs.Widths.{readable}
 use Rattle.segment_rows.proofs.search.search_last_by_layer_id_at_least_in.Statement.{
   statement,

@@ -1,8 +1,5 @@
 -- `search::search_last_by_layer_id_in` meets its contract. Assumes nothing.
-use mathlib.Core.Path.{ap, fun-ext}
-use Prim.Native.Nat.{ℕ}
-use native.Mathlib.Omega.{arith}
-use borrow.Author.Needs.{needs}
+use Rattle.laws.proofs.Prelude.{ap, fun-ext, ℕ, arith, needs}
 use Rattle.pixel_segment.specs.Field.{widthsOf, layerIdOf}
 use Rattle.segment_rows.specs.Search.{searchOf}
 use Rattle.segment_rows.proofs.Above.{number-rank}

@@ -1,10 +1,5 @@
 -- `search::search_last_by_tile_x_at_least_in` meets its contract. Assumes nothing.
-use mathlib.Core.Path.{ap, fun-ext}
-use mathlib.Core.Bool.{Bool}
-use Prim.Native.Nat.{ℕ}
-use native.Mathlib.Omega.{arith}
-use borrow.Author.Needs.{needs}
-use mir.Facts.{toZ-ofZ}
+use Rattle.laws.proofs.Prelude.{ap, fun-ext, Bool, ℕ, arith, needs, toZ-ofZ}
 use Rattle.pixel_segment.specs.Field.{widthsOf, tileXOf}
 use Rattle.pixel_segment.specs.Order.{compareBool}
 use Rattle.segment_rows.specs.Search.{searchOf}

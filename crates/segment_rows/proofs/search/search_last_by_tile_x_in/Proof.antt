@@ -1,8 +1,5 @@
 -- `search::search_last_by_tile_x_in` meets its contract. Assumes nothing.
-use mathlib.Core.Path.{ap, fun-ext}
-use Prim.Native.Nat.{ℕ}
-use borrow.Author.Needs.{needs}
-use mir.Facts.{toZ-ofZ}
+use Rattle.laws.proofs.Prelude.{ap, fun-ext, ℕ, needs, toZ-ofZ}
 use Rattle.pixel_segment.specs.Field.{widthsOf, tileXOf}
 use Rattle.segment_rows.specs.Search.{searchOf}
 use Rattle.segment_rows.proofs.Above.{tile-rank}

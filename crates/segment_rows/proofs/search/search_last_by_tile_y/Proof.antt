@@ -1,6 +1,5 @@
 -- `search::search_last_by_tile_y` meets its contract. Assumes nothing.
-use borrow.Author.Needs.{needs}
-use mir.Facts.{toZ-ofZ}
+use Rattle.laws.proofs.Prelude.{needs, toZ-ofZ}
 use Rattle.segment_rows.proofs.search.search_last_by_tile_y.Statement.{statement}
 use Rattle.segment_rows.proofs.search.search_last_by_tile_y.Tie as tie
 

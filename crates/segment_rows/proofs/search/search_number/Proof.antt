@@ -1,10 +1,5 @@
 -- `search::search_number` meets its contract. Assumes nothing.
-use mathlib.Core.Path.{_≡_, sym}
-use Prim.Native.Nat.{ℕ, _+_, _/_, _%_, _^_, _<_}
-use native.Mathlib.Nat.{mod-lt}
-use native.Mathlib.Omega.{arith}
-use borrow.Author.Needs.{needs}
-use lib.ListN.{length, getD}
+use Rattle.laws.proofs.Prelude.{_≡_, sym, ℕ, _+_, _/_, _%_, _^_, _<_, mod-lt, arith, needs, length, getD}
 use Rattle.pixel_segment.specs.Order.{compareOf}
 use Rattle.pixel_segment.proofs.Lexical.{compare-less, compare-equal, compare-greater}
 use Rattle.segment_rows.specs.Search.{ended, searchOf}

@@ -1,12 +1,5 @@
 -- `search::stored` meets its contract. Assumes nothing.
-use mathlib.Core.Path.{_≡_}
-use native.Mathlib.Omega.{arith}
-use lib.IntN.{pos}
-use mir.Syntax.{w32}
-use mir.Facts.{toZ-ofZ}
-use Rattle.laws.specs.Integer.{minus}
-use Rattle.laws.proofs.Parts.{added, whole, lt-true, lt-false}
-use Rattle.laws.proofs.Machine.{within, unsigned}
+use Rattle.laws.proofs.Prelude.{_≡_, arith, pos, w32, toZ-ofZ, minus, added, whole, lt-true, lt-false, within, unsigned}
 use Rattle.segment_rows.proofs.search.stored.Statement.{statement}
 use Rattle.segment_rows.proofs.search.stored.Tie as tie
 

@@ -1,9 +1,5 @@
 -- `editing::add` meets its contract. Assumes nothing.
-use borrow.Author.Needs.{needs}
-use mathlib.Core.Path.{ap₂}
-use mathlib.Core.List.{List}
-use lib.IntN.{ℤ}
-use lib.ListN.{set}
+use Rattle.laws.proofs.Prelude.{needs, ap₂, List, ℤ, set}
 use Rattle.segment_set_statements.specs.Set.{state}
 use Rattle.segment_set_statements.specs.declared.SegmentSet.{SegmentSet}
 use Rattle.segment_set.proofs.editing.add.Statement.{statement}

@@ -1,11 +1,5 @@
 -- `editing::area_of` meets its contract. Assumes nothing.
-use native.Mathlib.Omega.{arith}
-use lib.IntN.{pos, _*ℤ_}
-use mir.Facts.{toZ-ofZ, sfits-widen}
-use mir.Syntax.{w8, w16}
-use mir.Val.{SFits}
-use Rattle.laws.proofs.Machine.{within, sfits}
-use Rattle.laws.proofs.Parts.{times}
+use Rattle.laws.proofs.Prelude.{arith, pos, _*ℤ_, toZ-ofZ, sfits-widen, w8, w16, SFits, within, sfits, times}
 use Rattle.segment_set.proofs.editing.area_of.Statement.{statement}
 use Rattle.segment_set.proofs.editing.area_of.Tie as tie
 

@@ -1,12 +1,5 @@
 -- `editing::begin_with` meets its contract. Assumes nothing.
-use mathlib.Core.Path.{_∙_}
-use Prim.Native.Nat.{_-_}
-use native.Mathlib.Omega.{arith}
-use borrow.Author.Needs.{needs}
-use lib.ListN.{length}
-use mir.Facts.{toZ-ofZ}
-use mir.Syntax.{w16}
-use mir.Val.{toZ}
+use Rattle.laws.proofs.Prelude.{_∙_, _-_, arith, needs, length, toZ-ofZ, w16, toZ}
 use Rattle.segment_set_statements.specs.Set.{state, beginning}
 use Rattle.segment_set_statements.proofs.Begins.{Adding, begin-passed, add-ready, add-next}
 use Rattle.segment_set_statements.proofs.Starting.{begin-start, begin-end, start-length, slots-length, areas-long}

@@ -1,7 +1,5 @@
 -- `editing::find` meets its contract. Assumes nothing.
-use Prim.Native.Nat.{_-_}
-use native.Mathlib.Omega.{arith}
-use borrow.Author.Needs.{needs}
+use Rattle.laws.proofs.Prelude.{_-_, arith, needs}
 use Rattle.segment_set_statements.proofs.Places.{Looking, look-start, look-found, look-next, look-end}
 use Rattle.segment_set.proofs.editing.find.Statement.{statement}
 use Rattle.segment_set.proofs.editing.find.Tie as tie

@@ -1,10 +1,5 @@
 -- `editing::remove` meets its contract. Assumes nothing.
-use borrow.Author.Needs.{needs}
-use mathlib.Core.Path.{ap₂}
-use mathlib.Core.List.{List}
-use Prim.Native.Nat.{_-_}
-use lib.IntN.{ℤ}
-use lib.ListN.{getD, set}
+use Rattle.laws.proofs.Prelude.{needs, ap₂, List, _-_, ℤ, getD, set}
 use Rattle.segment_set_statements.specs.Set.{state}
 use Rattle.segment_set_statements.specs.declared.SegmentSet.{SegmentSet}
 use Rattle.segment_set.proofs.editing.remove.Statement.{statement}

@@ -1,9 +1,5 @@
 -- `editing::start_areas` meets its contract. Assumes nothing.
-use mathlib.Core.Path.{_∙_}
-use Prim.Native.Nat.{_-_, _%_}
-use native.Mathlib.Omega.{arith}
-use mir.Syntax.{w16, w8}
-use Rattle.laws.proofs.Machine.{kept}
+use Rattle.laws.proofs.Prelude.{_∙_, _-_, _%_, arith, w16, w8, kept}
 use Rattle.cover_statements.specs.Cover.{coverAt}
 use Rattle.segment_set_statements.proofs.Begins.{Starting, start-areas, next-area, end-areas}
 use Rattle.segment_set.proofs.editing.start_areas.Statement.{statement}

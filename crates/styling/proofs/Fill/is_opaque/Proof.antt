@@ -1,7 +1,6 @@
 -- `styling::Fill::is_opaque` meets its contract.
 -- Assumes nothing.
-use mathlib.Core.Path.{sym, ap}
-use borrow.Author.Needs.{needs}
+use Rattle.laws.proofs.Prelude.{sym, ap, needs}
 use Rattle.styling.specs.declared.Fill.{Fill}
 use Rattle.styling.specs.Style.{fillColor, hasAlphaOne}
 use Rattle.styling.proofs.Fill.is_opaque.Statement.{statement}

@@ -1,7 +1,6 @@
 -- `styling::Fill::solid_color` meets its contract.
 -- Assumes nothing.
-use mathlib.Core.Path.{sym, ap}
-use borrow.Author.Needs.{needs}
+use Rattle.laws.proofs.Prelude.{sym, ap, needs}
 use Rattle.styling.specs.Style.{fillColor}
 use Rattle.styling.proofs.Fill.solid_color.Statement.{statement}
 use Rattle.styling.proofs.Fill.solid_color.Tie as tie

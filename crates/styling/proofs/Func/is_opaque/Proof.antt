@@ -1,7 +1,6 @@
 -- `styling::Func::is_opaque` meets its contract.
 -- Assumes nothing.
-use mathlib.Core.Path.{sym, ap}
-use borrow.Author.Needs.{needs}
+use Rattle.laws.proofs.Prelude.{sym, ap, needs}
 use Rattle.styling.specs.Style.{isOpaque}
 use Rattle.styling.proofs.Func.is_opaque.Statement.{statement}
 use Rattle.styling.proofs.Func.is_opaque.Tie as tie

@@ -1,8 +1,6 @@
 -- `styling::codes::blend_mode` meets its contract.
 -- Assumes nothing.
-use mathlib.Core.Path.{sym}
-use borrow.Author.Needs.{needs}
-use lib.ListN.{take}
+use Rattle.laws.proofs.Prelude.{sym, needs, take}
 use Rattle.styling.specs.declared.BlendMode.the-variants.{Luminosity}
 use Rattle.styling.specs.Codes.{modes}
 use Rattle.styling.proofs.Coded.{last-case, none-below}

@@ -1,9 +1,6 @@
 -- `styling::codes::fill` meets its contract.
 -- Assumes nothing.
-use mathlib.Core.Path.{refl, sym}
-use native.Mathlib.Omega.{arith}
-use borrow.Author.Needs.{needs}
-use lib.ListN.{take}
+use Rattle.laws.proofs.Prelude.{refl, sym, arith, needs, take}
 use Rattle.styling.specs.declared.Fill.the-variants.{Texture}
 use Rattle.styling.specs.Codes.{fills}
 use Rattle.styling.proofs.Coded.{last-case}

@@ -1,9 +1,6 @@
 -- `styling::codes::fill_rule` meets its contract.
 -- Assumes nothing.
-use mathlib.Core.Path.{sym}
-use native.Mathlib.Omega.{arith}
-use borrow.Author.Needs.{needs}
-use lib.ListN.{take}
+use Rattle.laws.proofs.Prelude.{sym, arith, needs, take}
 use Rattle.styling.specs.declared.FillRule.the-variants.{EvenOdd}
 use Rattle.styling.specs.Codes.{rules}
 use Rattle.styling.proofs.Coded.{last-case}

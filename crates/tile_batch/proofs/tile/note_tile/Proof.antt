@@ -1,10 +1,5 @@
 -- `tile::note_tile` meets its contract. Assumes nothing.
-use mathlib.Core.Path.{refl, ap, _∙_}
-use Prim.Native.Nat.{_*_}
-use native.Mathlib.Omega.{arith}
-use borrow.Author.Needs.{needs}
-use lib.ListN.{take}
-use lib.Seq.{sets}
+use Rattle.laws.proofs.Prelude.{refl, ap, _∙_, _*_, arith, needs, take, sets}
 use Rattle.layer_table.specs.Table.{tableOf}
 use Rattle.queue_statements.specs.Queue.{queueOf}
 use Rattle.pass_statements.specs.Decision.{decisionIn}

@@ -1,5 +1,5 @@
 -- `tile::turn` meets its contract: the queue that comes in is lent as `&`, so it is kept. Assumes nothing.
-use borrow.Author.Needs.{needs}
+use Rattle.laws.proofs.Prelude.{needs}
 use Rattle.tile_batch.proofs.Turning.{as-first, as-second}
 use Rattle.tile_batch.proofs.tile.turn.Statement.{statement}
 use Rattle.tile_batch.proofs.tile.turn.Tie as tie

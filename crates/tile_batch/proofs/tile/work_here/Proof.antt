@@ -1,10 +1,5 @@
 -- `tile::work_here` meets its contract. Assumes nothing.
-use mathlib.Core.Path.{_≡_, refl, ap, sym, _∙_}
-use mathlib.Core.Bool.{Bool, false}
-use mathlib.Core.List.{List}
-use Prim.Native.Nat.{ℕ}
-use native.Mathlib.Omega.{arith}
-use borrow.Author.Needs.{needs}
+use Rattle.laws.proofs.Prelude.{_≡_, refl, ap, sym, _∙_, Bool, false, List, ℕ, arith, needs}
 use Rattle.refusals.specs.Refusal.{Judgement, pass, unless, andThen}
 use Rattle.cached_tile.specs.Kept.{tagOutOfRange}
 use Rattle.row_statements.specs.Lent.{ListColumns, columns, listColumns, lentTable}

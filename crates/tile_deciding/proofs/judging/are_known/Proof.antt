@@ -1,7 +1,5 @@
 -- `judging::are_known` meets its contract. Assumes nothing.
-use Prim.Native.Nat.{_-_}
-use native.Mathlib.Omega.{arith}
-use borrow.Author.Needs.{needs}
+use Rattle.laws.proofs.Prelude.{_-_, arith, needs}
 use Rattle.tile_deciding.proofs.Meeting.{Meeting, meet-start, meet-next, meet-end}
 use Rattle.tile_deciding.proofs.judging.are_known.Statement.{statement}
 use Rattle.tile_deciding.proofs.judging.are_known.Tie as tie

@@ -1,7 +1,5 @@
 -- `judging::do_ascend` meets its contract. What holds while the ids are passed is `Judging` of a queue. Assumes nothing.
-use Prim.Native.Nat.{_-_}
-use native.Mathlib.Omega.{arith}
-use borrow.Author.Needs.{needs}
+use Rattle.laws.proofs.Prelude.{_-_, arith, needs}
 use Rattle.queue_statements.proofs.Judging.{Judging, begin, next}
 use Rattle.listing_statements.proofs.Decidings.{ascended}
 use Rattle.tile_deciding.proofs.judging.do_ascend.Statement.{statement}

@@ -1,8 +1,5 @@
 -- `judging::judge_deciding` meets its contract: a line for each condition, the lowest first. Assumes nothing.
-use mathlib.Core.Path.{sym, _∙_}
-use native.Mathlib.Omega.{arith}
-use borrow.Author.Tests.{not-false, lt-ltb, le-ltb}
-use borrow.Author.Needs.{needs}
+use Rattle.laws.proofs.Prelude.{sym, _∙_, arith, not-false, lt-ltb, le-ltb, needs}
 use Rattle.layer_table.proofs.Judging.{table}
 use Rattle.listing_statements.specs.Deciding.{linesFor}
 use Rattle.tile_deciding.proofs.judging.judge_deciding.Statement.{statement}

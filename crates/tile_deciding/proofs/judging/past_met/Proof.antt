@@ -1,7 +1,5 @@
 -- `judging::past_met` meets its contract. Assumes nothing.
-use native.Mathlib.Omega.{arith}
-use borrow.Author.Needs.{needs}
-use borrow.Author.Tests.{lt-ltb, le-ltb, eq-eqb, ne-eqb}
+use Rattle.laws.proofs.Prelude.{arith, needs, lt-ltb, le-ltb, eq-eqb, ne-eqb}
 use Rattle.tile_deciding.proofs.judging.past_met.Statement.{statement}
 use Rattle.tile_deciding.proofs.judging.past_met.Tie as tie
 

@@ -1,12 +1,6 @@
 -- `walk::group_end` meets its contract. The search for the layer of the first segment finds the last one of its group. Assumes nothing.
-use mathlib.Core.Path.{_≡_, sym, ap, ap₂, _∙_}
-use mathlib.Core.List.{List}
-use Prim.Native.Nat.{ℕ, _-_, _<_}
-use native.Mathlib.Nat.{add-zero}
-use native.Mathlib.Omega.{arith}
-use borrow.Author.Needs.{needs}
-use lib.ListN.{length, getD, drop, length-drop}
-use lib.Seq.{getD-drop, take-all}
+use Rattle.laws.proofs.Prelude.{_≡_, sym, ap, ap₂, _∙_, List, ℕ, _-_, _<_, add-zero, arith, needs, length, getD, drop, length-drop, getD-drop}
+use Rattle.laws.proofs.Prelude.{take-all}
 use Rattle.pixel_segment.specs.Field.{cpu, layerIdOf}
 use Rattle.segment_rows.specs.Search.{Place, found, absent, placeIn, searchOf, orderAt}
 use Rattle.segment_rows.specs.declared.search.Key.the-variants.{LayerId}

@@ -1,6 +1,5 @@
 -- `walk::is_carry_due` meets its contract. Assumes nothing.
-use borrow.Author.Needs.{needs}
-use borrow.Author.Tests.{lt-ltb, le-ltb}
+use Rattle.laws.proofs.Prelude.{needs, lt-ltb, le-ltb}
 use Rattle.tile_layers.proofs.walk.is_carry_due.Statement.{statement}
 use Rattle.tile_layers.proofs.walk.is_carry_due.Tie as tie
 

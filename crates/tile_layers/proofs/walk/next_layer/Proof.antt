@@ -1,16 +1,6 @@
 -- `walk::next_layer` meets its contract: a carry comes next, or a group and a carry with it where one is due. Assumes nothing.
-use mathlib.Core.Path.{_≡_, sym, _∙_}
-use mathlib.Core.Bool.{Bool, true, false, false≢true, _&&_}
-use mathlib.Core.List.{[]}
-use mathlib.Core.Logic.{⊎-elim}
-use Prim.Native.Nat.{_≤_, _<_}
-use native.Mathlib.Omega.{arith}
-use borrow.Author.Needs.{needs}
-use borrow.Author.Tests.{ltb-true}
-use lib.Dec.{ltb, leb}
-use lib.ListN.{getD}
-use mir.Val.{boolByte}
-use Rattle.laws.proofs.Bools.{left}
+use Rattle.laws.proofs.Prelude.{_≡_, sym, _∙_, Bool, true, false, false≢true, _&&_, [], ⊎-elim, _≤_, _<_, arith, needs, ltb-true, ltb, leb, getD}
+use Rattle.laws.proofs.Prelude.{boolByte, left}
 use Rattle.pixel_segment.specs.Field.{cpu, layerIdOf}
 use Rattle.tile_layers.proofs.Runs.{group-at}
 use Rattle.tile_layers.proofs.Steps.{only-carry, lower-carry, group-next, group-moved}

@@ -1,11 +1,6 @@
 -- `painting::paint_columns` meets its contract: the columns are lent as far as they count.
 -- Assumes nothing.
-use mathlib.Core.Path.{sym}
-use Prim.Native.Nat.{_*_}
-use native.Mathlib.Omega.{arith}
-use borrow.Author.Needs.{needs}
-use lib.Seq.{length-take-le}
-use mir.Facts.{toZ-ofZ}
+use Rattle.laws.proofs.Prelude.{sym, _*_, arith, needs, length-take-le, toZ-ofZ}
 use Rattle.row_statements.specs.Lent.{lentTable}
 use Rattle.row_statements.specs.State.{stateIn}
 use Rattle.row_statements.specs.Painting.{paintCall}

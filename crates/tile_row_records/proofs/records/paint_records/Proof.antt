@@ -1,6 +1,5 @@
 -- `records::paint_records` meets its contract: the records have the columns. Assumes nothing.
-use borrow.Author.Needs.{needs}
-use mir.Facts.{toZ-ofZ}
+use Rattle.laws.proofs.Prelude.{needs, toZ-ofZ}
 use Rattle.tile_row_records.proofs.records.paint_records.Statement.{statement}
 use Rattle.tile_row_records.proofs.records.paint_records.Tie as tie
 

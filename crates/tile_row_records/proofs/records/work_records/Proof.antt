@@ -1,6 +1,5 @@
 -- `records::work_records` meets its contract: the records have the columns. Assumes nothing.
-use borrow.Author.Needs.{needs}
-use mir.Facts.{toZ-ofZ}
+use Rattle.laws.proofs.Prelude.{needs, toZ-ofZ}
 use Rattle.tile_row_records.proofs.records.work_records.Statement.{statement}
 use Rattle.tile_row_records.proofs.records.work_records.Tie as tie
 

@@ -1,7 +1,5 @@
 -- `tile_unchanged::item::item_at` meets its contract. Assumes nothing.
-use mathlib.Core.Path.{sym, _∙_}
-use native.Mathlib.Omega.{arith}
-use borrow.Author.Needs.{needs}
+use Rattle.laws.proofs.Prelude.{sym, _∙_, arith, needs}
 use Rattle.layer_table.specs.Table.{tableOf}
 use Rattle.layer_table.proofs.Looking.{at-place, at-none}
 use Rattle.pass_statements.specs.Entry.{entryAt}

@@ -1,5 +1,5 @@
 -- `tile_unchanged::item::item_for` meets its contract. Assumes nothing.
-use borrow.Author.Needs.{needs}
+use Rattle.laws.proofs.Prelude.{needs}
 use Rattle.tile_unchanged.proofs.item.item_for.Statement.{statement}
 use Rattle.tile_unchanged.proofs.item.item_for.Tie as tie
 

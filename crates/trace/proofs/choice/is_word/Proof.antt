@@ -1,8 +1,5 @@
 -- `is_word` is safe and ends: nothing has to hold from turn to turn, and the measure is what is left to do. Assumes nothing.
-use Prim.Native.Nat.{_-_}
-use borrow.Author.Needs.{needs}
-use native.Mathlib.Omega.{arith}
-use lib.ListN.{length}
+use Rattle.laws.proofs.Prelude.{_-_, needs, arith, length}
 use Rattle.trace.proofs.choice.is_word.Statement.{statement}
 use Rattle.trace.proofs.choice.is_word.Tie as tie
 

@@ -1,8 +1,5 @@
 -- `front` is safe and ends. Assumes nothing.
-use mathlib.Core.Path.{sym}
-use native.Mathlib.Omega.{arith}
-use borrow.Author.Needs.{needs}
-use lib.Seq.{length-take-le}
+use Rattle.laws.proofs.Prelude.{sym, arith, needs, length-take-le}
 use Rattle.trace.proofs.frame.front.Statement.{statement}
 use Rattle.trace.proofs.frame.front.Tie as tie
 

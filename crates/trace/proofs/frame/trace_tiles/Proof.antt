@@ -1,7 +1,5 @@
 -- `trace_tiles` is safe and ends: nothing has to hold from turn to turn, and the measure is what is left to do. Assumes nothing.
-use Prim.Native.Nat.{_-_}
-use borrow.Author.Needs.{needs}
-use native.Mathlib.Omega.{arith}
+use Rattle.laws.proofs.Prelude.{_-_, needs, arith}
 use Rattle.trace.proofs.frame.trace_tiles.Statement.{statement}
 use Rattle.trace.proofs.frame.trace_tiles.Tie as tie
 

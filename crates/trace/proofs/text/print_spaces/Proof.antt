@@ -1,8 +1,5 @@
 -- `print_spaces` is safe and ends. Assumes nothing.
-use mathlib.Core.Path.{sym}
-use native.Mathlib.Omega.{arith}
-use borrow.Author.Needs.{needs}
-use lib.Seq.{length-take-le}
+use Rattle.laws.proofs.Prelude.{sym, arith, needs, length-take-le}
 use Rattle.trace.proofs.text.print_spaces.Statement.{statement}
 use Rattle.trace.proofs.text.print_spaces.Tie as tie
 

@@ -1,6 +1,5 @@
 -- `wide` is safe and ends. Assumes nothing.
-use borrow.Author.Needs.{needs}
-use mir.Facts.{toZ-ofZ, sfits-widen}
+use Rattle.laws.proofs.Prelude.{needs, toZ-ofZ, sfits-widen}
 use Rattle.trace.proofs.text.wide.Statement.{statement}
 use Rattle.trace.proofs.text.wide.Tie as tie
 

@@ -1,16 +1,6 @@
 -- `weight::column::column_areas` meets its contract. Assumes nothing.
-use mathlib.Core.Path.{_≡_, sym}
-use Prim.Native.Nat.{_-_, _^_, _<_}
-use native.Mathlib.Omega.{arith}
-use borrow.Author.Needs.{needs, sfits-of}
-use lib.IntN.{ℤ, pos, _*ℤ_}
-use lib.ListN.{length}
-use lib.Signed.{mag}
-use mir.Facts.{toZ-ofZ, sfits-widen}
-use mir.Syntax.{w8, w16}
-use mir.Val.{SFits}
-use Rattle.laws.proofs.Machine.{sfits, within, kept}
-use Rattle.laws.proofs.Parts.{times}
+use Rattle.laws.proofs.Prelude.{_≡_, sym, _-_, _^_, _<_, arith, needs, sfits-of, ℤ, pos, _*ℤ_, length, mag, toZ-ofZ, sfits-widen, w8, w16, SFits}
+use Rattle.laws.proofs.Prelude.{sfits, within, kept, times}
 use Rattle.cover_statements.specs.Cover.{coverAt}
 use Rattle.cover_statements.proofs.Mapped.{Mapping, map-start, map-next, map-whole}
 use Rattle.weight.proofs.column.column_areas.Statement.{statement}

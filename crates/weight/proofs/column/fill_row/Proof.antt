@@ -1,7 +1,5 @@
 -- `weight::column::fill_row` meets its contract. Assumes nothing.
-use mathlib.Core.Path.{refl}
-use Prim.Native.Nat.{_-_}
-use native.Mathlib.Omega.{arith}
+use Rattle.laws.proofs.Prelude.{refl, _-_, arith}
 use Rattle.cover_statements.proofs.PlaneRows.{Row, row-start, row-next, row-end}
 use Rattle.weight.proofs.column.fill_row.Statement.{statement}
 use Rattle.weight.proofs.column.fill_row.Tie as tie

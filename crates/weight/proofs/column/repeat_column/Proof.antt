@@ -1,8 +1,5 @@
 -- `weight::column::repeat_column` meets its contract. Assumes nothing.
-use Prim.Native.Nat.{_-_}
-use native.Mathlib.Omega.{arith}
-use lib.Ieee.{nan}
-use lib.ListN.{length, getD}
+use Rattle.laws.proofs.Prelude.{_-_, arith, nan, length, getD}
 use Rattle.cover_statements.proofs.PlaneRows.{PlaneRows, rows-start, rows-room, rows-next, rows-end}
 use Rattle.weight.proofs.column.repeat_column.Statement.{statement}
 use Rattle.weight.proofs.column.repeat_column.Tie as tie

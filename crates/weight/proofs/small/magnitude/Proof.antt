@@ -1,11 +1,5 @@
 -- `weight::small::magnitude` meets its contract. Assumes nothing.
-use native.Mathlib.Omega.{arith}
-use lib.IntN.{pos, natAbs, _-ℤ_}
-use mir.Facts.{toZ-ofZ}
-use mir.Syntax.{w16}
-use mir.Val.{SFits}
-use Rattle.laws.proofs.Machine.{sfits}
-use Rattle.laws.proofs.Parts.{equal, whole, taken, lt-true, lt-false}
+use Rattle.laws.proofs.Prelude.{arith, pos, natAbs, _-ℤ_, toZ-ofZ, w16, SFits, sfits, equal, whole, taken, lt-true, lt-false}
 use Rattle.weight.proofs.small.magnitude.Statement.{statement}
 use Rattle.weight.proofs.small.magnitude.Tie as tie
 

@@ -1,13 +1,5 @@
 -- `weight::small::non_zero` meets its contract. Assumes nothing.
-use mathlib.Core.Path.{_≡_, ap, _∙_}
-use Prim.Native.Nat.{min}
-use native.Mathlib.Omega.{arith}
-use borrow.Author.Needs.{needs}
-use borrow.Author.Tests.{ltb-true, ltb-false}
-use lib.IntN.{pos, natAbs}
-use mir.Facts.{toZ-ofZ}
-use mir.Syntax.{w16}
-use Rattle.laws.proofs.Machine.{kept}
+use Rattle.laws.proofs.Prelude.{_≡_, ap, _∙_, min, arith, needs, ltb-true, ltb-false, pos, natAbs, toZ-ofZ, w16, kept}
 use Rattle.weight.proofs.small.non_zero.Statement.{statement}
 use Rattle.weight.proofs.small.non_zero.Tie as tie
 

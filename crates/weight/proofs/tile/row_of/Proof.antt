@@ -1,14 +1,6 @@
 -- `weight::tile::row_of` meets its contract. Assumes nothing.
-use mathlib.Core.Path.{_≡_, refl, _∙_}
-use Prim.Native.Nat.{ℕ, _+_, _*_, _-_, _≤_, _<_}
-use native.Mathlib.Omega.{arith}
-use lib.Arith.{digits-lt}
-use lib.IntN.{ℤ, pos}
-use lib.ListN.{length, replicate, length-replicate}
-use mir.Syntax.{w16}
-use Rattle.laws.proofs.Machine.{kept}
-use Rattle.laws.proofs.Rows.{filled, filled-more, length-tabulate, getD-tabulate}
-use Rattle.laws.specs.Lists.{tabulate}
+use Rattle.laws.proofs.Prelude.{_≡_, refl, _∙_, ℕ, _+_, _*_, _-_, _≤_, _<_, arith, digits-lt, ℤ, pos, length, replicate, length-replicate, w16, kept}
+use Rattle.laws.proofs.Prelude.{filled, filled-more, length-tabulate, getD-tabulate, tabulate}
 use Rattle.cover_statements.specs.Cover.{coverAt}
 use Rattle.cover_statements.proofs.Filled.{filled-whole}
 use Rattle.weight.proofs.tile.row_of.Statement.{statement}

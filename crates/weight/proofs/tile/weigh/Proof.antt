@@ -1,5 +1,5 @@
 -- `weight::tile::weigh` meets its contract. Assumes nothing.
-use borrow.Author.Needs.{needs}
+use Rattle.laws.proofs.Prelude.{needs}
 use Rattle.weight.proofs.tile.weigh.Statement.{statement}
 use Rattle.weight.proofs.tile.weigh.Tie as tie
 

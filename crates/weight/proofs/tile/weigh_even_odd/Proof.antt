@@ -1,12 +1,5 @@
 -- `weight::tile::weigh_even_odd` meets its contract. Assumes nothing.
-use mathlib.Core.Path.{_≡_, refl, ap, _∙_}
-use Prim.Native.Nat.{_-_}
-use native.Mathlib.Omega.{arith}
-use lib.IntN.{ℤ, pos}
-use lib.ListN.{length, getD}
-use mir.Facts.{toZ-pos}
-use mir.Syntax.{w16}
-use Rattle.laws.proofs.Machine.{kept, small}
+use Rattle.laws.proofs.Prelude.{_≡_, refl, ap, _∙_, _-_, arith, ℤ, pos, length, getD, toZ-pos, w16, kept, small}
 use Rattle.styling.specs.declared.FillRule.the-variants.{EvenOdd}
 use Rattle.cover_statements.specs.Weight.{evenOddOf}
 use Rattle.cover_statements.specs.InnerWeighed.{weightIn}

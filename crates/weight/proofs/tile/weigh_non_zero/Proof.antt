@@ -1,12 +1,5 @@
 -- `weight::tile::weigh_non_zero` meets its contract. Assumes nothing.
-use mathlib.Core.Path.{_≡_, refl, _∙_}
-use Prim.Native.Nat.{_-_}
-use native.Mathlib.Omega.{arith}
-use lib.IntN.{pos}
-use lib.ListN.{length, getD}
-use mir.Syntax.{w16}
-use mir.Val.{toZ, ofZ}
-use Rattle.laws.proofs.Machine.{kept}
+use Rattle.laws.proofs.Prelude.{_≡_, refl, _∙_, _-_, arith, pos, length, getD, w16, toZ, ofZ, kept}
 use Rattle.styling.specs.declared.FillRule.the-variants.{NonZero}
 use Rattle.cover_statements.specs.InnerWeighed.{weightIn}
 use Rattle.cover_statements.proofs.Mapped.{Mapping, map-start, map-rest, map-next, map-whole}

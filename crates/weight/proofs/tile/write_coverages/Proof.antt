@@ -1,11 +1,5 @@
 -- `weight::tile::write_coverages` meets its contract. Assumes nothing.
-use Prim.Native.Nat.{_-_}
-use native.Mathlib.Omega.{arith}
-use lib.IntN.{pos}
-use lib.ListN.{length, getD}
-use mir.Syntax.{w16}
-use Rattle.laws.proofs.Machine.{kept, unsigned}
-use Rattle.laws.proofs.Parts.{whole}
+use Rattle.laws.proofs.Prelude.{_-_, arith, pos, length, getD, w16, kept, unsigned, whole}
 use Rattle.cover_statements.specs.InnerWeighed.{coverageIn}
 use Rattle.cover_statements.proofs.Mapped.{Mapping, map-start, map-next, map-end}
 use Rattle.weight.proofs.tile.write_coverages.Statement.{statement}

@@ -1,8 +1,5 @@
 -- `weight::tile::write_even_odd` meets its contract. Assumes nothing.
-use Prim.Native.Nat.{_+_, _*_, _-_}
-use native.Mathlib.Omega.{arith}
-use lib.Ieee.{nan}
-use lib.ListN.{getD}
+use Rattle.laws.proofs.Prelude.{_+_, _*_, _-_, arith, nan, getD}
 use Rattle.styling.specs.declared.FillRule.the-variants.{EvenOdd}
 use Rattle.cover_statements.specs.InnerWeighed.{weightsOf, coveragesIn}
 use Rattle.cover_statements.proofs.PlaneRows.{PlaneRows, rows-start, rows-room, rows-next, rows-end}

@@ -1,12 +1,5 @@
 -- `weight::tile::write_even_odd_row` meets its contract. Assumes nothing.
-use mathlib.Core.Path.{_≡_, refl, sym, ap, _∙_}
-use Prim.Native.Nat.{_+_, _*_, _-_}
-use native.Mathlib.Omega.{arith}
-use lib.Ieee.{nan}
-use lib.IntN.{ℤ, pos}
-use lib.ListN.{length, getD, length-map}
-use mir.Syntax.{w16}
-use Rattle.laws.proofs.Machine.{kept}
+use Rattle.laws.proofs.Prelude.{_≡_, refl, sym, ap, _∙_, _+_, _*_, _-_, arith, nan, ℤ, pos, length, getD, length-map, w16, kept}
 use Rattle.styling.specs.declared.FillRule.the-variants.{EvenOdd}
 use Rattle.cover_statements.specs.Coverage.{coverageOf}
 use Rattle.cover_statements.specs.Weight.{evenOddOf}

@@ -1,10 +1,5 @@
 -- `weight::tile::write_plane` meets its contract. Assumes nothing.
-use mathlib.Core.Path.{ap, _∙_}
-use mathlib.Core.List.{List}
-use Prim.Native.Nat.{_+_, _*_, _-_}
-use native.Mathlib.Omega.{arith}
-use lib.Ieee.{Float, nan}
-use lib.ListN.{getD}
+use Rattle.laws.proofs.Prelude.{ap, _∙_, List, _+_, _*_, _-_, arith, Float, nan, getD}
 use Rattle.cover_statements.specs.InnerWeighed.{coveragesIn, putRow}
 use Rattle.cover_statements.proofs.PlaneRows.{PlaneRows, rows-start, rows-room, rows-next, rows-end}
 use Rattle.weight.proofs.WeightRows.{long, row-weighed, row-coverages}

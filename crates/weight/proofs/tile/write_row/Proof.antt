@@ -1,15 +1,5 @@
 -- `weight::tile::write_row` meets its contract. Assumes nothing.
-use mathlib.Core.Path.{refl, sym, ap, _∙_}
-use mathlib.Core.List.{List}
-use Prim.Native.Nat.{_-_}
-use native.Mathlib.Omega.{arith}
-use lib.Ieee.{Float, nan}
-use lib.IntN.{pos}
-use lib.ListN.{getD, length-map}
-use mir.Syntax.{w16}
-use Rattle.laws.proofs.Machine.{kept, unsigned}
-use Rattle.laws.proofs.Parts.{whole}
-use Rattle.laws.proofs.Rows.{is-tabulate}
+use Rattle.laws.proofs.Prelude.{refl, sym, ap, _∙_, List, _-_, arith, Float, nan, pos, getD, length-map, w16, kept, unsigned, whole, is-tabulate}
 use Rattle.cover_statements.specs.InnerWeighed.{coverageIn, coveragesIn, putRow}
 use Rattle.cover_statements.proofs.PlaneRows.{Row, row-start, row-next, row-end}
 use Rattle.cover_statements.proofs.Weighings.{map-lt}

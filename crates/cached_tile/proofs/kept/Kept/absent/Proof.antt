@@ -1,7 +1,6 @@
 -- `cached_tile::kept::Kept::absent` meets its contract.
 -- Assumes nothing.
-use mathlib.Core.Path.{refl}
-use borrow.Author.Needs.{needs}
+use Rattle.laws.proofs.Prelude.{refl, needs}
 use Rattle.cached_tile.proofs.kept.Kept.absent.Statement.{statement}
 use Rattle.cached_tile.proofs.kept.Kept.absent.Tie as tie
 

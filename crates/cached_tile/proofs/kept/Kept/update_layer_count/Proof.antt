@@ -1,7 +1,6 @@
 -- `cached_tile::kept::Kept::update_layer_count` meets its contract.
 -- Assumes nothing.
-use mathlib.Core.Path.{refl}
-use borrow.Author.Needs.{needs}
+use Rattle.laws.proofs.Prelude.{refl, needs}
 use Rattle.cached_tile.proofs.kept.Kept.update_layer_count.Statement.{statement}
 use Rattle.cached_tile.proofs.kept.Kept.update_layer_count.Tie as tie
 

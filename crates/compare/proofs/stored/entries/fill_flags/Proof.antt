@@ -1,9 +1,5 @@
 -- `entries::fill_flags` is safe and ends. Assumes nothing.
-use mathlib.Core.Path.{_≡_, refl, _∙_}
-use Prim.Native.Nat.{_-_}
-use native.Mathlib.Omega.{arith}
-use borrow.Author.Needs.{needs}
-use lib.ListN.{length, length-set}
+use Rattle.laws.proofs.Prelude.{_≡_, refl, _∙_, _-_, arith, needs, length, length-set}
 use Rattle.compare.proofs.stored.entries.fill_flags.Statement.{statement}
 use Rattle.compare.proofs.stored.entries.fill_flags.Tie as tie
 

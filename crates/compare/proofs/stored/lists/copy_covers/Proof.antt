@@ -1,8 +1,5 @@
 -- `lists::copy_covers` is safe and ends. Assumes nothing.
-use mathlib.Core.Path.{_≡_, refl, _∙_}
-use Prim.Native.Nat.{_-_}
-use native.Mathlib.Omega.{arith}
-use lib.ListN.{length, length-set}
+use Rattle.laws.proofs.Prelude.{_≡_, refl, _∙_, _-_, arith, length, length-set}
 use Rattle.compare.proofs.stored.lists.copy_covers.Statement.{statement}
 use Rattle.compare.proofs.stored.lists.copy_covers.Tie as tie
 

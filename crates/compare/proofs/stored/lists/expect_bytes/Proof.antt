@@ -1,8 +1,5 @@
 -- `lists::expect_bytes` is safe and ends. Assumes nothing.
-use Prim.Native.Nat.{_-_}
-use native.Mathlib.Omega.{arith}
-use borrow.Author.Needs.{needs}
-use lib.ListN.{length}
+use Rattle.laws.proofs.Prelude.{_-_, arith, needs, length}
 use Rattle.compare.proofs.stored.lists.expect_bytes.Statement.{statement}
 use Rattle.compare.proofs.stored.lists.expect_bytes.Tie as tie
 

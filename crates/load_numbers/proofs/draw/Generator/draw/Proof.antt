@@ -1,5 +1,5 @@
 -- `draw` meets its contract. Assumes nothing.
-use borrow.Author.Needs.{needs}
+use Rattle.laws.proofs.Prelude.{needs}
 use Rattle.load_statements.specs.Draw.{next}
 use Rattle.load_numbers.proofs.draw.Generator.draw.Statement.{statement}
 use Rattle.load_numbers.proofs.draw.Generator.draw.Tie as tie

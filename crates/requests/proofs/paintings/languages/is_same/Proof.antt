@@ -1,8 +1,5 @@
 -- `languages::is_same` is safe and ends. Assumes nothing.
-use mathlib.Core.Path.{_≡_}
-use Prim.Native.Nat.{_-_}
-use native.Mathlib.Omega.{arith}
-use lib.ListN.{length}
+use Rattle.laws.proofs.Prelude.{_≡_, _-_, arith, length}
 use Rattle.requests.proofs.paintings.languages.is_same.Statement.{statement}
 use Rattle.requests.proofs.paintings.languages.is_same.Tie as tie
 

@@ -1,6 +1,5 @@
 -- `planes::are_all` is safe and ends. Assumes nothing.
-use Prim.Native.Nat.{_-_, _≤_}
-use native.Mathlib.Omega.{arith}
+use Rattle.laws.proofs.Prelude.{_-_, _≤_, arith}
 use Rattle.requests.proofs.paintings.planes.are_all.Statement.{statement}
 use Rattle.requests.proofs.paintings.planes.are_all.Tie as tie
 

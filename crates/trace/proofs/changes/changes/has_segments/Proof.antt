@@ -1,8 +1,5 @@
 -- `has_segments` is safe and ends: nothing has to hold from turn to turn, and the measure is what is left to do. Assumes nothing.
-use Prim.Native.Nat.{_-_}
-use borrow.Author.Needs.{needs}
-use native.Mathlib.Omega.{arith}
-use lib.ListN.{length}
+use Rattle.laws.proofs.Prelude.{_-_, needs, arith, length}
 use Rattle.trace.proofs.changes.changes.has_segments.Statement.{statement}
 use Rattle.trace.proofs.changes.changes.has_segments.Tie as tie
 

@@ -1,7 +1,5 @@
 -- `are_alike` is safe and ends: nothing has to hold from turn to turn, and the measure is what is left to do. Assumes nothing.
-use Prim.Native.Nat.{_-_}
-use borrow.Author.Needs.{needs}
-use native.Mathlib.Omega.{arith}
+use Rattle.laws.proofs.Prelude.{_-_, needs, arith}
 use Rattle.trace.proofs.text.planes.are_alike.Statement.{statement}
 use Rattle.trace.proofs.text.planes.are_alike.Tie as tie
 

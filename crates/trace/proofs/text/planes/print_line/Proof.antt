@@ -1,9 +1,5 @@
 -- `print_line` is safe and ends: nothing has to hold from turn to turn, and the measure is what is left to do. Assumes nothing.
-use mathlib.Core.Path.{_≡_, refl}
-use Prim.Native.Nat.{_-_}
-use lib.ListN.{length, length-set}
-use borrow.Author.Needs.{needs}
-use native.Mathlib.Omega.{arith}
+use Rattle.laws.proofs.Prelude.{_≡_, refl, _-_, length, length-set, needs, arith}
 use Rattle.trace.proofs.text.planes.print_line.Statement.{statement}
 use Rattle.trace.proofs.text.planes.print_line.Tie as tie
 

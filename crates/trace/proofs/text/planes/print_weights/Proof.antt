@@ -1,7 +1,5 @@
 -- `print_weights` is safe and ends: nothing has to hold from turn to turn, and the measure is what is left to do. Assumes nothing.
-use Prim.Native.Nat.{_-_}
-use borrow.Author.Needs.{needs}
-use native.Mathlib.Omega.{arith}
+use Rattle.laws.proofs.Prelude.{_-_, needs, arith}
 use Rattle.trace.proofs.text.planes.print_weights.Statement.{statement}
 use Rattle.trace.proofs.text.planes.print_weights.Tie as tie
 
