@@ -8,7 +8,7 @@ use tile_rows::{Carry, Cover, Listed, Refusal};
 use super::{
     super::support::driven::Tile,
     colors, composed,
-    document::{escaped, term},
+    document::{escaped, term, term_as},
     input::Input,
     pictures,
 };
@@ -128,14 +128,16 @@ fn legend() -> String {
     format!(
         "<p class=\"legend\"><span class=\"cell shown\"></span> shown \
          <span class=\"cell masked\"></span> {} <span class=\"cell passed\"></span> {} as covered \
-         <span class=\"cell shown\"><i></i></span> with segments in the {}. An arrow is a {}. \
+         <span class=\"cell shown\"><i></i></span> with segments in the {}. An arrow is a {}, 16 {}. \
          <span class=\"keys\">Choose a tile by mouse, or by <kbd>←</kbd> <kbd>→</kbd> <kbd>Home</kbd> <kbd>End</kbd>; \
-         <kbd>A</kbd> shows all.</span> The numbers of a pixel: point at a coverage, or go to it by <kbd>Tab</kbd> and the arrow keys. \
+         <kbd>A</kbd> shows all. What is longer than its box scrolls.</span> The numbers of a pixel, {} and its weight: point at a coverage, or go to it by <kbd>Tab</kbd> and the arrow keys. \
          <span class=\"needs-script\">Choosing a tile and the numbers of a pixel need a script: without it all tiles are shown, and \
          <code>trace JOB areas</code> prints the numbers.</span></p>\n",
         term("masked off"),
         term("passed over"),
         term("tile"),
-        term("carry")
+        term("carry"),
+        term_as("cover", "covers"),
+        term("d")
     )
 }

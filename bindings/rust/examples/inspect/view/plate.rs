@@ -85,7 +85,7 @@ fn picture(rows: &[PlateRow], is_figure: bool) -> String {
 
 fn line(row: &PlateRow) -> String {
     let (name, address) = (escaped(&row.name), escaped(&row.address));
-    let mut text = format!("<tr><th><a href=\"{address}\">{name}</a></th>");
+    let mut text = format!("<tr><th title=\"{name}\"><a href=\"{address}\">{name}</a></th>");
     match &row.worked {
         Err(refusal) => {
             write!(text, "<td colspan=\"99\">refused {}: {}</td>", refusal.number(), escaped(refusal.meaning()))

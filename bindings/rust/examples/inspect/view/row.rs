@@ -27,7 +27,9 @@ pub fn page(name: &str, manual: &str, text: &[u8], range: Option<Range<i32>>) ->
 
 /// The page of a row of any source; `plate` is where the page of its plate is.
 pub fn row_page(name: &str, manual: &str, input: &Input, plate: Option<&str>) -> String {
-    let back = plate.map_or(String::new(), |plate| format!("<p><a href=\"{plate}\">The whole plate</a></p>\n"));
+    let back = plate.map_or(String::new(), |plate| {
+        format!("<p><a href=\"{plate}\">The whole plate</a>. Here the row is worked as if nothing had been kept of it.</p>\n")
+    });
     document::page(name, manual, &(back + &body(input, Some(input.due.clone()))))
 }
 
