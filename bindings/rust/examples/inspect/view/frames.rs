@@ -118,7 +118,8 @@ fn display_bytes(input: &Input, tile: &Tile) -> [u8; 4] {
     let byte = |linear: f32| {
         let linear = f64::from(linear);
         let curved = if linear <= 0.003_130_8 { 12.92 * linear } else { 1.055 * linear.powf(1.0 / 2.4) - 0.055 };
-        (curved * 255.0) as u8
+        // Cut and not rounded, but for what the curve itself is short of.
+        (curved * 255.0 + 1e-6) as u8
     };
     [byte(mixed[0]), byte(mixed[1]), byte(mixed[2]), 255]
 }
