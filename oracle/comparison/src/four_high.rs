@@ -9,6 +9,7 @@ use reference::{
 };
 
 use crate::{
+    exports,
     given::{Fields, Key},
     library::{self, UNTOUCHED},
     random::Random,
@@ -25,6 +26,8 @@ pub fn compare(tally: &mut Tally) {
     tally.random("four high: fields", fields);
     tally.random("four high: order", order);
     tally.random("four high: search_last_by_key", search);
+    tally.random("four high: rows", rows);
+    tally.random("four high: empty and full", empty_and_full);
     tally.random("four high: cover_carry", carry);
     tally.random("four high: paint_layer, one layer alone", paint);
 }
@@ -154,6 +157,52 @@ fn search(kind: &mut Kind) {
     let ours = library::gpu_search_last_by_key(&words, key);
     kind.note(if rust.is_ok() { "found" } else { "absent" });
     kind.case(ours == rust, || format!("{key:?} in {words:x?}: the Rust {rust:?}, the library {ours:?}"));
+}
+
+/// Words in any order, and in the Rust's: whether they ascend, and are a row of the first word's tile y or the next.
+fn rows(kind: &mut Kind) {
+    let mut words = words::any_row(&mut kind.random);
+    let random = &mut kind.random;
+    if random.once_in(2) {
+        let tile_y = random.word() & (0x1FFF << 51);
+        words.iter_mut().for_each(|word| *word = *word & (u64::MAX >> 13) | tile_y);
+    }
+    if !random.once_in(3) {
+        words.sort_by(|&a, &b| segment(a).cmp(&segment(b)));
+    }
+    let stored = words.first().map_or(0, |word| word >> 51) + u64::from(random.once_in(4));
+    let ascends = words.windows(2).all(|pair| segment(pair[0]) <= segment(pair[1]));
+    let is_row = ascends && words.iter().all(|&word| i64::from(segment(word).tile_y()) == stored as i64 - 1);
+    let ours = unsafe {
+        (
+            exports::ffi_gpu_does_ascend(words.as_ptr(), words.len()),
+            exports::ffi_gpu_is_row(words.as_ptr(), words.len(), stored),
+        )
+    };
+    kind.note(if is_row {
+        "a row"
+    } else if ascends {
+        "ascending, no row"
+    } else {
+        "descending"
+    });
+    kind.case(ours == (ascends, is_row), || format!("{words:x?}, {stored}: the library {ours:?}"));
+}
+
+/// A cover at this height beside one 16 high with the same rows: rows of 0 are empty, and the first row is repeated.
+fn empty_and_full(kind: &mut Kind) {
+    let cover = any_cover(&mut kind.random);
+    let rule = kind.random.below(2) as u32;
+    let mut repeated = [cover[0]; 16];
+    repeated[..4].copy_from_slice(&cover);
+    let at_sixteen = (library::is_empty(sixteen(cover), rule), library::is_full(repeated, rule));
+    let ours = unsafe { (exports::ffi_gpu_is_empty(&cover, rule), exports::ffi_gpu_is_full(&cover, rule)) };
+    kind.note(match ours {
+        (true, _) => "empty",
+        (_, true) => "full",
+        _ => "neither",
+    });
+    kind.case(ours == at_sixteen, || format!("{cover:?}, {rule}: at 16 {at_sixteen:?}, the library {ours:?}"));
 }
 
 /// Segments of one layer in one tile, in pixel rows 0 to 3: packed at both heights.
