@@ -98,12 +98,13 @@ fn a_browser_loads_the_page() {
 
 /// The pages that are asked below: rows, a row of a load, frames, a map.
 fn pages() -> Vec<(String, String)> {
-    let rows = ["example.job", "clip_that_is_used.job", "nine_kept_carry.job", "random_0.job"];
+    let rows = ["example.job", "clip_that_is_used.job", "nine_kept_carry.job", "load_0_16_128.job"];
     let mut pages: Vec<(String, String)> = stored::jobs()
         .into_iter()
         .filter(|(name, ..)| rows.contains(&name.as_str()))
         .map(|(name, text, _)| (format!("{name}.html"), view::page(&name, MANUAL, &text, None)))
         .collect();
+    assert_eq!(pages.len(), rows.len(), "each is a job file");
     let file = PathBuf::from(env!("CARGO_MANIFEST_DIR")).join("../../docs/tour/plate/part.outline");
     let figure = text::read(&fs::read_to_string(file).unwrap()).unwrap();
     let segments = figure.segments().unwrap();
