@@ -310,7 +310,8 @@ fn any_calls(kind: &mut Kind) {
     let random = &mut kind.random;
     let edges = [i32::MIN, -1, 0, 1, 2046, 2047, 4094, 4095, 4096, 8190, 8191, i32::MAX];
     let (tile_y, from, to) = (random.pick(&edges), random.pick(&edges), random.pick(&edges));
-    let (layer, rule) = (random.pick(&[LAYER, LAYER, LAYER, 2_097_151, 2_097_152, u32::MAX]), random.pick(&[0, 1, 1, 2, 7]));
+    let (layer, rule) =
+        (random.pick(&[LAYER, LAYER, LAYER, 2_097_151, 2_097_152, u32::MAX]), random.pick(&[0, 1, 1, 2, 7]));
     let call = Opening { tile_y, from, to, layer, rule };
     let is_bad = !(0..=8190).contains(&tile_y) || from < 0 || to < from || to > 4095;
     let row_y = if is_bad || random.once_in(3) { 7 } else { tile_y as i16 };
