@@ -18,7 +18,7 @@ use std::{
 use support::{driven::NAMES, outline::text};
 use view::{frames, histories, input::Input, plate};
 
-const MANUAL: &str = "docs/TOUR.md";
+const MANUAL: &str = "docs/MANUAL.md";
 
 /// The texts of elements of a class that hold no others.
 fn texts<'a>(page: &'a str, start: &str) -> Vec<&'a str> {

@@ -27,7 +27,7 @@ use view::{
     words::part,
 };
 
-const MANUAL: &str = "docs/TOUR.md";
+const MANUAL: &str = "docs/MANUAL.md";
 
 /// The jobs that are accepted, as rows.
 fn inputs() -> Vec<(String, Input)> {

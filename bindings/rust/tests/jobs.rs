@@ -11,7 +11,7 @@ mod stored;
 use std::{fs, path::PathBuf};
 
 /// Where the pages would find the manual.
-const MANUAL: &str = "docs/TOUR.md";
+const MANUAL: &str = "docs/MANUAL.md";
 
 #[test]
 fn each_job_gives_what_the_row_program_prints() {
@@ -72,7 +72,7 @@ fn the_tours_pages_are_the_inspectors() {
     for name in ["carry_to_the_right", "covered_carry_to_the_right", "equal_keys"] {
         let file = format!("{name}.job");
         let text = fs::read(stored::path("data").join(&file)).unwrap();
-        let page = view::page(&format!("crates/jobs/data/{file}"), "../../TOUR.md", &text, None);
+        let page = view::page(&format!("crates/jobs/data/{file}"), "../../MANUAL.md", &text, None);
         let kept = PathBuf::from(env!("CARGO_MANIFEST_DIR")).join(format!("../../docs/tour/pages/{name}.html"));
         assert!(fs::read_to_string(kept).unwrap() == page, "{name}: `inspect {file}` makes another page");
         let tour = fs::read_to_string(stored::path("../../docs/TOUR.md")).unwrap();
@@ -87,7 +87,7 @@ fn the_tours_pages_right_beside_wrong_are_of_its_traces() {
     let read = |name: String| fs::read_to_string(tour.join(name)).unwrap();
     for name in ["carry_not_handed_on", "covered_carry_lost", "first_equal_key"] {
         let (right, wrong) = (read(format!("traces/{name}.right")), read(format!("traces/{name}.wrong")));
-        let page = view::beside::page(name, "../../TOUR.md", &right, &wrong);
+        let page = view::beside::page(name, "../../MANUAL.md", &right, &wrong);
         assert!(read(format!("pages/{name}.html")) == page, "{name}: docs/tour/make makes another page");
         assert!(page.contains("class=\"block differs\"") && page.contains("<tr class=\"differs\">"), "{name}");
         assert!(

@@ -218,7 +218,8 @@ fn formatted(text: &str) -> String {
 
 fn header(exports: &[Export]) -> String {
     let mut text = format!("/* {MADE} */\n\n{C_HEAD}");
-    text += "\n/* The number of the exports that stand here; ffi_version tells the number of those that are linked. */\n";
+    text +=
+        "\n/* The number of the exports that stand here; ffi_version tells the number of those that are linked. */\n";
     writeln!(text, "#define TILE_ROWS_VERSION {}", version()).unwrap();
     for export in exports {
         let told = export.told().join("\n   ");

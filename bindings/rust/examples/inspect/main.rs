@@ -18,11 +18,11 @@ const USE: &str = "usage: inspect [--manual PATH] ..., which writes a page to st
   inspect beside NAME RIGHT WRONG     two traces of one job, by the right program and by one made wrong
   inspect plate FOLDER JOB..          into FOLDER: index.html, a map of the rows' tiles, and a page for each row
   inspect plate FOLDER FIGURE [then FIGURE]   the same of a text of outlines (the example `outline`); with frames
-PATH is where the pages find docs/TOUR.md.";
+PATH is where the pages find docs/MANUAL.md.";
 
 fn main() -> ExitCode {
     let mut words: Vec<String> = env::args().skip(1).collect();
-    let mut manual = concat!(env!("CARGO_MANIFEST_DIR"), "/../../docs/TOUR.md").to_string();
+    let mut manual = concat!(env!("CARGO_MANIFEST_DIR"), "/../../docs/MANUAL.md").to_string();
     if words.len() > 1 && words[0] == "--manual" {
         manual = words.remove(1);
         words.remove(0);

@@ -2,7 +2,7 @@
 
 use tile_rows::Refusal;
 
-/// A whole page. `manual` is where docs/TOUR.md is, as the page links it.
+/// A whole page. `manual` is where docs/MANUAL.md is, as the page links it.
 pub fn page(name: &str, manual: &str, body: &str) -> String {
     let (name, words) = (escaped(name), explained(manual));
     format!(
@@ -33,41 +33,41 @@ pub fn term_as(word: &str, shown: &str) -> String {
     format!("<a class=\"term\" href=\"#word-{}\">{shown}</a>", word.replace(' ', "-"))
 }
 
-/// Words, what they mean, and the heading of the manual's section.
+/// Words, what they mean, and the manual's heading.
 const WORDS: [(&str, &str, &str); 10] = [
-    ("tile", "16 × 16 pixels of the plate. A row of tiles is worked from left to right.", "1-a-job-and-what-the-row-program-prints"),
-    ("segment", "A piece of an outline inside one pixel, packed into one word of 64 bits.", "2-one-segment"),
+    ("tile", "16 × 16 pixels of the plate. A row of tiles is worked from left to right.", "1. The painter"),
+    ("segment", "A piece of an outline inside one pixel, packed into one word of 64 bits.", "Segments"),
     (
         "cover",
         "How many sixteenths of a pixel an outline goes down (above 0) or up (below 0); for a pixel row, the sum of these.",
-        "2-one-segment",
+        "Covers and carries",
     ),
-    ("part", "The words of the row that belong to one tile: places a up to b, b excluded, written [a..b).", "3-the-row-cut-into-tiles"),
-    ("carry", "What a tile hands to its right neighbour for a layer: 16 covers, one for each pixel row.", "4-the-queue"),
+    ("part", "The words of the row that belong to one tile: places a up to b, b excluded, written [a..b).", "Segments"),
+    ("carry", "What a tile hands to its right neighbour for a layer: 16 covers, one for each pixel row.", "Covers and carries"),
     (
         "d",
         "The doubled area of a pixel: 32 × (cover from the left + covers further left in its row) + multiplier × cover of \
          its own segments. 512 is one whole pixel, once around.",
-        "5-from-segments-to-coverages",
+        "Coverage",
     ),
-    ("mark", "Which octets a draw uses, as 32 bits.", "5-from-segments-to-coverages"),
-    ("octet", "Eight pixels one below the other: half a column of a tile.", "5-from-segments-to-coverages"),
-    ("masked off", "Not painted since clips decide so: a draw that lacks its clip, or a clip that cuts nothing.", "6-the-list-and-the-three-passes"),
+    ("mark", "Which octets a draw uses, as 32 bits.", "Coverage"),
+    ("octet", "Eight pixels one below the other: half a column of a tile.", "Coverage"),
+    ("masked off", "Not painted since clips decide so: a draw that lacks its clip, or a clip that cuts nothing.", "The three passes"),
     (
         "passed over",
         "Not painted since an opaque layer above hides the whole tile. What is passed over or masked off is carried on \
          all the same.",
-        "6-the-list-and-the-three-passes",
+        "The three passes",
     ),
 ];
 
 fn explained(manual: &str) -> String {
     let manual = escaped(manual);
-    let one = |(word, meaning, section): (&str, &str, &str)| {
+    let one = |(word, meaning, heading): (&str, &str, &str)| {
         let id = word.replace(' ', "-");
+        let anchor = heading.to_lowercase().replace('.', "").replace(' ', "-");
         format!(
-            "<dt id=\"word-{id}\">{word}</dt><dd>{meaning} <a href=\"{manual}#{section}\">The manual, section {}</a></dd>\n",
-            section.split('-').next().unwrap_or_default()
+            "<dt id=\"word-{id}\">{word}</dt><dd>{meaning} <a href=\"{manual}#{anchor}\">The manual: {heading}</a></dd>\n"
         )
     };
     format!("<section class=\"words\"><h2>Words</h2>\n<dl>\n{}</dl></section>\n", WORDS.map(one).concat())

@@ -201,7 +201,7 @@ fn line(kept: &Kept) -> String {
         if kept.is_wrong() { ("wrong", "<b class=\"told\">kept with a wrong picture</b>") } else { ("", "") };
     let rule = match (tile.decision, by_rule) {
         (Decision::None, Decision::None) => "kept too".to_string(),
-        (Decision::None, other) => format!("<b>{}</b>: drawn afresh", other.word()),
+        (Decision::None, other) => format!("<b>{}</b><small>drawn afresh</small>", other.word()),
         (_, other) => other.word().to_string(),
     };
     format!(
