@@ -76,12 +76,14 @@ pub struct PaintedLayer<'a> {
 
 impl Batch {
     /// A batch that takes tiles until 128 planes are used: so many stay in a processor's nearer memory.
+    #[must_use]
     pub fn new() -> Batch {
         Batch::with_planes(128)
     }
 
     /// A batch that takes tiles until so many planes, or more, are used; 0 counts as 1. The last tile may use as many as
     /// the table has layers, 256 at most: for these there is room besides. A plane has 1 kB.
+    #[must_use]
     pub fn with_planes(planes: usize) -> Batch {
         Batch {
             wanted: planes.max(1),
@@ -95,6 +97,7 @@ impl Batch {
     }
 
     /// The tiles that were worked, from left to right.
+    #[must_use]
     pub fn tiles(&self) -> impl ExactSizeIterator<Item = BatchTile<'_>> + '_ {
         let (mut planes, mut painted) = (&self.planes[..], &self.painted[..]);
         (0..self.worked).map(move |place| {
@@ -143,12 +146,14 @@ fn taken_off<'a, T>(slice: &mut &'a [T], count: usize) -> &'a [T] {
 
 impl<'a> BatchTile<'a> {
     /// Where the tile is painted: its shown layers, ascending, with their coverages and marks.
+    #[must_use]
     pub fn painted(&self) -> impl DoubleEndedIterator<Item = PaintedLayer<'a>> + ExactSizeIterator + 'a {
         let layers = self.painted.iter().zip(self.planes);
         layers.map(|(&[id, mark], plane)| PaintedLayer { id, mark: Mark(mark), plane })
     }
 
     /// Where it is solid: the layers whose colours are mixed above the bottom colour, ascending.
+    #[must_use]
     pub fn mixed(&self) -> impl DoubleEndedIterator<Item = u32> + ExactSizeIterator + 'a {
         self.mixed.iter().map(|&[id, _]| id)
     }
@@ -186,12 +191,14 @@ impl Row<'_> {
     /// shorter the row is worked up to its end: [`NoRoom`](BatchEnd::NoRoom) without a tile says that it has none for
     /// the next. A solid tile is [settled](crate::settle) by its caller, after the batch.
     ///
+    /// After a batch [`incoming`](Row::incoming), [`carries`](Row::carries) and [`paint`](Row::paint) are those of its
+    /// last tile. The row keeps no list of it: [`listed`](Row::listed) is empty.
+    ///
+    /// # Errors
+    ///
     /// A tile that is turned down ends the batch before it: the row stands at this tile, and can be used on. So a call
     /// is refused only where its first tile is, by what `work` names, and leaves the row and `kept` as they were, while
     /// the batch is empty.
-    ///
-    /// After a batch [`incoming`](Row::incoming), [`carries`](Row::carries) and [`paint`](Row::paint) are those of its
-    /// last tile. The row keeps no list of it: [`listed`](Row::listed) is empty.
     pub fn work_tiles(
         &mut self,
         tiles: usize,
@@ -200,7 +207,7 @@ impl Row<'_> {
         batch: &mut Batch,
     ) -> Result<BatchEnd, Refusal> {
         let (number, [worked, _, queue, end, next]) = self.lend(tiles, frame, kept, batch);
-        Refusal::judge(number)?;
+        Refusal::judge(number).map_err(|refusal| self.refused(refusal, self.next_tile(), None))?;
         batch.worked = worked;
         if queue == 1 {
             mem::swap(&mut self.at.taken, &mut self.at.handed);
@@ -212,7 +219,10 @@ impl Row<'_> {
             0 => BatchEnd::Asked,
             1 => BatchEnd::RowEnd,
             2 => BatchEnd::NoRoom,
-            _ => BatchEnd::NextRefused(Refusal::judge(next as u32).expect_err("a refusal has a number")),
+            _ => {
+                let refusal = Refusal::judge(next as u32).expect_err("a refusal has a number");
+                BatchEnd::NextRefused(self.refused(refusal, self.next_tile(), None))
+            }
         })
     }
 

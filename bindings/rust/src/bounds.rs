@@ -2,7 +2,10 @@
 
 use std::ops::RangeInclusive;
 
-use crate::{exports, segment, Cover, FillRule, PixelSegment, Refusal};
+use crate::{
+    cause::{self, told},
+    exports, segment, Cause, Condition, Cover, FillRule, PixelSegment, Refusal,
+};
 
 /// The lowest and the highest doubled area that each pixel of one layer in one tile may see, and the least and the
 /// greatest weight over all whole numbers between them, by both rules. A weight is 512 times a coverage.
@@ -20,6 +23,7 @@ pub struct Bounded {
 
 impl Bounded {
     /// The bounds of a layer without segments and without a cover from the left: zeros.
+    #[must_use]
     pub fn new() -> Bounded {
         let weights = || Box::new([0; 256]);
         Bounded {
@@ -32,6 +36,8 @@ impl Bounded {
 
     /// Works out what a layer may cover in a tile: of its segments there, whose own covers are not read, a lowest and a
     /// highest cover for each of them, and the same of its cover from the left.
+    ///
+    /// # Errors
     ///
     /// Refused by 1 (fewer pairs than segments), 3 (a segment of another layer or tile), 14 (a lowest above its
     /// highest, or a segment's outside -32 to 31) and 9 (the covers of a pixel row, by the greater absolute value of
@@ -63,6 +69,15 @@ impl Bounded {
             least_e.as_mut_slice(),
             greatest_e.as_mut_slice(),
         ))
+        .map_err(|refusal| {
+            refusal.found(|condition| match condition {
+                Condition::Room => Some(Cause::FewBounds { pairs: told(bounds.len()), segments: told(part.len()) }),
+                Condition::Row => cause::part(part.iter().map(|one| one.fields()), layer_id, (tile_x, tile_y)),
+                Condition::Bounds => descending(&bounds[..part.len()], low, high),
+                Condition::Covers => too_large(layer_id, part, bounds, low, high),
+                _ => None,
+            })
+        })
     }
 
     /// The doubled areas that a pixel may see.
@@ -70,6 +85,7 @@ impl Bounded {
     /// # Panics
     ///
     /// Where the column or the row is above 15.
+    #[must_use]
     pub fn doubled_areas(&self, column: usize, row: usize) -> RangeInclusive<i16> {
         let place = place(column, row);
         self.lowest[place]..=self.highest[place]
@@ -80,10 +96,29 @@ impl Bounded {
     /// # Panics
     ///
     /// Where the column or the row is above 15.
+    #[must_use]
     pub fn weights(&self, column: usize, row: usize, rule: FillRule) -> RangeInclusive<u16> {
         let (place, rule) = (place(column, row), rule.code() as usize);
         self.least[rule][place]..=self.greatest[rule][place]
     }
+}
+
+/// 14: the first pair of bounds that is none, of the segments and then of the cover from the left.
+fn descending(bounds: &[[i8; 2]], low: &Cover, high: &Cover) -> Option<Cause> {
+    let of_segment = (0..).zip(bounds).find(|(_, &[low, high])| low > high || low < -32 || high > 31);
+    let of_segment = of_segment.map(|(segment, &[low, high])| Cause::SegmentBounds { segment, low, high });
+    of_segment.or_else(|| {
+        let row = (0..).zip(low.0.into_iter().zip(high.0)).find(|(_, (low, high))| low > high);
+        row.map(|(row, (low, high))| Cause::CoverBounds { row, low, high })
+    })
+}
+
+/// 9: the first pixel row in which the greater absolute values of the bounds sum above 127.
+fn too_large(layer: u32, part: &[PixelSegment], bounds: &[[i8; 2]], low: &Cover, high: &Cover) -> Option<Cause> {
+    let greater = |low: i8, high: i8| if low.unsigned_abs() > high.unsigned_abs() { low } else { high };
+    let carry: Vec<i8> = low.0.into_iter().zip(high.0).map(|(low, high)| greater(low, high)).collect();
+    let covers = part.iter().zip(bounds).map(|(one, &[low, high])| (layer, one.local_y(), greater(low, high)));
+    cause::covers([(layer, &carry[..])].into_iter(), covers)
 }
 
 /// Planes are laid out row by row.

@@ -1,14 +1,14 @@
 //! Cached tiles: what the last frame left of a tile.
 
-use std::slice;
+use std::{fmt, slice};
 
-use crate::{exports, Refusal};
+use crate::{exports, Cause, Refusal};
 
 /// What the last frame left of a tile: how many layers it listed, and the colour that it was filled with.
 ///
 /// Eight bytes: a tag (1 the colour is kept, 2 the count is kept), the count's three, lowest first, and the colour's
 /// four.
-#[derive(Clone, Copy, Debug, Default, PartialEq, Eq, Hash)]
+#[derive(Clone, Copy, Default, PartialEq, Eq, Hash)]
 #[repr(transparent)]
 pub struct CachedTile(pub [u8; 8]);
 
@@ -23,12 +23,14 @@ pub enum Settled {
 
 impl CachedTile {
     /// How many layers were listed, where that is kept.
+    #[must_use]
     pub fn layer_count(&self) -> Option<u32> {
         let mut count = 0;
         exports::layer_count(&self.0, &mut count).then_some(count)
     }
 
     /// The colour that the tile was filled with, where that is kept.
+    #[must_use]
     pub fn solid_color(&self) -> Option<[u8; 4]> {
         let mut color = [0; 4];
         exports::solid_color(&self.0, &mut color).then_some(color)
@@ -49,6 +51,15 @@ impl CachedTile {
     }
 }
 
+/// What is kept, and the bytes.
+impl fmt::Debug for CachedTile {
+    fn fmt(&self, f: &mut fmt::Formatter<'_>) -> fmt::Result {
+        let (count, color) = (self.layer_count(), self.solid_color());
+        let mut told = f.debug_struct("CachedTile");
+        told.field("layer_count", &count).field("solid_color", &color).field("bytes", &self.0).finish()
+    }
+}
+
 /// The bytes of cached tiles, in place, to be lent.
 #[allow(unsafe_code)]
 pub(crate) fn bytes_of(tiles: &mut [CachedTile]) -> &mut [u8] {
@@ -59,12 +70,20 @@ pub(crate) fn bytes_of(tiles: &mut [CachedTile]) -> &mut [u8] {
 }
 
 /// Settles a solid tile with its four display bytes. A cached tile keeps them; without one they are always to be
-/// written. Refused by 6 where the tag is above 3.
+/// written.
+///
+/// Only a tile that was decided as [`Solid`](crate::Decision::Solid) is settled: a painted one is filled with no bytes,
+/// and counts as filled with them afterwards.
+///
+/// # Errors
+///
+/// Refused by 6 where the tag is above 3.
 pub fn settle(cached: Option<&mut CachedTile>, color: [u8; 4]) -> Result<Settled, Refusal> {
     let mut none = CachedTile::default();
     let given = cached.is_some();
     let tile = cached.unwrap_or(&mut none);
     let mut is_written = false;
-    Refusal::judge(exports::settle(given, &mut tile.0, &color, &mut is_written))?;
+    Refusal::judge(exports::settle(given, &mut tile.0, &color, &mut is_written))
+        .map_err(|refusal| refusal.found(|_| Some(Cause::Tag { tag: tile.0[0] })))?;
     Ok(if is_written { Settled::Write } else { Settled::Keep })
 }

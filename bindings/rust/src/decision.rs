@@ -1,5 +1,7 @@
 //! What is to be done with a tile.
 
+use std::fmt;
+
 use crate::Color;
 
 /// What is to be done with a tile that was worked.
@@ -21,11 +23,19 @@ pub enum Decision {
 
 impl Decision {
     /// The word that the row program prints.
+    #[must_use]
     pub const fn word(&self) -> &'static str {
         match self {
             Decision::None => "none",
             Decision::Solid { .. } => "solid",
             Decision::Paint => "paint",
         }
+    }
+}
+
+/// The word that the row program prints.
+impl fmt::Display for Decision {
+    fn fmt(&self, f: &mut fmt::Formatter<'_>) -> fmt::Result {
+        f.pad(self.word())
     }
 }

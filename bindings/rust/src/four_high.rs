@@ -38,20 +38,22 @@
 //! # }
 //! ```
 
-use std::{array, cmp::Ordering, ops::Range, slice};
+use std::{array, cmp::Ordering, fmt, ops::Range, slice};
 
-use crate::{exports, Fields, FillRule, Refusal};
+use crate::{cause, exports, Cause, Condition, Fields, FillRule, RecordFault, Refusal};
 
 /// A packed pixel segment of a tile four pixels high: tile y -1 to 8,190, local y 0 to 3, and all else as in
 /// [`Fields`].
 ///
 /// Equality is that of the whole word; the order is the method [`compare`](PixelSegment::compare).
-#[derive(Clone, Copy, Debug, PartialEq, Eq, Hash)]
+#[derive(Clone, Copy, PartialEq, Eq, Hash)]
 #[repr(transparent)]
 pub struct PixelSegment(u64);
 
 impl PixelSegment {
     /// Packs the fields.
+    ///
+    /// # Errors
     ///
     /// Refused by 11 (a field outside its range).
     pub fn new(fields: Fields) -> Result<PixelSegment, Refusal> {
@@ -59,60 +61,74 @@ impl PixelSegment {
         let mut word = 0;
         let number =
             exports::gpu_pack(layer_id, tile_x, tile_y, local_x, local_y, double_area_multiplier, cover, &mut word);
-        Refusal::judge(number).map(|()| PixelSegment(word))
+        match Refusal::judge(number) {
+            Ok(()) => Ok(PixelSegment(word)),
+            Err(refusal) => Err(refusal.found(|_| cause::field(fields, true))),
+        }
     }
 
     /// The segment of a packed word; any word is one.
+    #[must_use]
     pub const fn from_word(word: u64) -> PixelSegment {
         PixelSegment(word)
     }
 
     /// The packed word.
+    #[must_use]
     pub const fn word(self) -> u64 {
         self.0
     }
 
     /// The layer that the segment belongs to.
+    #[must_use]
     pub fn layer_id(self) -> u32 {
         exports::gpu_layer_id(self.0)
     }
 
     /// The tile's column, -1 to 4,094.
+    #[must_use]
     pub fn tile_x(self) -> i16 {
         exports::gpu_tile_x(self.0)
     }
 
     /// The tile's row, -1 to 8,190.
+    #[must_use]
     pub fn tile_y(self) -> i16 {
         exports::gpu_tile_y(self.0)
     }
 
     /// The pixel's column in its tile, 0 to 15.
+    #[must_use]
     pub fn local_x(self) -> u8 {
         exports::gpu_local_x(self.0)
     }
 
     /// The pixel's row in its tile, 0 to 3.
+    #[must_use]
     pub fn local_y(self) -> u8 {
         exports::gpu_local_y(self.0)
     }
 
     /// The double area's multiplier, 0 to 63.
+    #[must_use]
     pub fn double_area_multiplier(self) -> u8 {
         exports::gpu_double_area_multiplier(self.0)
     }
 
     /// Multiplier times cover.
+    #[must_use]
     pub fn double_area(self) -> i16 {
         exports::gpu_double_area(self.0)
     }
 
     /// The cover, -32 to 31.
+    #[must_use]
     pub fn cover(self) -> i8 {
         exports::gpu_cover(self.0)
     }
 
     /// Every field that it was packed from, read in one call.
+    #[must_use]
     pub fn fields(self) -> Fields {
         let (mut layer_id, mut tile_x, mut tile_y, mut local_x, mut local_y) = (0, 0, 0, 0, 0);
         let (mut double_area_multiplier, mut double_area, mut cover) = (0, 0, 0);
@@ -131,6 +147,7 @@ impl PixelSegment {
     }
 
     /// The order: by tile y, then tile x, then layer.
+    #[must_use]
     pub fn compare(&self, other: &PixelSegment) -> Ordering {
         match exports::gpu_cmp(self.0, other.0) {
             0 => Ordering::Less,
@@ -140,8 +157,23 @@ impl PixelSegment {
     }
 }
 
+/// Its fields and its word.
+impl fmt::Debug for PixelSegment {
+    fn fmt(&self, f: &mut fmt::Formatter<'_>) -> fmt::Result {
+        f.debug_tuple("PixelSegment").field(&self.fields()).field(&format_args!("{:#018x}", self.0)).finish()
+    }
+}
+
+impl TryFrom<Fields> for PixelSegment {
+    type Error = Refusal;
+
+    fn try_from(fields: Fields) -> Result<PixelSegment, Refusal> {
+        PixelSegment::new(fields)
+    }
+}
+
 /// What is searched by.
-#[derive(Clone, Copy, Debug, PartialEq, Eq)]
+#[derive(Clone, Copy, Debug, PartialEq, Eq, Hash)]
 pub enum Key {
     /// A tile y.
     TileY(i16),
@@ -159,6 +191,10 @@ pub enum Key {
 
 /// The last place whose key is the wanted one, or where it would stand. On segments that the key does not sort, the
 /// halving of the painter decides.
+///
+/// # Errors
+///
+/// As `slice::binary_search`: the place where such a segment would stand, where there is none.
 pub fn search_last(segments: &[PixelSegment], key: Key) -> Result<usize, usize> {
     let words = words_of(segments);
     let mut place = 0;
@@ -186,18 +222,24 @@ pub fn search_last(segments: &[PixelSegment], key: Key) -> Result<usize, usize> 
 pub struct Cover(pub [i8; 4]);
 
 impl Cover {
-    /// Adds the covers of a layer's segments in a tile. Refused by 9 where the absolute values of a pixel row sum above
-    /// 127; the cover is then as it was.
+    /// Adds the covers of a layer's segments in a tile.
+    ///
+    /// # Errors
+    ///
+    /// Refused by 9 where the absolute values of a pixel row sum above 127; the cover is then as it was.
     pub fn carry(&mut self, part: &[PixelSegment]) -> Result<(), Refusal> {
         Refusal::judge(exports::gpu_carry(words_of(part), &mut self.0))
+            .map_err(|refusal| refusal.found(|_| cause::part_covers(&self.0, part.iter().map(|one| one.fields()))))
     }
 
     /// Whether it leaves all to its right outside: NonZero, all zero; EvenOdd, all multiples of 32.
+    #[must_use]
     pub fn is_empty(&self, rule: FillRule) -> bool {
         exports::gpu_is_empty(&self.0, rule.code())
     }
 
     /// Whether it covers all to its right: NonZero, each 16 or more either way; EvenOdd, each an odd multiple of 16.
+    #[must_use]
     pub fn is_full(&self, rule: FillRule) -> bool {
         exports::gpu_is_full(&self.0, rule.code())
     }
@@ -210,6 +252,7 @@ pub struct Plane([f32; 64]);
 
 impl Plane {
     /// A plane of zeros.
+    #[must_use]
     pub const fn new() -> Plane {
         Plane([0.0; 64])
     }
@@ -219,6 +262,7 @@ impl Plane {
     /// # Panics
     ///
     /// Where the column is above 15 or the row above 3.
+    #[must_use]
     pub fn at(&self, column: usize, row: usize) -> f32 {
         assert!(column < 16 && row < 4, "column {column}, row {row}");
         self.0[row * 16 + column]
@@ -231,9 +275,12 @@ impl Plane {
 
     /// The coverages of a layer alone: of its segments in a tile and its cover from the left.
     ///
+    /// # Errors
+    ///
     /// Refused by 9 (the covers of a pixel row); the plane is then as it was.
     pub fn paint_part(&mut self, part: &[PixelSegment], cover: &Cover, rule: FillRule) -> Result<(), Refusal> {
         Refusal::judge(exports::gpu_paint_part(words_of(part), &cover.0, rule.code(), &mut self.0))
+            .map_err(|refusal| refusal.found(|_| cause::part_covers(&cover.0, part.iter().map(|one| one.fields()))))
     }
 }
 
@@ -284,6 +331,8 @@ pub struct LayerRow<'a> {
 impl<'a> LayerRow<'a> {
     /// Opens row `tile_y` for a layer and the tiles of a range, with the sum of the layer's covers left of the first.
     ///
+    /// # Errors
+    ///
     /// Refused by 2 (a row number that is not 0 to 8,190, or a range that is not within 0 to 4,095), 3 (the segments
     /// are no row), 4 (a layer above 2,097,151) and 9 (the layer's covers left of the first tile).
     pub fn open(
@@ -303,38 +352,58 @@ impl<'a> LayerRow<'a> {
             words_of(segments),
             &mut row.words,
             &mut row.cover.0,
-        ))?;
+        ))
+        .map_err(|refusal| {
+            let own = |one: &Fields| one.layer_id == layer_id && i32::from(one.tile_x) < tiles.start;
+            let fields = || segments.iter().map(|one| one.fields());
+            refusal.found(|condition| match condition {
+                Condition::Tile => Some(cause::ends(tile_y, tiles.start, tiles.end, 8_190)),
+                Condition::Row => cause::row(fields(), tile_y),
+                Condition::Table => Some(Cause::Record { record: 0, layer: layer_id, fault: RecordFault::Id }),
+                Condition::Covers => {
+                    cause::covers([].into_iter(), fields().filter(own).map(|one| (layer_id, one.local_y, one.cover)))
+                }
+                _ => None,
+            })
+        })?;
         Ok(row)
     }
 
     /// The row's segments.
+    #[must_use]
     pub fn segments(&self) -> &'a [PixelSegment] {
         self.segments
     }
 
     /// The layer.
+    #[must_use]
     pub fn layer_id(&self) -> u32 {
         self.words[4]
     }
 
     /// The tiles that the row was opened for.
+    #[must_use]
     pub fn tiles(&self) -> Range<i32> {
         // An opened range is within 0 to 4,095.
         self.words[1] as i32..self.words[2] as i32
     }
 
     /// The tile that is worked next; the end of [`tiles`](LayerRow::tiles) after the last.
+    #[must_use]
     pub fn next_tile(&self) -> i32 {
         self.words[3] as i32
     }
 
     /// The layer's cover that the next tile takes in: before the first tile the sum of its covers to the left, then
     /// what the tile just worked handed on, as zeros where that is empty by the fill rule.
+    #[must_use]
     pub fn cover(&self) -> Cover {
         self.cover
     }
 
     /// Works a tile: the layer's coverages into the plane, and its cover handed on to the next.
+    ///
+    /// # Errors
     ///
     /// Refused by 2 (not the next tile, or past the last) and 9 (the covers of a pixel row).
     pub fn work(&mut self, tile: i32, plane: &mut Plane) -> Result<(), Refusal> {
@@ -346,9 +415,26 @@ impl<'a> LayerRow<'a> {
             words_of(self.segments),
             &mut plane.0,
         ))
+        .map_err(|refusal| self.refused(refusal, tile))
+    }
+
+    /// Why the work of this tile was turned down.
+    fn refused(&self, refusal: Refusal, tile: i32) -> Refusal {
+        let own = |one: &Fields| one.layer_id == self.layer_id() && i32::from(one.tile_x) == tile;
+        let part = || self.segments.iter().map(|one| one.fields()).filter(own);
+        refusal.found(|condition| match condition {
+            Condition::Tile => Some(cause::next(tile, self.next_tile(), self.tiles().end)),
+            Condition::Covers => cause::covers(
+                [(self.layer_id(), &self.cover.0[..])].into_iter(),
+                part().map(|one| (one.layer_id, one.local_y, one.cover)),
+            ),
+            _ => None,
+        })
     }
 
     /// Works the next tile and gives its number; after the last it gives none and leaves the plane.
+    ///
+    /// # Errors
     ///
     /// Refused by 9 (the covers of a pixel row).
     pub fn work_next(&mut self, plane: &mut Plane) -> Result<Option<i32>, Refusal> {
@@ -361,6 +447,8 @@ impl<'a> LayerRow<'a> {
     }
 
     /// Works the next tiles, one into each plane, while the row has them and none is turned down.
+    ///
+    /// # Errors
     ///
     /// Refused by 2 (past the last tile) and 9 (the covers of a pixel row) where the first tile is; a later tile that
     /// would be refused ends the range. Without a plane no tile is asked for, and none is worked.
@@ -375,7 +463,8 @@ impl<'a> LayerRow<'a> {
             words_of(self.segments),
             numbers_of(planes),
             &mut done,
-        ))?;
+        ))
+        .map_err(|refusal| self.refused(refusal, tile))?;
         let [worked, end, number] = done;
         let ended = match end {
             0 => RangeEnd::Asked,
@@ -383,7 +472,7 @@ impl<'a> LayerRow<'a> {
             2 => RangeEnd::NoRoom,
             // A refusal's number is above 0 and below 16.
             _ => match Refusal::judge(number as u32) {
-                Err(refusal) => RangeEnd::Refused(refusal),
+                Err(refusal) => RangeEnd::Refused(self.refused(refusal, self.next_tile())),
                 Ok(()) => RangeEnd::Asked,
             },
         };
@@ -400,6 +489,7 @@ fn numbers_of(planes: &mut [Plane]) -> &mut [f32] {
 
 /// The packed words of segments, in place.
 #[allow(unsafe_code)]
+#[must_use]
 pub fn words_of(segments: &[PixelSegment]) -> &[u64] {
     // SAFETY: a PixelSegment is a u64 (`repr(transparent)`), so the same memory is as many words for the same borrow.
     unsafe { slice::from_raw_parts(segments.as_ptr().cast(), segments.len()) }

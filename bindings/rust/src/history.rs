@@ -42,11 +42,13 @@ struct Last {
 
 impl TileHistory {
     /// A tile that was never drawn.
+    #[must_use]
     pub fn new() -> TileHistory {
         TileHistory::default()
     }
 
     /// What is kept of the tile.
+    #[must_use]
     pub fn cached(&self) -> CachedTile {
         self.cached
     }
@@ -58,6 +60,8 @@ impl TileHistory {
 
     /// Works the tile as [`Row::work`] does, in a frame of this number and clear colour, by the rule. It is the same
     /// tile of the same row of tiles in every frame.
+    ///
+    /// # Errors
     ///
     /// Refused by 2 (not the next tile, or past the last), 7, 8 (a listed layer that the table lacks), 9. The row and
     /// the history are then as they were, and the tile counts as not worked in this frame.
@@ -97,6 +101,10 @@ impl TileHistory {
     ///
     /// After any other decision no bytes fill the tile. Then the answer is [`Write`](Settled::Write), and the tile is
     /// [forgotten](TileHistory::forget).
+    ///
+    /// # Errors
+    ///
+    /// None that the tile's own bytes meet: the tag is a history's.
     pub fn settle(&mut self, color: [u8; 4]) -> Result<Settled, Refusal> {
         if self.last.as_ref().is_some_and(|last| last.is_solid) {
             return cached_tile::settle(Some(&mut self.cached), color);

@@ -84,36 +84,47 @@
 //!
 //! ```
 //! use tile_rows::{
-//!     Color, Decision, Layer, LayerTable, Plane, Refusal, Row, Settled, Style, TileHistory,
+//!     Color, Decision, Fields, Layer, LayerTable, PixelSegment, Plane, Refusal, Row, Settled, Style, TileHistory,
 //! };
 //! # fn mixed(bottom: Color) -> [u8; 4] { bottom.numbers().map(|number| (number * 255.0) as u8) }
 //!
 //! # fn main() -> Result<(), Refusal> {
-//! let white = Color { r: 1.0, g: 1.0, b: 1.0, a: 1.0 };
+//! let (white, red) = (Color::opaque(1.0, 1.0, 1.0), Color::opaque(1.0, 0.0, 0.0));
+//! // An edge goes up in the middle of tile 0: its right half is red, and all that follows.
+//! let place =
+//!     Fields { layer_id: 1, tile_x: 0, tile_y: 0, local_x: 8, local_y: 0, double_area_multiplier: 32, cover: 16 };
+//! let edge = (0..16).map(|local_y| PixelSegment::new(Fields { local_y, ..place })).collect::<Result<Vec<_>, _>>()?;
+//!
 //! let mut tiles = vec![TileHistory::new(); 4];
+//! let mut display = [None; 4]; // the bytes that fill each tile; none where it is painted
 //! let mut plane = Plane::new();
-//! for frame in 0..3 {
-//!     // In frame 1 and later, layers that stood in the frame before with the same record and segments are unchanged.
-//!     let mut layer = Layer::draw(1, Style::solid(white));
-//!     layer.is_unchanged = frame > 0;
-//!     let table = LayerTable::new(&[layer]);
-//!     let mut row = Row::open(&[], &table, 0, 0..4)?;
-//!     for (tile, history) in (0..).zip(&mut tiles) {
+//! for frame in 0..4 {
+//!     // The layer stands in the frames 0 and 1, the second time with the same record and segments; then it is gone.
+//!     let segments = if frame < 2 { &edge[..] } else { &[] };
+//!     let table = LayerTable::new(&[Layer::draw(1, Style::solid(red)).unchanged(frame == 1)]);
+//!     let mut row = Row::open(segments, &table, 0, 0..4)?;
+//!     for ((tile, history), shown) in (0..).zip(&mut tiles).zip(&mut display) {
 //!         let worked = history.work(&mut row, tile, frame, white)?;
 //!         match worked.decision {
 //!             Decision::None => {} // the tile stays as it is
 //!             Decision::Solid { bottom, .. } => {
 //!                 // Mix the colours of the shown layers of `row.listed()` above `bottom`, and make the display bytes.
-//!                 if history.settle(mixed(bottom))? == Settled::Write {
-//!                     // Fill the tile with them.
+//!                 let bytes = mixed(bottom);
+//!                 if history.settle(bytes)? == Settled::Write {
+//!                     *shown = Some(bytes);
 //!                 }
 //!             }
-//!             Decision::Paint => row.paint_shown(&mut plane, |_layer, _plane, _mark| {
-//!                 // Blend the layer by its coverages. Nothing is settled.
-//!             })?,
+//!             Decision::Paint => {
+//!                 row.paint_shown(&mut plane, |_layer, _plane, _mark| {
+//!                     // Blend the layer by its coverages.
+//!                 })?;
+//!                 *shown = None; // nothing is settled: no bytes fill the tile
+//!             }
 //!         }
-//!         assert_eq!(worked.decision == Decision::None, frame > 0);
+//!         assert_eq!(worked.decision == Decision::None, frame % 2 == 1);
 //!     }
+//!     let (white, red) = (Some([255; 4]), Some([255, 0, 0, 255]));
+//!     assert_eq!(display, if frame < 2 { [None, red, red, red] } else { [white; 4] });
 //! }
 //! # Ok(())
 //! # }
@@ -133,15 +144,18 @@
 //! [`four_high`] has packed segments, covers and coverages of tiles 16 wide and 4 high; a
 //! [`LayerRow`](four_high::LayerRow) gives the coverages of one layer, tile after tile.
 //!
-//! # Threads
+//! # A whole plate, and threads
 //!
-//! Rows don't depend on each other. A [`Row`] is `Send` and borrows its table, so that `std::thread::scope` can work
-//! the rows of a plate side by side, each thread with a [`Batch`] of its own; the example `plate` does.
+//! [`Plate::work`] works all rows of an [`Area`], or those of a crop, in order, and hands each tile with its decision and
+//! coverages to a sink; [`Plate::work_on`] does so on several threads. [`Plate::rows`] names the rows that have segments,
+//! and [`Plate::open_row`] opens one of them. Rows don't depend on each other: a [`Row`] is `Send` and borrows its table,
+//! so that other ways to share them out need `std::thread::scope` and a [`Batch`] for each thread.
 //!
 //! # Refusals
 //!
 //! A call that is turned down gives a [`Refusal`], the lowest that applies, and leaves everything as it was: the row
-//! can be used on, with the same tile or, after mending what was wrong, another.
+//! can be used on, with the same tile or, after mending what was wrong, another. A refusal tells its [`Cause`], where
+//! it is known: which layer the table lacks, which field, record, pixel row or segment is at fault.
 //!
 //! # What is judged when
 //!
@@ -161,6 +175,7 @@
 mod batch;
 mod bounds;
 pub mod cached_tile;
+mod cause;
 mod color;
 mod cover;
 mod decision;
@@ -184,6 +199,7 @@ pub use crate::{
     batch::{Batch, BatchEnd, BatchTile, PaintedLayer},
     bounds::Bounded,
     cached_tile::{settle, CachedTile, Settled},
+    cause::{Cause, Field, RecordFault},
     color::Color,
     cover::Cover,
     decision::Decision,
@@ -191,8 +207,8 @@ pub use crate::{
     list::{Carry, Listed, TileList},
     mark::Mark,
     plane::Plane,
-    plate::Plate,
-    refusal::Refusal,
+    plate::{Area, Crop, Plate, RowNumber, RowRefusal},
+    refusal::{Condition, Refusal},
     revision::{Revision, Revisions, Sent},
     row::{Frame, Row, Worked},
     segment::{Fields, PixelSegment},

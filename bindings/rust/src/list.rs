@@ -29,6 +29,7 @@ pub struct Listed {
 
 impl Listed {
     /// Whether it is neither masked off nor passed over.
+    #[must_use]
     pub fn is_shown(&self) -> bool {
         !self.is_masked_off && !self.is_passed_over
     }
@@ -76,6 +77,7 @@ pub struct TileList {
 
 impl TileList {
     /// An empty list. Its columns are made when it is first lent: a row that is worked in batches needs none.
+    #[must_use]
     pub fn new() -> TileList {
         let (ids, covers, flags, unmasked) = (Vec::new(), Vec::new(), Vec::new(), Vec::new());
         TileList { tile: -1, ids, covers, flags, unmasked, count: 0, passed_over: 0 }
@@ -93,11 +95,13 @@ impl TileList {
     }
 
     /// The tile that was listed; -1 before any was.
+    #[must_use]
     pub fn tile(&self) -> i32 {
         self.tile
     }
 
     /// Its layers, ascending: the bottom layer first. Until the list is decided, none is masked off or passed over.
+    #[must_use]
     pub fn listed(&self) -> impl DoubleEndedIterator<Item = Listed> + ExactSizeIterator + '_ {
         (0..self.count).map(|place| self.at(place))
     }

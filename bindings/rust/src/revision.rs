@@ -1,6 +1,13 @@
 //! Layer records that are sent again, and the table of those that stand.
 
-use crate::{exports, table::Func, FillRule, Layer, LayerTable, Refusal};
+use std::collections::BTreeSet;
+
+use crate::{
+    cause::{self, told, RecordFault},
+    exports,
+    table::Func,
+    Cause, Condition, FillRule, Layer, LayerTable, Refusal,
+};
 
 /// What is sent of a layer.
 #[derive(Clone, Copy, Debug, PartialEq)]
@@ -31,12 +38,14 @@ pub struct Revision {
 
 impl Revision {
     /// A layer as it is at a revision.
+    #[must_use]
     pub const fn of(layer: Layer, revision: u32) -> Revision {
         let Layer { id, rule, func, is_unchanged } = layer;
         Revision { layer: id, revision, sent: Sent::Props { rule, func, is_unchanged } }
     }
 
     /// A layer that is left out from a revision on.
+    #[must_use]
     pub const fn withdrawal(layer: u32, revision: u32) -> Revision {
         Revision { layer, revision, sent: Sent::Withdrawal }
     }
@@ -60,6 +69,7 @@ pub struct Revisions {
 
 impl Revisions {
     /// These records.
+    #[must_use]
     pub fn new(records: &[Revision]) -> Revisions {
         let mut revisions = Revisions::default();
         records.iter().for_each(|record| revisions.push(record));
@@ -76,25 +86,48 @@ impl Revisions {
     }
 
     /// How many there are.
+    #[must_use]
     pub fn len(&self) -> usize {
         self.words.len() / 10
     }
 
     /// Whether there is none.
+    #[must_use]
     pub fn is_empty(&self) -> bool {
         self.words.is_empty()
     }
 
     /// The table of the layers that stand, ids ascending: of each layer the highest revision, withdrawn layers left out.
     ///
+    /// # Errors
+    ///
     /// Refused by 4 where an id or a span is out of its range, else by 15 where two records of one layer have equal
     /// revisions.
     pub fn table(&self) -> Result<LayerTable, Refusal> {
         let (mut words, mut colors) = (vec![0; 8 * self.len()], vec![0.0; 4 * self.len()]);
         let mut standing = 0;
-        Refusal::judge(exports::stand(&self.words, &self.colors, &mut words, &mut colors, &mut standing))?;
+        Refusal::judge(exports::stand(&self.words, &self.colors, &mut words, &mut colors, &mut standing))
+            .map_err(|refusal| refusal.found(|condition| self.cause(condition)))?;
         words.truncate(8 * standing);
         colors.truncate(4 * standing);
         Ok(LayerTable::from_words(words, colors, standing))
+    }
+
+    /// The first record that is none, or the first that has the revision of one before.
+    fn cause(&self, condition: Condition) -> Option<Cause> {
+        let mut seen = BTreeSet::new();
+        self.words.chunks_exact(10).enumerate().find_map(|(place, words)| {
+            let (layer, revision, kind) = (words[0], words[1], words[2]);
+            if condition == Condition::Revisions {
+                return (!seen.insert((layer, revision))).then_some(Cause::Twins { layer, revision });
+            }
+            let properties: Vec<u32> = std::iter::once(layer).chain(words[3..].iter().copied()).collect();
+            let fault = match kind {
+                0 => cause::record_fault(&properties),
+                1 => cause::record_fault(&properties[..1]),
+                _ => Some(RecordFault::Kind),
+            };
+            fault.map(|fault| Cause::Record { record: told(place), layer, fault })
+        })
     }
 }

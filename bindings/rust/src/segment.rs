@@ -1,8 +1,8 @@
 //! Packed pixel segments: their fields, their order, and the searches of the painter.
 
-use std::{cmp::Ordering, slice};
+use std::{cmp::Ordering, fmt, slice};
 
-use crate::{exports, Refusal};
+use crate::{cause, exports, Refusal};
 
 /// What a segment is packed from.
 ///
@@ -30,71 +30,89 @@ pub struct Fields {
 ///
 /// Equality is that of the whole word. The painter's order looks at tile y, tile x and layer alone, so it is the method
 /// [`compare`](PixelSegment::compare) and not `Ord`: `segments.sort_by(PixelSegment::compare)`.
-#[derive(Clone, Copy, Debug, PartialEq, Eq, Hash)]
+#[derive(Clone, Copy, PartialEq, Eq, Hash)]
 #[repr(transparent)]
 pub struct PixelSegment(u64);
 
 impl PixelSegment {
     /// Packs the fields.
+    ///
+    /// # Errors
+    ///
+    /// Refused by 11 (a field outside its range).
     pub fn new(fields: Fields) -> Result<PixelSegment, Refusal> {
         let Fields { layer_id, tile_x, tile_y, local_x, local_y, double_area_multiplier, cover } = fields;
         let mut word = 0;
         let number =
             exports::pack(layer_id, tile_x, tile_y, local_x, local_y, double_area_multiplier, cover, &mut word);
-        Refusal::judge(number).map(|()| PixelSegment(word))
+        match Refusal::judge(number) {
+            Ok(()) => Ok(PixelSegment(word)),
+            Err(refusal) => Err(refusal.found(|_| cause::field(fields, false))),
+        }
     }
 
     /// The segment of a packed word; any word is one.
+    #[must_use]
     pub const fn from_word(word: u64) -> PixelSegment {
         PixelSegment(word)
     }
 
     /// The packed word.
+    #[must_use]
     pub const fn word(self) -> u64 {
         self.0
     }
 
     /// The layer that the segment belongs to.
+    #[must_use]
     pub fn layer_id(self) -> u32 {
         exports::layer_id(self.0)
     }
 
     /// The tile's column, -1 to 4,094.
+    #[must_use]
     pub fn tile_x(self) -> i16 {
         exports::tile_x(self.0)
     }
 
     /// The tile's row, -1 to 2,046.
+    #[must_use]
     pub fn tile_y(self) -> i16 {
         exports::tile_y(self.0)
     }
 
     /// The pixel's column in its tile, 0 to 15.
+    #[must_use]
     pub fn local_x(self) -> u8 {
         exports::local_x(self.0)
     }
 
     /// The pixel's row in its tile, 0 to 15.
+    #[must_use]
     pub fn local_y(self) -> u8 {
         exports::local_y(self.0)
     }
 
     /// The double area's multiplier, 0 to 63.
+    #[must_use]
     pub fn double_area_multiplier(self) -> u8 {
         exports::double_area_multiplier(self.0)
     }
 
     /// Multiplier times cover.
+    #[must_use]
     pub fn double_area(self) -> i16 {
         exports::double_area(self.0)
     }
 
     /// The cover, -32 to 31.
+    #[must_use]
     pub fn cover(self) -> i8 {
         exports::cover(self.0)
     }
 
     /// Every field that it was packed from.
+    #[must_use]
     pub fn fields(self) -> Fields {
         Fields {
             layer_id: self.layer_id(),
@@ -108,6 +126,7 @@ impl PixelSegment {
     }
 
     /// The painter's order: by tile y, then tile x, then layer. Segments that agree in these are equal by it.
+    #[must_use]
     pub fn compare(&self, other: &PixelSegment) -> Ordering {
         match exports::cmp(self.0, other.0) {
             0 => Ordering::Less,
@@ -117,8 +136,46 @@ impl PixelSegment {
     }
 }
 
+/// Its fields and its word.
+impl fmt::Debug for PixelSegment {
+    fn fmt(&self, f: &mut fmt::Formatter<'_>) -> fmt::Result {
+        let Fields { layer_id, tile_x, tile_y, local_x, local_y, double_area_multiplier, cover } = self.fields();
+        f.debug_struct("PixelSegment")
+            .field("layer_id", &layer_id)
+            .field("tile_x", &tile_x)
+            .field("tile_y", &tile_y)
+            .field("local_x", &local_x)
+            .field("local_y", &local_y)
+            .field("double_area_multiplier", &double_area_multiplier)
+            .field("cover", &cover)
+            .field("word", &format_args!("{:#018x}", self.0))
+            .finish()
+    }
+}
+
+/// The packed word, as 16 digits of base 16.
+impl fmt::Display for PixelSegment {
+    fn fmt(&self, f: &mut fmt::Formatter<'_>) -> fmt::Result {
+        write!(f, "{:016x}", self.0)
+    }
+}
+
+impl TryFrom<Fields> for PixelSegment {
+    type Error = Refusal;
+
+    fn try_from(fields: Fields) -> Result<PixelSegment, Refusal> {
+        PixelSegment::new(fields)
+    }
+}
+
+impl From<PixelSegment> for Fields {
+    fn from(segment: PixelSegment) -> Fields {
+        segment.fields()
+    }
+}
+
 /// What the painter searches by.
-#[derive(Clone, Copy, Debug, PartialEq, Eq)]
+#[derive(Clone, Copy, Debug, PartialEq, Eq, Hash)]
 pub enum Key {
     /// A tile y.
     TileY(i16),
@@ -134,6 +191,10 @@ pub enum Key {
 
 /// The last place whose key is the wanted one, or where it would stand. On segments that the key does not sort, the
 /// halving of the painter decides.
+///
+/// # Errors
+///
+/// As `slice::binary_search`: the place where such a segment would stand, where there is none.
 pub fn search_last(segments: &[PixelSegment], key: Key) -> Result<usize, usize> {
     let words = words_of(segments);
     let mut place = 0;
@@ -152,12 +213,14 @@ pub fn search_last(segments: &[PixelSegment], key: Key) -> Result<usize, usize> 
 }
 
 /// Whether no segment is less than the one before it.
+#[must_use]
 pub fn does_ascend(segments: &[PixelSegment]) -> bool {
     exports::does_ascend(words_of(segments))
 }
 
 /// Whether the segments ascend and each has this tile y: whether they are a row that [`Row::open`](crate::Row::open)
 /// takes.
+#[must_use]
 pub fn is_row(segments: &[PixelSegment], tile_y: i16) -> bool {
     // Tile numbers are stored plus 1; below -1 this is a number that no field holds.
     let stored_tile_y = (i64::from(tile_y) + 1) as u64;
@@ -166,6 +229,7 @@ pub fn is_row(segments: &[PixelSegment], tile_y: i16) -> bool {
 
 /// The packed words of segments, in place.
 #[allow(unsafe_code)]
+#[must_use]
 pub fn words_of(segments: &[PixelSegment]) -> &[u64] {
     // SAFETY: a PixelSegment is a u64 (`repr(transparent)`), so the same memory is as many words for the same borrow.
     unsafe { slice::from_raw_parts(segments.as_ptr().cast(), segments.len()) }
@@ -173,6 +237,7 @@ pub fn words_of(segments: &[PixelSegment]) -> &[u64] {
 
 /// Packed words as segments, in place; any word is one.
 #[allow(unsafe_code)]
+#[must_use]
 pub fn segments_of(words: &[u64]) -> &[PixelSegment] {
     // SAFETY: as in `words_of`, and every u64 is a PixelSegment.
     unsafe { slice::from_raw_parts(words.as_ptr().cast(), words.len()) }

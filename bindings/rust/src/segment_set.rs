@@ -1,6 +1,11 @@
 //! Kept sets of segments: one layer in one tile, changed a segment at a time.
 
-use crate::{exports, plane, segment, Cover, FillRule, PixelSegment, Refusal};
+use std::fmt;
+
+use crate::{
+    cause::{self, told},
+    exports, plane, segment, Cause, Condition, Cover, FillRule, PixelSegment, Refusal,
+};
 
 /// The segments of one layer in one tile, with the doubled area of each pixel and the carry: what an editor keeps while
 /// an author drags an outline. After each edit all of it is what working the set out anew would give; an edit writes
@@ -11,7 +16,7 @@ use crate::{exports, plane, segment, Cover, FillRule, PixelSegment, Refusal};
 ///
 /// Order within a set carries no meaning: two sets are equal that hold the same segments, each as often, from the same
 /// cover, in the same layer and tile, and have room for as many.
-#[derive(Clone, Debug)]
+#[derive(Clone)]
 pub struct SegmentSet {
     layer: u32,
     tile: [i16; 2],
@@ -34,6 +39,8 @@ impl Eq for SegmentSet {}
 impl SegmentSet {
     /// Begins a set of a layer in a tile from its cover from the left and its segments so far, none or some, in so many
     /// slots.
+    ///
+    /// # Errors
     ///
     /// Refused by 3 (a segment of another layer or tile), 9 (the covers of a pixel row) and 13 (fewer slots than
     /// segments).
@@ -67,11 +74,23 @@ impl SegmentSet {
             &mut set.count,
             &mut set.slots,
             set.areas.as_mut_slice(),
-        ))?;
+        ))
+        .map_err(|refusal| {
+            let fields = || part.iter().map(|one| one.fields());
+            let covers = || fields().map(|one| (layer_id, one.local_y, one.cover));
+            refusal.found(|condition| match condition {
+                Condition::Row => cause::part(fields(), layer_id, (tile_x, tile_y)),
+                Condition::Covers => cause::covers([(layer_id, &cover.0[..])].into_iter(), covers()),
+                Condition::Slots => Some(Cause::Slots { slots: told(slots), segments: told(part.len()) }),
+                _ => None,
+            })
+        })?;
         Ok(set)
     }
 
     /// Takes a segment in; the same one may be held several times.
+    ///
+    /// # Errors
     ///
     /// Refused by 3 (another layer or tile), 9 (the covers of its pixel row) and 13 (every slot is held).
     pub fn take_in(&mut self, segment: PixelSegment) -> Result<(), Refusal> {
@@ -85,9 +104,12 @@ impl SegmentSet {
             &mut self.slots,
             self.areas.as_mut_slice(),
         ))
+        .map_err(|refusal| self.refused(refusal, segment))
     }
 
     /// Lets one equal segment out.
+    ///
+    /// # Errors
     ///
     /// Refused by 3 (another layer or tile) and 12 (none is held).
     pub fn let_out(&mut self, segment: PixelSegment) -> Result<(), Refusal> {
@@ -101,21 +123,58 @@ impl SegmentSet {
             &mut self.slots,
             self.areas.as_mut_slice(),
         ))
+        .map_err(|refusal| self.refused(refusal, segment))
+    }
+
+    /// Why an edit with this segment was turned down.
+    fn refused(&self, refusal: Refusal, segment: PixelSegment) -> Refusal {
+        let row = segment.local_y();
+        refusal.found(|condition| match condition {
+            Condition::Row => cause::part([segment.fields()].into_iter(), self.layer, self.tile()),
+            Condition::Covers => {
+                let sum = u32::from(self.loads[usize::from(row)]) + u32::from(segment.cover().unsigned_abs());
+                Some(Cause::Covers { layer: self.layer, row, sum })
+            }
+            Condition::NotHeld => Some(Cause::NotHeld { held: told(self.count) }),
+            Condition::Slots => Some(Cause::Slots { slots: told(self.slots()), segments: told(self.count + 1) }),
+            _ => None,
+        })
     }
 
     /// The layer whose segments it holds.
+    #[must_use]
     pub fn layer_id(&self) -> u32 {
         self.layer
     }
 
     /// The tile, by its column and its row.
+    #[must_use]
     pub fn tile(&self) -> (i16, i16) {
         (self.tile[0], self.tile[1])
     }
 
     /// The held segments, in no order that means anything.
+    #[must_use]
     pub fn segments(&self) -> &[PixelSegment] {
         segment::segments_of(&self.slots[..self.count])
+    }
+
+    /// How many segments it holds.
+    #[must_use]
+    pub fn len(&self) -> usize {
+        self.count
+    }
+
+    /// Whether it holds none.
+    #[must_use]
+    pub fn is_empty(&self) -> bool {
+        self.count == 0
+    }
+
+    /// Whether it holds such a segment, at least once.
+    #[must_use]
+    pub fn contains(&self, segment: PixelSegment) -> bool {
+        self.segments().contains(&segment)
     }
 
     fn sorted_words(&self) -> Vec<u64> {
@@ -125,6 +184,7 @@ impl SegmentSet {
     }
 
     /// How many segments it has room for.
+    #[must_use]
     pub fn slots(&self) -> usize {
         self.slots.len()
     }
@@ -135,6 +195,7 @@ impl SegmentSet {
     }
 
     /// The cover that the tile hands on of the layer; it is never dropped here.
+    #[must_use]
     pub fn carry(&self) -> Cover {
         self.carry
     }
@@ -144,6 +205,7 @@ impl SegmentSet {
     /// # Panics
     ///
     /// Where the column or the row is above 15.
+    #[must_use]
     pub fn doubled_area(&self, column: usize, row: usize) -> i16 {
         assert!(column < 16 && row < 16, "column {column}, row {row}");
         self.areas[column * 16 + row]
@@ -154,7 +216,21 @@ impl SegmentSet {
     /// # Panics
     ///
     /// Where the column or the row is above 15.
+    #[must_use]
     pub fn coverage(&self, column: usize, row: usize, rule: FillRule) -> f32 {
         plane::doubled_area_to_coverage(self.doubled_area(column, row), rule)
+    }
+}
+
+/// All but the doubled areas, which follow.
+impl fmt::Debug for SegmentSet {
+    fn fmt(&self, f: &mut fmt::Formatter<'_>) -> fmt::Result {
+        f.debug_struct("SegmentSet")
+            .field("layer_id", &self.layer)
+            .field("tile", &self.tile())
+            .field("carry", &self.carry)
+            .field("segments", &self.segments())
+            .field("slots", &self.slots())
+            .finish_non_exhaustive()
     }
 }

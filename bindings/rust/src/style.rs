@@ -1,5 +1,7 @@
 //! What a layer is drawn by: fill rules, fills, blend modes.
 
+use std::fmt;
+
 use crate::{exports, Color};
 
 /// Which windings are inside.
@@ -15,8 +17,28 @@ pub enum FillRule {
 
 impl FillRule {
     /// Its number in a layer record.
+    #[must_use]
     pub const fn code(self) -> u32 {
         self as u32
+    }
+}
+
+impl TryFrom<u32> for FillRule {
+    /// The number, where it is no rule's.
+    type Error = u32;
+
+    fn try_from(code: u32) -> Result<FillRule, u32> {
+        match code {
+            0 => Ok(FillRule::NonZero),
+            1 => Ok(FillRule::EvenOdd),
+            _ => Err(code),
+        }
+    }
+}
+
+impl fmt::Display for FillRule {
+    fn fmt(&self, f: &mut fmt::Formatter<'_>) -> fmt::Result {
+        fmt::Debug::fmt(self, f)
     }
 }
 
@@ -33,6 +55,7 @@ pub enum Fill {
 
 impl Fill {
     /// Its number in a layer record.
+    #[must_use]
     pub const fn code(self) -> u32 {
         match self {
             Fill::Solid(_) => 0,
@@ -42,6 +65,7 @@ impl Fill {
     }
 
     /// Its colour, or four zeros where it has none.
+    #[must_use]
     pub fn color(self) -> Color {
         match self {
             Fill::Solid(color) => color,
@@ -96,13 +120,30 @@ impl BlendMode {
     ];
 
     /// Its number in a layer record.
+    #[must_use]
     pub const fn code(self) -> u32 {
         self as u32
     }
 
     /// The mode that the library takes a number for.
+    #[must_use]
     pub fn from_code(code: u32) -> BlendMode {
         BlendMode::ALL[exports::blend_mode(code) as usize]
+    }
+}
+
+impl TryFrom<u32> for BlendMode {
+    /// The number, where it is no mode's.
+    type Error = u32;
+
+    fn try_from(code: u32) -> Result<BlendMode, u32> {
+        BlendMode::ALL.get(code as usize).copied().ok_or(code)
+    }
+}
+
+impl fmt::Display for BlendMode {
+    fn fmt(&self, f: &mut fmt::Formatter<'_>) -> fmt::Result {
+        fmt::Debug::fmt(self, f)
     }
 }
 
@@ -117,13 +158,27 @@ pub struct Style {
     pub blend_mode: BlendMode,
 }
 
+impl From<Color> for Fill {
+    fn from(color: Color) -> Fill {
+        Fill::Solid(color)
+    }
+}
+
 impl Style {
+    /// The same draw, cut by the latest clip below it.
+    #[must_use]
+    pub const fn clipped(self) -> Style {
+        Style { is_clipped: true, ..self }
+    }
+
     /// An unclipped draw of one colour over what is below it.
+    #[must_use]
     pub const fn solid(color: Color) -> Style {
         Style { is_clipped: false, fill: Fill::Solid(color), blend_mode: BlendMode::Over }
     }
 
     /// Whether it hides what is below it: a solid fill of alpha 1, mixed by `Over`.
+    #[must_use]
     pub fn is_opaque(&self) -> bool {
         exports::is_opaque(self.fill.code(), self.blend_mode.code(), &self.fill.color().numbers())
     }

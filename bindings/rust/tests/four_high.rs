@@ -165,8 +165,8 @@ fn dropped_covers_and_absent_layers() {
         assert_eq!(row.cover().0, [0, 16, 0, 0]);
         row.work(1, &mut four_high::Plane::new()).unwrap();
         assert_eq!(row.cover().0, [0, handed, 0, 0]);
-        assert_eq!(LayerRow::open(&even, 0, 0..2, u32::MAX, rule), Err(Refusal::Table));
-        for layer_id in [4, 2_097_151] {
+        assert_eq!(LayerRow::open(&even, 0, 0..2, 1 << 21, rule), Err(Refusal::Table), "no layer has such an id");
+        for layer_id in [4, (1 << 21) - 1] {
             let mut row = LayerRow::open(&even, 0, 0..2, layer_id, rule).unwrap();
             let mut plane = four_high::Plane::new();
             plane.paint_part(&even, &four_high::Cover::default(), rule).unwrap();

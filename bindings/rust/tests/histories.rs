@@ -363,3 +363,141 @@ fn settling_a_painted_tile_keeps_nothing() -> Result<(), Refusal> {
     assert_eq!(display.show(&[], &[], 3)?.1, Some(Settled::Write));
     Ok(())
 }
+
+// ---- random histories
+
+/// Numbers of a linear congruence.
+struct Random(u64);
+
+impl Random {
+    fn below(&mut self, n: u64) -> u64 {
+        self.0 = self.0.wrapping_mul(6_364_136_223_846_793_005).wrapping_add(1_442_695_040_888_963_407);
+        (self.0 >> 33) % n
+    }
+}
+
+const TILES: usize = 3;
+
+/// A layer of a frame: its record, changed, and its segments.
+type Sent = (Layer, Vec<PixelSegment>);
+
+fn any_sent(random: &mut Random, id: u32) -> Sent {
+    let color = [RED, GREEN, BLUE][random.below(3) as usize];
+    let layer = match random.below(4) {
+        0 => Layer::clip(id, random.below(4) as u32),
+        1 => clipped(id, color),
+        _ => draw(id, color),
+    };
+    let start = random.below(TILES as u64 + 1) as i16 - 1;
+    let mut segments = edge(id, start, if start < 0 { 0 } else { random.below(16) as u8 }, 16);
+    if random.below(2) == 0 {
+        let end = start.max(0) + random.below(TILES as u64) as i16;
+        segments.extend(edge(id, end, 15, -16));
+    }
+    (layer, segments)
+}
+
+/// What is drawn into a tile, call by call: of a solid tile the bottom colour and what is mixed above it, of a painted one
+/// the clear colour and each shown layer with its coverages and mark.
+type Drawing = (u32, [u32; 4], Vec<(u32, String, Vec<u32>, u32)>);
+
+fn drawing(row: &mut Row<'_>, decision: Decision, clear: Color) -> Option<Drawing> {
+    let bits = |color: Color| color.numbers().map(f32::to_bits);
+    let table = row.table();
+    let style = |id: u32| format!("{:?}", table.get(id).expect("a shown layer has a record").func);
+    match decision {
+        Decision::None => None,
+        Decision::Solid { bottom, before } => {
+            let mixed = row.listed().filter(|listed| listed.is_shown()).skip(before);
+            Some((1, bits(bottom), mixed.map(|listed| (listed.id, style(listed.id), Vec::new(), 0)).collect()))
+        }
+        Decision::Paint => {
+            let mut calls = Vec::new();
+            row.paint_shown(&mut Plane::new(), |listed, plane, mark| {
+                let coverages = plane.rows().flatten().map(f32::to_bits).collect();
+                calls.push((listed.id, style(listed.id), coverages, mark.0));
+            })
+            .unwrap();
+            Some((2, bits(clear), calls))
+        }
+    }
+}
+
+/// Four bytes of a drawing, as the display's would be: equal for equal drawings.
+fn bytes_of(drawing: &Drawing) -> [u8; 4] {
+    let text = format!("{drawing:?}");
+    text.bytes().fold(0x811c_9dc5u32, |hash, byte| (hash ^ u32::from(byte)).wrapping_mul(0x0100_0193)).to_le_bytes()
+}
+
+/// Flags since the frame before, clear colours that vary, crops, and rows whose first tile varies: a tile shows what it
+/// would show if it were drawn afresh. With cached tiles alone many a tile shows something else.
+#[test]
+fn random_histories_show_what_is_drawn_afresh() {
+    let clears = [BLACK, BLUE, color(-0.0, 0.0, 0.0, 1.0), color(0.0, 0.0, 0.0, 0.5)];
+    let (mut kept, mut settled_kept, mut wrong, mut cropped) = (0, 0, 0, 0);
+    for seed in 0..400 {
+        let mut random = Random(seed);
+        let mut sent: Vec<Option<Sent>> = vec![None; 6];
+        let mut clear = BLACK;
+        let mut histories = vec![TileHistory::new(); TILES];
+        let mut shown: Vec<Option<Drawing>> = vec![None; TILES];
+        let (mut cached, mut plainly) = ([CachedTile::default(); TILES], shown.clone());
+        for frame in 0..8 {
+            let before = sent.clone();
+            let previous_clear = (frame > 0).then_some(clear);
+            for (id, one) in (0..).zip(&mut sent) {
+                match random.below(8) {
+                    0 => *one = None,
+                    1 => *one = Some(any_sent(&mut random, id)),
+                    _ if frame == 0 => *one = (random.below(2) == 0).then(|| any_sent(&mut random, id)),
+                    _ => {}
+                }
+            }
+            if random.below(4) == 0 {
+                clear = clears[random.below(4) as usize];
+            }
+            let is_same = |at: usize| before[at] == sent[at];
+            let standing = sent.iter().enumerate().filter_map(|(at, one)| one.as_ref().map(|one| (at, one)));
+            let layers: Vec<Layer> = standing.clone().map(|(at, (layer, _))| layer.unchanged(is_same(at))).collect();
+            let mut segments: Vec<PixelSegment> = standing.flat_map(|(_, (_, segments))| segments.clone()).collect();
+            segments.sort_by(PixelSegment::compare);
+            let table = LayerTable::new(&layers);
+            // Some frames leave tiles out at the left, at the right or everywhere.
+            let from = [0, 0, 0, 1, 2][random.below(5) as usize];
+            let to = [3, 3, 3, 2][random.below(4) as usize].max(from);
+            cropped += u32::from((from, to) != (0, 3));
+            let mut row = Row::open(&segments, &table, 0, from..to).unwrap();
+            let mut plain = row.clone();
+            for tile in from..to {
+                let at = tile as usize;
+                let mut afresh = row.clone();
+                let alone = Frame { clear, previous_clear: None };
+                let decision = afresh.work(tile, &alone, None).unwrap().decision;
+                let due = drawing(&mut afresh, decision, clear).expect("without a cached tile it is drawn");
+
+                let decision = histories[at].work(&mut row, tile, frame, clear).unwrap().decision;
+                let drawn = drawing(&mut row, decision, clear);
+                kept += u32::from(drawn.is_none());
+                if let Some(drawn) = drawn {
+                    let is_kept = drawn.0 == 1 && histories[at].settle(bytes_of(&drawn)).unwrap() == Settled::Keep;
+                    settled_kept += u32::from(is_kept);
+                    if !is_kept {
+                        shown[at] = Some(drawn);
+                    }
+                }
+                assert_eq!(shown[at].as_ref(), Some(&due), "seed {seed}, frame {frame}, tile {tile}");
+
+                let frames = Frame { clear, previous_clear };
+                let decision = plain.work(tile, &frames, Some(&mut cached[at])).unwrap().decision;
+                if let Some(drawn) = drawing(&mut plain, decision, clear) {
+                    if drawn.0 != 1 || plain.settle(Some(&mut cached[at]), bytes_of(&drawn)).unwrap() == Settled::Write
+                    {
+                        plainly[at] = Some(drawn);
+                    }
+                }
+                wrong += u32::from(plainly[at].as_ref() != Some(&due));
+            }
+        }
+    }
+    assert!(kept > 500 && settled_kept > 50 && wrong > 100 && cropped > 500, "{kept} {settled_kept} {wrong} {cropped}");
+}

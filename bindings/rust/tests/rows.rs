@@ -169,6 +169,7 @@ fn the_rows_of_a_plate() {
     assert_eq!(rows.concat(), segments);
     assert!(rows.iter().enumerate().all(|(j, row)| tile_rows::segment::is_row(row, j as i16)));
     assert!(plate.row(5).is_empty());
+    assert!(plate.row(65_536).is_empty() && plate.row(usize::MAX).is_empty(), "no row has such a number");
     assert!(tile_rows::plate::is_in_crop(None, 9) && tile_rows::plate::is_in_crop(Some(2..4), 3));
     assert!(!tile_rows::plate::is_in_crop(Some(2..4), 4));
 }

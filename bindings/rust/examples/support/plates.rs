@@ -1,14 +1,8 @@
 //! A made plate of many rows, and its rows worked on several threads.
 
-use std::{
-    ops::Range,
-    sync::atomic::{AtomicUsize, Ordering},
-    thread,
-};
+use std::{num::NonZeroUsize, ops::Range, sync::Mutex};
 
-use tile_rows::{
-    Batch, BatchEnd, BatchTile, Decision, Fields, Layer, LayerTable, PixelSegment, Plate, Refusal, Row, Style,
-};
+use tile_rows::{Area, BatchTile, Decision, Fields, Layer, LayerTable, PixelSegment, Plate, RowRefusal, Style};
 
 use super::driven::FRAME;
 
@@ -70,37 +64,19 @@ impl Told {
     }
 }
 
-/// The tiles of a row, worked in batches.
-pub fn tiles(row: &mut Row<'_>, batch: &mut Batch) -> Result<Vec<Told>, Refusal> {
-    let mut told = Vec::new();
-    loop {
-        let end = row.work_tiles(usize::MAX, &FRAME, None, batch)?;
-        told.extend(batch.tiles().map(Told::of));
-        if end == BatchEnd::RowEnd {
-            return Ok(told);
-        }
-    }
-}
-
-/// The tiles of so many rows, worked on so many threads: each takes the next row that nobody has.
+/// The tiles of so many rows, worked on so many threads.
 pub fn worked(
     segments: &[PixelSegment],
     rows: usize,
     range: Range<i32>,
     threads: usize,
-) -> Result<Vec<Vec<Told>>, Refusal> {
-    let (plate, table, next) = (Plate::new(segments), table(), AtomicUsize::new(0));
-    let work = || -> Result<Vec<(usize, Vec<Told>)>, Refusal> {
-        let mut batch = Batch::new();
-        let taken = std::iter::repeat_with(|| next.fetch_add(1, Ordering::Relaxed)).take_while(|&j| j < rows);
-        let mut row = |j| tiles(&mut Row::open(plate.row(j), &table, j as i32, range.clone())?, &mut batch);
-        taken.map(|j| Ok((j, row(j)?))).collect()
-    };
-    let results: Vec<_> = thread::scope(|scope| {
-        let workers: Vec<_> = (0..threads).map(|_| scope.spawn(work)).collect();
-        workers.into_iter().map(|worker| worker.join().expect("a worker does not panic")).collect()
-    });
-    let mut all = results.into_iter().collect::<Result<Vec<_>, _>>()?.concat();
-    all.sort_by_key(|&(j, _)| j);
-    Ok(all.into_iter().map(|(_, tiles)| tiles).collect())
+) -> Result<Vec<Vec<Told>>, RowRefusal> {
+    let told = Mutex::new(vec![Vec::new(); rows]);
+    let threads = NonZeroUsize::new(threads).unwrap_or(NonZeroUsize::MIN);
+    let area = Area::new(rows, range.end).cropped(0..rows, range);
+    Plate::new(segments).work_on(threads, &table(), &area, &FRAME, |row, tile| {
+        let tile = Told::of(tile);
+        told.lock().expect("no worker panics")[row.index()].push(tile);
+    })?;
+    Ok(told.into_inner().expect("no worker panics"))
 }
