@@ -3,8 +3,9 @@
 /* The exports of target/staticlib/libffi.a, for x86-64. A slice is a pointer and a length, and the pointer is not NULL
    even where the length is 0; an array of fixed length is a pointer. What a call may write must not overlap anything
    else that it is lent. A call that can be refused returns the number of the refusal, and then leaves what it was lent
-   as it was, or 0. A bool that is lent holds 0 or 1. docs/MANUAL.md, sections 2 and 4, tells of refusals, states and
-   answers.
+   as it was, or 0. A pointer that a flag says is not used is given all the same. A bool that is lent holds 0 or 1.
+   docs/MANUAL.md, sections 2 and 4, tells of refusals, states and answers; example.c, which README.md beside this file
+   shows, is a whole row.
 
    To keep tiles from frame to frame: README.md beside this file, 'Keeping tiles from C'. In short, for each tile: list
    (ffi_list_tile); decide without a cached tile, which tells the shown layers; where these, by id and by whether each
@@ -24,6 +25,125 @@ extern "C" {
 
 /* The number of the exports that stand here; ffi_version tells the number of those that are linked. */
 #define TILE_ROWS_VERSION 2
+
+/* Refusals: what a call returns that is turned down, the lowest that applies. docs/MANUAL.md, section 2, has the edges. */
+enum {
+    TILE_ROWS_ACCEPTED = 0,
+    TILE_ROWS_REFUSED_ROOM = 1,      /* lent memory is too short */
+    TILE_ROWS_REFUSED_TILE = 2,      /* a tile, a row number or a range of tiles is not what the call allows */
+    TILE_ROWS_REFUSED_ROW = 3,       /* the words are no row; of a set or a part, one is of another layer or tile */
+    TILE_ROWS_REFUSED_TABLE = 4,     /* the layer table, or a record, is none */
+    TILE_ROWS_REFUSED_QUEUE = 5,     /* the queue of carries, or a list, is none */
+    TILE_ROWS_REFUSED_TAG = 6,       /* the tag of a cached tile is above 3 */
+    TILE_ROWS_REFUSED_LAYERS = 7,    /* more than 256 layers in a list or an opening */
+    TILE_ROWS_REFUSED_MISSING = 8,   /* the table lacks a listed or painted layer */
+    TILE_ROWS_REFUSED_COVERS = 9,    /* of a layer and pixel row the absolute covers sum above 127 */
+    TILE_ROWS_REFUSED_JOB_TEXT = 10, /* of the programs alone: a text is malformed */
+    TILE_ROWS_REFUSED_FIELD = 11,    /* a field that is to be packed is out of its range */
+    TILE_ROWS_REFUSED_NOT_HELD = 12, /* a segment that is to be let out is not held */
+    TILE_ROWS_REFUSED_SLOTS = 13,    /* the slots are too few */
+    TILE_ROWS_REFUSED_BOUNDS = 14,   /* the bounds of a cover are none */
+    TILE_ROWS_REFUSED_REVISIONS = 15 /* two records of one layer have the same revision */
+};
+
+/* Decisions: the first number of an answer. */
+enum {
+    TILE_ROWS_NONE = 0,  /* nothing is to be done: the tile shows what the last frame left there */
+    TILE_ROWS_SOLID = 1, /* it is filled with one colour: the bottom colour, with the shown layers mixed above it */
+    TILE_ROWS_PAINT = 2  /* its shown layers are painted, ascending */
+};
+
+/* Why a batch, or a range of tiles, ended. */
+enum {
+    TILE_ROWS_ENDED_ASKED = 0,   /* as many tiles are worked as were asked for */
+    TILE_ROWS_ENDED_ROW = 1,     /* the row is at its end */
+    TILE_ROWS_ENDED_ROOM = 2,    /* there is no room for one more tile */
+    TILE_ROWS_ENDED_REFUSED = 3  /* the next tile would be refused */
+};
+
+/* Words of a layer record: fill rules, what a layer does, fills, blend modes. */
+enum { TILE_ROWS_NON_ZERO = 0, TILE_ROWS_EVEN_ODD = 1 };
+enum { TILE_ROWS_DRAW = 0, TILE_ROWS_CLIP = 1 };
+enum { TILE_ROWS_FILL_SOLID = 0, TILE_ROWS_FILL_GRADIENT = 1, TILE_ROWS_FILL_TEXTURE = 2 };
+enum {
+    TILE_ROWS_OVER = 0,
+    TILE_ROWS_MULTIPLY = 1,
+    TILE_ROWS_SCREEN = 2,
+    TILE_ROWS_OVERLAY = 3,
+    TILE_ROWS_DARKEN = 4,
+    TILE_ROWS_LIGHTEN = 5,
+    TILE_ROWS_COLOR_DODGE = 6,
+    TILE_ROWS_COLOR_BURN = 7,
+    TILE_ROWS_HARD_LIGHT = 8,
+    TILE_ROWS_SOFT_LIGHT = 9,
+    TILE_ROWS_DIFFERENCE = 10,
+    TILE_ROWS_EXCLUSION = 11,
+    TILE_ROWS_HUE = 12,
+    TILE_ROWS_SATURATION = 13,
+    TILE_ROWS_COLOR = 14,
+    TILE_ROWS_LUMINOSITY = 15
+};
+
+/* Sizes of lent memory, and the last numbers that are accepted. */
+enum {
+    TILE_ROWS_ENTRIES = 256,       /* entries of a queue or a list: ids, and as many masks */
+    TILE_ROWS_COVERS = 16 * 256,   /* covers of a queue or a list, 16 an entry */
+    TILE_ROWS_FLAGS = 2 * 256,     /* flags of a list */
+    TILE_ROWS_PLANE = 256,         /* coverages of a plane; areas of a kept set; numbers of a plane of bounds */
+    TILE_ROWS_GPU_PLANE = 64,      /* coverages of a plane four pixels high */
+    TILE_ROWS_LAYER_WORDS = 8,     /* words of a layer record */
+    TILE_ROWS_LAYER_COLORS = 4,    /* floats of a layer record */
+    TILE_ROWS_REVISION_WORDS = 10, /* words of a record with a revision; it has four floats too */
+    TILE_ROWS_LAST_ROW = 2046,
+    TILE_ROWS_GPU_LAST_ROW = 8190,
+    TILE_ROWS_LAST_TILE = 4094,
+    TILE_ROWS_LAST_LAYER = 2097151
+};
+
+/* Layer record i: the words 8 * i to 8 * i + 7 and the floats 4 * i to 4 * i + 3. Ids ascend strictly. */
+enum {
+    TILE_ROWS_LAYER_ID = 0,
+    TILE_ROWS_LAYER_RULE = 1,      /* TILE_ROWS_NON_ZERO or TILE_ROWS_EVEN_ODD */
+    TILE_ROWS_LAYER_FUNC = 2,      /* TILE_ROWS_DRAW or TILE_ROWS_CLIP */
+    TILE_ROWS_LAYER_SPAN = 3,      /* of a clip: how many ids above its own it reaches */
+    TILE_ROWS_LAYER_CLIPPED = 4,   /* of a draw: 1 where it is cut by the latest clip below it */
+    TILE_ROWS_LAYER_FILL = 5,      /* of a draw */
+    TILE_ROWS_LAYER_MODE = 6,      /* of a draw: its blend mode */
+    TILE_ROWS_LAYER_UNCHANGED = 7  /* 1 where nothing of it changed since the last frame */
+};
+
+/* A record with a revision has the words of a layer record with two between id and rule: the revision, and the kind, 0
+   properties or 1 a withdrawal.
+
+   A state of a row is six words and two counts; ffi_open_tile_row makes one, and no other call needs it to be changed by
+   hand. A state of one layer's row, four pixels high, is six words and a cover of four bytes. */
+enum {
+    TILE_ROWS_STATE_ROW = 0,       /* words: tile y */
+    TILE_ROWS_STATE_FROM = 1,
+    TILE_ROWS_STATE_TO = 2,
+    TILE_ROWS_STATE_NEXT = 3,      /* the next tile */
+    TILE_ROWS_STATE_CLIPS = 4,     /* whether the painter has a clip; four high: the layer */
+    TILE_ROWS_STATE_CLIP_LAST = 5, /* the clip's last layer; four high: the fill rule */
+    TILE_ROWS_STATE_CARRIES = 0,   /* counts: carries that wait for the next tile */
+    TILE_ROWS_STATE_TAKEN = 1      /* carries that the last tile took in */
+};
+
+/* A queue of carries: entry i is ids[i] and covers[16 * i] to covers[16 * i + 15], one for each pixel row.
+
+   A list: entry i is list_ids[i], list_covers[16 * i ..], list_flags[i], whether its layer has segments in the tile,
+   list_flags[256 + i], whether its layer is changed, and unmasked[i], whether no pass over clips masked it off. It is
+   shown where it is not masked off and i is not below how many are skipped.
+
+   A cached tile: eight bytes, its tag (1 the colour is kept, 2 the count is kept), the count's three, the lowest first,
+   and the colour's four. All zeros at first.
+
+   A plane: pixel (column, row) at row * 16 + column.
+
+   A kept set: its layer, its tile (x and y), its carry, its loads, how many segments it holds, the slots, of which the
+   first so many are held, and areas, at column * 16 + row. ffi_begin_set writes all of them.
+
+   A segment has a tile y of -1 to 2046, a tile x of -1 to 4094, a layer id of 0 to 2097151, local x and y of 0 to 15, a
+   multiplier of 0 to 63 and a cover of -32 to 31; four pixels high tile y ends at 8190 and local y at 3. */
 
 /* 0 or the number of the refusal: that of the first tile, which leaves all lent memory as it was, `done` too. Else
    `words` and `counts` are the state after the tiles worked, and `done` tells how many these are (0 is possible), how
@@ -109,10 +229,10 @@ uint32_t ffi_keep_count(
     uint8_t kept[8],
     bool *stays);
 
-/* `ffi_is_empty` of the library. */
+/* Whether a tile without segments shows nothing of a layer with this cover from the left, by its fill rule. */
 bool ffi_is_empty(const int8_t covers[16], uint32_t rule);
 
-/* `ffi_is_full` of the library. */
+/* Whether a tile without segments is wholly covered by a layer with this cover from the left, by its fill rule. */
 bool ffi_is_full(const int8_t covers[16], uint32_t rule);
 
 /* 0 and the covers of the part added to those in `covers`, or the number of the refusal. */
@@ -166,28 +286,28 @@ uint32_t ffi_gpu_pack(
     int8_t cover,
     uint64_t *word);
 
-/* `ffi_gpu_layer_id` of the library. */
+/* The layer id of a packed word; any word has one. 0 to 2,097,151. Of tiles four pixels high. */
 uint32_t ffi_gpu_layer_id(uint64_t word);
 
-/* `ffi_gpu_tile_x` of the library. */
+/* Tile x of a packed word; any word has one. -1 to 4,094. Of tiles four pixels high. */
 int16_t ffi_gpu_tile_x(uint64_t word);
 
-/* `ffi_gpu_tile_y` of the library. */
+/* Tile y of a packed word; any word has one. -1 to 8,190. Of tiles four pixels high. */
 int16_t ffi_gpu_tile_y(uint64_t word);
 
-/* `ffi_gpu_local_x` of the library. */
+/* Local x of a packed word; any word has one. 0 to 15. Of tiles four pixels high. */
 uint8_t ffi_gpu_local_x(uint64_t word);
 
-/* `ffi_gpu_local_y` of the library. */
+/* Local y of a packed word; any word has one. 0 to 3. Of tiles four pixels high. */
 uint8_t ffi_gpu_local_y(uint64_t word);
 
-/* `ffi_gpu_double_area_multiplier` of the library. */
+/* The double area's multiplier of a packed word; any word has one. 0 to 63. Of tiles four pixels high. */
 uint8_t ffi_gpu_double_area_multiplier(uint64_t word);
 
-/* `ffi_gpu_double_area` of the library. */
+/* The double area of a packed word: multiplier times cover. Of tiles four pixels high. */
 int16_t ffi_gpu_double_area(uint64_t word);
 
-/* `ffi_gpu_cover` of the library. */
+/* The cover of a packed word; any word has one. -32 to 31. Of tiles four pixels high. */
 int8_t ffi_gpu_cover(uint64_t word);
 
 /* All of them in one call. */
@@ -211,39 +331,51 @@ bool ffi_gpu_is_row(const uint64_t *row, size_t row_len, uint64_t stored_tile_y)
 /* How a segment compares with another: 0 less, 1 equal, 2 greater. */
 uint8_t ffi_gpu_cmp(uint64_t word, uint64_t other);
 
-/* `ffi_gpu_search_last_by_tile_y` of the library. */
+/* The last place whose key is the wanted one in `place`, and true; or where it would stand, and false. On words
+   that the key does not sort, the halving of the painter decides. The key is tile y. Of tiles four pixels high. */
 bool ffi_gpu_search_last_by_tile_y(const uint64_t *segments, size_t segments_len, int16_t tile_y, size_t *place);
 
-/* `ffi_gpu_search_last_by_tile_x` of the library. */
+/* The last place whose key is the wanted one in `place`, and true; or where it would stand, and false. On words
+   that the key does not sort, the halving of the painter decides. The key is tile x. Of tiles four pixels high. */
 bool ffi_gpu_search_last_by_tile_x(const uint64_t *segments, size_t segments_len, int16_t tile_x, size_t *place);
 
-/* `ffi_gpu_search_last_by_layer_id` of the library. */
+/* The last place whose key is the wanted one in `place`, and true; or where it would stand, and false. On words
+   that the key does not sort, the halving of the painter decides. The key is the layer id. Of tiles four pixels
+   high. */
 bool ffi_gpu_search_last_by_layer_id(const uint64_t *segments, size_t segments_len, uint32_t layer_id, size_t *place);
 
-/* `ffi_gpu_search_last_by_tile_x_at_least` of the library. */
+/* The last place whose key is the wanted one in `place`, and true; or where it would stand, and false. On words
+   that the key does not sort, the halving of the painter decides. The key is whether tile x is at least `start`.
+   Of tiles four pixels high. */
 bool ffi_gpu_search_last_by_tile_x_at_least(
     const uint64_t *segments, size_t segments_len,
     int16_t start,
     bool wanted,
     size_t *place);
 
-/* `ffi_gpu_search_last_by_layer_id_at_least` of the library. */
+/* The last place whose key is the wanted one in `place`, and true; or where it would stand, and false. On words
+   that the key does not sort, the halving of the painter decides. The key is whether the layer id is at least
+   `start`. Of tiles four pixels high. */
 bool ffi_gpu_search_last_by_layer_id_at_least(
     const uint64_t *segments, size_t segments_len,
     uint32_t start,
     bool wanted,
     size_t *place);
 
-/* `ffi_gpu_search_last_by_tile_y_not_negative` of the library. */
+/* The last place whose key is the wanted one in `place`, and true; or where it would stand, and false. On words
+   that the key does not sort, the halving of the painter decides. The key is whether tile y is 0 or more. Of tiles
+   four pixels high. */
 bool ffi_gpu_search_last_by_tile_y_not_negative(
     const uint64_t *segments, size_t segments_len,
     bool wanted,
     size_t *place);
 
-/* `ffi_gpu_is_empty` of the library. */
+/* Whether a tile without segments shows nothing of a layer with this cover from the left, by its fill rule. Of
+   tiles four pixels high. */
 bool ffi_gpu_is_empty(const int8_t covers[4], uint32_t rule);
 
-/* `ffi_gpu_is_full` of the library. */
+/* Whether a tile without segments is wholly covered by a layer with this cover from the left, by its fill rule. Of
+   tiles four pixels high. */
 bool ffi_gpu_is_full(const int8_t covers[4], uint32_t rule);
 
 /* 0 and the covers of the part added to those in `covers`, or 9. */
@@ -289,7 +421,7 @@ uint32_t ffi_gpu_work_tiles(
     float *planes, size_t planes_len,
     size_t done[3]);
 
-/* `ffi_color_eq` of the library. */
+/* Whether two colours are equal by ==, number by number: both zeros agree, and NaN equals nothing. */
 bool ffi_color_eq(const float color[4], const float other[4]);
 
 /* Whether a draw with this fill, blend mode and colour hides what is below it. */
@@ -346,7 +478,8 @@ size_t ffi_find_not_negative(const uint64_t *segments, size_t segments_len);
 /* Where row j starts; in `end` where it ends, one past its last segment. */
 size_t ffi_find_row(const uint64_t *segments, size_t segments_len, size_t j, size_t *end);
 
-/* `ffi_is_in_crop` of the library. */
+/* Whether row `j` is within a crop of the rows `start` up to `end`; without a crop (`is_given` false) every row
+   is. */
 bool ffi_is_in_crop(bool is_given, size_t start, size_t end, size_t j);
 
 /* 0, the carries in the lent queue and the state before the first tile in `words` and `counts`, or the number of the
@@ -415,7 +548,8 @@ uint32_t ffi_stand(
 /* The number of these exports. It is another wherever a name, a parameter, a result or the layout of lent memory is. */
 uint32_t ffi_version();
 
-/* `ffi_pack` of the library. */
+/* 0 and the word in `word`, or 11 where a field is out of its range. The parameters are as wide as the fields'
+   types: a compiler that is given wider numbers cuts them before the call, and what is cut can't be judged. */
 uint32_t ffi_pack(
     uint32_t layer_id,
     int16_t tile_x,
@@ -426,56 +560,62 @@ uint32_t ffi_pack(
     int8_t cover,
     uint64_t *word);
 
-/* `ffi_layer_id` of the library. */
+/* The layer id of a packed word; any word has one. 0 to 2,097,151. */
 uint32_t ffi_layer_id(uint64_t word);
 
-/* `ffi_tile_x` of the library. */
+/* Tile x of a packed word; any word has one. -1 to 4,094. */
 int16_t ffi_tile_x(uint64_t word);
 
-/* `ffi_tile_y` of the library. */
+/* Tile y of a packed word; any word has one. -1 to 2,046. */
 int16_t ffi_tile_y(uint64_t word);
 
-/* `ffi_local_x` of the library. */
+/* Local x of a packed word; any word has one. 0 to 15. */
 uint8_t ffi_local_x(uint64_t word);
 
-/* `ffi_local_y` of the library. */
+/* Local y of a packed word; any word has one. 0 to 15. */
 uint8_t ffi_local_y(uint64_t word);
 
-/* `ffi_double_area_multiplier` of the library. */
+/* The double area's multiplier of a packed word; any word has one. 0 to 63. */
 uint8_t ffi_double_area_multiplier(uint64_t word);
 
-/* `ffi_double_area` of the library. */
+/* The double area of a packed word: multiplier times cover. */
 int16_t ffi_double_area(uint64_t word);
 
-/* `ffi_cover` of the library. */
+/* The cover of a packed word; any word has one. -32 to 31. */
 int8_t ffi_cover(uint64_t word);
 
 /* How a segment compares with another: 0 less, 1 equal, 2 greater. */
 uint8_t ffi_cmp(uint64_t word, uint64_t other);
 
-/* `ffi_does_ascend` of the library. */
+/* Whether no word is less than the one before it, by tile y, tile x and layer. */
 bool ffi_does_ascend(const uint64_t *row, size_t row_len);
 
-/* `ffi_is_row` of the library. */
+/* Whether the words are a row: they ascend, and each has the stored tile y, which is the row's number plus 1: 1
+   for row 0. */
 bool ffi_is_row(const uint64_t *row, size_t row_len, uint64_t stored_tile_y);
 
-/* `ffi_search_last_by_tile_y` of the library. */
+/* The last place whose key is the wanted one in `place`, and true; or where it would stand, and false. On words
+   that the key does not sort, the halving of the painter decides. The key is tile y. */
 bool ffi_search_last_by_tile_y(const uint64_t *segments, size_t segments_len, int16_t tile_y, size_t *place);
 
-/* `ffi_search_last_by_tile_x` of the library. */
+/* The last place whose key is the wanted one in `place`, and true; or where it would stand, and false. On words
+   that the key does not sort, the halving of the painter decides. The key is tile x. */
 bool ffi_search_last_by_tile_x(const uint64_t *segments, size_t segments_len, int16_t tile_x, size_t *place);
 
-/* `ffi_search_last_by_layer_id` of the library. */
+/* The last place whose key is the wanted one in `place`, and true; or where it would stand, and false. On words
+   that the key does not sort, the halving of the painter decides. The key is the layer id. */
 bool ffi_search_last_by_layer_id(const uint64_t *segments, size_t segments_len, uint32_t layer_id, size_t *place);
 
-/* `ffi_search_last_by_tile_x_at_least` of the library. */
+/* The last place whose key is the wanted one in `place`, and true; or where it would stand, and false. On words
+   that the key does not sort, the halving of the painter decides. The key is whether tile x is at least `start`. */
 bool ffi_search_last_by_tile_x_at_least(
     const uint64_t *segments, size_t segments_len,
     int16_t start,
     bool wanted,
     size_t *place);
 
-/* `ffi_search_last_by_tile_y_not_negative` of the library. */
+/* The last place whose key is the wanted one in `place`, and true; or where it would stand, and false. On words
+   that the key does not sort, the halving of the painter decides. The key is whether tile y is 0 or more. */
 bool ffi_search_last_by_tile_y_not_negative(const uint64_t *segments, size_t segments_len, bool wanted, size_t *place);
 
 /* 0, the list, the carries handed on, the cached tile, the answer and the state past the tile, or the number of the

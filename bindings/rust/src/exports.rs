@@ -486,6 +486,7 @@ pub mod raw {
 /// 0 there, and its plane is left as it was. A tile is worked only where as many planes are free as it can list layers:
 /// 256, or the table's count where that is less.
 #[allow(clippy::too_many_arguments)]
+#[must_use]
 #[inline]
 pub fn work_tiles(
     words: &mut [u32; 6],
@@ -556,6 +557,7 @@ pub fn work_tiles(
 /// 0 and the six planes, or the number of the refusal. `bounds` has two bytes a segment, its lowest and its highest
 /// cover.
 #[allow(clippy::too_many_arguments)]
+#[must_use]
 #[inline]
 pub fn bound_part(
     layer_id: u32,
@@ -602,6 +604,7 @@ pub fn bound_part(
 }
 
 /// Whether the tile keeps a layer count; where it does, the count in `count`.
+#[must_use]
 #[inline]
 pub fn layer_count(tile: &[u8; 8], count: &mut u32) -> bool {
     // SAFETY: the references are those that the export takes, a slice with its own length; it is proved to keep
@@ -610,6 +613,7 @@ pub fn layer_count(tile: &[u8; 8], count: &mut u32) -> bool {
 }
 
 /// Whether the tile keeps a solid colour; where it does, its bytes in `color`.
+#[must_use]
 #[inline]
 pub fn solid_color(tile: &[u8; 8], color: &mut [u8; 4]) -> bool {
     // SAFETY: the references are those that the export takes, a slice with its own length; it is proved to keep
@@ -619,6 +623,7 @@ pub fn solid_color(tile: &[u8; 8], color: &mut [u8; 4]) -> bool {
 
 /// The tile keeps the count, where one is given, or none. Whether it kept one before; where it did, that one in
 /// `previous`.
+#[must_use]
 #[inline]
 pub fn update_layer_count(tile: &mut [u8; 8], given: bool, count: u32, previous: &mut u32) -> bool {
     // SAFETY: the references are those that the export takes, a slice with its own length; it is proved to keep
@@ -628,6 +633,7 @@ pub fn update_layer_count(tile: &mut [u8; 8], given: bool, count: u32, previous:
 
 /// The tile keeps the colour, where one is given, or none. Whether it kept one before; where it did, its bytes in
 /// `previous`.
+#[must_use]
 #[inline]
 pub fn update_solid_color(tile: &mut [u8; 8], given: bool, color: &[u8; 4], previous: &mut [u8; 4]) -> bool {
     // SAFETY: the references are those that the export takes, a slice with its own length; it is proved to keep
@@ -637,6 +643,7 @@ pub fn update_solid_color(tile: &mut [u8; 8], given: bool, color: &[u8; 4], prev
 
 /// Where a tile is given it keeps the bytes. 0 and whether they are to be written in `is_written`, or the number of the
 /// refusal. The tile's bytes are stored where the call is accepted and a tile is given.
+#[must_use]
 #[inline]
 pub fn settle(given: bool, tile: &mut [u8; 8], color: &[u8; 4], is_written: &mut bool) -> u32 {
     // SAFETY: the references are those that the export takes, a slice with its own length; it is proved to keep
@@ -649,6 +656,7 @@ pub fn settle(given: bool, tile: &mut [u8; 8], color: &[u8; 4], is_written: &mut
 /// tells whether they are alike (docs/statements/kept.md). Where the answer is no, the count's tag is dropped and nothing
 /// else. The tile's bytes are stored where the call is accepted and a tile is given.
 #[allow(clippy::too_many_arguments)]
+#[must_use]
 #[inline]
 pub fn keep_count(
     last_ids: &[u32],
@@ -682,7 +690,8 @@ pub fn keep_count(
     }
 }
 
-/// `ffi_is_empty` of the library.
+/// Whether a tile without segments shows nothing of a layer with this cover from the left, by its fill rule.
+#[must_use]
 #[inline]
 pub fn is_empty(covers: &[i8; 16], rule: u32) -> bool {
     // SAFETY: the references are those that the export takes, a slice with its own length; it is proved to keep
@@ -690,7 +699,8 @@ pub fn is_empty(covers: &[i8; 16], rule: u32) -> bool {
     unsafe { raw::ffi_is_empty(covers, rule) }
 }
 
-/// `ffi_is_full` of the library.
+/// Whether a tile without segments is wholly covered by a layer with this cover from the left, by its fill rule.
+#[must_use]
 #[inline]
 pub fn is_full(covers: &[i8; 16], rule: u32) -> bool {
     // SAFETY: the references are those that the export takes, a slice with its own length; it is proved to keep
@@ -699,6 +709,7 @@ pub fn is_full(covers: &[i8; 16], rule: u32) -> bool {
 }
 
 /// 0 and the covers of the part added to those in `covers`, or the number of the refusal.
+#[must_use]
 #[inline]
 pub fn carry(part: &[u64], covers: &mut [i8; 16]) -> u32 {
     // SAFETY: the references are those that the export takes, a slice with its own length; it is proved to keep
@@ -707,6 +718,7 @@ pub fn carry(part: &[u64], covers: &mut [i8; 16]) -> u32 {
 }
 
 /// The coverage of a pixel that sees d.
+#[must_use]
 #[inline]
 pub fn doubled_area_to_coverage(d: i16, rule: u32) -> f32 {
     // SAFETY: the references are those that the export takes, a slice with its own length; it is proved to keep
@@ -715,6 +727,7 @@ pub fn doubled_area_to_coverage(d: i16, rule: u32) -> f32 {
 }
 
 /// 0, the coverages in `plane`, at row × 16 + column, and their mark in `mark`, or the number of the refusal.
+#[must_use]
 #[inline]
 pub fn paint_part(part: &[u64], covers: &[i8; 16], rule: u32, plane: &mut [f32], mark: &mut u32) -> u32 {
     // SAFETY: the references are those that the export takes, a slice with its own length; it is proved to keep
@@ -723,6 +736,7 @@ pub fn paint_part(part: &[u64], covers: &[i8; 16], rule: u32, plane: &mut [f32],
 }
 
 /// 0 and the mark of any plane in `mark`, or the number of the refusal.
+#[must_use]
 #[inline]
 pub fn mark_plane(plane: &[f32], mark: &mut u32) -> u32 {
     // SAFETY: the references are those that the export takes, a slice with its own length; it is proved to keep
@@ -731,6 +745,7 @@ pub fn mark_plane(plane: &[f32], mark: &mut u32) -> u32 {
 }
 
 /// How many octets a mark has.
+#[must_use]
 #[inline]
 pub fn octets(mark: u32) -> u32 {
     // SAFETY: the references are those that the export takes, a slice with its own length; it is proved to keep
@@ -742,6 +757,7 @@ pub fn octets(mark: u32) -> u32 {
 /// stored where the call is accepted and a tile is given. Whether a layer is changed is told by the list's flags, from
 /// place 256 on, and not by the table.
 #[allow(clippy::too_many_arguments)]
+#[must_use]
 #[inline]
 pub fn decide_tile(
     list_ids: &[u32],
@@ -791,6 +807,7 @@ pub fn decide_tile(
 
 /// 0 and the word in `word`, or 11.
 #[allow(clippy::too_many_arguments)]
+#[must_use]
 #[inline]
 pub fn gpu_pack(
     layer_id: u32,
@@ -807,7 +824,8 @@ pub fn gpu_pack(
     unsafe { raw::ffi_gpu_pack(layer_id, tile_x, tile_y, local_x, local_y, double_area_multiplier, cover, word) }
 }
 
-/// `ffi_gpu_layer_id` of the library.
+/// The layer id of a packed word; any word has one. 0 to 2,097,151. Of tiles four pixels high.
+#[must_use]
 #[inline]
 pub fn gpu_layer_id(word: u64) -> u32 {
     // SAFETY: the references are those that the export takes, a slice with its own length; it is proved to keep
@@ -815,7 +833,8 @@ pub fn gpu_layer_id(word: u64) -> u32 {
     unsafe { raw::ffi_gpu_layer_id(word) }
 }
 
-/// `ffi_gpu_tile_x` of the library.
+/// Tile x of a packed word; any word has one. -1 to 4,094. Of tiles four pixels high.
+#[must_use]
 #[inline]
 pub fn gpu_tile_x(word: u64) -> i16 {
     // SAFETY: the references are those that the export takes, a slice with its own length; it is proved to keep
@@ -823,7 +842,8 @@ pub fn gpu_tile_x(word: u64) -> i16 {
     unsafe { raw::ffi_gpu_tile_x(word) }
 }
 
-/// `ffi_gpu_tile_y` of the library.
+/// Tile y of a packed word; any word has one. -1 to 8,190. Of tiles four pixels high.
+#[must_use]
 #[inline]
 pub fn gpu_tile_y(word: u64) -> i16 {
     // SAFETY: the references are those that the export takes, a slice with its own length; it is proved to keep
@@ -831,7 +851,8 @@ pub fn gpu_tile_y(word: u64) -> i16 {
     unsafe { raw::ffi_gpu_tile_y(word) }
 }
 
-/// `ffi_gpu_local_x` of the library.
+/// Local x of a packed word; any word has one. 0 to 15. Of tiles four pixels high.
+#[must_use]
 #[inline]
 pub fn gpu_local_x(word: u64) -> u8 {
     // SAFETY: the references are those that the export takes, a slice with its own length; it is proved to keep
@@ -839,7 +860,8 @@ pub fn gpu_local_x(word: u64) -> u8 {
     unsafe { raw::ffi_gpu_local_x(word) }
 }
 
-/// `ffi_gpu_local_y` of the library.
+/// Local y of a packed word; any word has one. 0 to 3. Of tiles four pixels high.
+#[must_use]
 #[inline]
 pub fn gpu_local_y(word: u64) -> u8 {
     // SAFETY: the references are those that the export takes, a slice with its own length; it is proved to keep
@@ -847,7 +869,8 @@ pub fn gpu_local_y(word: u64) -> u8 {
     unsafe { raw::ffi_gpu_local_y(word) }
 }
 
-/// `ffi_gpu_double_area_multiplier` of the library.
+/// The double area's multiplier of a packed word; any word has one. 0 to 63. Of tiles four pixels high.
+#[must_use]
 #[inline]
 pub fn gpu_double_area_multiplier(word: u64) -> u8 {
     // SAFETY: the references are those that the export takes, a slice with its own length; it is proved to keep
@@ -855,7 +878,8 @@ pub fn gpu_double_area_multiplier(word: u64) -> u8 {
     unsafe { raw::ffi_gpu_double_area_multiplier(word) }
 }
 
-/// `ffi_gpu_double_area` of the library.
+/// The double area of a packed word: multiplier times cover. Of tiles four pixels high.
+#[must_use]
 #[inline]
 pub fn gpu_double_area(word: u64) -> i16 {
     // SAFETY: the references are those that the export takes, a slice with its own length; it is proved to keep
@@ -863,7 +887,8 @@ pub fn gpu_double_area(word: u64) -> i16 {
     unsafe { raw::ffi_gpu_double_area(word) }
 }
 
-/// `ffi_gpu_cover` of the library.
+/// The cover of a packed word; any word has one. -32 to 31. Of tiles four pixels high.
+#[must_use]
 #[inline]
 pub fn gpu_cover(word: u64) -> i8 {
     // SAFETY: the references are those that the export takes, a slice with its own length; it is proved to keep
@@ -903,6 +928,7 @@ pub fn gpu_fields(
 }
 
 /// Whether the words do not descend by tile y, tile x and layer.
+#[must_use]
 #[inline]
 pub fn gpu_does_ascend(row: &[u64]) -> bool {
     // SAFETY: the references are those that the export takes, a slice with its own length; it is proved to keep
@@ -911,6 +937,7 @@ pub fn gpu_does_ascend(row: &[u64]) -> bool {
 }
 
 /// Whether they are a row: they ascend, and each has the stored tile y, which is its own plus 1.
+#[must_use]
 #[inline]
 pub fn gpu_is_row(row: &[u64], stored_tile_y: u64) -> bool {
     // SAFETY: the references are those that the export takes, a slice with its own length; it is proved to keep
@@ -919,6 +946,7 @@ pub fn gpu_is_row(row: &[u64], stored_tile_y: u64) -> bool {
 }
 
 /// How a segment compares with another: 0 less, 1 equal, 2 greater.
+#[must_use]
 #[inline]
 pub fn gpu_cmp(word: u64, other: u64) -> u8 {
     // SAFETY: the references are those that the export takes, a slice with its own length; it is proved to keep
@@ -926,7 +954,9 @@ pub fn gpu_cmp(word: u64, other: u64) -> u8 {
     unsafe { raw::ffi_gpu_cmp(word, other) }
 }
 
-/// `ffi_gpu_search_last_by_tile_y` of the library.
+/// The last place whose key is the wanted one in `place`, and true; or where it would stand, and false. On words
+/// that the key does not sort, the halving of the painter decides. The key is tile y. Of tiles four pixels high.
+#[must_use]
 #[inline]
 pub fn gpu_search_last_by_tile_y(segments: &[u64], tile_y: i16, place: &mut usize) -> bool {
     // SAFETY: the references are those that the export takes, a slice with its own length; it is proved to keep
@@ -934,7 +964,9 @@ pub fn gpu_search_last_by_tile_y(segments: &[u64], tile_y: i16, place: &mut usiz
     unsafe { raw::ffi_gpu_search_last_by_tile_y(segments.as_ptr(), segments.len(), tile_y, place) }
 }
 
-/// `ffi_gpu_search_last_by_tile_x` of the library.
+/// The last place whose key is the wanted one in `place`, and true; or where it would stand, and false. On words
+/// that the key does not sort, the halving of the painter decides. The key is tile x. Of tiles four pixels high.
+#[must_use]
 #[inline]
 pub fn gpu_search_last_by_tile_x(segments: &[u64], tile_x: i16, place: &mut usize) -> bool {
     // SAFETY: the references are those that the export takes, a slice with its own length; it is proved to keep
@@ -942,7 +974,10 @@ pub fn gpu_search_last_by_tile_x(segments: &[u64], tile_x: i16, place: &mut usiz
     unsafe { raw::ffi_gpu_search_last_by_tile_x(segments.as_ptr(), segments.len(), tile_x, place) }
 }
 
-/// `ffi_gpu_search_last_by_layer_id` of the library.
+/// The last place whose key is the wanted one in `place`, and true; or where it would stand, and false. On words
+/// that the key does not sort, the halving of the painter decides. The key is the layer id. Of tiles four pixels
+/// high.
+#[must_use]
 #[inline]
 pub fn gpu_search_last_by_layer_id(segments: &[u64], layer_id: u32, place: &mut usize) -> bool {
     // SAFETY: the references are those that the export takes, a slice with its own length; it is proved to keep
@@ -950,7 +985,10 @@ pub fn gpu_search_last_by_layer_id(segments: &[u64], layer_id: u32, place: &mut 
     unsafe { raw::ffi_gpu_search_last_by_layer_id(segments.as_ptr(), segments.len(), layer_id, place) }
 }
 
-/// `ffi_gpu_search_last_by_tile_x_at_least` of the library.
+/// The last place whose key is the wanted one in `place`, and true; or where it would stand, and false. On words
+/// that the key does not sort, the halving of the painter decides. The key is whether tile x is at least `start`.
+/// Of tiles four pixels high.
+#[must_use]
 #[inline]
 pub fn gpu_search_last_by_tile_x_at_least(segments: &[u64], start: i16, wanted: bool, place: &mut usize) -> bool {
     // SAFETY: the references are those that the export takes, a slice with its own length; it is proved to keep
@@ -958,7 +996,10 @@ pub fn gpu_search_last_by_tile_x_at_least(segments: &[u64], start: i16, wanted: 
     unsafe { raw::ffi_gpu_search_last_by_tile_x_at_least(segments.as_ptr(), segments.len(), start, wanted, place) }
 }
 
-/// `ffi_gpu_search_last_by_layer_id_at_least` of the library.
+/// The last place whose key is the wanted one in `place`, and true; or where it would stand, and false. On words
+/// that the key does not sort, the halving of the painter decides. The key is whether the layer id is at least
+/// `start`. Of tiles four pixels high.
+#[must_use]
 #[inline]
 pub fn gpu_search_last_by_layer_id_at_least(segments: &[u64], start: u32, wanted: bool, place: &mut usize) -> bool {
     // SAFETY: the references are those that the export takes, a slice with its own length; it is proved to keep
@@ -966,7 +1007,10 @@ pub fn gpu_search_last_by_layer_id_at_least(segments: &[u64], start: u32, wanted
     unsafe { raw::ffi_gpu_search_last_by_layer_id_at_least(segments.as_ptr(), segments.len(), start, wanted, place) }
 }
 
-/// `ffi_gpu_search_last_by_tile_y_not_negative` of the library.
+/// The last place whose key is the wanted one in `place`, and true; or where it would stand, and false. On words
+/// that the key does not sort, the halving of the painter decides. The key is whether tile y is 0 or more. Of tiles
+/// four pixels high.
+#[must_use]
 #[inline]
 pub fn gpu_search_last_by_tile_y_not_negative(segments: &[u64], wanted: bool, place: &mut usize) -> bool {
     // SAFETY: the references are those that the export takes, a slice with its own length; it is proved to keep
@@ -974,7 +1018,9 @@ pub fn gpu_search_last_by_tile_y_not_negative(segments: &[u64], wanted: bool, pl
     unsafe { raw::ffi_gpu_search_last_by_tile_y_not_negative(segments.as_ptr(), segments.len(), wanted, place) }
 }
 
-/// `ffi_gpu_is_empty` of the library.
+/// Whether a tile without segments shows nothing of a layer with this cover from the left, by its fill rule. Of
+/// tiles four pixels high.
+#[must_use]
 #[inline]
 pub fn gpu_is_empty(covers: &[i8; 4], rule: u32) -> bool {
     // SAFETY: the references are those that the export takes, a slice with its own length; it is proved to keep
@@ -982,7 +1028,9 @@ pub fn gpu_is_empty(covers: &[i8; 4], rule: u32) -> bool {
     unsafe { raw::ffi_gpu_is_empty(covers, rule) }
 }
 
-/// `ffi_gpu_is_full` of the library.
+/// Whether a tile without segments is wholly covered by a layer with this cover from the left, by its fill rule. Of
+/// tiles four pixels high.
+#[must_use]
 #[inline]
 pub fn gpu_is_full(covers: &[i8; 4], rule: u32) -> bool {
     // SAFETY: the references are those that the export takes, a slice with its own length; it is proved to keep
@@ -991,6 +1039,7 @@ pub fn gpu_is_full(covers: &[i8; 4], rule: u32) -> bool {
 }
 
 /// 0 and the covers of the part added to those in `covers`, or 9.
+#[must_use]
 #[inline]
 pub fn gpu_carry(part: &[u64], covers: &mut [i8; 4]) -> u32 {
     // SAFETY: the references are those that the export takes, a slice with its own length; it is proved to keep
@@ -999,6 +1048,7 @@ pub fn gpu_carry(part: &[u64], covers: &mut [i8; 4]) -> u32 {
 }
 
 /// 0 and the coverages in `plane`, or the number of the refusal.
+#[must_use]
 #[inline]
 pub fn gpu_paint_part(part: &[u64], covers: &[i8; 4], rule: u32, plane: &mut [f32]) -> u32 {
     // SAFETY: the references are those that the export takes, a slice with its own length; it is proved to keep
@@ -1009,6 +1059,7 @@ pub fn gpu_paint_part(part: &[u64], covers: &[i8; 4], rule: u32, plane: &mut [f3
 /// 0 and the state before the first tile in `words` and `covers`, or the number of the refusal. The layer and the number
 /// of its rule are judged as a layer record is, by 4.
 #[allow(clippy::too_many_arguments)]
+#[must_use]
 #[inline]
 pub fn gpu_open_layer_row(
     tile_y: i32,
@@ -1026,6 +1077,7 @@ pub fn gpu_open_layer_row(
 }
 
 /// 0, the tile's coverages in `plane` and the state past the tile, or the number of the refusal.
+#[must_use]
 #[inline]
 pub fn gpu_work_tile(words: &mut [u32; 6], covers: &mut [i8; 4], tile: i32, row: &[u64], plane: &mut [f32]) -> u32 {
     // SAFETY: the references are those that the export takes, a slice with its own length; it is proved to keep
@@ -1037,6 +1089,7 @@ pub fn gpu_work_tile(words: &mut [u32; 6], covers: &mut [i8; 4], tile: i32, row:
 /// state past them, and in `done` how many tiles were worked, why the range ended (0 all that were asked for, 1 the row's
 /// end, 2 no plane is left, 3 the next tile would be refused) and by which number the next tile would be refused, else 0.
 /// Or the number by which the first tile's own call would be refused; every lent number is then as it was, `done` too.
+#[must_use]
 #[inline]
 pub fn gpu_work_tiles(
     words: &mut [u32; 6],
@@ -1064,7 +1117,8 @@ pub fn gpu_work_tiles(
     }
 }
 
-/// `ffi_color_eq` of the library.
+/// Whether two colours are equal by ==, number by number: both zeros agree, and NaN equals nothing.
+#[must_use]
 #[inline]
 pub fn color_eq(color: &[f32; 4], other: &[f32; 4]) -> bool {
     // SAFETY: the references are those that the export takes, a slice with its own length; it is proved to keep
@@ -1073,6 +1127,7 @@ pub fn color_eq(color: &[f32; 4], other: &[f32; 4]) -> bool {
 }
 
 /// Whether a draw with this fill, blend mode and colour hides what is below it.
+#[must_use]
 #[inline]
 pub fn is_opaque(fill: u32, blend_mode: u32, color: &[f32; 4]) -> bool {
     // SAFETY: the references are those that the export takes, a slice with its own length; it is proved to keep
@@ -1081,6 +1136,7 @@ pub fn is_opaque(fill: u32, blend_mode: u32, color: &[f32; 4]) -> bool {
 }
 
 /// The number of the blend mode of a number.
+#[must_use]
 #[inline]
 pub fn blend_mode(code: u32) -> u32 {
     // SAFETY: the references are those that the export takes, a slice with its own length; it is proved to keep
@@ -1089,6 +1145,7 @@ pub fn blend_mode(code: u32) -> u32 {
 }
 
 /// Whether the table is shorter than its count.
+#[must_use]
 #[inline]
 pub fn is_short(layers: &[u32], colors: &[f32], count: usize) -> bool {
     // SAFETY: the references are those that the export takes, a slice with its own length; it is proved to keep
@@ -1097,6 +1154,7 @@ pub fn is_short(layers: &[u32], colors: &[f32], count: usize) -> bool {
 }
 
 /// Whether no refusal applies to the table.
+#[must_use]
 #[inline]
 pub fn is_table(layers: &[u32], colors: &[f32], count: usize) -> bool {
     // SAFETY: the references are those that the export takes, a slice with its own length; it is proved to keep
@@ -1108,6 +1166,7 @@ pub fn is_table(layers: &[u32], colors: &[f32], count: usize) -> bool {
 /// refusal. Of the flags, that at place i says whether entry i has segments in the tile, that at place 256 + i whether
 /// its layer is changed.
 #[allow(clippy::too_many_arguments)]
+#[must_use]
 #[inline]
 pub fn list_tile(
     words: &mut [u32; 6],
@@ -1162,6 +1221,7 @@ pub fn list_tile(
 /// 0, the coverages in `plane`, at row × 16 + column, their mark in `mark` and the state with the painter's clip, or
 /// the number of the refusal.
 #[allow(clippy::too_many_arguments)]
+#[must_use]
 #[inline]
 pub fn paint_layer(
     words: &mut [u32; 6],
@@ -1204,6 +1264,7 @@ pub fn paint_layer(
 }
 
 /// Where the segments start that have no negative tile y.
+#[must_use]
 #[inline]
 pub fn find_not_negative(segments: &[u64]) -> usize {
     // SAFETY: the references are those that the export takes, a slice with its own length; it is proved to keep
@@ -1212,6 +1273,7 @@ pub fn find_not_negative(segments: &[u64]) -> usize {
 }
 
 /// Where row j starts; in `end` where it ends, one past its last segment.
+#[must_use]
 #[inline]
 pub fn find_row(segments: &[u64], j: usize, end: &mut usize) -> usize {
     // SAFETY: the references are those that the export takes, a slice with its own length; it is proved to keep
@@ -1219,7 +1281,9 @@ pub fn find_row(segments: &[u64], j: usize, end: &mut usize) -> usize {
     unsafe { raw::ffi_find_row(segments.as_ptr(), segments.len(), j, end) }
 }
 
-/// `ffi_is_in_crop` of the library.
+/// Whether row `j` is within a crop of the rows `start` up to `end`; without a crop (`is_given` false) every row
+/// is.
+#[must_use]
 #[inline]
 pub fn is_in_crop(is_given: bool, start: usize, end: usize, j: usize) -> bool {
     // SAFETY: the references are those that the export takes, a slice with its own length; it is proved to keep
@@ -1230,6 +1294,7 @@ pub fn is_in_crop(is_given: bool, start: usize, end: usize, j: usize) -> bool {
 /// 0, the carries in the lent queue and the state before the first tile in `words` and `counts`, or the number of the
 /// refusal.
 #[allow(clippy::too_many_arguments)]
+#[must_use]
 #[inline]
 pub fn open_tile_row(
     tile_y: i32,
@@ -1271,6 +1336,7 @@ pub fn open_tile_row(
 /// 0, the words of the part in `slots`, their d in `areas`, and which layer and tile the set is of with its other
 /// numbers; or the number of the refusal. `covers` is the incoming cover.
 #[allow(clippy::too_many_arguments)]
+#[must_use]
 #[inline]
 pub fn begin_set(
     layer_id: u32,
@@ -1311,6 +1377,7 @@ pub fn begin_set(
 
 /// 0 and the segment taken in, or the number of the refusal. Of which layer and tile it has to be, the beginning wrote.
 #[allow(clippy::too_many_arguments)]
+#[must_use]
 #[inline]
 pub fn take_in(
     word: u64,
@@ -1343,6 +1410,7 @@ pub fn take_in(
 /// 0 and one equal segment let out, or the number of the refusal. Of which layer and tile it has to be, the beginning
 /// wrote.
 #[allow(clippy::too_many_arguments)]
+#[must_use]
 #[inline]
 pub fn let_out(
     word: u64,
@@ -1374,6 +1442,7 @@ pub fn let_out(
 
 /// 0, the standing layers in the lent table and in `standing` how many they are, or the number of the refusal. A record
 /// is ten words and four floats; what is left over of either plays no part.
+#[must_use]
 #[inline]
 pub fn stand(
     records: &[u32],
@@ -1400,6 +1469,7 @@ pub fn stand(
 }
 
 /// The number of these exports. It is another wherever a name, a parameter, a result or the layout of lent memory is.
+#[must_use]
 #[inline]
 pub fn version() -> u32 {
     // SAFETY: the references are those that the export takes, a slice with its own length; it is proved to keep
@@ -1407,8 +1477,10 @@ pub fn version() -> u32 {
     unsafe { raw::ffi_version() }
 }
 
-/// `ffi_pack` of the library.
+/// 0 and the word in `word`, or 11 where a field is out of its range. The parameters are as wide as the fields'
+/// types: a compiler that is given wider numbers cuts them before the call, and what is cut can't be judged.
 #[allow(clippy::too_many_arguments)]
+#[must_use]
 #[inline]
 pub fn pack(
     layer_id: u32,
@@ -1425,7 +1497,8 @@ pub fn pack(
     unsafe { raw::ffi_pack(layer_id, tile_x, tile_y, local_x, local_y, double_area_multiplier, cover, word) }
 }
 
-/// `ffi_layer_id` of the library.
+/// The layer id of a packed word; any word has one. 0 to 2,097,151.
+#[must_use]
 #[inline]
 pub fn layer_id(word: u64) -> u32 {
     // SAFETY: the references are those that the export takes, a slice with its own length; it is proved to keep
@@ -1433,7 +1506,8 @@ pub fn layer_id(word: u64) -> u32 {
     unsafe { raw::ffi_layer_id(word) }
 }
 
-/// `ffi_tile_x` of the library.
+/// Tile x of a packed word; any word has one. -1 to 4,094.
+#[must_use]
 #[inline]
 pub fn tile_x(word: u64) -> i16 {
     // SAFETY: the references are those that the export takes, a slice with its own length; it is proved to keep
@@ -1441,7 +1515,8 @@ pub fn tile_x(word: u64) -> i16 {
     unsafe { raw::ffi_tile_x(word) }
 }
 
-/// `ffi_tile_y` of the library.
+/// Tile y of a packed word; any word has one. -1 to 2,046.
+#[must_use]
 #[inline]
 pub fn tile_y(word: u64) -> i16 {
     // SAFETY: the references are those that the export takes, a slice with its own length; it is proved to keep
@@ -1449,7 +1524,8 @@ pub fn tile_y(word: u64) -> i16 {
     unsafe { raw::ffi_tile_y(word) }
 }
 
-/// `ffi_local_x` of the library.
+/// Local x of a packed word; any word has one. 0 to 15.
+#[must_use]
 #[inline]
 pub fn local_x(word: u64) -> u8 {
     // SAFETY: the references are those that the export takes, a slice with its own length; it is proved to keep
@@ -1457,7 +1533,8 @@ pub fn local_x(word: u64) -> u8 {
     unsafe { raw::ffi_local_x(word) }
 }
 
-/// `ffi_local_y` of the library.
+/// Local y of a packed word; any word has one. 0 to 15.
+#[must_use]
 #[inline]
 pub fn local_y(word: u64) -> u8 {
     // SAFETY: the references are those that the export takes, a slice with its own length; it is proved to keep
@@ -1465,7 +1542,8 @@ pub fn local_y(word: u64) -> u8 {
     unsafe { raw::ffi_local_y(word) }
 }
 
-/// `ffi_double_area_multiplier` of the library.
+/// The double area's multiplier of a packed word; any word has one. 0 to 63.
+#[must_use]
 #[inline]
 pub fn double_area_multiplier(word: u64) -> u8 {
     // SAFETY: the references are those that the export takes, a slice with its own length; it is proved to keep
@@ -1473,7 +1551,8 @@ pub fn double_area_multiplier(word: u64) -> u8 {
     unsafe { raw::ffi_double_area_multiplier(word) }
 }
 
-/// `ffi_double_area` of the library.
+/// The double area of a packed word: multiplier times cover.
+#[must_use]
 #[inline]
 pub fn double_area(word: u64) -> i16 {
     // SAFETY: the references are those that the export takes, a slice with its own length; it is proved to keep
@@ -1481,7 +1560,8 @@ pub fn double_area(word: u64) -> i16 {
     unsafe { raw::ffi_double_area(word) }
 }
 
-/// `ffi_cover` of the library.
+/// The cover of a packed word; any word has one. -32 to 31.
+#[must_use]
 #[inline]
 pub fn cover(word: u64) -> i8 {
     // SAFETY: the references are those that the export takes, a slice with its own length; it is proved to keep
@@ -1490,6 +1570,7 @@ pub fn cover(word: u64) -> i8 {
 }
 
 /// How a segment compares with another: 0 less, 1 equal, 2 greater.
+#[must_use]
 #[inline]
 pub fn cmp(word: u64, other: u64) -> u8 {
     // SAFETY: the references are those that the export takes, a slice with its own length; it is proved to keep
@@ -1497,7 +1578,8 @@ pub fn cmp(word: u64, other: u64) -> u8 {
     unsafe { raw::ffi_cmp(word, other) }
 }
 
-/// `ffi_does_ascend` of the library.
+/// Whether no word is less than the one before it, by tile y, tile x and layer.
+#[must_use]
 #[inline]
 pub fn does_ascend(row: &[u64]) -> bool {
     // SAFETY: the references are those that the export takes, a slice with its own length; it is proved to keep
@@ -1505,7 +1587,9 @@ pub fn does_ascend(row: &[u64]) -> bool {
     unsafe { raw::ffi_does_ascend(row.as_ptr(), row.len()) }
 }
 
-/// `ffi_is_row` of the library.
+/// Whether the words are a row: they ascend, and each has the stored tile y, which is the row's number plus 1: 1
+/// for row 0.
+#[must_use]
 #[inline]
 pub fn is_row(row: &[u64], stored_tile_y: u64) -> bool {
     // SAFETY: the references are those that the export takes, a slice with its own length; it is proved to keep
@@ -1513,7 +1597,9 @@ pub fn is_row(row: &[u64], stored_tile_y: u64) -> bool {
     unsafe { raw::ffi_is_row(row.as_ptr(), row.len(), stored_tile_y) }
 }
 
-/// `ffi_search_last_by_tile_y` of the library.
+/// The last place whose key is the wanted one in `place`, and true; or where it would stand, and false. On words
+/// that the key does not sort, the halving of the painter decides. The key is tile y.
+#[must_use]
 #[inline]
 pub fn search_last_by_tile_y(segments: &[u64], tile_y: i16, place: &mut usize) -> bool {
     // SAFETY: the references are those that the export takes, a slice with its own length; it is proved to keep
@@ -1521,7 +1607,9 @@ pub fn search_last_by_tile_y(segments: &[u64], tile_y: i16, place: &mut usize) -
     unsafe { raw::ffi_search_last_by_tile_y(segments.as_ptr(), segments.len(), tile_y, place) }
 }
 
-/// `ffi_search_last_by_tile_x` of the library.
+/// The last place whose key is the wanted one in `place`, and true; or where it would stand, and false. On words
+/// that the key does not sort, the halving of the painter decides. The key is tile x.
+#[must_use]
 #[inline]
 pub fn search_last_by_tile_x(segments: &[u64], tile_x: i16, place: &mut usize) -> bool {
     // SAFETY: the references are those that the export takes, a slice with its own length; it is proved to keep
@@ -1529,7 +1617,9 @@ pub fn search_last_by_tile_x(segments: &[u64], tile_x: i16, place: &mut usize) -
     unsafe { raw::ffi_search_last_by_tile_x(segments.as_ptr(), segments.len(), tile_x, place) }
 }
 
-/// `ffi_search_last_by_layer_id` of the library.
+/// The last place whose key is the wanted one in `place`, and true; or where it would stand, and false. On words
+/// that the key does not sort, the halving of the painter decides. The key is the layer id.
+#[must_use]
 #[inline]
 pub fn search_last_by_layer_id(segments: &[u64], layer_id: u32, place: &mut usize) -> bool {
     // SAFETY: the references are those that the export takes, a slice with its own length; it is proved to keep
@@ -1537,7 +1627,9 @@ pub fn search_last_by_layer_id(segments: &[u64], layer_id: u32, place: &mut usiz
     unsafe { raw::ffi_search_last_by_layer_id(segments.as_ptr(), segments.len(), layer_id, place) }
 }
 
-/// `ffi_search_last_by_tile_x_at_least` of the library.
+/// The last place whose key is the wanted one in `place`, and true; or where it would stand, and false. On words
+/// that the key does not sort, the halving of the painter decides. The key is whether tile x is at least `start`.
+#[must_use]
 #[inline]
 pub fn search_last_by_tile_x_at_least(segments: &[u64], start: i16, wanted: bool, place: &mut usize) -> bool {
     // SAFETY: the references are those that the export takes, a slice with its own length; it is proved to keep
@@ -1545,7 +1637,9 @@ pub fn search_last_by_tile_x_at_least(segments: &[u64], start: i16, wanted: bool
     unsafe { raw::ffi_search_last_by_tile_x_at_least(segments.as_ptr(), segments.len(), start, wanted, place) }
 }
 
-/// `ffi_search_last_by_tile_y_not_negative` of the library.
+/// The last place whose key is the wanted one in `place`, and true; or where it would stand, and false. On words
+/// that the key does not sort, the halving of the painter decides. The key is whether tile y is 0 or more.
+#[must_use]
 #[inline]
 pub fn search_last_by_tile_y_not_negative(segments: &[u64], wanted: bool, place: &mut usize) -> bool {
     // SAFETY: the references are those that the export takes, a slice with its own length; it is proved to keep
@@ -1557,6 +1651,7 @@ pub fn search_last_by_tile_y_not_negative(segments: &[u64], wanted: bool, place:
 /// refusal. The bytes of the cached tile are stored where the call is accepted and a tile is given. Of the flags, that
 /// at place i says whether entry i has segments in the tile, that at place 256 + i whether its layer is changed.
 #[allow(clippy::too_many_arguments)]
+#[must_use]
 #[inline]
 pub fn work_tile(
     words: &mut [u32; 6],

@@ -17,13 +17,15 @@ fn the_files_are_what_the_sources_make() {
     }
 }
 
-/// FNV-1a over the declarations, comments left out.
+/// FNV-1a over the declarations; comments and the names of numbers left out.
 fn digest(header: &str) -> u32 {
-    let mut open = false;
+    let (mut open, mut listed) = (false, false);
     let mut plain = header.lines().filter(|line| {
         let comment = open || line.starts_with("/*");
         open = comment && !line.ends_with("*/");
-        !comment && !line.is_empty()
+        let number = !comment && (listed || line.starts_with("enum {"));
+        listed = number && !line.ends_with("};");
+        !comment && !number && !line.is_empty()
     });
     let bytes = plain.by_ref().flat_map(str::bytes);
     bytes.fold(0x811c_9dc5, |hash, byte| (hash ^ u32::from(byte)).wrapping_mul(0x0100_0193))
@@ -63,4 +65,44 @@ fn a_c_program_packs_a_segment_and_opens_a_row() {
 #[test]
 fn a_c_program_keeps_a_tile_by_the_rule() {
     assert_eq!(printed("kept_tile"), "solid\nsolid\nnone\nsolid\nnone\nsolid\n");
+}
+
+/// The example that bindings/c/README.md shows: a whole row.
+#[test]
+fn a_c_program_works_a_row() {
+    let lines = [
+        "tile 0: layer 1, 32 octets, coverage 1 at the left and 1 at the right",
+        "tile 1: solid, red 0",
+        "tile 2: layer 1, 16 octets, coverage 1 at the left and 0 at the right",
+        "tile 3: solid, red 1",
+    ];
+    assert_eq!(printed("example"), lines.map(|line| format!("{line}\n")).concat());
+}
+
+/// The names of the header's numbers are those of the crate's types.
+#[test]
+fn the_header_has_the_numbers_of_the_types() {
+    let [_, (_, header)] = declarations::files();
+    let has = |name: &str, number: u32| {
+        let line = format!("TILE_ROWS_{name} = {number}");
+        let found = header
+            .match_indices(&line)
+            .any(|(at, _)| !header[at + line.len()..].starts_with(|c: char| c.is_ascii_digit()));
+        assert!(found, "{line}");
+    };
+    let spelled = |name: String| {
+        let parts =
+            name.char_indices().map(|(at, c)| if at > 0 && c.is_uppercase() { format!("_{c}") } else { c.to_string() });
+        parts.collect::<String>().to_uppercase()
+    };
+    for refusal in tile_rows::Refusal::ALL {
+        has(&format!("REFUSED_{}", spelled(format!("{:?}", refusal.condition()))), refusal.number());
+    }
+    for mode in tile_rows::BlendMode::ALL {
+        has(&spelled(mode.to_string()), mode.code());
+    }
+    for rule in [tile_rows::FillRule::NonZero, tile_rows::FillRule::EvenOdd] {
+        has(&spelled(rule.to_string()), rule.code());
+    }
+    has("LAST_ROW", tile_rows::RowNumber::LAST.get().into());
 }

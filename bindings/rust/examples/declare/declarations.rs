@@ -1,5 +1,8 @@
 //! The exports of crates/ffi/src, read, and written as Rust and as C.
 
+#[path = "told.rs"]
+mod told;
+
 use std::{fmt::Write, fs, path::PathBuf};
 
 /// A function marked `pub extern "C"`: its comment, its name, its parameters and its result, which may be lacking.
@@ -104,8 +107,9 @@ const C_HEAD: &str = "\
 /* The exports of target/staticlib/libffi.a, for x86-64. A slice is a pointer and a length, and the pointer is not NULL
    even where the length is 0; an array of fixed length is a pointer. What a call may write must not overlap anything
    else that it is lent. A call that can be refused returns the number of the refusal, and then leaves what it was lent
-   as it was, or 0. A bool that is lent holds 0 or 1. docs/MANUAL.md, sections 2 and 4, tells of refusals, states and
-   answers.
+   as it was, or 0. A pointer that a flag says is not used is given all the same. A bool that is lent holds 0 or 1.
+   docs/MANUAL.md, sections 2 and 4, tells of refusals, states and answers; example.c, which README.md beside this file
+   shows, is a whole row.
 
    To keep tiles from frame to frame: README.md beside this file, 'Keeping tiles from C'. In short, for each tile: list
    (ffi_list_tile); decide without a cached tile, which tells the shown layers; where these, by id and by whether each
@@ -139,11 +143,12 @@ impl Export {
         self.result.as_deref().map_or("void", c_name)
     }
 
+    /// What it does: its comment, or what stands of it here.
     fn told(&self) -> Vec<String> {
-        match self.comment.is_empty() {
-            true => vec![format!("`{}` of the library.", self.name)],
-            false => self.comment.clone(),
+        if !self.comment.is_empty() {
+            return self.comment.clone();
         }
+        told::told(self.call()).unwrap_or_else(|| panic!("{} has no comment in crates/ffi/src", self.name))
     }
 }
 
@@ -166,6 +171,9 @@ fn rust(exports: &[Export]) -> String {
         }
         let parameters = export.parameters.iter().map(|(name, kind)| lent(name, kind)).collect::<Vec<_>>();
         let passed = export.parameters.iter().map(|(name, kind)| passed(name, kind)).collect::<Vec<_>>();
+        if export.result.is_some() {
+            text += "#[must_use]\n";
+        }
         writeln!(text, "#[inline]\npub fn {}({}){} {{", export.call(), parameters.join(", "), export.arrow()).unwrap();
         text += SAFETY;
         writeln!(text, "    unsafe {{ raw::{}({}) }}\n}}", export.name, passed.join(", ")).unwrap();
@@ -221,6 +229,7 @@ fn header(exports: &[Export]) -> String {
     text +=
         "\n/* The number of the exports that stand here; ffi_version tells the number of those that are linked. */\n";
     writeln!(text, "#define TILE_ROWS_VERSION {}", version()).unwrap();
+    write!(text, "\n{}", include_str!("values.h")).unwrap();
     for export in exports {
         let told = export.told().join("\n   ");
         let parameters = export.parameters.iter().map(|(name, kind)| in_c(name, kind)).collect::<Vec<_>>();
