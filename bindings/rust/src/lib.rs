@@ -171,6 +171,7 @@
 //! from the library's sources by `cargo run --example declare`, and a test holds it to them.
 
 #![deny(missing_docs, unsafe_code)]
+#![warn(clippy::missing_errors_doc, clippy::must_use_candidate)]
 
 mod batch;
 mod bounds;

@@ -79,6 +79,18 @@ fn a_c_program_works_a_row() {
     assert_eq!(printed("example"), lines.map(|line| format!("{line}\n")).concat());
 }
 
+/// What the page on C shows stands in the example.
+#[test]
+fn the_page_shows_the_example() {
+    let here = PathBuf::from(env!("CARGO_MANIFEST_DIR"));
+    let page = fs::read_to_string(here.join("../c/README.md")).unwrap();
+    let example = fs::read_to_string(here.join("tests/example.c")).unwrap();
+    let (_, shown) = page.split_once("```c\n").expect("the page has a block of C");
+    let (shown, _) = shown.split_once("```").expect("and its end");
+    let plain = |text: &str| text.lines().map(str::trim).collect::<Vec<_>>().join("\n");
+    assert!(plain(&example).contains(&plain(shown)), "bindings/c/README.md shows another text than tests/example.c");
+}
+
 /// The names of the header's numbers are those of the crate's types.
 #[test]
 fn the_header_has_the_numbers_of_the_types() {

@@ -435,7 +435,7 @@ fn bytes_of(drawing: &Drawing) -> [u8; 4] {
 fn random_histories_show_what_is_drawn_afresh() {
     let clears = [BLACK, BLUE, color(-0.0, 0.0, 0.0, 1.0), color(0.0, 0.0, 0.0, 0.5)];
     let (mut kept, mut settled_kept, mut wrong, mut cropped) = (0, 0, 0, 0);
-    for seed in 0..400 {
+    for seed in 0..2_000 {
         let mut random = Random(seed);
         let mut sent: Vec<Option<Sent>> = vec![None; 6];
         let mut clear = BLACK;
