@@ -168,7 +168,7 @@ fn rows(kind: &mut Kind) {
         words.iter_mut().for_each(|word| *word = *word & (u64::MAX >> 13) | tile_y);
     }
     if !random.once_in(3) {
-        words.sort_by(|&a, &b| segment(a).cmp(&segment(b)));
+        words.sort_by_key(|&a| segment(a));
     }
     let stored = words.first().map_or(0, |word| word >> 51) + u64::from(random.once_in(4));
     let ascends = words.windows(2).all(|pair| segment(pair[0]) <= segment(pair[1]));
