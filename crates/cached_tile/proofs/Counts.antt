@@ -1,7 +1,7 @@
 -- What is kept after an update, for every count, all bytes and every tag that no operation refuses: what was kept last is read back, what
 -- was dropped is not, the other of the two is left alone, and the tag stays in range. Assumes nothing.
 use Rattle.laws.proofs.Prelude.{◌≡◌, refl, sym, ap, Bool, true, false, not, ◌&&◌, Bool·beq, List, some, none, ℕ, ◌%◌, ◌^◌, ◌≤◌, arith, leb-true}
-use Rattle.laws.proofs.Prelude.{not_true, bit_and, leb, every_at}
+use Rattle.laws.proofs.Prelude.{not-true, bit_and, leb, every_at}
 use lib.Bits.{bit_or}
 use Rattle.cached_tile.specs.declared.CachedTile.{CachedTile}
 use Rattle.cached_tile.specs.Tile.{keeps_count, keeps_color, count_number, count_bytes, layer_count_of, solid_color_of, keep_count, keep_color, drop_count, drop_color}
@@ -26,13 +26,13 @@ module _ (t : CachedTile) (h : t.tags ≤ 3) where
   count_kept n = rw (each (λ tags. keeps_count (bit_or tags 2)) refl) (ap some (low_bits n))
 
   pub count_dropped : layer_count_of (drop_count t) ≡ none
-  count_dropped = rw (not_true (keeps_count (bit_and t.tags 1)) (each (λ tags. not (keeps_count (bit_and tags 1))) refl)) refl
+  count_dropped = rw (not-true (keeps_count (bit_and t.tags 1)) (each (λ tags. not (keeps_count (bit_and tags 1))) refl)) refl
 
   pub color_kept : (bytes : List ℕ) → solid_color_of (keep_color t bytes) ≡ record { given = true; bytes = bytes }
   color_kept bytes = rw (each (λ tags. keeps_color (bit_or tags 1)) refl) refl
 
   pub color_dropped : (solid_color_of (drop_color t)).given ≡ false
-  color_dropped = not_true (keeps_color (bit_and t.tags 2)) (each (λ tags. not (keeps_color (bit_and tags 2))) refl)
+  color_dropped = not-true (keeps_color (bit_and t.tags 2)) (each (λ tags. not (keeps_color (bit_and tags 2))) refl)
 
   -- ---- the other of the two
 

@@ -1,6 +1,6 @@
 -- What a verdict that passes tells of a call; that its planes say what they should; and d by columns. Assumes nothing.
 use Rattle.laws.proofs.Prelude.{◌≡◌, ap, ap₂, ◌∙◌, Bool, true, false, not, ◌&&◌, ◌||◌, List, ℕ, ◌+◌, ◌*◌, ◌/◌, ◌%◌, ◌≤◌, ◌<◌, arith, ltb-false}
-use Rattle.laws.proofs.Prelude.{not_false, ltb, ℤ, pos, negsuc, length, le_z, plus, minus, every, all, left, right, every_at, le_true, true_le, whole}
+use Rattle.laws.proofs.Prelude.{not-false, ltb, ℤ, pos, negsuc, length, le_z, plus, minus, every, all, left, right, every_at, le_true, true_le, whole}
 use Rattle.laws.proofs.Ranges.{within}
 use Rattle.refusals.specs.Refusal.{pass, unless}
 use Rattle.refusals.proofs.Judging.{passed, or_left, or_right}
@@ -134,9 +134,9 @@ bounds_passed {call} {old} e =
             least_even_odd = enough old.least_even_odd room.f;
             greatest_even_odd = enough old.greatest_even_odd room.g;
           };
-      bounded = left x y (not_false (x && y) r.0);
-      carry_bounded = right x y (not_false (x && y) r.0);
-      light = not_false (is_call_light call) s.0;
+      bounded = left x y (not-false (x && y) r.0);
+      carry_bounded = right x y (not-false (x && y) r.0);
+      light = not-false (is_call_light call) s.0;
     }
 
 -- ---- what follows of it

@@ -9,16 +9,16 @@ use Rattle.cover_statements.specs.Carry.{in_row, abs_cover, load_in}
 
 -- ---- from one column to the next
 
-pub and_false : (a : Bool) → (a && false) ≡ false
-and_false true = refl
-and_false false = refl
+pub and-false : (a : Bool) → (a && false) ≡ false
+and-false true = refl
+and-false false = refl
 
 -- nothing lies left of column 0
 pub before_none : (ws : List ℕ) (y : ℕ) (part : List ℕ) → cover_before ws 0 y part ≡ pos 0
 before_none ws y part =
     sum_none ◌+ℤ◌ (pos 0) +ℤ_idl (is_before ws 0 y) (cover_of ws) part
     (all_intro (λ w. cond (is_before ws 0 y w) false true) part 0
-    (λ i h. rw (le-ltb (local_x_of ws (get_or part i 0)) 0 (omega arith), and_false (in_row ws y (get_or part i 0)))))
+    (λ i h. rw (le-ltb (local_x_of ws (get_or part i 0)) 0 (omega arith), and-false (in_row ws y (get_or part i 0)))))
 
 -- below c + 1 is below c, or c
 pub below_next : (x c : ℕ) → (x ≡ c → ⊥) → ltb x (c + 1) ≡ ltb x c
@@ -32,10 +32,10 @@ pub split : (a : Bool) (x c : ℕ) (z : ℤ) → cond (a && ltb x (c + 1)) z (po
 split a x c z =
     ⊎_elim
     (λ (q : x ≡ c).
-    rw (lt-ltb x (c + 1) (omega arith), le-ltb x c (omega arith), eq-eqb x c q, and_false a)
+    rw (lt-ltb x (c + 1) (omega arith), le-ltb x c (omega arith), eq-eqb x c q, and-false a)
     (sym (+ℤ_idl (cond (a && true) z (pos 0)))))
     (λ (q : x ≡ c → ⊥).
-    rw (below_next x c q, ne_eqb x c q, and_false a)
+    rw (below_next x c q, ne_eqb x c q, and-false a)
     (sym (+ℤ_idr (cond (a && ltb x c) z (pos 0)))))
     (eq_or_ne x c)
 

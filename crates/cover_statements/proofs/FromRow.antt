@@ -12,8 +12,8 @@ use Rattle.cover_statements.specs.Plane.{in_places, pixel_of, plane_of, by_colum
 use Rattle.cover_statements.specs.Weight.{weight_of, is_inside}
 use Rattle.cover_statements.specs.WholeRow.{in_tile, left_of_tile, part_of, segments_left, left_cover, row_plane, FromRow}
 use Rattle.cover_statements.proofs.Agreement.{agrees_refl, agrees_add, agrees_trans, agrees_empty, agrees_full, empty_agrees}
-use Rattle.cover_statements.proofs.Areas.{and_false, split}
-use Rattle.cover_statements.proofs.Testing.{and_true, all_every}
+use Rattle.cover_statements.proofs.Areas.{and-false, split}
+use Rattle.cover_statements.proofs.Testing.{and-true, all_every}
 use Rattle.cover_statements.proofs.Carries.{carry_at_lem, no_cover_at}
 use Rattle.cover_statements.proofs.Planes.{places_ext, exchanged, exchanged_back}
 use Rattle.cover_statements.proofs.Weights.{weight_agree, empty_weight, full_weight, winding_weight}
@@ -29,8 +29,8 @@ left_none ws layer row y =
     (all_intro (λ w. not (left_of_tile ws 0 layer w)) row 0 (λ i h. rw (le-ltb (tile_x_of ws (get_or row i 0)) 0 (omega arith)))))
 
 turned : (t b r : Bool) → ((t && b) && r) ≡ ((b && r) && t)
-turned true b r = sym (and_true (b && r))
-turned false b r = sym (and_false (b && r))
+turned true b r = sym (and-true (b && r))
+turned false b r = sym (and-false (b && r))
 
 -- what lies left of the next tile lies left of this one or in it
 pub left_next : (ws : List ℕ) (tile layer : ℕ) (row : List ℕ) (y : ℕ) → left_cover ws (tile + 1) layer row y ≡ left_cover ws tile layer row y +ℤ cover_in ws y (part_of ws tile layer row)

@@ -5,7 +5,7 @@ use Rattle.laws.proofs.Prelude.{arith, le-leb, lt-leb, leb-true, eq-eqb, ne_eqb,
 use Rattle.laws.proofs.Prelude.{length-map, replicate, length-replicate, List·getD-map, get_or-set_same, get_or-set_other, clash, all_at, all_intro}
 use Rattle.laws.proofs.Prelude.{le_or_lt, eq_or_ne, filled, filled_more, is_tabulate, length_tabulate, get_d_tabulate, sum_step, sum_end, every}
 use Rattle.laws.proofs.Prelude.{tabulate, sumℕ}
-use Rattle.laws.proofs.Bools.{not_true}
+use Rattle.laws.proofs.Bools.{not-true}
 use Rattle.pixel_segment.specs.Field.{local_y_of}
 use Rattle.cover_statements.proofs.Carries.{light}
 use Rattle.cover_statements.proofs.Filled.{filled_whole, get_d_default}
@@ -150,7 +150,7 @@ light_at_lem loads e y h = leb-true (get_or loads y 0) 127 (all_at (λ load. leb
 pub incoming_heavy : (ws : List ℕ) (n : ℕ) (covers : List ℤ) (part : List ℕ) → length covers ≡ n → all_light (map nat_abs covers) ≡ false → is_light ws n covers part ≡ false
 unfolding all_light
 incoming_heavy ws n covers part l e =
-    not_true (is_light ws n covers part)
+    not-true (is_light ws n covers part)
     (λ t.
     clash
     (all_intro (λ load. leb load 127) (map nat_abs covers) 0

@@ -8,7 +8,7 @@ use Rattle.cover_statements.specs.Area.{is_own, cover_before, own_area, doubled_
 use Rattle.cover_statements.specs.InnerCell.{Accumulated}
 use Rattle.cover_statements.specs.InnerRows.{is_pixel_done, held_at, RowsDone}
 use Rattle.cover_statements.specs.Cover.{cover_at}
-use Rattle.cover_statements.proofs.Areas.{and_false, before_none, before_next, before_bound, below_next, area_bound}
+use Rattle.cover_statements.proofs.Areas.{and-false, before_none, before_next, before_bound, below_next, area_bound}
 use Rattle.cover_statements.proofs.Carries.{Light}
 use Rattle.cover_statements.proofs.Cells.{cells_at}
 use Rattle.cover_statements.proofs.Columns.{cells_length}
@@ -17,7 +17,7 @@ use Rattle.cover_statements.proofs.Planes.{row_below, column_below}
 -- ---- which pixels are done
 
 past_none : (n k : ℕ) → is_pixel_done n 0 0 k ≡ false
-past_none n k = rw (le-ltb (k % n) 0 (omega arith), le-ltb (k / n) 0 (omega arith)) (and_false (eqb (k % n) 0))
+past_none n k = rw (le-ltb (k % n) 0 (omega arith), le-ltb (k / n) 0 (omega arith)) (and-false (eqb (k % n) 0))
 
 past_all : (n k : ℕ) → k < 16 * n → is_pixel_done n n 0 k ≡ true
 past_all n k h = rw (lt-ltb (k % n) n (row_below n k h)) refl
@@ -29,7 +29,7 @@ past_row n y k h =
     (λ (e : k % n ≡ y).
     rw (e, lt-ltb y (y + 1) (omega arith), le-ltb y y (omega arith), eq-eqb y y refl, lt-ltb (k / n) 16 (column_below n k h)) refl)
     (λ (e : k % n ≡ y → ⊥).
-    rw (below_next (k % n) y e, ne_eqb (k % n) y e, le-ltb (k / n) 0 (omega arith), and_false (eqb (k % n) (y + 1))) refl)
+    rw (below_next (k % n) y e, ne_eqb (k % n) y e, le-ltb (k / n) 0 (omega arith), and-false (eqb (k % n) (y + 1))) refl)
     (eq_or_ne (k % n) y)
 
 -- one column more is one pixel more
@@ -77,7 +77,7 @@ module _ {ws : List ℕ} {n : ℕ} {cs : List ℤ} {part : List ℕ} {cells : Li
       own_still : cover_at areas (x * n + y) ≡ own_area ws x y part
       own_still =
           c.area (x * n + y) (digits_lt lx ly)
-          ∙ rw (digits_mod x ly, digits_div x ly, le-ltb y y (omega arith), le-ltb x x (omega arith), and_false (eqb y y)) refl
+          ∙ rw (digits_mod x ly, digits_div x ly, le-ltb y y (omega arith), le-ltb x x (omega arith), and-false (eqb y y)) refl
 
       own_cover : cover_at cells (x * n + y) ≡ sumℤ (is_own ws x y) (cover_of ws) part
       own_cover =

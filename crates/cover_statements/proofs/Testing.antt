@@ -7,9 +7,9 @@ pub record Testing {A : Type 0} (p : A → Bool) (l : List A) (n : ℕ) (ok : Bo
   pub reached : i ≤ n
   pub same : (ok && all p (drop i l)) ≡ all p l
 
-pub and_true : (a : Bool) → (a && true) ≡ a
-and_true true = refl
-and_true false = refl
+pub and-true : (a : Bool) → (a && true) ≡ a
+and-true true = refl
+and-true false = refl
 
 module _ {A : Type 0} {p : A → Bool} {l : List A} {n : ℕ} where
   pub test_start : length l ≡ n → Testing p l n true 0
@@ -29,7 +29,7 @@ module _ {A : Type 0} {p : A → Bool} {l : List A} {n : ℕ} where
 
   pub test_end : {ok : Bool} {i : ℕ} → Testing p l n ok i → n ≤ i → ok ≡ all p l
   test_end {ok} {i} c h =
-      sym (and_true ok) ∙ ap (λ (r : List A). ok && all p r) (sym (drop_of_length-le l {i = i} (omega (arith, c.long)))) ∙ c.same
+      sym (and-true ok) ∙ ap (λ (r : List A). ok && all p r) (sym (drop_of_length-le l {i = i} (omega (arith, c.long)))) ∙ c.same
 
 -- a test of every element is a test of every index, where each test agrees
 pub all_every : {A : Type 0} (p : A → Bool) (l : List A) (d : A) (n : ℕ) → length l ≡ n → (q : ℕ → Bool) → ((i : ℕ) → i < n → p (get_or l i d) ≡ q i) → all p l ≡ every n q

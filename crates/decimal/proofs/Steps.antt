@@ -1,7 +1,7 @@
 -- What one byte does to the reading of a number.
 -- Assumes nothing.
 use Rattle.laws.proofs.Prelude.{◌≡◌, sym, ◌∙◌, Bool, true, false, not, ⊎_elim, List, ◌∷◌, ℕ, ◌-◌, ◌<◌, ◌≤◌, arith, lt-ltb, le-ltb, le-leb, leb-true}
-use Rattle.laws.proofs.Prelude.{not_true, not_false, leb, left, right, either}
+use Rattle.laws.proofs.Prelude.{not-true, not-false, leb, left, right, either}
 use Rattle.decimal.specs.Decimal.{is_digit}
 use Rattle.decimal.specs.Parse.{parsed, failed, append_digit, more_digits, parseℕ}
 
@@ -17,10 +17,10 @@ digit_range b h = (leb-true 48 b (left (leb 48 b) (leb b 57) h), leb-true b 57 (
 
 -- what the answer of a test that the code negates says of the test
 pub is_false : {r t : Bool} → r ≡ t → not r ≡ true → t ≡ false
-is_false {r} e h = sym e ∙ not_true r h
+is_false {r} e h = sym e ∙ not-true r h
 
 pub is_true : {r t : Bool} → r ≡ t → not r ≡ false → t ≡ true
-is_true {r} e h = sym e ∙ not_false r h
+is_true {r} e h = sym e ∙ not-false r h
 
 module _ (limit n b : ℕ) (t : List ℕ) where
   pub more_digit : is_digit b ≡ true → 0 < n → append_digit n b < limit → more_digits limit n (b ∷ t) ≡ more_digits limit (append_digit n b) t

@@ -1,5 +1,5 @@
 -- What a passed verdict tells, and the operation put together from its parts. Assumes nothing.
-use Rattle.laws.proofs.Prelude.{◌≡◌, refl, sym, ap, ◌∙◌, Bool, true, false, not, ◌&&◌, ◌||◌, List, ℕ, ◌≤◌, min, arith, not_false, ltb-false, ltb}
+use Rattle.laws.proofs.Prelude.{◌≡◌, refl, sym, ap, ◌∙◌, Bool, true, false, not, ◌&&◌, ◌||◌, List, ℕ, ◌≤◌, min, arith, not-false, ltb-false, ltb}
 use Rattle.laws.proofs.Prelude.{length, take, left, right}
 use Rattle.refusals.specs.Refusal.{Judgement, pass, refuse, unless, number_of}
 use Rattle.refusals.specs.declared.Refusal.{Refusal}
@@ -56,7 +56,7 @@ module _ (last today : LentMembers) (k : Kept) where
       let five = passed (not (up && up')) 5 sixth four.1 in
       let six = passed (tag_out_of_range k) 6 seventh five.1 in
       let seven = passed (many || many') 7 pass six.1 in
-      let order = not_false (up && up') five.0 in (
+      let order = not-false (up && up') five.0 in (
         lent last (room last.ids last.kinds (or_left short short' one.0)) (left up up' order) (or_left many many' seven.0),
         lent today (room today.ids today.kinds (or_right short short' one.0)) (right up up' order) (or_right many many' seven.0),
       )

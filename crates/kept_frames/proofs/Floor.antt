@@ -1,6 +1,6 @@
 -- *None* by the third pass: a unmasked layer hides all below it, and every unmasked layer from it up is unchanged.
 use Rattle.laws.proofs.Prelude.{◌≡◌, refl, sym, ap, subst, ◌∙◌, Bool, true, false, cond, not, ◌&&◌, false≢true, List, ◌⊎◌, inl, inr, ⊎_elim, ℕ, zero}
-use Rattle.laws.proofs.Prelude.{suc, ◌≤◌, ◌<◌, arith, eqb-true, eqb-false, not_true, eqb, length, get_or, left, right, either}
+use Rattle.laws.proofs.Prelude.{suc, ◌≤◌, ◌<◌, arith, eqb-true, eqb-false, not-true, eqb, length, get_or, left, right, either}
 use Rattle.styling.specs.declared.Color.{Color}
 use Rattle.styling.specs.Style.{is_opaque, solid_color}
 use Rattle.pass_statements.specs.Clips.{marks_of}
@@ -151,7 +151,7 @@ module _ (items : List Item) (unmasked unclipped : List Bool) where
             is_unmasked = w;
             hides_all = d;
             unchanged = λ j p q s. let is : i ≡ j = omega (arith, p, q) in subst (λ (k : ℕ). (item_at items k).unchanged ≡ true) is (right (seen_by found) (item_at items i).unchanged u');
-            whole = λ j p q s. let is : i ≡ j = omega (arith, p, q) in subst (λ (k : ℕ). is_partial (item_at items k) (get_or unclipped k false) ≡ false) is (not_true (is_partial (item_at items i) (get_or unclipped i false)) (left (not (is_partial (item_at items i) (get_or unclipped i false))) (is_opaque (item_at items i).func) d));
+            whole = λ j p q s. let is : i ≡ j = omega (arith, p, q) in subst (λ (k : ℕ). is_partial (item_at items k) (get_or unclipped k false) ≡ false) is (not-true (is_partial (item_at items i) (get_or unclipped i false)) (left (not (is_partial (item_at items i) (get_or unclipped i false))) (is_opaque (item_at items i).func) d));
           }
 
       past : get_or unmasked i false ≡ false → (first_by (go i found) ≡ Opaque c → seen_by (go i found) ≡ true → Floor items unmasked unclipped i)

@@ -1,7 +1,7 @@
 -- Frames of a row with nothing told are frames by the protocol. Assumes nothing.
 use Rattle.laws.proofs.Prelude.{◌≡◌, refl, sym, ap, subst, ◌∙◌, Bool, true, false, cond, ◌&&◌, false≢true, List, [], ◌∷◌, ◌⊎◌, inl, inr, ⊎_elim, ℕ}
 use Rattle.laws.proofs.Prelude.{zero, suc, ◌+◌, ◌-◌, ◌<◌, arith, eqb-true, leb-true, ltb-true, eqb, leb, ltb, get_or, both, left, right, clash}
-use Rattle.laws.proofs.Bools.{not_true}
+use Rattle.laws.proofs.Bools.{not-true}
 use Rattle.cached_tile.specs.Tile.{empty_tile}
 use Rattle.cached_tile.specs.declared.CachedTile.{CachedTile}
 use Rattle.pass_statements.specs.Decision.{TileDecision, none, solid, paint}
@@ -46,7 +46,7 @@ counted_decided (false ∷ ds) i h = absurd (omega (arith, h))
 undecided_outside : (l : LastRow) (t : ℕ) (decided : List Bool) → l.worked ≡ worked_count decided → is_decided l.row.from decided t ≡ false
     → is_within l t ≡ false
 undecided_outside l t decided e n =
-    not_true (is_within l t)
+    not-true (is_within l t)
     (λ h.
     let reached = leb l.row.from t in
     let past = ltb t (l.row.from + l.worked) in

@@ -24,13 +24,13 @@ not_right true b p = p
 not_right false b p = refl
 
 -- a test that is not true is false
-pub not_true : (a : Bool) → (a ≡ true → ⊥) → a ≡ false
-not_true true h = absurd (h refl)
-not_true false h = refl
+pub not-true : (a : Bool) → (a ≡ true → ⊥) → a ≡ false
+not-true true h = absurd (h refl)
+not-true false h = refl
 
-pub not_false : (a : Bool) → (a ≡ false → ⊥) → a ≡ true
-not_false true h = refl
-not_false false h = absurd (h refl)
+pub not-false : (a : Bool) → (a ≡ false → ⊥) → a ≡ true
+not-false true h = refl
+not-false false h = absurd (h refl)
 
 -- true and false at once
 pub clash : {a : Bool} → a ≡ true → a ≡ false → ⊥

@@ -1,6 +1,6 @@
 -- What is left of a list from a place on, taken apart: how a loop goes that knows what is left and not where it stands. Assumes nothing.
 use mathlib.Core.Path.{◌≡◌, refl, sym, ap, ◌∙◌}
-use mathlib.Core.Bool.{Bool, ◌&&◌, and_assoc, and_true}
+use mathlib.Core.Bool.{Bool, ◌&&◌, and_assoc, and-true}
 use mathlib.Core.List.{List, [], ◌∷◌, map}
 use Prim.Native.Nat.{ℕ, zero, suc, ◌+◌, ◌≤◌, ◌<◌}
 use native.Mathlib.Nat.{add-zero}
@@ -32,7 +32,7 @@ module _ {ℓ} {A : Type ℓ} (l : List A) (k : ℕ) where
         ∙ h
 
   pub all_end : (p : A → Bool) (ok whole : Bool) → drop k l ≡ [] → (ok && all p (drop k l)) ≡ whole → ok ≡ whole
-  all_end p ok whole e h = sym (and_true ok) ∙ ap (λ (r : List A). ok && all p r) (sym e) ∙ h
+  all_end p ok whole e h = sym (and-true ok) ∙ ap (λ (r : List A). ok && all p r) (sym e) ∙ h
 
 -- what is left of a mapped list
 pub map_drop {ℓ ℓ'} : {A : Type ℓ} {B : Type ℓ'} (f : A → B) (l : List A) (k : ℕ) → drop k (map f l) ≡ map f (drop k l)

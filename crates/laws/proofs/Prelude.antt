@@ -5,7 +5,7 @@ pub use Rattle.laws.specs.Prelude.{drop, eqb, every, false, filter, fin, get_or,
 pub use Rattle.laws.specs.Prelude.{minus, modℤ, nan, nat_abs, negsuc, neg_ℤ, none, not, paste, plus, pos, refused, replicate, set, sets, some}
 pub use Rattle.laws.specs.Prelude.{sub_ℕ, suc, sumℕ, sumℤ, tabulate, take, true, zero, ℕ, ℤ}
 unfoldable pub use Rattle.laws.specs.Prelude.{eq, fits, flatten, is_within, lt, mul, odd, of_bits, of_int, ones, over}
-pub use mathlib.Core.Bool.{and_assoc, and_false, and_true, false≢true}
+pub use mathlib.Core.Bool.{and_assoc, and-false, and-true, false≢true}
 pub use mathlib.Core.List.{append_assoc, append-nil}
 pub use mathlib.Core.Logic.{inl, inr, ⊎_elim, ⊎_map}
 pub use mathlib.Core.Path.{◌∙◌, ap, ap₂, fun_ext, refl, subst, subst₂, sym}
@@ -24,8 +24,8 @@ pub use lib.Seq.{drop_at, drop-cons, drop-drop, ext_get_or, get_or-append-add, g
 pub use lib.Seq.{length-take-le, sets-eq, take-add, take_all, take_at, take-suc}
 pub use lib.Signed.{mag, non_neg}
 pub use borrow.Author.Rules.{rules, sfits_of}
-pub use borrow.Author.Tests.{eq-eqb, eqb-false, eqb-true, le-leb, le-ltb, leb-false, leb-true, lt-leb, lt-ltb, ltb-false, ltb-true, ne_eqb, not_false}
-pub use borrow.Author.Tests.{not_true}
+pub use borrow.Author.Tests.{eq-eqb, eqb-false, eqb-true, le-leb, le-ltb, leb-false, leb-true, lt-leb, lt-ltb, ltb-false, ltb-true, ne_eqb, not-false}
+pub use borrow.Author.Tests.{not-true}
 pub use mir.Facts.{sfits_widen, to_z-of_z, to_z_pos}
 pub use mir.Syntax.{named, ty_array, w16, w32, w64, w8}
 pub use mir.Val.{Fits, SFits, Val, of_z, to_z, vint, vptr}

@@ -1,6 +1,6 @@
 -- A range as its loop goes: what is left to do on what is left is the whole. Assumes nothing.
 use Rattle.laws.proofs.Prelude.{◌≡◌, refl, sym, ap, subst, ◌∙◌, Bool, true, false, not, ◌||◌, List, ℕ, zero, suc, ◌+◌, ◌-◌, ◌*◌, ◌/◌, ◌≤◌, ◌<◌}
-use Rattle.laws.proofs.Prelude.{add-one, arith, le-ltb, lt-leb, leb-false, ltb-false, eq-eqb, ne_eqb, not_false, ltb, leb, Float, ℤ, pos, length}
+use Rattle.laws.proofs.Prelude.{add-one, arith, le-ltb, lt-leb, leb-false, ltb-false, eq-eqb, ne_eqb, not-false, ltb, leb, Float, ℤ, pos, length}
 use Rattle.laws.proofs.Prelude.{sets, length-sets, over}
 use Rattle.refusals.specs.Refusal.{Judgement, pass, refuse, unless, judgement_in}
 use Rattle.refusals.specs.declared.Verdict.{Verdict}
@@ -81,7 +81,7 @@ module _ {s : LayerState} {row : List ℕ} (r : Ready s row) where
 
       pub ready_tile : ReadyTile s row
       ready_tile =
-          record { ready = r; left = left; light = not_false (is_light gpu 4 s.covers (due_tile s row)) (passed (not (is_light gpu 4 s.covers (due_tile s row))) 9 pass facts.2).0 }
+          record { ready = r; left = left; light = not-false (is_light gpu 4 s.covers (due_tile s row)) (passed (not (is_light gpu 4 s.covers (due_tile s row))) 9 pass facts.2).0 }
 
       pub past_ready : Ready (past_tile s (due_tile s row)) row
       past_ready =

@@ -1,5 +1,5 @@
 -- What verdicts that pass tell of an opening and of a work, and what the operations give by their verdicts. Assumes nothing.
-use Rattle.laws.proofs.Prelude.{◌≡◌, true, false, not, ◌||◌, ⊎_elim, List, ℕ, suc, ◌≤◌, ◌<◌, arith, not_false, lt-ltb, le-leb, eqb-true, ltb, leb}
+use Rattle.laws.proofs.Prelude.{◌≡◌, true, false, not, ◌||◌, ⊎_elim, List, ℕ, suc, ◌≤◌, ◌<◌, arith, not-false, lt-ltb, le-leb, eqb-true, ltb, leb}
 use Rattle.laws.proofs.Prelude.{eqb, Float, ℤ, pos, length, lt_z, plus, minus, whole, lt_false, equal, clash, le_or_lt}
 use Rattle.refusals.specs.Refusal.{pass, unless}
 use Rattle.refusals.proofs.Judging.{passed, or_left, or_right}
@@ -60,8 +60,8 @@ open_passed c e =
     let nine = passed _ _ _ four.1 in
     record {
       span = good_span c.tile_y c.from c.to two.0;
-      in_order = not_false (is_row gpu (suc (plus c.tile_y)) c.row) three.0;
-      light = not_false (is_light gpu 4 (no_cover 4) (layer_left c.from c.layer c.row)) nine.0;
+      in_order = not-false (is_row gpu (suc (plus c.tile_y)) c.row) three.0;
+      light = not-false (is_light gpu 4 (no_cover 4) (layer_left c.from c.layer c.row)) nine.0;
     }
 
 pub openable : (c : LayerCall) → call_verdict_of c ≡ pass → Openable c
@@ -87,7 +87,7 @@ module _ (s : LayerState) (tile : ℤ) where
   is_next other =
       let ahead = or_left (leb s.to s.next) (lt_z tile (pos 0)) (or_left (leb s.to s.next || lt_z tile (pos 0)) (not (eqb (plus tile) s.next)) other) in
       let low = lt_false tile (pos 0) (or_right (leb s.to s.next) (lt_z tile (pos 0)) (or_left (leb s.to s.next || lt_z tile (pos 0)) (not (eqb (plus tile) s.next)) other)) in
-      let same = eqb-true (plus tile) s.next (not_false (eqb (plus tile) s.next) (or_right (leb s.to s.next || lt_z tile (pos 0)) (not (eqb (plus tile) s.next)) other)) in (
+      let same = eqb-true (plus tile) s.next (not-false (eqb (plus tile) s.next) (or_right (leb s.to s.next || lt_z tile (pos 0)) (not (eqb (plus tile) s.next)) other)) in (
         equal tile (pos s.next) (omega (arith, whole tile, low, same)),
         not_at_most s.to s.next ahead,
       )
@@ -117,8 +117,8 @@ module _ (s : LayerState) (tile : ℤ) where
           left = d.1;
           last = d.2;
           known = or_left (is_astray s) (is_other_tile s tile) two.0;
-          in_order = not_false (is_row gpu (suc s.tile_y) row) three.0;
-          light = not_false (is_light gpu 4 s.covers (layer_tile s tile row)) nine.0;
+          in_order = not-false (is_row gpu (suc s.tile_y) row) three.0;
+          light = not-false (is_light gpu 4 s.covers (layer_tile s tile row)) nine.0;
         }
 
     pub workable : work_layer_verdict s tile row plane ≡ pass → WorkableLayer s row plane

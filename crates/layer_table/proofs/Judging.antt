@@ -1,6 +1,6 @@
 -- Judging a table: what holds while its records are passed in one pass, and what holds of a table that passes. Assumes nothing.
-use Rattle.laws.proofs.Prelude.{◌≡◌, refl, sym, ap, ◌∙◌, Bool, true, false, not, ◌&&◌, ◌||◌, and_true, List, map, ℕ, ◌+◌, ◌*◌, ◌/◌, ◌≤◌, ◌<◌, min}
-use Rattle.laws.proofs.Prelude.{add-one, arith, ltb-true, ltb-false, lt-ltb, le-ltb, not_true, leb, ltb, Float, length, drop, drop_of_length-le}
+use Rattle.laws.proofs.Prelude.{◌≡◌, refl, sym, ap, ◌∙◌, Bool, true, false, not, ◌&&◌, ◌||◌, and-true, List, map, ℕ, ◌+◌, ◌*◌, ◌/◌, ◌≤◌, ◌<◌, min}
+use Rattle.laws.proofs.Prelude.{add-one, arith, ltb-true, ltb-false, lt-ltb, le-ltb, not-true, leb, ltb, Float, length, drop, drop_of_length-le}
 use Rattle.laws.proofs.Prelude.{tabulate, all, left, right, all_at, length_tabulate, get_d_tabulate}
 use Rattle.layer_table.specs.declared.Words.{Words}
 use Rattle.styling.specs.Ascending.{strictly_ascends_from, strictly_ascends}
@@ -63,7 +63,7 @@ unfolding strictly_ascends_from
 end {words} {count} {i} {low} {ok} v h =
     let records = tabulate count (words_at words) in
     let past : length records ≤ i = omega (arith, length_tabulate count (words_at words)) in
-    sym (and_true ok) ∙ ap (λ (rs : List Words). ok && valid_from low rs) (sym (drop_of_length-le records past)) ∙ v.judged
+    sym (and-true ok) ∙ ap (λ (rs : List Words). ok && valid_from low rs) (sym (drop_of_length-le records past)) ∙ v.judged
 
 -- ---- a table that passes
 
@@ -83,7 +83,7 @@ range_valid words count h i p =
 pub table : {words : List ℕ} {floats : List Float} {count : ℕ} → is_table words floats count ≡ true → Table words floats count
 unfolding is_table
 table {words} {floats} {count} h =
-    let fits : Long words floats count = long (not_true (is_table_short words floats count) (left (not (is_table_short words floats count)) (is_valid (tabulate count (words_at words))) h)) in
+    let fits : Long words floats count = long (not-true (is_table_short words floats count) (left (not (is_table_short words floats count)) (is_valid (tabulate count (words_at words))) h)) in
     let valid = right (not (is_table_short words floats count)) (is_valid (tabulate count (words_at words))) h in
     record {
       words_long = fits.words_long;

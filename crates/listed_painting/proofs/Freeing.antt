@@ -1,6 +1,6 @@
 -- The layer id below which the clips that are passed free clipped draws tells whether the next layer, if it is a clipped draw, is freed: the layers
 -- ascend, so that the clips below it are those that are passed. Assumes nothing.
-use Rattle.laws.proofs.Prelude.{◌≡◌, refl, sym, ap, ◌∙◌, Bool, true, false, cond, not, ◌&&◌, and_true, and_false, List, [], ◌∷◌, ◌++◌, map, Option}
+use Rattle.laws.proofs.Prelude.{◌≡◌, refl, sym, ap, ◌∙◌, Bool, true, false, cond, not, ◌&&◌, and-true, and-false, List, [], ◌∷◌, ◌++◌, map, Option}
 use Rattle.laws.proofs.Prelude.{some, none, ℕ, zero, suc, ◌+◌, ◌≤◌, ◌<◌, le_of_suc-le-suc, eq-or-lt_of_le, arith, lt-ltb, le-ltb, leb-true, leb-false}
 use Rattle.laws.proofs.Prelude.{⊎_elim, leb, ltb, length, get_or, take, length-map, List·getD-map, Answer, refused, given, is_given}
 use Rattle.layer_table.specs.Lookup.{lookup}
@@ -45,8 +45,8 @@ module _ (table : List Layer) (id : ℕ) where
       by false e = sym (le-ltb id (last + 1) (omega (arith, leb-false id last e)))
 
   tell_clip : (full : Bool) (last : ℕ) → (leb id last && full) ≡ ltb id (cond full (last + 1) 0)
-  tell_clip true last = and_true (leb id last) ∙ leb_next last
-  tell_clip false last = and_false (leb id last) ∙ sym (le-ltb id 0 (omega arith))
+  tell_clip true last = and-true (leb id last) ∙ leb_next last
+  tell_clip false last = and-false (leb id last) ∙ sym (le-ltb id 0 (omega arith))
 
   -- a layer below it
   met : (x : Item) (found : Option Item) (below : ℕ) → x.id < id → Tells found below → Tells (latest_with table id x found) (free_after x below)
@@ -62,7 +62,7 @@ module _ (table : List Layer) (id : ℕ) where
 
   -- a layer that is not below it
   left_with : (x : Item) (found : Option Item) → id ≤ x.id → latest_with table id x found ≡ found
-  left_with x found h = rw (le-ltb x.id id h, and_false (is_clip x.func))
+  left_with x found h = rw (le-ltb x.id id h, and-false (is_clip x.func))
 
   left_by : (a : Answer Layer) (e : Entry) (found : Option Item) → id ≤ e.id → latest_after table id a e found ≡ found
   left_by (refused n) e found h = refl

@@ -1,5 +1,5 @@
 -- The claim is not empty: after every accepted opening, every list of choices is the list of some run's calls. Assumes nothing.
-use Rattle.laws.proofs.Prelude.{◌≡◌, refl, ap, sym, subst, ◌∙◌, Bool, true, false, not, ◌||◌, List, [], ◌∷◌, ℕ, suc, ◌+◌, ◌-◌, ◌<◌, arith, not_true}
+use Rattle.laws.proofs.Prelude.{◌≡◌, refl, ap, sym, subst, ◌∙◌, Bool, true, false, not, ◌||◌, List, [], ◌∷◌, ℕ, suc, ◌+◌, ◌-◌, ◌<◌, arith, not-true}
 use Rattle.laws.proofs.Prelude.{ltb-true, ltb, Float, ℤ, pos, length, take, lt_z, Answer, refused, given, plus, left, right, whole, equal, lt_false}
 use Rattle.refusals.specs.Refusal.{Judgement, pass, refuse, unless}
 use Rattle.refusals.proofs.Naming.{refusal_of, Named, named}
@@ -124,7 +124,7 @@ placed : (o : OpenRow) (n : ℕ) (tile : ℤ) → is_past o n tile ≡ true → 
 placed o n tile e =
     let low = not (lt_z tile (pos o.from)) in
     let above = ltb (plus tile) (o.from + n) in
-    let natural = lt_false tile (pos o.from) (not_true (lt_z tile (pos o.from)) (left low above e)) in
+    let natural = lt_false tile (pos o.from) (not-true (lt_z tile (pos o.from)) (left low above e)) in
     let less = ltb-true (plus tile) (o.from + n) (right low above e) in
     record {
       at = plus tile - o.from;

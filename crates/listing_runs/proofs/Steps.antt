@@ -27,7 +27,7 @@ use Rattle.listing_statements.specs.declared.ListAnswer.{ListAnswer}
 use Rattle.listing_statements.specs.declared.ListAnswer.TheVariants as listed
 use Rattle.listing_statements.specs.declared.TileListed.{TileListed}
 use Rattle.listing_statements.specs.declared.TileDecided.{TileDecided}
-use Rattle.listing_statements.proofs.AsWork.{no_color, or_false, as_lent, without_decision, out_same, listing_is}
+use Rattle.listing_statements.proofs.AsWork.{no_color, or-false, as_lent, without_decision, out_same, listing_is}
 use Rattle.styling.specs.declared.Layer.{Layer}
 use Rattle.listing_statements.proofs.Lists.{decided}
 use Rattle.listing_runs.specs.Due.{ListChoice, list_due_verdict, list_due, DecideChoice, nth_on, decide_due_verdict, outcome_due, decide_due}
@@ -44,7 +44,7 @@ module _ {o : OpenRow} {p : Past} {h : Held} (is_open : IsOpen o) (holds : Holds
   as_choice = record { tile = c.tile; kept = no_tile; clear = no_color; previous = Absent; queue = c.queue; lent = as_lent c.lent }
 
   verdict_same : work_due_verdict o p.tiles as_choice ≡ list_due_verdict o p.tiles c
-  verdict_same = rw (or_false (is_tile_list_short c.lent.list))
+  verdict_same = rw (or-false (is_tile_list_short c.lent.list))
 
   pub list_due_lem : listing_of (list_on o h c) c.lent ≡ list_due o p c
   list_due_lem =

@@ -27,9 +27,9 @@ listed_told (given t) = given t.listed
 abbrev pub without_decision : WorkGiven → ListGiven
 without_decision g = record { answer = listed_told g.answer; state = g.state; lent = lent_part g.lent }
 
-pub or_false : (b : Bool) → (b || false) ≡ b
-or_false true = refl
-or_false false = refl
+pub or-false : (b : Bool) → (b || false) ≡ b
+or-false true = refl
+or-false false = refl
 
 -- by the verdict, without the decision
 pub out_same : (lent : ListLent) (t : TileSays) (s : State) (v : Judgement) → without_decision (work_out v t s no_tile (as_lent lent)) ≡ listing_out v t.table t.layers t.handed s lent
@@ -41,7 +41,7 @@ module _ (c : ListCall) (lent : ListLent) where
   -- 1 to 5 are judged alike, and 6 never applies
   pub args_same : args_verdict (as_work c) (as_lent lent) ≡ list_call_verdict c lent
   unfolding args_verdict list_call_verdict
-  args_same = rw (or_false (is_tile_list_short lent.list))
+  args_same = rw (or-false (is_tile_list_short lent.list))
 
   pub listing_is : listing_of c lent ≡ without_decision (work_of (as_work c) (as_lent lent))
   listing_is =

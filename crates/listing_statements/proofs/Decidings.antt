@@ -1,6 +1,6 @@
 -- Deciding: the loop over the ids of a list, what a passed verdict tells, and the operation put together from its parts. Assumes nothing.
-use Rattle.laws.proofs.Prelude.{◌≡◌, refl, ap, sym, ◌∙◌, Bool, true, false, not, ◌&&◌, ◌||◌, and_true, List, ℕ, ◌+◌, ◌/◌, ◌≤◌, ◌<◌, min, arith}
-use Rattle.laws.proofs.Prelude.{not_false, ltb-false, ltb, length, get_or, take, drop, drop_of_length-le, length-take, drop-cons, get_or-take, given, all}
+use Rattle.laws.proofs.Prelude.{◌≡◌, refl, ap, sym, ◌∙◌, Bool, true, false, not, ◌&&◌, ◌||◌, and-true, List, ℕ, ◌+◌, ◌/◌, ◌≤◌, ◌<◌, min, arith}
+use Rattle.laws.proofs.Prelude.{not-false, ltb-false, ltb, length, get_or, take, drop, drop_of_length-le, length-take, drop-cons, get_or-take, given, all}
 use Rattle.laws.proofs.Prelude.{all_again, all_end}
 use Rattle.refusals.specs.Refusal.{Judgement, pass, refuse, unless, number_of}
 use Rattle.refusals.specs.declared.Refusal.{Refusal}
@@ -24,7 +24,7 @@ pub ascended : {n : ℕ} {ids : List ℕ} {i : ℕ} {ok : Bool} {low : ℕ} → 
 unfolding strictly_ascends_from
 ascended {n} {ids} {i} {ok} {low} v h =
     let past : length (take n ids) ≤ i = omega (arith, length-take n ids) in
-    sym (and_true ok) ∙ ap (λ (l : List ℕ). ok && strictly_ascends_from low l) (sym (drop_of_length-le (take n ids) past)) ∙ v.judged
+    sym (and-true ok) ∙ ap (λ (l : List ℕ). ok && strictly_ascends_from low l) (sym (drop_of_length-le (take n ids) past)) ∙ v.judged
 
 -- ---- 8: a test of each of the first n ids
 
@@ -98,7 +98,7 @@ module _ (c : DecideCall) (unmasked : List Bool) where
               covers_long = omega (arith, few, ltb-false (length c.list.covers / 16) 256 (or_right i v iv));
               flags_long = omega (arith, few, ltb-false (length c.list.flags) 512 (or_right (i || v) s ivs));
             };
-        in_table = table-judging.table (not_false _ four.0);
+        in_table = table-judging.table (not-false _ four.0);
         masks = omega (arith, few, ltb-false (length unmasked) 256 (or_right (i || v || s) u ivsu));
       }
 

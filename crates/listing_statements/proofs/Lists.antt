@@ -60,11 +60,11 @@ module _ (c : DecideCall) (unmasked : List Bool) {ls : List Listed} (short : is_
   pub verdict_is : deciding_verdict c unmasked ≡ unless (ltb (length unmasked) 256) 1 (unless (tag_out_of_range c.kept) 6 pass)
   unfolding lines_for
   verdict_is =
-      rw (says.room, short, table, says.ids, d.ascends, le-ltb 256 c.count (omega (arith, says.count, d.few)), in_table (layers_of c.table) ls, d.known, or_false (ltb (length unmasked) 256))
+      rw (says.room, short, table, says.ids, d.ascends, le-ltb 256 c.count (omega (arith, says.count, d.few)), in_table (layers_of c.table) ls, d.known, or-false (ltb (length unmasked) 256))
     where
-      or_false : (b : Bool) → (b || false) ≡ b
-      or_false true = refl
-      or_false false = refl
+      or-false : (b : Bool) → (b || false) ≡ b
+      or-false true = refl
+      or-false false = refl
 
   pub outcome_is : decided_outcome c ≡ outcome_in (layers_of c.table) c.kept c.clear c.previous ls
   outcome_is = ap (outcome_by_entries (layers_of c.table) c.kept c.clear c.previous) says.entries

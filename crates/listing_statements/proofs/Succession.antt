@@ -1,7 +1,7 @@
 -- A work is a listing and then a deciding from what it left: the law of specs/Succession. Assumes nothing.
 use Rattle.laws.proofs.Prelude.{◌≡◌, refl, ap, sym, subst, ◌∙◌, Bool, true, false, not, List, ℕ, suc, arith, ltb, length, Answer, refused, given}
 use Rattle.laws.proofs.Prelude.{clash}
-use Rattle.laws.proofs.Bools.{not_true}
+use Rattle.laws.proofs.Bools.{not-true}
 use Rattle.refusals.specs.Refusal.{Judgement, pass, refuse, unless, and_then}
 use Rattle.refusals.proofs.Judging.{passed, or_left, or_right}
 use Rattle.pixel_segment.specs.Field.{cpu}
@@ -60,7 +60,7 @@ module _ (c : WorkCall) (lent : WorkLent) (w : Words c.row) (e : args_verdict c 
   -- ---- 1 to 6
 
   table_room : is_lent_short c.table ≡ false
-  table_room = not_true (is_lent_short c.table) (λ s. clash args.in_table (table_short c.table.words c.table.floats c.table.count s))
+  table_room = not-true (is_lent_short c.table) (λ s. clash args.in_table (table_short c.table.words c.table.floats c.table.count s))
 
   list_room : is_tile_list_short (lent_part lent).list ≡ false
   list_room = or_left (is_tile_list_short (lent_part lent).list) (ltb (length lent.list.unmasked) 256) args.list_room

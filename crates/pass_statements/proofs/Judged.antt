@@ -1,6 +1,6 @@
 -- A clip as the second pass comes to it: what it is judged by. It stays where another clip comes before a layer past its end, or a clipped draw
 -- within its span; what is full is masked off at once. Assumes nothing.
-use Rattle.laws.proofs.Prelude.{◌≡◌, refl, sym, ap, ◌∙◌, Bool, true, false, not, ◌&&◌, ◌||◌, false≢true, and_true, and_false, List, [], ◌∷◌, ℕ, zero}
+use Rattle.laws.proofs.Prelude.{◌≡◌, refl, sym, ap, ◌∙◌, Bool, true, false, not, ◌&&◌, ◌||◌, false≢true, and-true, and-false, List, [], ◌∷◌, ℕ, zero}
 use Rattle.laws.proofs.Prelude.{suc, ◌+◌, ◌≤◌, ◌<◌, not-suc-le-zero, le_of_suc-le-suc, add-suc, suc-add, arith, le-leb, lt-leb, leb, length, get_or}
 use Rattle.laws.proofs.Prelude.{set, drop, get_or-set_same}
 use Rattle.styling.specs.Style.{is_clipped_of}
@@ -44,8 +44,8 @@ full_kept false k = refl
 
 -- a clip is masked off where it is not used
 off_unused : (s : List Bool) (a : ℕ) (used : Bool) → a < length s → get_or (mask_off s a (not used)) a false ≡ (get_or s a false && used)
-off_unused s a true h = sym (and_true (get_or s a false))
-off_unused s a false h = get_or-set_same s a false false h ∙ sym (and_false (get_or s a false))
+off_unused s a true h = sym (and-true (get_or s a false))
+off_unused s a false h = get_or-set_same s a false false h ∙ sym (and-false (get_or s a false))
 
 -- ---- the layer y that comes next
 
@@ -106,7 +106,7 @@ waits (y ∷ ys) k i s u a e h l =
     by : ((k' : ActiveClip) (v : Bool) → k'.at.0 ≡ a → Left ys (suc i) k' s (set u i v) a) → Turn y (Active k) i → Left (y ∷ ys) i k s u a
     by go (opens span f t) =
         replaced y ys span k i s u a t h
-        ∙ sym (and_true (get_or s a false))
+        ∙ sym (and-true (get_or s a false))
         ∙ ap (λ (t : Bool). get_or s a false && t) (sym (stays_followed y ys k (rw f)))
     by go (bare f q t) = let clash : ◌≡◌ {A = ℕ} 0 1 = cc in absurd (omega arith)
     by go (past k' f q m t) =

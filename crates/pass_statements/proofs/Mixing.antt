@@ -1,6 +1,6 @@
 -- The colours to mix, as the loop over the layers from the first that is not skipped goes: what it has found, with what is left, gives what the whole list gives.
 -- Assumes nothing.
-use Rattle.laws.proofs.Prelude.{◌≡◌, refl, sym, ap, ap₂, ◌∙◌, Bool, true, false, cond, ◌&&◌, and_true, and_assoc, List, [], ◌∷◌, ℕ, zero, suc, ◌+◌}
+use Rattle.laws.proofs.Prelude.{◌≡◌, refl, sym, ap, ap₂, ◌∙◌, Bool, true, false, cond, ◌&&◌, and-true, and_assoc, List, [], ◌∷◌, ℕ, zero, suc, ◌+◌}
 use Rattle.laws.proofs.Prelude.{◌-◌, ◌≤◌, ◌<◌, add-zero, zero-add, add-suc, suc-add, add-one, arith, le-leb, lt-leb, leb, length, get_or, drop}
 use Rattle.laws.proofs.Prelude.{drop_of_length-le, drop-cons, all}
 use lib.Seq.{drop-nil}
@@ -86,7 +86,7 @@ module _ {items : List Item} {unmasked : List Bool} {skipped below : ℕ} where
   pub mix_end : {n : ℕ} {ok : Bool} {left i : ℕ} → Mixing items unmasked skipped below ok left i → length items ≡ n → n ≤ i → ok ≡ are_solid below (shown_of skipped items unmasked)
   unfolding shown_from
   mix_end {ok = ok} {left = left} {i = i} v e h =
-      sym (and_true ok)
+      sym (and-true ok)
       ∙ ap (λ (xs : List Item). ok && all (λ x. has_color (solid_color x.func)) xs) (sym (drop-nil left))
       ∙ ap (λ (xs : List Item). ok && are_solid left (shown_from i skipped xs (drop i unmasked))) (sym (drop_of_length-le items {i = i} (omega arith)))
       ∙ v.same

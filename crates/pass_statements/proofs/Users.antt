@@ -1,6 +1,6 @@
 -- A clip that some listed draw uses, by the latest clips of the draws: in an ascending list that is a clipped draw which comes above the clip,
 -- before another clip and before any layer past its end. Assumes nothing.
-use Rattle.laws.proofs.Prelude.{◌≡◌, refl, ap, ap₂, ◌∙◌, Bool, true, false, cond, not, ◌&&◌, ◌||◌, and_false, false≢true, List, [], ◌∷◌, map, Option}
+use Rattle.laws.proofs.Prelude.{◌≡◌, refl, ap, ap₂, ◌∙◌, Bool, true, false, cond, not, ◌&&◌, ◌||◌, and-false, false≢true, List, [], ◌∷◌, map, Option}
 use Rattle.laws.proofs.Prelude.{some, none, ℕ, zero, suc, ◌≤◌, ◌<◌, not-suc-le-zero, le_of_suc-le-suc, arith, eq-eqb, ne_eqb, lt-leb, leb-false, leb}
 use Rattle.laws.proofs.Prelude.{length, drop, any, not_left, not_right}
 use Rattle.styling.specs.Ascending.{strictly_ascends_from}
@@ -66,7 +66,7 @@ module _ (c : Item) where
   unfolding meets_user
   meets_past low [] a h = refl
   meets_past low (x ∷ xs) a h =
-      rw (lt-leb x.id (last_reached c.id c.func) (omega (arith, ascends_head low x.id (map id_of xs) a))) (and_false (not (is_clip x.func)))
+      rw (lt-leb x.id (last_reached c.id c.func) (omega (arith, ascends_head low x.id (map id_of xs) a))) (and-false (not (is_clip x.func)))
 
   -- above c, while it is the latest clip
   used_own : (low : ℕ) (xs : List Item) (found : Option Item) → strictly_ascends_from low (map id_of xs) ≡ true → c.id < low → is_latest c found ≡ true → used found xs ≡ meets_user (last_reached c.id c.func) xs

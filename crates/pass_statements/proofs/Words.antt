@@ -1,5 +1,5 @@
 -- What the scope says of the passes in words, proved of the definitions. Assumes nothing.
-use Rattle.laws.proofs.Prelude.{◌≡◌, refl, ap, ◌∙◌, Bool, true, false, not, ◌&&◌, ◌||◌, and_true, and_false, ◌⊎◌, inl, ⊎_elim, ⊎_map, List, [], ℕ}
+use Rattle.laws.proofs.Prelude.{◌≡◌, refl, ap, ◌∙◌, Bool, true, false, not, ◌&&◌, ◌||◌, and-true, and-false, ◌⊎◌, inl, ⊎_elim, ⊎_map, List, [], ℕ}
 use Rattle.laws.proofs.Prelude.{◌≤◌, ◌<◌, not-suc-le-zero, arith, ne_eqb, length, length-replicate, either}
 use Rattle.styling.specs.declared.Color.{Color}
 use Rattle.styling.specs.Style.{is_clipped_of}
@@ -31,7 +31,7 @@ module _ (items : List Item) where
 
   -- 'A clip followed by another clip before a listed draw past its end is never judged for use; it stays shown unless full': in any list
   pub never_judged : {i : ℕ} → ClipAt items i → is_followed items i ≡ true → is_unmasked items i ≡ not (item_at items i).full
-  never_judged {i} c f = judged_at items c ∙ rw f (and_true (not (item_at items i).full))
+  never_judged {i} c f = judged_at items c ∙ rw f (and-true (not (item_at items i).full))
 
   module _ (ascending : is_ascending items ≡ true) where
     -- a clip is not masked off exactly where it is not full, and is followed or used
@@ -126,7 +126,7 @@ module _ (clear : Color) where
   empty_new unchanged = empty_solid unchanged Absent refl
 
   pub empty_counted : (unchanged : Bool) (n : ℕ) → (n ≡ 0 → ⊥) → (outcome_of clear unchanged (Kept n) []).decision ≡ solid clear 0
-  empty_counted unchanged n h = empty_solid unchanged (Kept n) (rw (ne_eqb n 0 h) (and_false unchanged))
+  empty_counted unchanged n h = empty_solid unchanged (Kept n) (rw (ne_eqb n 0 h) (and-false unchanged))
 
   pub empty_recolored : (previous : PreviousCount) → (outcome_of clear false previous []).decision ≡ solid clear 0
   empty_recolored Absent = empty_solid false Absent refl

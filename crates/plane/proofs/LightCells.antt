@@ -2,7 +2,7 @@
 -- where they are judged (cover_statements/proofs/Judging). Assumes nothing.
 use Rattle.laws.proofs.Prelude.{◌≡◌, refl, sym, ◌∙◌, true, List, [], ◌∷◌, map, ⊎_elim, ℕ, ◌+◌, ◌*◌, ◌≤◌, ◌<◌, arith, ℤ, nat_abs, ◌+ℤ◌, length, get_or}
 use Rattle.laws.proofs.Prelude.{set, length-map, clash, le_or_lt}
-use Rattle.laws.proofs.Bools.{not_false}
+use Rattle.laws.proofs.Bools.{not-false}
 use Rattle.pixel_segment.specs.Field.{cpu, local_x_of, local_y_of, cover_of, double_area_of}
 use Rattle.cover_statements.specs.Carry.{is_light, abs_cover}
 use Rattle.cover_statements.specs.Cover.{cover_at}
@@ -24,7 +24,7 @@ pub record LightCells (part : List ℕ) (i : ℕ) (areas covers : List ℤ) : Ty
 pub cells_start : (part : List ℕ) (incoming : List ℤ) {areas covers : List ℤ} → length incoming ≡ 16 → is_light cpu 16 incoming part ≡ true → areas ≡ no_cells 16 → covers ≡ no_cells 16
     → LightCells part 0 areas covers
 cells_start part incoming long light a c =
-    let all : all_light (map nat_abs incoming) ≡ true = not_false _ (λ e. clash light (incoming_heavy cpu 16 incoming part long e)) in
+    let all : all_light (map nat_abs incoming) ≡ true = not-false _ (λ e. clash light (incoming_heavy cpu 16 incoming part long e)) in
     record {
       incoming = incoming;
       light = light;

@@ -1,5 +1,5 @@
 -- The rows of a plate one after another, and what holds of every plate. Assumes nothing.
-use Rattle.laws.proofs.Prelude.{◌≡◌, refl, ap, ap₂, sym, ◌∙◌, Bool, true, false, cond, not, ◌&&◌, and_true, ⊎_elim, List, [], ◌∷◌, ◌++◌, ℕ, zero, suc}
+use Rattle.laws.proofs.Prelude.{◌≡◌, refl, ap, ap₂, sym, ◌∙◌, Bool, true, false, cond, not, ◌&&◌, and-true, ⊎_elim, List, [], ◌∷◌, ◌++◌, ℕ, zero, suc}
 use Rattle.laws.proofs.Prelude.{◌+◌, ◌-◌, ◌%◌, ◌≤◌, ◌<◌, arith, le-leb, lt-leb, leb-true, eq-eqb, ne_eqb, eqb-true, leb, eqb, ℤ, get_or, all, filter}
 use Rattle.laws.proofs.Prelude.{left, right, both, same, le_or_lt, all_at, all_intro, filter_all, filter_none, filter_ext, filter_twice}
 use Rattle.laws.proofs.Filtered.{all_own}
@@ -106,7 +106,7 @@ module _ (crop : Crop) (l : List ℕ) (o : Ordered (tile_y_of cpu) l) where
     where
       inside : (w : ℕ) → (leb 1 (tile_y_of cpu w) && eqb (tile_y_of cpu w) (suc j)) ≡ eqb (tile_y_of cpu w) (suc j)
       inside w =
-          ap (λ (t : Bool). t && eqb (tile_y_of cpu w) (suc j)) (sym (and_true (leb 1 (tile_y_of cpu w)))) ∙ picked Absent (tile_y_of cpu w) j
+          ap (λ (t : Bool). t && eqb (tile_y_of cpu w) (suc j)) (sym (and-true (leb 1 (tile_y_of cpu w)))) ∙ picked Absent (tile_y_of cpu w) j
 
       by : (t : Bool) → part_in (cond t (printing.row (row_place (cast_of j) rest).start (row_place (cast_of j) rest).end) skipped) rest ≡ filter (λ w. t && eqb (tile_y_of cpu w) (suc j)) l
       by true =
@@ -149,7 +149,7 @@ sorted_rows l o =
       uncropped =
           λ n g h.
           rows_whole Absent l o n g h
-          ∙ filter_ext (is_printed Absent) (λ w. leb 1 (tile_y_of cpu w)) l (λ w. and_true (leb 1 (tile_y_of cpu w)))
+          ∙ filter_ext (is_printed Absent) (λ w. leb 1 (tile_y_of cpu w)) l (λ w. and-true (leb 1 (tile_y_of cpu w)))
           ∙ sym (not_negative_lem l o);
       last = row_part_lem l o 65535;
     }

@@ -1,5 +1,5 @@
 -- Judging a lent queue: what holds while its ids are passed in one pass, and what holds of a queue that passes. Assumes nothing.
-use Rattle.laws.proofs.Prelude.{◌≡◌, refl, sym, ap, ◌∙◌, Bool, true, false, ◌&&◌, and_true, and_assoc, List, ℕ, suc, ◌+◌, ◌/◌, ◌≤◌, ◌<◌, min, add-one}
+use Rattle.laws.proofs.Prelude.{◌≡◌, refl, sym, ap, ◌∙◌, Bool, true, false, ◌&&◌, and-true, and_assoc, List, ℕ, suc, ◌+◌, ◌/◌, ◌≤◌, ◌<◌, min, add-one}
 use Rattle.laws.proofs.Prelude.{arith, ltb-false, leb-true, le-leb, lt-leb, leb, ℤ, length, get_or, take, drop, drop_of_length-le, length-take}
 use Rattle.laws.proofs.Prelude.{drop-cons, get_or-take, left, right}
 use Rattle.styling.specs.Ascending.{strictly_ascends_from, strictly_ascends}
@@ -42,7 +42,7 @@ unfolding strictly_ascends_from is_queue
 end {n} {ids} {i} {ok} {low} v few h =
     let past : length (take n ids) ≤ i = omega (arith, length-take n ids) in
     rw (le-leb n 256 few)
-    (sym (and_true ok) ∙ ap (λ (l : List ℕ). ok && strictly_ascends_from low l) (sym (drop_of_length-le (take n ids) past)) ∙ v.judged)
+    (sym (and-true ok) ∙ ap (λ (l : List ℕ). ok && strictly_ascends_from low l) (sym (drop_of_length-le (take n ids) past)) ∙ v.judged)
 
 pub many : (n : ℕ) (ids : List ℕ) → 256 < n → false ≡ is_queue n ids
 unfolding is_queue

@@ -1,7 +1,7 @@
 -- What the sums and loads of an opening say, place by place: number 9, and the covers that are written. Assumes nothing.
 use Rattle.laws.proofs.Prelude.{◌≡◌, refl, sym, ap, ◌∙◌, true, false, List, ℕ, ◌+◌, ◌*◌, ◌/◌, ◌%◌, ◌≤◌, ◌<◌, zero-add, arith, le-leb, ℤ, pos, nat_abs}
 use Rattle.laws.proofs.Prelude.{◌+ℤ◌, +ℤ_idl, length, get_or, take, ext_get_or, get_or-take, length-take-le, every_intro, all_at, all_intro}
-use Rattle.laws.proofs.Bools.{not_true}
+use Rattle.laws.proofs.Bools.{not-true}
 use Rattle.pixel_segment.specs.Field.{cpu, layer_id_of, local_y_of, cover_of}
 use Rattle.cover_statements.specs.Carry.{load_in, abs_cover, light_at, is_light}
 use Rattle.cover_statements.specs.Cover.{cover_at}
@@ -52,7 +52,7 @@ module _ (left : List ℕ) where
       let i = rank_of (layer_id_of cpu w) ids in
       let there : i < length (open_queue left) = omega (arith, opening_there left j p, length_ids (open_queue left)) in
       let id = (get_or (open_queue left) i no_carry).id in
-      not_true (is_light_opening left)
+      not-true (is_light_opening left)
       (λ e.
       let each : is_light cpu 16 zeros (of_layer id left) ≡ true = all_at (λ c. is_light cpu 16 zeros (of_layer c.id left)) (open_queue left) e i no_carry there in
       omega (arith, many, load_there i (local_y_of cpu w) there (omega arith), (light {ws = cpu} {n = 16} {covers = zeros} {part = of_layer id left} each).at (local_y_of cpu w) (omega arith)))

@@ -72,9 +72,9 @@ all_map : {A B : Type 0} (p : B → Bool) (f : A → B) (xs : List A) → all p 
 all_map p f [] = refl
 all_map p f (x ∷ xs) = ap (λ (b : Bool). p (f x) && b) (all_map p f xs)
 
-map_map : {A B C : Type 0} (g : B → C) (f : A → B) (xs : List A) → map g (map f xs) ≡ map (λ x. g (f x)) xs
-map_map {C} g f [] = refl
-map_map {C} g f (x ∷ xs) = ap (λ (l : List C). g (f x) ∷ l) (map_map g f xs)
+map-map : {A B C : Type 0} (g : B → C) (f : A → B) (xs : List A) → map g (map f xs) ≡ map (λ x. g (f x)) xs
+map-map {C} g f [] = refl
+map-map {C} g f (x ∷ xs) = ap (λ (l : List C). g (f x) ∷ l) (map-map g f xs)
 
 among_all : (p : Sent → Bool) (ss : List Sent) → ((s : Sent) → Among s ss → p s ≡ true) → all p ss ≡ true
 among_all p [] f = refl
@@ -128,7 +128,7 @@ valid ss oldWords oldFloats g =
     rw (table_words standing (sent_at [] [] 0) oldWords oldFloats)
     (both (all in_range (map (λ s. s.words) standing)) (strictly_ascends (map (λ w. w.id) (map (λ s. s.words) standing)))
     (all_map in_range (λ s. s.words) standing ∙ standing_range ss g)
-    (ap strictly_ascends (map_map (λ w. w.id) (λ s. s.words) standing) ∙ ascending ss))
+    (ap strictly_ascends (map-map (λ w. w.id) (λ s. s.words) standing) ∙ ascending ss))
 
 pub is_table_lem : (records : List ℕ) (colors : List Float) {n : ℕ} {oldWords words : List ℕ} {oldFloats floats : List Float} → Stands (stand_verdict records colors oldWords oldFloats) (sent_of records colors) oldWords oldFloats (given n) words floats → Begins (sent_of records colors) n words floats
 unfolding is_table

@@ -1,5 +1,5 @@
 -- The judge's answers, one after the other, and what holds where it passes. Assumes nothing.
-use Rattle.laws.proofs.Prelude.{◌≡◌, refl, ap, true, false, not, List, ℕ, ◌<◌, arith, not_false, Float, length, get_or, refused, given, tabulate, all}
+use Rattle.laws.proofs.Prelude.{◌≡◌, refl, ap, true, false, not, List, ℕ, ◌<◌, arith, not-false, Float, length, get_or, refused, given, tabulate, all}
 use Rattle.laws.proofs.Prelude.{all_intro, length_tabulate, get_d_tabulate}
 use Rattle.refusals.specs.Refusal.{Judgement, pass, refuse}
 use Rattle.refusals.proofs.Judging.{passed}
@@ -64,7 +64,7 @@ module _ {records : List ℕ} {colors : List Float} {words : List ℕ} {floats :
       let third = passed (is_table_short words floats (length (standing_of ss))) 1 pass second.1 in
       let fits : Long words floats (length (standing_of ss)) = long third.0 in
       record {
-        good = not_false (all is_good ss) first.0;
+        good = not-false (all is_good ss) first.0;
         single = second.0;
         room = record { words_long = fits.words_long; floats_long = fits.floats_long };
       }

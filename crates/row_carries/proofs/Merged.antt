@@ -1,7 +1,7 @@
 -- What a tile's list holds of a layer is what the queue and the part hold of it, over any ascending queue; and a list that ascends holds of a
 -- layer what stands at its place. Assumes nothing.
 use Rattle.laws.proofs.Prelude.{◌≡◌, refl, sym, ap, ap₂, ◌∙◌, Bool, true, false, cond, not, ⊎_elim, List, [], ◌∷◌, ◌++◌, map, append-nil, ℕ, zero}
-use Rattle.laws.proofs.Prelude.{suc, ◌≤◌, ◌<◌, not-suc-le-zero, le_of_suc-le-suc, arith, eq-eqb, ne_eqb, eqb-true, eqb-false, not_true, ltb-true}
+use Rattle.laws.proofs.Prelude.{suc, ◌≤◌, ◌<◌, not-suc-le-zero, le_of_suc-le-suc, arith, eq-eqb, ne_eqb, eqb-true, eqb-false, not-true, ltb-true}
 use Rattle.laws.proofs.Prelude.{ltb-false, eqb, ltb, ℤ, length, get_or, length-map, List·getD-map, both, left, right, eq_or_ne}
 use Rattle.laws.proofs.Bools.{either_way}
 use Rattle.pixel_segment.specs.Field.{cpu, layer_id_of}
@@ -123,7 +123,7 @@ list_held q part id a = held_merged 0 q (groups_of part) id a
 -- ---- a layer that is not listed
 
 apart : (l : Listed) (ls : List Listed) (id : ℕ) → is_unlisted (l ∷ ls) id ≡ true → l.id ≡ id → ⊥
-apart l ls id h = eqb-false l.id id (not_true (eqb l.id id) (left (not (eqb l.id id)) (is_unlisted ls id) h))
+apart l ls id h = eqb-false l.id id (not-true (eqb l.id id) (left (not (eqb l.id id)) (is_unlisted ls id) h))
 
 pub unlisted_held : (ls : List Listed) (id : ℕ) → is_unlisted ls id ≡ true → held_in (incoming_of ls) id ≡ zeros
 unfolding held_in

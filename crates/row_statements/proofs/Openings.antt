@@ -1,5 +1,5 @@
 -- What a passed opening's verdict tells, and the operation put together from its parts. Assumes nothing.
-use Rattle.laws.proofs.Prelude.{◌≡◌, refl, ap, ◌∙◌, true, false, ◌||◌, List, ℕ, suc, ◌≤◌, arith, not_false, ℤ, pos, lt_z, Answer, refused, given, plus}
+use Rattle.laws.proofs.Prelude.{◌≡◌, refl, ap, ◌∙◌, true, false, ◌||◌, List, ℕ, suc, ◌≤◌, arith, not-false, ℤ, pos, lt_z, Answer, refused, given, plus}
 use Rattle.laws.proofs.Prelude.{minus, whole, lt_false}
 use Rattle.refusals.specs.Refusal.{pass, refuse, number_of}
 use Rattle.refusals.specs.declared.Refusal.{Refusal}
@@ -52,8 +52,8 @@ module _ (c : OpenCall) (lent : Columns) where
       record {
         room = or_left (is_queue_short lent) (is_lent_short c.table) one.0;
         ends = good_ends c.tile_y c.from c.to two.0;
-        in_row_lem = not_false (is_row cpu (suc (plus c.tile_y)) c.row) three.0;
-        in_table = not_false (is_lent_table c.table) four.0;
+        in_row_lem = not-false (is_row cpu (suc (plus c.tile_y)) c.row) three.0;
+        in_table = not-false (is_lent_table c.table) four.0;
       }
 
   -- ---- the operation

@@ -1,6 +1,6 @@
 -- A painting in a run: what it gives is what is due, and what the caller then holds is again the row's. Assumes nothing.
 use Rattle.laws.proofs.Prelude.{◌≡◌, refl, ap, ap₂, sym, subst, ◌∙◌, Bool, true, false, not, ◌||◌, false≢true, List, Option, ℕ, zero, suc, ◌+◌, ◌-◌}
-use Rattle.laws.proofs.Prelude.{arith, le-leb, lt-leb, ne_eqb, eqb-true, not_false, ltb, leb, eqb, Float, ℤ, pos, length, lt_z, Answer, refused, given}
+use Rattle.laws.proofs.Prelude.{arith, le-leb, lt-leb, ne_eqb, eqb-true, not-false, ltb, leb, eqb, Float, ℤ, pos, length, lt_z, Answer, refused, given}
 use Rattle.laws.proofs.Prelude.{plus, whole, equal, lt_false}
 use Rattle.refusals.specs.Refusal.{Judgement, pass, refuse, unless, and_then}
 use Rattle.refusals.proofs.Judging.{passed, or_left, or_right}
@@ -63,7 +63,7 @@ last_tile o (suc n) tile k t e =
     let some = eqb (suc n) 0 in
     let other = not (eqb (plus tile + 1) (o.from + suc n)) in
     let natural = lt_false tile (pos 0) (or_right some (lt_z tile (pos 0)) (or_left (some || lt_z tile (pos 0)) other e)) in
-    let same = eqb-true (plus tile + 1) (o.from + suc n) (not_false _ (or_right (some || lt_z tile (pos 0)) other e)) in
+    let same = eqb-true (plus tile + 1) (o.from + suc n) (not-false _ (or_right (some || lt_z tile (pos 0)) other e)) in
     let before : suc n - 1 ≡ n = omega arith in
     record {
       queue = rw before t.0;

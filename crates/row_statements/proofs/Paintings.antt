@@ -1,6 +1,6 @@
 -- What a painting's verdict tells, and the whole operation from it. Assumes nothing.
 use Rattle.laws.proofs.Prelude.{◌≡◌, refl, ap, subst, ◌∙◌, true, false, not, ◌||◌, false≢true, List, ℕ, suc, ◌+◌, ◌≤◌, arith, ltb-false, eqb-true}
-use Rattle.laws.proofs.Prelude.{not_false, ltb, leb, eqb, Float, ℤ, pos, length, lt_z, Answer, refused, given, is_given, plus, minus, whole, equal}
+use Rattle.laws.proofs.Prelude.{not-false, ltb, leb, eqb, Float, ℤ, pos, length, lt_z, Answer, refused, given, is_given, plus, minus, whole, equal}
 use Rattle.laws.proofs.Prelude.{lt_false}
 use Rattle.refusals.specs.Refusal.{Judgement, pass, refuse, number_of}
 use Rattle.refusals.specs.declared.Refusal.{Refusal}
@@ -39,7 +39,7 @@ was_worked s tile e =
     let sign = lt_false tile (pos 0) (or_right none (lt_z tile (pos 0)) (or_left low other e)) in
     record {
       not_negative_lem = omega (arith, whole tile, sign);
-      last = eqb-true (plus tile + 1) s.next (not_false (eqb (plus tile + 1) s.next) (or_right low other e));
+      last = eqb-true (plus tile + 1) s.next (not-false (eqb (plus tile + 1) s.next) (or_right low other e));
     }
 
 -- a tile that is not negative, as a natural number
@@ -76,9 +76,9 @@ module _ (c : PaintCall) (plane : List Float) where
         plane_room = ltb-false (length plane) 256 (or_right (q || t) f one.0);
         in_state = in_row_lem c.state (or_left stray other two.0);
         worked = was_worked c.state c.tile (or_right stray other two.0);
-        ascends = not_false (is_row cpu (suc c.state.tile_y) c.row) three.0;
-        in_table = not_false (is_lent_table c.table) four.0;
-        in_queue = not_false (is_queue c.state.taken c.queue.ids) five.0;
+        ascends = not-false (is_row cpu (suc c.state.tile_y) c.row) three.0;
+        in_table = not-false (is_lent_table c.table) four.0;
+        in_queue = not-false (is_queue c.state.taken c.queue.ids) five.0;
       }
 
   pub ready : Called → Words c.row → Ready c.state.taken c.queue.ids c.queue.covers (part_for c) c.table.words c.table.floats c.table.count plane
@@ -110,8 +110,8 @@ layer_passed table carries part id e =
     let one = passed _ _ _ e in
     let two = passed _ _ _ one.1 in
     record {
-      found = given_is (lookup table id) id (not_false (is_given (lookup table id)) one.0);
-      light = not_false (is_light_in carries part id) two.0;
+      found = given_is (lookup table id) id (not-false (is_given (lookup table id)) one.0);
+      light = not-false (is_light_in carries part id) two.0;
     }
 
 -- ---- the operation

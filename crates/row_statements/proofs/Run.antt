@@ -2,7 +2,7 @@
 -- Assumes nothing.
 use Rattle.laws.proofs.Prelude.{◌≡◌, refl, ap, ap₂, sym, subst, ◌∙◌, Bool, true, false, cond, List, none, ℕ, ◌+◌, ◌≤◌, arith, ltb-false, ltb, Float}
 use Rattle.laws.proofs.Prelude.{ℤ, pos, length, Answer, refused, given, plus, clash, whole, equal}
-use Rattle.laws.proofs.Bools.{not_true}
+use Rattle.laws.proofs.Bools.{not-true}
 use Rattle.refusals.specs.Refusal.{Judgement, pass, refuse}
 use Rattle.segment_rows.specs.Rows.{Words}
 use Rattle.segment_rows.specs.Search.{left_part}
@@ -133,7 +133,7 @@ module _ (c : OpenCall) (lent back : Columns) (s : RowState) where
         last = t.ends.last.1;
         in_order = record { words = w; is_row_lem = t.in_row_lem };
         in_table = t.in_table;
-        table_long = not_true (is_lent_short c.table) (λ e. clash t.in_table (table_short c.table.words c.table.floats c.table.count e));
+        table_long = not-true (is_lent_short c.table) (λ e. clash t.in_table (table_short c.table.words c.table.floats c.table.count e));
       }
 
   -- the first tile is no negative one

@@ -31,9 +31,9 @@ use Rattle.row_statements.specs.declared.WorkAnswer.TheVariants.{Refused, Done}
 use Rattle.row_statements.proofs.Works.{is_next, flags_room, list_passed}
 use Rattle.row_statements.proofs.Holding.{holds_written, same_holds}
 
-or_false : (b : Bool) → (b || false) ≡ b
-or_false true = refl
-or_false false = refl
+or-false : (b : Bool) → (b || false) ≡ b
+or-false true = refl
+or-false false = refl
 
 -- 2: in a row that is open, no state is stray, and what the state says is what the calls before say
 pub not_stray : (o : OpenRow) (p : Past) → o.tile_y ≤ 2046 → o.to ≤ 4095 → o.from + p.tiles ≤ o.to → is_stray (state_on o p) ≡ false
@@ -53,7 +53,7 @@ module _ {o : OpenRow} {p : Past} {h : Held} (is_open : IsOpen o) (holds : Holds
   lent_holds = same_holds (queue_on o p.tiles) same (ap (λ (s : State). s.left) holds.state) holds.queue
 
   short_due : is_short_for (work_on o h c) c.lent ≡ (is_queue_short c.lent.queue || is_list_short c.lent.list)
-  short_due = rw (lent_holds.long, is_open.table_long, or_false (is_queue_short c.lent.queue))
+  short_due = rw (lent_holds.long, is_open.table_long, or-false (is_queue_short c.lent.queue))
 
   tile_due : (is_stray h.state || is_not_next h.state c.tile) ≡ is_not_due o p.tiles c.tile
   tile_due = rw (holds.state, not_stray o p is_open.tile_y is_open.last holds.inside)

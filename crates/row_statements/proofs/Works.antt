@@ -1,5 +1,5 @@
 -- The work on a tile: what a passed verdict tells, and the operation put together from its parts. Assumes nothing.
-use Rattle.laws.proofs.Prelude.{◌≡◌, refl, ap, sym, subst, ◌∙◌, Bool, true, false, not, ◌||◌, List, ℕ, suc, ◌/◌, ◌≤◌, ◌<◌, arith, not_false}
+use Rattle.laws.proofs.Prelude.{◌≡◌, refl, ap, sym, subst, ◌∙◌, Bool, true, false, not, ◌||◌, List, ℕ, suc, ◌/◌, ◌≤◌, ◌<◌, arith, not-false}
 use Rattle.laws.proofs.Prelude.{ltb-false, leb-false, eqb-true, ltb, leb, eqb, ℤ, pos, length, lt_z, given, plus, minus, whole, equal, lt_false}
 use Rattle.refusals.specs.Refusal.{Judgement, pass, refuse, unless, and_then, number_of}
 use Rattle.refusals.specs.declared.Refusal.{Refusal}
@@ -59,7 +59,7 @@ is_next s tile e =
     let low = end || lt_z tile (pos 0) in
     let e1 = or_left low (not (eqb (plus tile) s.next)) e in
     let natural = lt_false tile (pos 0) (or_right end (lt_z tile (pos 0)) e1) in
-    let same = eqb-true (plus tile) s.next (not_false _ (or_right low (not (eqb (plus tile) s.next)) e)) in
+    let same = eqb-true (plus tile) s.next (not-false _ (or_right low (not (eqb (plus tile) s.next)) e)) in
     record {
       inside = leb-false s.to s.next (or_left end (lt_z tile (pos 0)) e1);
       is_tile = equal tile (pos s.next) (omega (arith, whole tile, natural, same));
@@ -78,7 +78,7 @@ list_passed layers ls e =
     let seven = passed _ _ _ e in
     let eight = passed _ _ _ seven.1 in
     let nine = passed _ _ _ eight.1 in
-    record { few = ltb-false 256 (length ls) seven.0; known = not_false _ eight.0; light = not_false _ nine.0 }
+    record { few = ltb-false 256 (length ls) seven.0; known = not-false _ eight.0; light = not-false _ nine.0 }
 
 -- the lines below the first five follow where those pass
 pub five_then : (short wrong : Bool) (tile_y : ℕ) (row : List ℕ) (table : LentTable) (n : ℕ) (ids : List ℕ) (below : Judgement) → and_then (first_five short wrong tile_y row table n ids pass) below ≡ first_five short wrong tile_y row table n ids below
@@ -136,9 +136,9 @@ module _ (c : WorkCall) (lent : WorkLent) where
         list_room = or_right (q || n || t) l one.0;
         in_state = in_row_lem c.state (or_left (is_stray c.state) (is_not_next c.state c.tile) two.0);
         next = is_next c.state c.tile (or_right (is_stray c.state) (is_not_next c.state c.tile) two.0);
-        ascends = not_false _ three.0;
-        in_table = not_false _ four.0;
-        in_queue = not_false _ five.0;
+        ascends = not-false _ three.0;
+        in_table = not-false _ four.0;
+        in_queue = not-false _ five.0;
       }
 
   rooms : Passed → Rooms lent.list.ids lent.list.covers lent.list.flags lent.list.unmasked lent.queue.ids lent.queue.covers

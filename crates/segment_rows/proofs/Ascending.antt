@@ -1,5 +1,5 @@
 -- Laws of ascending lists: how a loop over one goes, and what it says of any two elements. Assumes nothing.
-use Rattle.laws.proofs.Prelude.{◌≡◌, refl, ap, sym, ◌∙◌, Bool, true, false, ◌&&◌, and_assoc, and_true, List, [], ◌∷◌, ⊎_elim, ℕ, zero, suc, ◌+◌, ◌-◌}
+use Rattle.laws.proofs.Prelude.{◌≡◌, refl, ap, sym, ◌∙◌, Bool, true, false, ◌&&◌, and_assoc, and-true, List, [], ◌∷◌, ⊎_elim, ℕ, zero, suc, ◌+◌, ◌-◌}
 use Rattle.laws.proofs.Prelude.{◌/◌, ◌≤◌, ◌<◌, not-suc-le-zero, le_of_suc-le-suc, div-eq_of_lt, add-one, arith, leb-true, le-leb, lt-leb, ne_eqb, leb}
 use Rattle.laws.proofs.Prelude.{eqb, length, get_or, drop, drop_of_length-le, drop-cons, left, right, both, not_right, le_or_lt}
 use native.Mathlib.Nat.{div-eq_of_lt-le}
@@ -24,7 +24,7 @@ counted_one bound descents previous key p k =
     ⊎_elim
     (λ (up : previous ≤ key).
     let none : descents + (previous + (bound - 1) - key) / bound ≡ descents = omega (arith, no_descent bound previous key p up) in
-    rw (none, le-leb previous key up, and_true))
+    rw (none, le-leb previous key up, and-true))
     (λ (down : key < previous).
     let one : descents + (previous + (bound - 1) - key) / bound ≡ descents + 1 = omega (arith, one_descent bound previous key p down) in
     rw (one, lt-leb previous key down) (ne_eqb (descents + 1) 0 (λ e. omega arith) ∙ sym (not_right (eqb descents 0) false refl)))
@@ -73,7 +73,7 @@ module _ (f : ℕ → ℕ) where
 
   pub counted_end : {bound : ℕ} {l : List ℕ} {descents previous i : ℕ} → Counted bound l descents previous i → length l ≤ i → eqb descents 0 ≡ ascends f l
   counted_end {bound} {l} {descents} {previous} {i} c h =
-      sym (and_true (eqb descents 0)) ∙ ap (λ (t : Bool). eqb descents 0 && t) (sym (ascends_end previous l i h)) ∙ c.whole
+      sym (and-true (eqb descents 0)) ∙ ap (λ (t : Bool). eqb descents 0 && t) (sym (ascends_end previous l i h)) ∙ c.whole
 
   -- every element is at least the start
   pub from_le : (k : ℕ) (l : List ℕ) → ascends_from f k l ≡ true → (i : ℕ) → i < length l → k ≤ f (get_or l i 0)

@@ -1,7 +1,7 @@
 -- Taking in is judged as a beginning with one word more is; so sets with the same words are answered alike. Assumes nothing.
 use Rattle.laws.proofs.Prelude.{◌≡◌, refl, sym, ap, ◌∙◌, Bool, true, false, not, ◌&&◌, List, ◌∷◌, ⊎_elim, ℕ, suc, ◌+◌, ◌≤◌, ◌<◌, arith, lt-ltb}
 use Rattle.laws.proofs.Prelude.{le-ltb, ltb-true, leb-true, le-leb, leb, ltb, ℤ, length, get_or, length-set, all, same, le_or_lt}
-use Rattle.laws.proofs.Bools.{not_true}
+use Rattle.laws.proofs.Bools.{not-true}
 use Rattle.refusals.specs.Refusal.{Judgement, pass, refuse, unless}
 use Rattle.pixel_segment.specs.Field.{cpu, local_y_of}
 use Rattle.cover_statements.specs.Carry.{abs_cover, is_light}
@@ -16,9 +16,9 @@ use Rattle.segment_set_statements.proofs.Steps.{same_light, light_taken, loads_a
 
 -- ---- taking in, judged as a beginning with one word more
 
-and_true : (a b : Bool) → b ≡ true → (a && b) ≡ a
-and_true true b e = e
-and_true false b e = refl
+and-true : (a b : Bool) → b ≡ true → (a && b) ≡ a
+and-true true b e = e
+and-true false b e = refl
 
 -- fewer slots than one word more needs
 full : (slots count : ℕ) → leb slots count ≡ ltb slots (suc count)
@@ -29,7 +29,7 @@ full slots count =
 
 module _ {incoming : List ℤ} {s : SetState} (k : Kept incoming s) (w : ℕ) where
   here_more : is_here s.set w ≡ all (is_here s.set) (w ∷ held_of s)
-  here_more = sym (and_true (is_here s.set w) (all (is_here s.set) (held_of s)) k.here)
+  here_more = sym (and-true (is_here s.set w) (all (is_here s.set) (held_of s)) k.here)
 
   heavy_more : ltb 127 (get_or s.set.loads (local_y_of cpu w) 0 + abs_cover cpu w) ≡ not (is_light cpu 16 incoming (w ∷ held_of s))
   heavy_more =
@@ -44,7 +44,7 @@ module _ {incoming : List ℤ} {s : SetState} (k : Kept incoming s) (w : ℕ) wh
       by load f g =
           ⊎_elim
           (λ (l : load ≤ 127). le-ltb 127 load l ∙ ap not (sym (f l)))
-          (λ (l : 127 < load). lt-ltb 127 load l ∙ ap not (sym (not_true (is_light cpu 16 incoming (w ∷ held_of s)) (λ e. let m = g e in absurd (omega arith)))))
+          (λ (l : 127 < load). lt-ltb 127 load l ∙ ap not (sym (not-true (is_light cpu 16 incoming (w ∷ held_of s)) (λ e. let m = g e in absurd (omega arith)))))
           (le_or_lt load 127)
 
   pub taken_as_begun : take_verdict s w ≡

@@ -1,6 +1,6 @@
 -- The sets that were begun and edited are kept. Assumes nothing.
 use Rattle.laws.proofs.Prelude.{◌≡◌, refl, sym, ap, ◌∙◌, Bool, true, false, cond, not, List, [], ◌∷◌, ◌++◌, ⊎_elim, ℕ, zero, suc, ◌+◌, ◌-◌, ◌≤◌, ◌<◌}
-use Rattle.laws.proofs.Prelude.{min, add-one, arith, ltb-true, ltb-false, leb-false, not_false, eqb, leb, ltb, ℤ, ◌+ℤ◌, ◌-ℤ◌, length, get_or, take, set}
+use Rattle.laws.proofs.Prelude.{min, add-one, arith, ltb-true, ltb-false, leb-false, not-false, eqb, leb, ltb, ℤ, ◌+ℤ◌, ◌-ℤ◌, length, get_or, take, set}
 use Rattle.laws.proofs.Prelude.{length-set, length-take, take-suc, take_all, get_or-take, length-take-le, over, all, count_by, both, right, eq_or_ne}
 use Rattle.laws.proofs.Prelude.{le_or_lt, length_over, sum_append}
 use lib.Seq.{take-suc-set, take-set-le, take-set-lt, take-take}
@@ -80,7 +80,7 @@ take_passed s w e =
     let p = four (ltb (length s.areas) 256) (not (is_here s.set w)) (ltb 127 load) (leb (length s.slots) s.set.count) 1 3 9 13 e in
     record {
       room = ltb-false (length s.areas) 256 p.0;
-      here = not_false (is_here s.set w) p.1;
+      here = not-false (is_here s.set w) p.1;
       small = ltb-false 127 load p.2;
       free = leb-false (length s.slots) s.set.count p.3;
     }
@@ -135,7 +135,7 @@ pub let_passed : (s : SetState) (w : ℕ) → let_verdict s w ≡ pass → Lets 
 unfolding let_verdict
 let_passed s w e =
     let p = three (ltb (length s.areas) 256) (not (is_here s.set w)) (not (is_word_held w (held_of s))) 1 3 12 e in
-    record { room = ltb-false (length s.areas) 256 p.0; held = not_false (is_word_held w (held_of s)) p.2 }
+    record { room = ltb-false (length s.areas) 256 p.0; held = not-false (is_word_held w (held_of s)) p.2 }
 
 -- a word of a list replaced
 count_set : (v z : ℕ) (l : List ℕ) (p : ℕ) → p < length l → count_by (eqb v) (set l p z) + cond (eqb v (get_or l p 0)) 1 0 ≡ count_by (eqb v) l + cond (eqb v z) 1 0

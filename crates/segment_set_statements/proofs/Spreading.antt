@@ -4,8 +4,8 @@ use Rattle.laws.proofs.Prelude.{le-leb, lt-leb, lt-ltb, le-ltb, eq-eqb, ne_eqb, 
 use Rattle.laws.proofs.Prelude.{get_or-set_same, get_or-set_other, eq_or_ne, le_or_lt, length_tabulate, get_d_tabulate, length_over, tabulate, over}
 use Rattle.pixel_segment.specs.Field.{local_x_of, local_y_of, cover_of, double_area_of}
 use Rattle.cover_statements.specs.Cover.{cover_at}
-use Rattle.cover_statements.proofs.Areas.{and_false, below_next}
-use Rattle.cover_statements.proofs.Testing.{and_true}
+use Rattle.cover_statements.proofs.Areas.{and-false, below_next}
+use Rattle.cover_statements.proofs.Testing.{and-true}
 use Rattle.segment_set_statements.specs.Effect.{wrap, effect_of, is_reached, areas_after}
 use Rattle.segment_set_statements.specs.InnerSpread.{spread_by}
 use Rattle.segment_set_statements.proofs.Effects.{effect_reached}
@@ -38,8 +38,8 @@ module _ {x y : ℕ} {own past : ℤ} {old : List ℤ} where
         at =
             λ k.
             ⊎_elim
-            (λ (q : x ≤ k / 16). rw (le-ltb (k / 16) x q, and_false (is_in x y k)))
-            (λ (q : k / 16 < x). rw (lt-leb x (k / 16) q, and_false (eqb y (k % 16))))
+            (λ (q : x ≤ k / 16). rw (le-ltb (k / 16) x q, and-false (is_in x y k)))
+            (λ (q : k / 16 < x). rw (lt-leb x (k / 16) q, and-false (eqb y (k % 16))))
             (le_or_lt x (k / 16));
       }
 
@@ -50,7 +50,7 @@ module _ {x y : ℕ} {own past : ℤ} {old : List ℤ} where
         let k = column * 16 + y in
         let l = s.low in
         let d : k / 16 ≡ column = omega arith in
-        s.at k ∙ rw (le-ltb (k / 16) column (omega arith), and_false (is_in x y k))
+        s.at k ∙ rw (le-ltb (k / 16) column (omega arith), and-false (is_in x y k))
 
     same_test : (k : ℕ) → (k ≡ column * 16 + y → ⊥) → (is_in x y k && ltb (k / 16) (column + 1)) ≡ (is_in x y k && ltb (k / 16) column)
     same_test k n =
@@ -100,10 +100,10 @@ module _ {x y : ℕ} {own past : ℤ} {old : List ℤ} where
       ⊎_elim
       (λ (q : 256 ≤ k).
       s.at k
-      ∙ rw (le-ltb (k / 16) column (omega (arith, s.reached)), and_false (is_in x y k)) (sym (over_back (tabulate 256 f) old (pos 0) k (omega (arith, long)))))
+      ∙ rw (le-ltb (k / 16) column (omega (arith, s.reached)), and-false (is_in x y k)) (sym (over_back (tabulate 256 f) old (pos 0) k (omega (arith, long)))))
       (λ (q : k < 256).
       s.at k
-      ∙ rw (lt-ltb (k / 16) column (omega arith), and_true (is_in x y k)) refl
+      ∙ rw (lt-ltb (k / 16) column (omega arith), and-true (is_in x y k)) refl
       ∙ sym (get_d_tabulate 256 f (pos 0) k q)
       ∙ sym (over_front (tabulate 256 f) old (pos 0) k (omega (arith, long))))
       (le_or_lt 256 k))

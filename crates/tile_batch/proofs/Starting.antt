@@ -1,7 +1,7 @@
 -- A batch before its first tile: what 1 to 5 leave lets the tiles be worked, and where none is worked, or the first is refused, everything is as it was.
 -- Assumes nothing.
 use Rattle.laws.proofs.Prelude.{◌≡◌, refl, ap, sym, subst, ◌∙◌, Bool, true, false, not, cond, ◌&&◌, ◌||◌, List, ℕ, suc, ◌+◌, ◌-◌, ◌*◌, ◌/◌, ◌≤◌, ◌<◌}
-use Rattle.laws.proofs.Prelude.{min, arith, not_false, ltb, ℤ, pos, length}
+use Rattle.laws.proofs.Prelude.{min, arith, not-false, ltb, ℤ, pos, length}
 use Rattle.refusals.specs.Refusal.{Judgement, pass, refuse, unless, and_then, judgement_in}
 use Rattle.refusals.specs.declared.Verdict.{Verdict}
 use Rattle.refusals.proofs.Judging.{passed, or_left, or_right}
@@ -149,12 +149,12 @@ module _ (state : RowState) (tile : ℤ) (tiles : ℕ) (c : BatchRow) (m : Batch
                 is_tile = refl;
                 in_state = or_left (is_stray (state_in state)) (is_not_next (state_in state) tile) l.wrong;
                 words = w;
-                ascends = not_false (is_row cpu (suc state.tile_y) c.row) l.row;
-                in_table = not_false (is_lent_table c.table) l.table;
+                ascends = not-false (is_row cpu (suc state.tile_y) c.row) l.row;
+                in_table = not-false (is_lent_table c.table) l.table;
                 table_long = or_right (q || o) t l.short;
                 queue_room = or_left q o two;
                 other_room = or_right q o two;
-                in_queue = not_false (is_queue state.left m.queue.ids) l.queue;
+                in_queue = not-false (is_queue state.left m.queue.ids) l.queue;
               };
           room = rooms_of;
         }

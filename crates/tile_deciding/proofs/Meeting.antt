@@ -3,7 +3,7 @@
 use Rattle.laws.proofs.Prelude.{◌≡◌, refl, sym, ap, subst, ◌∙◌, Bool, true, false, cond, ◌&&◌, List, ⊎_elim, ℕ, ◌+◌, ◌≤◌, ◌<◌, eq-or-lt_of_le, arith}
 use Rattle.laws.proofs.Prelude.{ltb-true, lt-ltb, eqb-true, eq-eqb, ne_eqb, eqb, ltb, Float, length, get_or, take, length-take, get_or-take, Answer}
 use Rattle.laws.proofs.Prelude.{is_given, all, both, left, right, clash, all_at, all_intro}
-use Rattle.laws.proofs.Bools.{not_true}
+use Rattle.laws.proofs.Bools.{not-true}
 use Rattle.styling.specs.declared.Layer.{Layer}
 use Rattle.styling.specs.Ascending.{strictly_ascends}
 use Rattle.styling.proofs.Ascents.{ascends_lt}
@@ -80,7 +80,7 @@ module _ {words : List ℕ} {floats : List Float} {count : ℕ} {ids : List ℕ}
   meet_end {i} {p} m h =
       ⊎_elim
       (λ (e : i ≡ n). eq-eqb i n e ∙ sym (all_intro (known words floats count ids n) (take n ids) 0 (λ j k. let l : j < n = omega (arith, k, length-take n ids) in rw (get_or-take n ids j 0 l) (m.met j (omega arith)))))
-      (λ (l : i < n). ne_eqb i n (λ e. omega arith) ∙ sym (not_true (are_in_table (table_of words floats count) (take n ids)) (none l)))
+      (λ (l : i < n). ne_eqb i n (λ e. omega arith) ∙ sym (not-true (are_in_table (table_of words floats count) (take n ids)) (none l)))
       (eq-or-lt_of_le {n = i} {m = n} m.within)
     where
       none : i < n → are_in_table (table_of words floats count) (take n ids) ≡ true → ⊥

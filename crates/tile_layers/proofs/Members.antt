@@ -1,7 +1,7 @@
 -- A layer is listed exactly where it has a carry or a segment. Assumes nothing.
 use Rattle.laws.proofs.Prelude.{◌≡◌, refl, sym, ap, ◌∙◌, Bool, true, false, cond, ◌||◌, List, [], ◌∷◌, map, ℕ, zero, suc, ◌<◌, not-suc-le-zero}
 use Rattle.laws.proofs.Prelude.{le_of_suc-le-suc, arith, ltb-false, eqb-true, eq-eqb, ltb, eqb, length, get_or, any}
-use mathlib.Core.Bool.{or_true, or_false, or_assoc, or_self_left}
+use mathlib.Core.Bool.{or-true, or-false, or_assoc, or_self_left}
 use Rattle.pixel_segment.specs.Field.{cpu, layer_id_of}
 use Rattle.queue_statements.specs.Queue.{Carry}
 use Rattle.tile_layers.specs.Groups.{Group, single, join_to, groups_of}
@@ -13,7 +13,7 @@ has_group gs id = any (λ g. eqb g.id id) gs
 -- ---- tests in another order
 
 exchanged : (a b c d : Bool) → (a || (b || c || d)) ≡ (b || c || (a || d))
-exchanged true b c d = sym (or_true (b || c))
+exchanged true b c d = sym (or-true (b || c))
 exchanged false b c d = refl
 
 once : (a c d : Bool) → (a || (c || d)) ≡ (a || c || (a || d))
@@ -48,7 +48,7 @@ carried_listed (c ∷ q) id = ap (λ (t : Bool). eqb c.id id || t) (carried_list
 merged_listed : (q : List Carry) (gs : List Group) (id : ℕ) → is_listed (list_of q gs) id ≡ (has_carry q id || has_group gs id)
 unfolding list_of
 merged_listed [] gs id = fresh_listed gs id
-merged_listed (c ∷ q) [] id = carried_listed (c ∷ q) id ∙ sym (or_false (has_carry (c ∷ q) id))
+merged_listed (c ∷ q) [] id = carried_listed (c ∷ q) id ∙ sym (or-false (has_carry (c ∷ q) id))
 merged_listed (c ∷ q) (g ∷ gs) id =
     by (ltb c.id g.id) (ltb g.id c.id) refl refl (merged_listed q (g ∷ gs) id) (merged_listed (c ∷ q) gs id) (merged_listed q gs id)
   where
@@ -81,7 +81,7 @@ pub listed_at : (ls : List Listed) (i : ℕ) → i < length ls → is_listed ls 
 listed_at [] i h = absurd (not-suc-le-zero h)
 listed_at (l ∷ ls) zero h = rw (eq-eqb l.id l.id refl) refl
 listed_at (l ∷ ls) (suc i) h =
-    ap (λ (t : Bool). eqb l.id (get_or ls i no_listed).id || t) (listed_at ls i (le_of_suc-le-suc h)) ∙ or_true (eqb l.id (get_or ls i no_listed).id)
+    ap (λ (t : Bool). eqb l.id (get_or ls i no_listed).id || t) (listed_at ls i (le_of_suc-le-suc h)) ∙ or-true (eqb l.id (get_or ls i no_listed).id)
 
 -- it has a carry or a segment
 pub listed_has : (q : List Carry) (part : List ℕ) (i : ℕ) → i < length (layers_in q part)

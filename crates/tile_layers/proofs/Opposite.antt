@@ -2,7 +2,7 @@
 -- Assumes nothing.
 use Rattle.laws.proofs.Prelude.{◌≡◌, refl, ap, ap₂, sym, ◌∙◌, Bool, true, false, cond, ◌&&◌, List, [], ◌∷◌, map, ℕ, eqb, ltb, lit<, length-map}
 use Rattle.laws.proofs.Prelude.{is_given, all, both, left, right, all_map}
-use mathlib.Core.List.{map_map}
+use mathlib.Core.List.{map-map}
 use Rattle.laws.proofs.Maps.{map_cond}
 use Rattle.pixel_segment.specs.Field.{cpu, layer_id_of}
 use Rattle.pixel_segment.specs.Opposite.{opposite_of}
@@ -46,8 +46,8 @@ groups_opposite (w ∷ l) = ap (join_to (opposite_of cpu w)) (groups_opposite l)
 
 merge_opposite : (q : List Carry) (gs : List Group) → list_of (map opposite_carry q) (map opposite_group gs) ≡ map opposite_listed (list_of q gs)
 unfolding list_of
-merge_opposite [] gs = map_map fresh opposite_group gs ∙ sym (map_map opposite_listed fresh gs)
-merge_opposite (c ∷ q) [] = ap (λ (r : List Listed). carried (opposite_carry c) ∷ r) (map_map carried opposite_carry q ∙ sym (map_map opposite_listed carried q))
+merge_opposite [] gs = map-map fresh opposite_group gs ∙ sym (map-map opposite_listed fresh gs)
+merge_opposite (c ∷ q) [] = ap (λ (r : List Listed). carried (opposite_carry c) ∷ r) (map-map carried opposite_carry q ∙ sym (map-map opposite_listed carried q))
 merge_opposite (c ∷ q) (g ∷ gs) =
     (λ i. cond (ltb c.id g.id) (carried (opposite_carry c) ∷ merge_opposite q (g ∷ gs) i)
     (cond (ltb g.id c.id) (fresh (opposite_group g) ∷ merge_opposite (c ∷ q) gs i) (joined (opposite_carry c) (opposite_group g) ∷ merge_opposite q gs i)))

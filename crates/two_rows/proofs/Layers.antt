@@ -1,5 +1,5 @@
 -- What a queue and a list say of one layer: whether they have it, its cover, its segments. Assumes nothing.
-use Rattle.laws.proofs.Prelude.{◌≡◌, refl, ap, ap₂, sym, ◌∙◌, Bool, true, false, cond, not, ◌&&◌, ◌||◌, and_false, ⊎_elim, List, [], ◌∷◌, map, Option}
+use Rattle.laws.proofs.Prelude.{◌≡◌, refl, ap, ap₂, sym, ◌∙◌, Bool, true, false, cond, not, ◌&&◌, ◌||◌, and-false, ⊎_elim, List, [], ◌∷◌, map, Option}
 use Rattle.laws.proofs.Prelude.{some, none, ℕ, suc, ◌+◌, ◌≤◌, ◌<◌, arith, eq-eqb, ne_eqb, eqb-true, lt-ltb, eqb, ltb, ℤ, any, filter, sumℕ, eq_or_ne}
 use Rattle.pixel_segment.specs.Field.{cpu}
 use Rattle.styling.specs.Ascending.{strictly_ascends_from}
@@ -95,7 +95,7 @@ module _ (table : List Layer) where
       more false i = refl
 
       past : (i : ℕ) → (l.id ≡ i → ⊥) → has_carry (handed_on table ls) i ≡ (is_listed ls i && not (is_empty (rule_in table i) (carry_of cpu 16 (held_in (incoming_of ls) i) (own_in ls i)))) → has_carry (handed_on table (l ∷ ls)) i ≡ (is_listed (l ∷ ls) i && not (is_empty (rule_in table i) (carry_of cpu 16 (held_in (incoming_of (l ∷ ls)) i) (own_in (l ∷ ls) i))))
-      past i n r = more (is_carried table (carry_for l)) i ∙ rw (ne_eqb l.id i n) (ap (λ (t : Bool). t || has_carry (handed_on table ls) i) (and_false (is_carried table (carry_for l))) ∙ r)
+      past i n r = more (is_carried table (carry_for l)) i ∙ rw (ne_eqb l.id i n) (ap (λ (t : Bool). t || has_carry (handed_on table ls) i) (and-false (is_carried table (carry_for l))) ∙ r)
 
       first : has_carry (handed_on table ls) l.id ≡ (is_listed ls l.id && not (is_empty (rule_in table l.id) (carry_of cpu 16 (held_in (incoming_of ls) l.id) (own_in ls l.id)))) → has_carry (handed_on table (l ∷ ls)) l.id ≡ (is_listed (l ∷ ls) l.id && not (is_empty (rule_in table l.id) (carry_of cpu 16 (held_in (incoming_of (l ∷ ls)) l.id) (own_in (l ∷ ls) l.id))))
       first r =

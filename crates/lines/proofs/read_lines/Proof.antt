@@ -1,6 +1,6 @@
 -- `read_lines` meets its contract. The invariant and its steps are those of `LinesReading`; the measure is the lines that may still come.
 -- Assumes nothing.
-use Rattle.laws.proofs.Prelude.{sym, ◌∙◌, arith, not_true, not_false, needs}
+use Rattle.laws.proofs.Prelude.{sym, ◌∙◌, arith, not-true, not-false, needs}
 use Rattle.lines.proofs.LinesReading.{LinesReading, start, room_line, no_number, cut, next_line, end}
 use Rattle.lines.proofs.read_lines.Statement.{statement}
 use Rattle.lines.proofs.read_lines.Tie as tie
@@ -18,7 +18,7 @@ same_length : tie.Need-same-length invariant-loop decreases-loop
 same_length c = c.before.before.before.loop.invariant.long
 
 returns : tie.Need-returns invariant-loop decreases-loop
-returns c = no_number c.before.before.before.loop.invariant (sym c.before.starts-number.ensures ∙ not_true _ c.if1.true)
+returns c = no_number c.before.before.before.loop.invariant (sym c.before.starts-number.ensures ∙ not-true _ c.if1.true)
 
 read-line-requires : tie.Need-read-line-requires invariant-loop decreases-loop
 read-line-requires c κs = (omega arith, room_line c.before.before.before.before.loop.invariant (omega arith))
@@ -27,13 +27,13 @@ same-length-2 : tie.Need-same-length-2 invariant-loop decreases-loop
 same-length-2 c = c.before.before.before.read-line.auto.1.1.1.0 ∙ c.before.before.before.before.before.before.before.before.loop.invariant.long
 
 returns-2 : tie.Need-returns-2 invariant-loop decreases-loop
-returns-2 c = cut c.before.before.before.before.before.before.before.before.loop.invariant (omega arith) (sym c.before.before.before.before.before.before.starts-number.ensures ∙ not_false _ c.before.before.before.before.before.if1.false) (rw c.enum_told.given.1 at c.before.before.before.read-line.ensures)
+returns-2 c = cut c.before.before.before.before.before.before.before.before.loop.invariant (omega arith) (sym c.before.before.before.before.before.before.starts-number.ensures ∙ not-false _ c.before.before.before.before.before.if1.false) (rw c.enum_told.given.1 at c.before.before.before.read-line.ensures)
 
 add-p : tie.Need-overflow-add-p invariant-loop decreases-loop
 add-p c = omega (arith, room_line c.before.before.before.before.before.before.before.before.before.loop.invariant (omega arith))
 
 loop-again : tie.Need-loop-preserved invariant-loop decreases-loop
-loop-again c = next_line c.before.before.before.before.before.before.before.before.before.loop.invariant (omega arith) (sym c.before.before.before.before.before.before.before.starts-number.ensures ∙ not_false _ c.before.before.before.before.before.before.if1.false) (rw c.before.next.given.1 at c.before.before.before.before.read-line.ensures)
+loop-again c = next_line c.before.before.before.before.before.before.before.before.before.loop.invariant (omega arith) (sym c.before.before.before.before.before.before.before.starts-number.ensures ∙ not-false _ c.before.before.before.before.before.before.if1.false) (rw c.before.next.given.1 at c.before.before.before.before.read-line.ensures)
 
 same-length-3 : tie.Need-same-length-3 invariant-loop decreases-loop
 same-length-3 c = c.before.loop.invariant.long

@@ -1,5 +1,5 @@
 -- `pack_in` meets its contract: where every field holds its number, the number fits the type that `join` takes. Assumes nothing.
-use Rattle.laws.proofs.Prelude.{◌≡◌, sym, ◌∙◌, true, ◌≤◌, ◌<◌, arith, needs, not_true, not_false, ℤ, pos, nat_abs, w8, w16, w32, SFits, to_z-of_z, plus}
+use Rattle.laws.proofs.Prelude.{◌≡◌, sym, ◌∙◌, true, ◌≤◌, ◌<◌, arith, needs, not-true, not-false, ℤ, pos, nat_abs, w8, w16, w32, SFits, to_z-of_z, plus}
 use Rattle.laws.proofs.Prelude.{minus, sfits, unsigned, whole, added}
 use Rattle.pixel_segment.specs.Field.{widths_of}
 use Rattle.pixel_segment.specs.Pack.{stored_of, is_packable, FieldsInRange}
@@ -36,7 +36,7 @@ judged c =
 
 accepted : (c : tie.Else1) → let a = c.before.before.args in
     is_packable (widths_of a.layout) a.layer_id a.tile_x a.tile_y a.local_x a.local_y a.double-area-multiplier a.cover ≡ true
-accepted c = sym (judged c.before) ∙ not_false c.before.is-packable.result c.if1.false
+accepted c = sym (judged c.before) ∙ not-false c.before.is-packable.result c.if1.false
 
 held : (c : tie.Else1) → let a = c.before.before.args in
     FieldsInRange wide a.layer_id a.tile_x a.tile_y a.local_x a.local_y a.double-area-multiplier a.cover
@@ -51,7 +51,7 @@ returns c =
     let a = c.before.before.args in
     packs (widths_of a.layout) (table_of a.layout)
     a.layer_id a.tile_x a.tile_y a.local_x a.local_y a.double-area-multiplier a.cover FieldOutOfRange
-    (rw (sym (judged c.before) ∙ not_true c.before.is-packable.result c.if1.true))
+    (rw (sym (judged c.before) ∙ not-true c.before.is-packable.result c.if1.true))
 
 cast-join : tie.Need-overflow-cast-join
 cast-join c =

@@ -1,5 +1,5 @@
 -- `plane::paint_judged` meets its contract. Assumes nothing.
-use Rattle.laws.proofs.Prelude.{◌≡◌, refl, sym, ap, ◌∙◌, true, List, [], ◌∷◌, ℕ, arith, not_true, not_false, needs, Float, nan, length, over}
+use Rattle.laws.proofs.Prelude.{◌≡◌, refl, sym, ap, ◌∙◌, true, List, [], ◌∷◌, ℕ, arith, not-true, not-false, needs, Float, nan, length, over}
 use Rattle.pixel_segment.specs.Field.{cpu}
 use Rattle.cover_statements.specs.Area.{areas_of}
 use Rattle.cover_statements.specs.Carry.{is_light}
@@ -19,10 +19,10 @@ use Rattle.plane.proofs.paint_judged.Tie as tie
 returns : tie.Need-returns
 returns c =
     let s = c.before.before.before.before.before in
-    rw (no_segment s.args.part.now c.before.before.if1.true) (paint_heavy s.requires.0 (sym c.before.is_light_lem.ensures ∙ not_true _ c.if2.true))
+    rw (no_segment s.args.part.now c.before.before.if1.true) (paint_heavy s.requires.0 (sym c.before.is_light_lem.ensures ∙ not-true _ c.if2.true))
 
 paint-requires : tie.Need-paint-requires
-paint-requires c κs = (sym c.before.before.is_light_lem.ensures ∙ not_false _ c.before.if2.false, c.before.before.before.before.before.before.requires.0)
+paint-requires c κs = (sym c.before.before.is_light_lem.ensures ∙ not-false _ c.before.if2.false, c.before.before.before.before.before.before.requires.0)
 
 returns-2 : tie.Need-returns-2
 returns-2 c =
@@ -30,21 +30,21 @@ returns-2 c =
     let t = p.before.before in
     let s = t.before.before.before.before.before in
     rw (no_segment s.args.part.now t.before.before.if1.true)
-    (paint_done s.requires.0 (sym t.before.is_light_lem.ensures ∙ not_false _ t.if2.false) p.paint.ensures.0 p.paint.ensures.1)
+    (paint_done s.requires.0 (sym t.before.is_light_lem.ensures ∙ not-false _ t.if2.false) p.paint.ensures.0 p.paint.ensures.1)
 
 sum-areas-requires : tie.Need-sum-areas-requires
 unfolding no_cells
 sum-areas-requires c κs = (refl, c.before.before.before.before.requires.1)
 
 returns-3 : tie.Need-returns-3
-returns-3 c = paint_heavy c.before.before.before.before.before.before.requires.0 (sym c.before.sum-areas.ensures.light ∙ not_true _ c.if3.true)
+returns-3 c = paint_heavy c.before.before.before.before.before.before.requires.0 (sym c.before.sum-areas.ensures.light ∙ not-true _ c.if3.true)
 
 -- a part that number 9 does not refuse, and its areas
 accepted : (c : tie.Else3) → is_light cpu 16 c.before.before.before.before.before.before.args.cover.covers c.before.before.before.before.before.before.args.part.now ≡ true
-accepted c = sym c.before.sum-areas.ensures.light ∙ not_false _ c.if3.false
+accepted c = sym c.before.sum-areas.ensures.light ∙ not-false _ c.if3.false
 
 areas_are : (c : tie.Else3) → c.before.sum-areas.new.1.1.1.0 ≡ areas_of cpu 16 (cover_at c.before.before.before.before.before.before.args.cover.covers) c.before.before.before.before.before.before.args.part.now
-areas_are c = c.before.sum-areas.ensures.areas_are (not_false _ c.if3.false)
+areas_are c = c.before.sum-areas.ensures.areas_are (not-false _ c.if3.false)
 
 areas_long : (c : tie.Else3) → length c.before.sum-areas.new.1.1.1.0 ≡ 256
 areas_long c = ap length (areas_are c) ∙ areas_length cpu 16 (cover_at c.before.before.before.before.before.before.args.cover.covers) c.before.before.before.before.before.before.args.part.now

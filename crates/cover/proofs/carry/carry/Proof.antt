@@ -1,5 +1,5 @@
 -- `cover::carry::carry` meets its contract. Assumes nothing.
-use Rattle.laws.proofs.Prelude.{◌≡◌, sym, ap, ◌∙◌, needs, not_true, not_false, length}
+use Rattle.laws.proofs.Prelude.{◌≡◌, sym, ap, ◌∙◌, needs, not-true, not-false, length}
 use Rattle.pixel_segment.specs.Field.{cpu}
 use Rattle.cover_statements.specs.InnerLoad.{all_light}
 use Rattle.cover_statements.proofs.Loads.{incoming_heavy}
@@ -13,11 +13,11 @@ returns c =
     let long : length s.args.cover.covers ≡ 16 = search needs in
     let e =
     incoming_heavy cpu 16 s.args.cover.covers s.args.part.now long
-    (ap all_light (sym m.magnitudes.ensures.same) ∙ sym c.before.are-light.ensures ∙ not_true _ c.if1.true) in
+    (ap all_light (sym m.magnitudes.ensures.same) ∙ sym c.before.are-light.ensures ∙ not-true _ c.if1.true) in
     record { answer = rw e; covers_are = rw e }
 
 sum-judged-requires : tie.Need-sum-judged-requires
-sum-judged-requires c κs = (c.before.before.magnitudes.ensures, sym c.before.are-light.ensures ∙ not_false _ c.if1.false)
+sum-judged-requires c κs = (c.before.before.magnitudes.ensures, sym c.before.are-light.ensures ∙ not-false _ c.if1.false)
 
 returns-2 : tie.Need-returns-2
 returns-2 c = c.sum-judged.ensures

@@ -2,15 +2,15 @@
 use Rattle.laws.proofs.Prelude.{◌≡◌, refl, sym, ap, ◌∙◌, Bool, true, false, cond, ◌&&◌, ℕ, ◌+◌, ◌-◌, ◌≤◌, arith, needs, sfits_of, ne_eqb, eqb, pos}
 use Rattle.laws.proofs.Prelude.{length, to_z-of_z, w8}
 use Rattle.cover_statements.specs.Cover.{empty_at, is_empty}
-use Rattle.cover_statements.proofs.Areas.{and_false}
-use Rattle.cover_statements.proofs.Testing.{Testing, test_start, test_next, test_end, and_true}
+use Rattle.cover_statements.proofs.Areas.{and-false}
+use Rattle.cover_statements.proofs.Testing.{Testing, test_start, test_next, test_end, and-true}
 use Rattle.cover.proofs.rows.are_empty.Statement.{statement}
 use Rattle.cover.proofs.rows.are_empty.Tie as tie
 
 -- none is counted exactly where none was before and the next does not count
 none_more : (k : ℕ) (t : Bool) → eqb (k + cond t 0 1) 0 ≡ (eqb k 0 && t)
-none_more k true = let e : k + 0 ≡ k = omega arith in rw (e, and_true (eqb k 0))
-none_more k false = ne_eqb (k + 1) 0 (λ e. omega (arith, e)) ∙ sym (and_false (eqb k 0))
+none_more k true = let e : k + 0 ≡ k = omega arith in rw (e, and-true (eqb k 0))
+none_more k false = ne_eqb (k + 1) 0 (λ e. omega (arith, e)) ∙ sym (and-false (eqb k 0))
 
 -- how many of the first y rows are not empty, and that none is exactly where all of them are
 abbrev invariant-loop : tie.invariant-loop

@@ -3,8 +3,8 @@ use Rattle.laws.proofs.Prelude.{◌≡◌, refl, sym, ◌∙◌, Bool, true, fal
 use Rattle.laws.proofs.Prelude.{bool_byte}
 use Prim.Native.Nat.compare
 use Rattle.cover_statements.specs.InnerLoad.{all_light}
-use Rattle.cover_statements.proofs.Areas.{and_false}
-use Rattle.cover_statements.proofs.Testing.{Testing, test_start, test_next, test_end, and_true}
+use Rattle.cover_statements.proofs.Areas.{and-false}
+use Rattle.cover_statements.proofs.Testing.{Testing, test_start, test_next, test_end, and-true}
 use Rattle.cover.proofs.rows.are_light.Statement.{statement}
 use Rattle.cover.proofs.rows.are_light.Tie as tie
 
@@ -14,8 +14,8 @@ one_more k y false h = omega arith
 
 -- as many as were looked at exactly where they were before and the next counts
 all_more : (k y : ℕ) (t : Bool) → k ≤ y → eqb (k + bool_byte t) (y + 1) ≡ (eqb k y && t)
-all_more k y true h = rw (add-one k, add-one y, compare.suc-suc k y, and_true (eqb k y))
-all_more k y false h = ne_eqb (k + 0) (y + 1) (λ e. omega (arith, e)) ∙ sym (and_false (eqb k y))
+all_more k y true h = rw (add-one k, add-one y, compare.suc-suc k y, and-true (eqb k y))
+all_more k y false h = ne_eqb (k + 0) (y + 1) (λ e. omega (arith, e)) ∙ sym (and-false (eqb k y))
 
 -- how many of the first y loads are light, and that all are exactly where these are y
 abbrev invariant-loop : tie.invariant-loop

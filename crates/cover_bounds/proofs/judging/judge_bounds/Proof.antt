@@ -1,5 +1,5 @@
 -- `judging::judge_bounds` meets its contract. Assumes nothing.
-use Rattle.laws.proofs.Prelude.{◌≡◌, sym, ◌∙◌, needs, not_false, to_z-of_z, all, left}
+use Rattle.laws.proofs.Prelude.{◌≡◌, sym, ◌∙◌, needs, not-false, to_z-of_z, all, left}
 use Rattle.segment_set_statements.specs.Set.{is_of}
 use Rattle.cover_bounds_statements.specs.Within.{bounds_call, bound_planes, lacks_room, bounds_verdict}
 use Rattle.cover_bounds_statements.proofs.Calls.{pairs_there}
@@ -47,7 +47,7 @@ is-light-within-requires c κs =
     let e = h.before.before in
     let s = c.before.before.before.before.before.before.before.before.before.before.before.before in (
       pairs_there (bounds_call s.args.layer_id s.args.tile_x s.args.tile_y s.args.part.now s.args.bounds.now s.args.low.covers s.args.high.covers) (bound_planes s.args.lowest.now s.args.highest.now s.args.least_non_zero.now s.args.greatest_non_zero.now s.args.least_even_odd.now s.args.greatest_even_odd.now) (sym (room-told e.before) ∙ e.if1.false),
-      sym b.before.are-bounded.ensures ∙ left _ _ (not_false _ c.if3.false),
+      sym b.before.are-bounded.ensures ∙ left _ _ (not-false _ c.if3.false),
     )
 
 returns-4 : tie.Need-returns-4

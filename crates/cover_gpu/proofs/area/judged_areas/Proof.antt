@@ -1,5 +1,5 @@
 -- `area::judged_areas` meets its contract. Assumes nothing.
-use Rattle.laws.proofs.Prelude.{◌≡◌, refl, sym, ap, ◌∙◌, true, false≢true, List, ℕ, needs, not_true, not_false, length}
+use Rattle.laws.proofs.Prelude.{◌≡◌, refl, sym, ap, ◌∙◌, true, false≢true, List, ℕ, needs, not-true, not-false, length}
 use Rattle.pixel_segment.specs.Field.{gpu}
 use Rattle.cover_statements.specs.Carry.{is_light}
 use Rattle.cover_statements.specs.InnerCell.{no_cells}
@@ -16,7 +16,7 @@ returns c =
     record {
       light =
           sym (incoming_heavy gpu 4 s.args.cover.covers s.args.part.now long
-          (ap all_light (sym m.magnitudes.ensures.same) ∙ sym c.before.are-light.ensures ∙ not_true _ c.if1.true));
+          (ap all_light (sym m.magnitudes.ensures.same) ∙ sym c.before.are-light.ensures ∙ not-true _ c.if1.true));
       areas_are = λ e. absurd (false≢true e);
     }
 
@@ -29,28 +29,28 @@ judged a =
     ∙ loads_judge gpu 4 s.args.cover.covers s.args.part.now
 
 accepted : (c : tie.Else2) → is_light gpu 4 c.before.before.before.before.before.before.before.before.before.args.cover.covers c.before.before.before.before.before.before.before.before.before.args.part.now ≡ true
-accepted c = sym (judged c.before) ∙ not_false _ c.if2.false
+accepted c = sym (judged c.before) ∙ not-false _ c.if2.false
 
 acc-segments-requires : tie.Need-acc-segments-requires
 unfolding no_cells
 acc-segments-requires c κs =
     let t = c.before.before in
-    (sym t.before.are-light.ensures ∙ not_false _ t.if1.false, c.before.before.before.before.before.before.before.requires, refl)
+    (sym t.before.are-light.ensures ∙ not-false _ t.if1.false, c.before.before.before.before.before.before.before.requires, refl)
 
 returns-2 : tie.Need-returns-2
-returns-2 c = record { light = sym (not_true _ c.if2.true) ∙ judged c.before; areas_are = λ e. absurd (false≢true e) }
+returns-2 c = record { light = sym (not-true _ c.if2.true) ∙ judged c.before; areas_are = λ e. absurd (false≢true e) }
 
 sum-rows-requires : tie.Need-sum-rows-requires
 sum-rows-requires c κs =
     let e = c.before.before in
-    record { part = _; cells = e.before.acc-segments.ensures.sums (not_false _ e.if2.false); light = accepted e }
+    record { part = _; cells = e.before.acc-segments.ensures.sums (not-false _ e.if2.false); light = accepted e }
 
 returns-3 : tie.Need-returns-3
 returns-3 c =
     let e = c.before.before.before in
     record {
       light = sym (accepted e);
-      areas_are = λ t. c.sum_rows.ensures.areas_are _ (e.before.acc-segments.ensures.sums (not_false _ e.if2.false));
+      areas_are = λ t. c.sum_rows.ensures.areas_are _ (e.before.acc-segments.ensures.sums (not-false _ e.if2.false));
     }
 
 pub judged-areas-spec : {M : Type 1} → statement M

@@ -1,5 +1,5 @@
 -- `painting::paint_judged` meets its contract. Assumes nothing.
-use Rattle.laws.proofs.Prelude.{◌≡◌, refl, sym, ap, ◌∙◌, true, List, [], ◌∷◌, ℕ, arith, not_true, not_false, needs, Float, nan, length, length-map}
+use Rattle.laws.proofs.Prelude.{◌≡◌, refl, sym, ap, ◌∙◌, true, List, [], ◌∷◌, ℕ, arith, not-true, not-false, needs, Float, nan, length, length-map}
 use Rattle.laws.proofs.Prelude.{over}
 use Rattle.pixel_segment.specs.Field.{gpu}
 use Rattle.cover_statements.specs.Area.{areas_of}
@@ -15,7 +15,7 @@ use Rattle.cover_gpu.proofs.painting.paint_judged.Statement.{statement}
 use Rattle.cover_gpu.proofs.painting.paint_judged.Tie as tie
 
 returns : tie.Need-returns
-returns c = gpu_heavy c.before.before.before.before.before.requires (sym c.before.is_light_lem.ensures ∙ not_true _ c.if2.true)
+returns c = gpu_heavy c.before.before.before.before.before.requires (sym c.before.is_light_lem.ensures ∙ not-true _ c.if2.true)
 
 none : (l : List ℕ) → length l ≡ 0 → l ≡ []
 none [] e = refl
@@ -24,14 +24,14 @@ none (x ∷ xs) e = absurd (omega arith)
 paint-requires : tie.Need-paint-requires
 paint-requires c κs =
     let s = c.before.before.before.before.before.before in
-    (rw (none s.args.part.now c.before.before.before.if1.true) at (sym c.before.before.is_light_lem.ensures ∙ not_false _ c.before.if2.false), s.requires)
+    (rw (none s.args.part.now c.before.before.before.if1.true) at (sym c.before.before.is_light_lem.ensures ∙ not-false _ c.before.if2.false), s.requires)
 
 returns-2 : tie.Need-returns-2
 returns-2 c =
     let p = c.before.before in
     let t = p.before.before in
     let s = t.before.before.before.before.before in
-    let e = sym t.before.is_light_lem.ensures ∙ not_false _ t.if2.false in
+    let e = sym t.before.is_light_lem.ensures ∙ not-false _ t.if2.false in
     let n = none s.args.part.now t.before.before.if1.true in
     rw n (gpu_done s.requires (rw n at e) p.paint.ensures)
 
@@ -40,14 +40,14 @@ unfolding no_cells
 judged-areas-requires c κs = refl
 
 returns-3 : tie.Need-returns-3
-returns-3 c = gpu_heavy c.before.before.before.before.before.before.requires (sym c.before.judged-areas.ensures.light ∙ not_true _ c.if3.true)
+returns-3 c = gpu_heavy c.before.before.before.before.before.before.requires (sym c.before.judged-areas.ensures.light ∙ not-true _ c.if3.true)
 
 -- a part that number 9 does not refuse, and its areas
 accepted : (c : tie.Else3) → is_light gpu 4 c.before.before.before.before.before.before.args.cover.covers c.before.before.before.before.before.before.args.part.now ≡ true
-accepted c = sym c.before.judged-areas.ensures.light ∙ not_false _ c.if3.false
+accepted c = sym c.before.judged-areas.ensures.light ∙ not-false _ c.if3.false
 
 areas_are : (c : tie.Else3) → c.before.judged-areas.new.1.1.0 ≡ areas_of gpu 4 (cover_at c.before.before.before.before.before.before.args.cover.covers) c.before.before.before.before.before.before.args.part.now
-areas_are c = c.before.judged-areas.ensures.areas_are (not_false _ c.if3.false)
+areas_are c = c.before.judged-areas.ensures.areas_are (not-false _ c.if3.false)
 
 areas_long : (c : tie.Else3) → length c.before.judged-areas.new.1.1.0 ≡ 64
 areas_long c = ap length (areas_are c) ∙ areas_length gpu 4 (cover_at c.before.before.before.before.before.before.args.cover.covers) c.before.before.before.before.before.before.args.part.now

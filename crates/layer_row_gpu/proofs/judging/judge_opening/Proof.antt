@@ -1,5 +1,5 @@
 -- `judging::judge_opening` meets its contract: a line for each condition, the lowest first. Assumes nothing.
-use Rattle.laws.proofs.Prelude.{◌≡◌, sym, ap, ◌∙◌, List, ℕ, suc, add-one, arith, needs, not_false, w16, SFits, to_z-of_z, plus, sfits}
+use Rattle.laws.proofs.Prelude.{◌≡◌, sym, ap, ◌∙◌, List, ℕ, suc, add-one, arith, needs, not-false, w16, SFits, to_z-of_z, plus, sfits}
 use Rattle.pixel_segment.specs.Field.{gpu}
 use Rattle.segment_rows.specs.Rows.{is_row}
 use Rattle.cover_statements.specs.Carry.{is_light}
@@ -42,7 +42,7 @@ light-told c =
     let e = c.before.before.before.before in
     let k = e.before.before.before.before.before in
     let s = k.before in
-    let in_order = sym (row_told e.before) ∙ not_false e.before.is_row_lem.result e.if2.false in
+    let in_order = sym (row_told e.before) ∙ not-false e.before.is_row_lem.result e.if2.false in
     c.is_light_lem.ensures
     ∙ ap (λ (l : List ℕ). is_light gpu 4 (no_cover 4) (layer_within s.args.layer_id l)) (rw (to_z-of_z s.ranges.from, to_z-of_z (first_fits e)) at c.before.left-of-tile.ensures)
     ∙ ap (is_light gpu 4 (no_cover 4)) (left_from _ (record { small = λ i. (k.shared-slice-known.given i).fits }) in_order s.args.from (span e).first.0 s.args.layer_id)

@@ -1,5 +1,5 @@
 -- `judging::judge_work` meets its contract. Assumes nothing.
-use Rattle.laws.proofs.Prelude.{◌≡◌, sym, ap, ◌∙◌, ℕ, suc, ◌≤◌, ◌<◌, add-one, arith, needs, not_false, lt-ltb, le-ltb, ℤ, pos, length, to_z-of_z, plus}
+use Rattle.laws.proofs.Prelude.{◌≡◌, sym, ap, ◌∙◌, ℕ, suc, ◌≤◌, ◌<◌, add-one, arith, needs, not-false, lt-ltb, le-ltb, ℤ, pos, length, to_z-of_z, plus}
 use Rattle.pixel_segment.specs.Field.{gpu}
 use Rattle.segment_rows.specs.Rows.{is_row}
 use Rattle.cover_statements.specs.Carry.{is_light}
@@ -36,7 +36,7 @@ light-told c =
     let e = p.before in
     let k = e.before.before.before.before.before.before.before.before in
     let a = k.before.args in
-    let in_order = sym (row_told e.before) ∙ not_false e.before.is_row_lem.result e.if3.false in
+    let in_order = sym (row_told e.before) ∙ not-false e.before.is_row_lem.result e.if3.false in
     c.is_light_lem.ensures
     ∙ ap (is_light gpu 4 a.state.cover.covers)
     (p.layer_part_lem.ensures

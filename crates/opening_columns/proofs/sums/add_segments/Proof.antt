@@ -1,5 +1,5 @@
 -- `opening_columns::sums::add_segments` meets its contract. What holds at a word is `Tallying`. Assumes nothing.
-use Rattle.laws.proofs.Prelude.{◌≡◌, refl, sym, ◌∙◌, ◌-◌, arith, not_true, not_false, length, get_or}
+use Rattle.laws.proofs.Prelude.{◌≡◌, refl, sym, ◌∙◌, ◌-◌, arith, not-true, not-false, length, get_or}
 use Rattle.cover_statements.proofs.Filled.{get_d_default}
 use Rattle.queue_statements.proofs.Summing.{key_of, ascending, start, end, refuse}
 use Rattle.queue_statements.proofs.Tallying.{Tallying, tally_placing, tally_next}
@@ -32,10 +32,10 @@ same_length : tie.Need-same-length invariant-loop decreases-loop
 same_length c = c.before.before.before.add-segment.auto.1.1.0 ∙ c.before.before.before.before.before.before.before.before.before.loop.invariant.sums_long ∙ sym c.before.before.before.before.before.before.before.before.before.before.before.before.requires.room
 
 returns : tie.Need-returns invariant-loop decreases-loop
-returns c = refuse c.before.before.before.before.before.before.before.before.before.before.before.before.requires c.before.before.before.before.before.before.before.before.before.loop.invariant c.before.before.before.before.before.before.before.before.loop-test.true (at c.before.before.before.before.before.before) c.before.before.before.add-segment.ensures (not_true _ c.if1.true)
+returns c = refuse c.before.before.before.before.before.before.before.before.before.before.before.before.requires c.before.before.before.before.before.before.before.before.before.loop.invariant c.before.before.before.before.before.before.before.before.loop-test.true (at c.before.before.before.before.before.before) c.before.before.before.add-segment.ensures (not-true _ c.if1.true)
 
 loop-again : tie.Need-loop-preserved invariant-loop decreases-loop
-loop-again c = tally_next c.before.before.before.before.before.before.before.before.before.loop.invariant c.before.before.before.before.before.before.before.before.loop-test.true (at c.before.before.before.before.before.before) c.before.before.before.add-segment.ensures (not_false _ c.if1.false)
+loop-again c = tally_next c.before.before.before.before.before.before.before.before.before.loop.invariant c.before.before.before.before.before.before.before.before.loop-test.true (at c.before.before.before.before.before.before) c.before.before.before.add-segment.ensures (not-false _ c.if1.false)
 
 same-length-2 : tie.Need-same-length-2 invariant-loop decreases-loop
 same-length-2 c = c.before.loop.invariant.sums_long ∙ sym c.before.before.before.before.requires.room

@@ -1,5 +1,5 @@
 -- `judging::judge_list` meets its contract: where a number refuses, nothing is said of the carries. Assumes nothing.
-use Rattle.laws.proofs.Prelude.{◌≡◌, sym, true, false≢true, ℕ, arith, lt-ltb, le-ltb, not_false, needs}
+use Rattle.laws.proofs.Prelude.{◌≡◌, sym, true, false≢true, ℕ, arith, lt-ltb, le-ltb, not-false, needs}
 use Rattle.refusals.specs.Refusal.{pass, refuse}
 use Rattle.refusals.proofs.Judging.{passed}
 use Rattle.row_statements.specs.TileWork.{list_verdict}
@@ -33,7 +33,7 @@ unfolding list_verdict
 returns-4 c =
     let s = c.before.before.before.before.before.survey-layers.ensures in (
       record { verdict = rw (← s.count, le-ltb _ _ c.before.before.before.before.if1.false, ← s.known, c.before.before.if2.false, ← s.light, c.if3.false); listed = s.count },
-      λ e. s.carries (omega (arith, s.count, c.before.before.before.before.if1.false)) (not_false _ c.if3.false),
+      λ e. s.carries (omega (arith, s.count, c.before.before.before.before.if1.false)) (not-false _ c.if3.false),
     )
 
 pub judge-list-spec : {M : Type 1} → statement M

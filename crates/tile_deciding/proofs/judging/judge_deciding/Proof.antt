@@ -1,5 +1,5 @@
 -- `judging::judge_deciding` meets its contract: a line for each condition, the lowest first. Assumes nothing.
-use Rattle.laws.proofs.Prelude.{sym, ◌∙◌, arith, not_false, lt-ltb, le-ltb, needs}
+use Rattle.laws.proofs.Prelude.{sym, ◌∙◌, arith, not-false, lt-ltb, le-ltb, needs}
 use Rattle.layer_table.proofs.Judging.{table}
 use Rattle.listing_statements.specs.Deciding.{lines_for}
 use Rattle.tile_deciding.proofs.judging.judge_deciding.Statement.{statement}
@@ -26,7 +26,7 @@ unfolding lines_for
 returns-5 c = rw (c.before.before.before.before.before.before.before.if1.false, ← c.before.before.before.before.before.before.is_table_lem.ensures, c.before.before.before.before.before.if2.false, ← c.before.before.before.before.do-ascend.ensures, c.before.before.before.if3.false, ← c.before.before.is-tag-out-of-range.ensures, c.before.if4.false, lt-ltb _ _ c.if5.true)
 
 are-known-requires : tie.Need-are-known-requires
-are-known-requires c κs = (table (sym c.before.before.before.before.before.before.is_table_lem.ensures ∙ not_false _ c.before.before.before.before.before.if2.false), sym c.before.before.before.before.do-ascend.ensures ∙ not_false _ c.before.before.before.if3.false, omega (arith, c.before.before.before.before.before.before.before.before.before.before.before.requires c.before.before.before.before.before.before.before.if1.false, c.if5.false))
+are-known-requires c κs = (table (sym c.before.before.before.before.before.before.is_table_lem.ensures ∙ not-false _ c.before.before.before.before.before.if2.false), sym c.before.before.before.before.do-ascend.ensures ∙ not-false _ c.before.before.before.if3.false, omega (arith, c.before.before.before.before.before.before.before.before.before.before.before.requires c.before.before.before.before.before.before.before.if1.false, c.if5.false))
 
 returns-6 : tie.Need-returns-6
 unfolding lines_for
