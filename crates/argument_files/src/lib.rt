@@ -1,4 +1,6 @@
 // The files that a program's arguments name.
+#![tactic(auto)]
+
 use libc::STDOUT_FILENO;
 
 fn print_name(path: &[u8]) {

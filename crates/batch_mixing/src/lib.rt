@@ -1,4 +1,6 @@
 // The layers that a solid tile mixes over its bottom colour, noted in lent memory.
+#![tactic(auto)]
+
 ghost use Rattle.std.specs.Prelude.{◌≡◌, true, cond, ◌+◌, ◌*◌, ◌≤◌, length, take};
 ghost use Rattle.pass_statements.specs.Decision.{decision_in};
 ghost use Rattle.row_lines.specs.Shown.{shown_in};
@@ -8,7 +10,7 @@ ghost use Rattle.batch_mixing.specs.InnerMixing.{mix_at, mix_next, mix_from, is_
 use pass_statements::decide::Decision;
 
 // How many of the shown layers to come lie before those to mix, and how many planes are used.
-#[derive(Drop)]
+#[derive(Clone, Copy)]
 pub struct Mixing {
     pub before: usize,
     pub used: usize,

@@ -1,5 +1,7 @@
 // What a batch notes of a tile in lent memory: the bytes of its cached tile, its numbers, its bottom colour, and two
 // words for each layer that is painted.
+#![tactic(auto)]
+
 ghost use Rattle.std.specs.Prelude.{◌≡◌, true, [], ◌∷◌, ◌+◌, ◌*◌, ◌≤◌, length, get_or};
 ghost use Rattle.std.proofs.lemmas.List.Edits.{sets};
 ghost use Rattle.ffi_numbers.specs.Cached.{kept_of};

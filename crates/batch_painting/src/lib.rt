@@ -1,5 +1,7 @@
 // The shown layers of a tile, counted and, where the tile is painted, painted in one walk, each into the next of the
 // lent planes.
+#![tactic(auto)]
+
 ghost use Rattle.std.specs.Prelude.{◌≡◌, true, ◌≤◌, take};
 ghost use Rattle.std.proofs.Math.Option.{none};
 ghost use Rattle.layer_table.specs.Table.{table_of};
@@ -16,7 +18,7 @@ use painter::Clip;
 use row_statements::RowState;
 
 // The state with the painter's clip, how many planes are used, and how many layers were shown.
-#[derive(Drop)]
+#[derive(Clone, Copy)]
 pub struct Planes {
     pub state: RowState,
     pub used: usize,
@@ -24,7 +26,7 @@ pub struct Planes {
 }
 
 // Where the walk over the tile's layers stands, how many planes are used, and how many layers were shown so far.
-#[derive(Drop)]
+#[derive(Clone, Copy)]
 pub struct PlaneWalk {
     pub walk: PaintWalk,
     pub used: usize,

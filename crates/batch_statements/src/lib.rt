@@ -1,10 +1,12 @@
 // What is said of a batch: several tiles of a row worked and painted in one call. No code stands here.
+#![tactic(auto)]
+
 use refusals::Refusal;
 use row_statements::RowState;
 
 // Why a batch ended: all tiles that were asked for are worked; the row has no more; there is no room for a further one;
 // or the next one would be refused.
-#[derive(Drop)]
+#[derive(Clone, Copy)]
 pub enum End {
     Asked,
     RowEnd,
@@ -13,7 +15,7 @@ pub enum End {
 }
 
 // What a batch answers: a refusal, where nothing is worked and nothing written, or why it ended.
-#[derive(Drop)]
+#[derive(Clone, Copy)]
 pub enum BatchAnswer {
     Refused(Refusal),
     Ended(End),
@@ -21,7 +23,7 @@ pub enum BatchAnswer {
 
 // The state after a batch, how many tiles it worked, how many planes it used, whether the first of the two queues holds
 // the carries, and what it answers.
-#[derive(Drop)]
+#[derive(Clone, Copy)]
 pub struct Batch {
     pub state: RowState,
     pub worked: usize,
@@ -31,7 +33,7 @@ pub struct Batch {
 }
 
 // The room that is lent: for so many tiles and so many planes, of which so many must be free before each tile.
-#[derive(Drop)]
+#[derive(Clone, Copy)]
 pub struct Room {
     pub tiles: usize,
     pub planes: usize,

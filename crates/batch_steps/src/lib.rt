@@ -1,5 +1,7 @@
 // The steps of a batch between its tiles, by numbers alone: how much room is lent, whether another tile is worked, and
 // what the batch answers.
+#![tactic(auto)]
+
 ghost use Rattle.std.specs.Prelude.{◌≡◌, true, not, cond, ◌+◌, ◌/◌, ◌<◌, ◌^◌, min, length};
 ghost use Rattle.refusals.specs.Refusal.{judgement_in, number_of};
 ghost use Rattle.refusals.specs.declared.Verdict.TheVariants as verdict;
@@ -14,7 +16,7 @@ use row_statements::RowState;
 
 // Where a batch stands between two tiles: the state, how many tiles are worked and planes used, whether the first of the
 // two queues holds the carries, and a pass, or why the next tile is refused.
-#[derive(Drop)]
+#[derive(Clone, Copy)]
 pub struct Standing {
     pub state: RowState,
     pub worked: usize,
@@ -57,7 +59,7 @@ pub fn room_in(
     }
 }
 
-fn has_room_lem(room: Room, worked: usize, used: usize) -> bool
+fn has_room(room: Room, worked: usize, used: usize) -> bool
     ensures { result ≡ has_room room worked used }
 {
     if room.planes < room.needed {
@@ -84,7 +86,7 @@ pub fn goes_on(at: Standing, tiles: usize, room: Room) -> bool
     is_pass(verdict)
         & (at.worked < tiles)
         & (state.next < state.to)
-        & has_room_lem(room, at.worked, at.used)
+        & has_room(room, at.worked, at.used)
 }
 
 // Why no other tile is worked, where none is refused.

@@ -9,27 +9,27 @@ ghost use Rattle.cached_tile.specs.Kept.{same_bytes, TileSettled, KeptSettled};
 use crate::{CachedTile, LayerCount, SolidColor};
 
 // Whether a cached tile is given, and the tile.
-#[derive(Drop)]
+#[derive(Clone, Copy)]
 pub struct Kept {
     pub given: bool,
     pub tile: CachedTile,
 }
 
-#[derive(Drop)]
+#[derive(Clone, Copy)]
 pub struct Counted {
     pub previous: LayerCount,
     pub kept: Kept,
 }
 
 // What settling answers: the tile is to be written, what is there is kept, or refusal 6.
-#[derive(Drop)]
+#[derive(Clone, Copy)]
 pub enum Settlement {
     Write,
     Keep,
     TagOutOfRange,
 }
 
-#[derive(Drop)]
+#[derive(Clone, Copy)]
 pub struct Settled {
     pub settlement: Settlement,
     pub kept: Kept,

@@ -1,12 +1,14 @@
 // What the last frame left of a tile (`CachedTile` of cpu/painter/mod.rs), by value, with the Rust's methods. `settle`
 // is the second call of a solid tile.
+#![tactic(auto)]
+
 pub mod kept;
 
 ghost use Rattle.std.specs.Prelude.{◌≡◌, ◌<◌};
 ghost use Rattle.cached_tile.specs.Tile.{empty_tile, keeps_count, keeps_color, count_in, layer_count_of, solid_color_of};
 ghost use Rattle.cached_tile.specs.Tile.{keep_count, drop_count, keep_color, drop_color, CountUpdated, ColorUpdated};
 
-#[derive(Drop)]
+#[derive(Clone, Copy)]
 pub struct CachedTile {
     // 1 where a solid colour is kept, plus 2 where a layer count is.
     pub tags: u8,
@@ -16,26 +18,26 @@ pub struct CachedTile {
 }
 
 // A layer count, where there is one.
-#[derive(Drop)]
+#[derive(Clone, Copy)]
 pub enum LayerCount {
     Count(u32),
     Absent,
 }
 
 // Four display bytes, where `given`. An enum can't hold an array.
-#[derive(Drop)]
+#[derive(Clone, Copy)]
 pub struct SolidColor {
     pub given: bool,
     pub bytes: [u8; 4],
 }
 
-#[derive(Drop)]
+#[derive(Clone, Copy)]
 pub struct UpdatedLayerCount {
     pub previous: LayerCount,
     pub tile: CachedTile,
 }
 
-#[derive(Drop)]
+#[derive(Clone, Copy)]
 pub struct UpdatedSolidColor {
     pub previous: SolidColor,
     pub tile: CachedTile,

@@ -1,6 +1,8 @@
 // The two updates of a cached tile that stays with the caller (`update_layer_count` and `update_solid_color` of the
 // Rust, which take `&mut self`): the tile is read, the method by value is called, the new tile is stored, and what was
 // kept before is answered.
+#![tactic(auto)]
+
 ghost use Rattle.std.specs.Prelude.{◌≡◌};
 ghost use Rattle.cached_tile.specs.Tile.{CountUpdated, ColorUpdated};
 

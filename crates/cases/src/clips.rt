@@ -79,7 +79,7 @@ pub fn is_half(plane: &[f32]) -> bool
 }
 
 // What painting left: the painter's clip, the mark, and whether the plane is 0.5 throughout.
-#[derive(Drop)]
+#[derive(Clone, Copy)]
 pub struct Seen {
     pub clip: Clip,
     pub mark: u32,

@@ -2,6 +2,8 @@
 // full; and P7, P8, P11 and P12 once more by the forms that stay with the caller, a cached tile that is lent and a
 // queue of carry records. What each check requires is proved from the contracts of the functions that it calls;
 // specs/Cases states the same cases about the definitions, and `stated` holds their proof.
+#![tactic(auto)]
+
 mod clips;
 mod covers;
 mod records;

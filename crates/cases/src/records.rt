@@ -35,7 +35,7 @@ fn is_mark_0(answer: PaintAnswer) -> bool
 }
 
 // What a work handed on: whether it was accepted, how many carries there are, and the covers of the first.
-#[derive(Drop)]
+#[derive(Clone, Copy)]
 pub struct Handed {
     pub accepted: bool,
     pub left: usize,

@@ -1,6 +1,8 @@
 // What is proved, as one list: each claim of the statements, held by a function that cites its proof. A claim is a
 // definition in specs/; a proof that goes makes the check of this crate fail. The worked cases P1 to P12 are held by
 // the program `cases`; what each operation promises is held by its own contract.
+#![tactic(auto)]
+
 ghost use Rattle.cover_statements.specs.Joined.{JoinedCovers};
 ghost use Rattle.cover_statements.specs.Sums.{SumsAnywhere, SumsAtBoth};
 ghost use Rattle.queue_statements.specs.Edges.{OpeningEdges};

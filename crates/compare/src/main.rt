@@ -1,6 +1,8 @@
 // Replays the stored answers of the Rust (the file stdin, whose form is told at each kind): the same input to the
 // exported operations, and every number of the answer held to the stored one. Says how many cases of each kind were
 // compared and how many differ.
+#![tactic(auto)]
+
 mod covers;
 mod decidings;
 mod kept;
@@ -53,7 +55,7 @@ fn one_if(same: bool) -> u64 {
 }
 
 // How many cases of a kind agree, and the place after them.
-#[derive(Drop)]
+#[derive(Clone, Copy)]
 struct Agreed {
     at: usize,
     same: u64,

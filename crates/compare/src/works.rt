@@ -9,7 +9,7 @@ use ffi::working;
 
 // What a tile is given: its number, whether a cached tile is given and its 8 bytes, the clear colour, whether one of
 // the frame before is given and it.
-#[derive(Drop)]
+#[derive(Clone, Copy)]
 pub struct Given {
     pub at: usize,
     pub tile: i32,

@@ -11,7 +11,7 @@ use pixel_segment::PixelSegment;
 
 // What adding answers: the carry, or refusal 9 and the cover as it came. An enum can't hold the array of a cover, so a
 // flag tells the two.
-#[derive(Drop)]
+#[derive(Clone, Copy)]
 pub struct Carried {
     pub accepted: bool,
     pub cover: Cover,

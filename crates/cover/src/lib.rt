@@ -1,4 +1,6 @@
 // The covers of the painter (painter/mod.rs): empty, full, carried past a part, and stored.
+#![tactic(auto)]
+
 pub mod carry;
 pub mod entry;
 pub mod rows;
@@ -9,7 +11,7 @@ ghost use Rattle.cover_statements.specs.Cover.{no_cover, empty_at, full_at, is_e
 use styling::FillRule;
 
 // One signed byte for each pixel row of a tile: 16 is a whole pixel, once around.
-#[derive(Drop)]
+#[derive(Clone, Copy)]
 pub struct Cover {
     pub covers: [i8; 16],
 }

@@ -1,5 +1,7 @@
 // Covers known within bounds: for one layer in one tile, the lowest and the highest d of each pixel, and the least and
 // the greatest weight of the numbers between them, by both rules, in six lent planes.
+#![tactic(auto)]
+
 pub mod area;
 pub mod interval;
 pub mod judging;

@@ -1,5 +1,7 @@
 // The covers of tiles four pixels high: empty, full, carried past a part; and the coverages of a part in a lent plane.
 // What is said of a row's cover, and the weights and coverages, are of cover and weight.
+#![tactic(auto)]
+
 pub mod area;
 pub mod carry;
 pub mod column;
@@ -12,7 +14,7 @@ use cover::rows;
 use styling::FillRule;
 
 // One signed byte for each pixel row of a tile: 16 is a whole pixel, once around.
-#[derive(Drop)]
+#[derive(Clone, Copy)]
 pub struct GpuCover {
     pub covers: [i8; 4],
 }

@@ -13,7 +13,7 @@ use styling::FillRule;
 use weight::tile;
 
 // What painting answers: done, refusal 1 or refusal 9.
-#[derive(Drop)]
+#[derive(Clone, Copy)]
 pub enum GpuPainted {
     Done,
     PlaneTooShort,

@@ -1,5 +1,5 @@
 // What marking a plane answers: its mark, or refusal 1.
-#[derive(Drop)]
+#[derive(Clone, Copy)]
 pub enum Marked {
     Mark(u32),
     PlaneTooShort,

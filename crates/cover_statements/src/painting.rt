@@ -1,5 +1,5 @@
 // What painting answers: the mark, refusal 1 or refusal 9.
-#[derive(Drop)]
+#[derive(Clone, Copy)]
 pub enum Painted {
     Mark(u32),
     PlaneTooShort,

@@ -1,4 +1,6 @@
 // The curve program: prints the EvenOdd weight of every remainder by 1,024.
+#![tactic(auto)]
+
 use libc::STDOUT_FILENO;
 
 // The contract of `print_curve` holds the length.

@@ -1,4 +1,6 @@
 // The even-odd curve as text: each remainder of d by 1,024 beside its EvenOdd weight.
+#![tactic(auto)]
+
 ghost use Rattle.std.specs.Prelude.{◌≡◌, ◌≤◌, ◌<◌, length};
 ghost use Rattle.report.specs.Put.{LineWritten};
 ghost use Rattle.curve_text.specs.Curve.{curve_line, curve_text};

@@ -1,18 +1,20 @@
 // Whole numbers as text: reading one at a place of a text, and printing one.
+#![tactic(auto)]
+
 ghost use Rattle.std.specs.Prelude.{◌≡◌, ◌+◌, ◌≤◌, ◌^◌, length};
 ghost use Rattle.decimal.specs.Decimal.{decimal, decimalℤ, is_digit};
 ghost use Rattle.decimal.specs.Read.{UnsignedRead, SignedRead};
 ghost use Rattle.decimal.specs.Print.{Printing};
 
 // What stands at a place: a number without a sign and the place after it, or none.
-#[derive(Drop)]
+#[derive(Clone, Copy)]
 pub enum Unsigned {
     Natural(u64, usize),
     Missing,
 }
 
 // The same with a sign, for numbers of at most seven digits.
-#[derive(Drop)]
+#[derive(Clone, Copy)]
 pub enum Signed {
     Integer(i32, usize),
     Malformed,

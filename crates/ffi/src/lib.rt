@@ -2,6 +2,8 @@
 // and slices, and gives numbers and lent slices. An answer is told by its number in the table of refusals, 0 where it
 // is none (ffi_numbers/specs/Numbers.antt). Nothing is decided here: each function refuses what the operation below it
 // refuses, and nothing else.
+#![tactic(auto)]
+
 pub mod batches;
 pub mod bounds;
 pub mod cached;

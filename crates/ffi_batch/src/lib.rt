@@ -1,4 +1,6 @@
 // A batch of tiles told by numbers: the refusal or 0, the state after the tiles worked, and five numbers.
+#![tactic(auto)]
+
 ghost use Rattle.std.specs.Prelude.{◌≡◌};
 ghost use Rattle.row_statements.specs.State.{state_in};
 ghost use Rattle.batch_statements.specs.Batch.{end_in, answer_in};

@@ -1,5 +1,7 @@
 // One layer's row of tiles four pixels high as numbers in lent memory. A state is lent as its numbers: tile y, from, to,
 // the next tile, the layer and its fill rule (0 NonZero, 1 EvenOdd); and beside them the four bytes of its cover.
+#![tactic(auto)]
+
 ghost use Rattle.std.specs.Prelude.{◌≡◌};
 ghost use Rattle.refusals.specs.Refusal.{judgement_in};
 ghost use Rattle.layer_row_gpu.specs.LayerState.{layer_state_in};

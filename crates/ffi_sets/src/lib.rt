@@ -1,5 +1,7 @@
 // A kept set of segments as numbers in lent memory, read and written: the layer and the tile that it is of, which its
 // beginning alone writes; its carry, its loads and how many slots are held.
+#![tactic(auto)]
+
 ghost use Rattle.std.specs.Prelude.{◌≡◌};
 ghost use Rattle.refusals.specs.Refusal.{judgement_in};
 ghost use Rattle.ffi_numbers.specs.Numbers.{judged_number};

@@ -1,5 +1,7 @@
 // The third pass, `skip_fully_covered_layers_pass`, at one layer, and what lies below the layers to mix by what it
 // found. The pass itself is of passes.
+#![tactic(auto)]
+
 ghost use Rattle.std.specs.Prelude.{◌≡◌};
 ghost use Rattle.styling.specs.Style.{color_in};
 ghost use Rattle.pass_statements.specs.Covered.{first_of, opaque_of, is_partial, hides as hidesOf, tells as tellsOf};

@@ -1,4 +1,6 @@
 // The job text of the row program, read into a lent layer table and a lent row. `job_table` and `job_row` write them.
+#![tactic(auto)]
+
 ghost use Rattle.job_statements.specs.Read.{LinesJudged, job_outcome_on, Left, JobRead};
 
 use job_statements::Reading;
@@ -22,7 +24,7 @@ fn write_job(
         layers.old colors.old row.old result layers.new colors.new
         row.new }
 {
-    let has_room_lem = (n <= layers.len() / 8) & (n <= colors.len() / 4) & (count <= row.len());
+    let has_room = (n <= layers.len() / 8) & (n <= colors.len() / 4) & (count <= row.len());
     if !has_room {
         return Reading::NoRoom;
     }

@@ -1,4 +1,6 @@
 // The three blocks of a job text, read as numbers.
+#![tactic(auto)]
+
 ghost use Rattle.std.specs.Prelude.{◌≤◌, length};
 ghost use Rattle.job_text_statements.specs.Read.{BlocksRead};
 

@@ -1,4 +1,6 @@
 // A job read from the front of an input: one byte more than a job may have is enough to tell a longer text.
+#![tactic(auto)]
+
 ghost use Rattle.std.specs.Prelude.{List, ℕ};
 ghost use Rattle.input_front.specs.Front.{HoldsFront};
 ghost use Rattle.job_statements.specs.Read.{JobRead};

@@ -4,7 +4,7 @@ ghost use Rattle.job_lines.specs.Rules.{layer_rule};
 
 use crate::range::is_within;
 
-#[derive(Drop)]
+#[derive(Clone, Copy)]
 pub struct LayerLine {
     pub layer: i32,
     pub rule: i32,
@@ -20,11 +20,11 @@ pub struct LayerLine {
 pub fn is_layer(l: LayerLine) -> bool
     ensures { result ≡ layer_rule l }
 {
-    let is_plain = is_within_lem(l.clipped, 0, 0)
-        & is_within_lem(l.fill, 0, 0)
-        & is_within_lem(l.mode, 0, 0)
-        & is_within_lem(l.alpha, 0, 0);
-    is_within_lem(l.alpha, 0, 256)
+    let is_plain = is_within(l.clipped, 0, 0)
+        & is_within(l.fill, 0, 0)
+        & is_within(l.mode, 0, 0)
+        & is_within(l.alpha, 0, 0);
+    is_within(l.alpha, 0, 256)
         & (!is_within(l.clip, 1, 1) | is_plain)
-        & (!is_within(l.clip, 0, 0) | is_within_lem(l.span, 0, 0))
+        & (!is_within(l.clip, 0, 0) | is_within(l.span, 0, 0))
 }

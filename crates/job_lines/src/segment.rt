@@ -5,7 +5,7 @@ ghost use Rattle.job_lines.specs.Rules.{segment_rule};
 use crate::range::is_within;
 use pixel_segment::{Packed, PixelSegment};
 
-#[derive(Drop)]
+#[derive(Clone, Copy)]
 pub struct SegmentLine {
     pub tile_x: i32,
     pub layer: i32,
@@ -31,7 +31,7 @@ pub fn is_segment(s: SegmentLine) -> bool
         s.cover as i64,
     );
     match packed {
-        Packed::Segment(_) => is_within_lem(s.rows, 1, 16 - s.y),
+        Packed::Segment(_) => is_within(s.rows, 1, 16 - s.y),
         Packed::FieldOutOfRange => false,
     }
 }

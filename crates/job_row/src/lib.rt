@@ -1,4 +1,6 @@
 // The row of a job: the packed words of each line of block 3, repeated downward.
+#![tactic(auto)]
+
 ghost use Rattle.std.specs.Prelude.{◌≡◌, true, ◌+◌, ◌*◌, ◌≤◌, length};
 ghost use Rattle.laws.specs.Integer.{plus};
 ghost use Rattle.laws.specs.Lists.{over, all};

@@ -1,5 +1,5 @@
 // A line's numbers, as packing takes them.
-#[derive(Drop)]
+#[derive(Clone, Copy)]
 pub struct Fields {
     pub tile_x: i16,
     pub layer: u32,

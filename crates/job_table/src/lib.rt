@@ -1,4 +1,6 @@
 // The layer table of a job: eight words and four floats for each line of block 2.
+#![tactic(auto)]
+
 ghost use Rattle.std.specs.Prelude.{◌≡◌, true, ◌*◌, ◌+◌, ◌/◌, ◌≤◌, ◌<◌, pos, length};
 ghost use Rattle.laws.specs.Integer.{plus, minus};
 ghost use Rattle.laws.specs.Lists.{over, all};

@@ -1,5 +1,7 @@
 // The job text of the row program, read as numbers: `job_blocks` reads its three blocks, `job_numbers` judges their
 // lines.
+#![tactic(auto)]
+
 ghost use Rattle.std.specs.Prelude.{◌≡◌, ◌≤◌, length};
 ghost use Rattle.job_text_statements.specs.Parse.{head_of};
 ghost use Rattle.job_text_statements.specs.Read.{NumbersRead};

@@ -1,5 +1,5 @@
 // How many lines the second and the third block have, or a broken form.
-#[derive(Drop)]
+#[derive(Clone, Copy)]
 pub enum Blocks {
     Lines(usize, usize),
     Broken,

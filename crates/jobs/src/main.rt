@@ -1,5 +1,7 @@
 // Runs the job files that its arguments name, one after another, and prints for each a line with the file's name and
 // then the answer of the row program to its text.
+#![tactic(auto)]
+
 use libc::STDOUT_FILENO;
 
 // The contract of `answer_front` holds both lengths: what is read decides the answer, and the buffer has room for it.

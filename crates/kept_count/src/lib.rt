@@ -1,6 +1,8 @@
 // Whether a tile may keep its count, as a public operation: judged first, then answered; where it may not, the count's
 // tag is dropped. A caller makes it twice before a work, of the shown layers and each time the other way, so that no
 // tile is kept with a wrong picture.
+#![tactic(auto)]
+
 pub mod judging;
 pub mod walking;
 
@@ -13,14 +15,14 @@ use cached_tile::kept::Kept;
 use refusals::{Refusal, Verdict};
 
 // What is answered: why the call is turned down, that the count may stay, or that it was dropped.
-#[derive(Drop)]
+#[derive(Clone, Copy)]
 pub enum CountAnswer {
     Refused(Refusal),
     Stays,
     Dropped,
 }
 
-#[derive(Drop)]
+#[derive(Clone, Copy)]
 pub struct CountKept {
     pub kept: Kept,
     pub answer: CountAnswer,

@@ -1,4 +1,6 @@
 // The carries that a tile hands on.
+#![tactic(auto)]
+
 ghost use Rattle.std.specs.Prelude.{◌≡◌, ◌*◌, ◌+◌, ◌≤◌, ◌<◌, length};
 ghost use Rattle.laws.specs.Lists.{filter};
 ghost use Rattle.layer_table.specs.Table.{Table, table_of};

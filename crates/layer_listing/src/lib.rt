@@ -1,4 +1,6 @@
 // The layers of a tile, surveyed for refusals 7, 8 and 9, and written into the columns of a lent list.
+#![tactic(auto)]
+
 pub mod marks;
 
 ghost use Rattle.std.specs.Prelude.{◌≡◌, true, cond, ◌*◌, ◌+◌, ◌≤◌, ◌<◌, ltb, length};
@@ -17,7 +19,7 @@ use layer_table::Found;
 use tile_layers::walk;
 
 // How many layers a tile has, and whether each is in the table and none's covers grow too large.
-#[derive(Drop)]
+#[derive(Clone, Copy)]
 pub struct Survey {
     pub count: usize,
     pub known: bool,

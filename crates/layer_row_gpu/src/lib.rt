@@ -1,5 +1,7 @@
 // One layer's row of tiles four pixels high, opened once and worked tile by tile: each work writes the tile's coverages
 // and hands on the layer's carry. Every call is judged first; a refusal leaves everything as it was.
+#![tactic(auto)]
+
 pub mod covers;
 pub mod judging;
 pub mod tiles;
@@ -22,7 +24,7 @@ use segment_rows::search;
 use styling::{FillRule, codes};
 
 // Where a caller stands in a layer's row: the cover is what the next tile takes in.
-#[derive(Drop)]
+#[derive(Clone, Copy)]
 pub struct LayerRow {
     pub tile_y: u32,
     pub from: u32,
@@ -35,14 +37,14 @@ pub struct LayerRow {
 
 // What an opening answers: whether it passes, or its refusal, and the state before the first tile; an enum can't hold
 // the array of a cover. A refused opening's state has no tiles.
-#[derive(Drop)]
+#[derive(Clone, Copy)]
 pub struct OpenedLayer {
     pub answer: Verdict,
     pub state: LayerRow,
 }
 
 // What a work answers, and the state after it.
-#[derive(Drop)]
+#[derive(Clone, Copy)]
 pub struct WorkedLayer {
     pub answer: Verdict,
     pub state: LayerRow,

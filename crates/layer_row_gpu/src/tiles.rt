@@ -18,7 +18,7 @@ use refusals::{Refusal, Verdict};
 
 // Why a range ended: all tiles that were asked for are worked, the row has no further tile, no plane is left, or the
 // next tile's own call would be refused.
-#[derive(Drop)]
+#[derive(Clone, Copy)]
 pub enum Ended {
     Asked,
     RowEnd,
@@ -27,7 +27,7 @@ pub enum Ended {
 }
 
 // What a range answers, how many tiles it worked and why it ended, and the state after it.
-#[derive(Drop)]
+#[derive(Clone, Copy)]
 pub struct WorkedTiles {
     pub answer: Verdict,
     pub worked: usize,
@@ -36,7 +36,7 @@ pub struct WorkedTiles {
 }
 
 // Whether the next tile is worked.
-#[derive(Drop)]
+#[derive(Clone, Copy)]
 pub enum Next {
     Work,
     End(Ended),

@@ -1,5 +1,7 @@
 // The lent layer table: eight words a record (id, rule, func, span, clipped, fill, blend mode, unchanged), four floats
 // a record (red, green, blue, alpha), and how many records there are.
+#![tactic(auto)]
+
 ghost use Rattle.std.specs.Prelude.{◌≡◌, ◌*◌, ◌+◌, ◌≤◌, ◌<◌, true, ◌&&◌, ltb, eqb, length};
 ghost use Rattle.layer_table.specs.Record.{in_range, func_of, layer_of};
 ghost use Rattle.layer_table.specs.Table.{id_at, words_at, color_at, layer_at, table_ids, is_table_short, is_table};
@@ -15,7 +17,7 @@ const LAYER_LIMIT: u32 = 2097151;
 const TRIES: usize = 6;
 
 // The words of one record, as they stand in the table.
-#[derive(Drop)]
+#[derive(Clone, Copy)]
 pub struct Words {
     pub id: u32,
     pub rule: u32,
@@ -28,7 +30,7 @@ pub struct Words {
 }
 
 // Where a layer stands in the table.
-#[derive(Drop)]
+#[derive(Clone, Copy)]
 pub enum Found {
     At(usize),
     Absent,

@@ -1,5 +1,7 @@
 // The work on one tile (`drive_tile_painting` of painter/layer_workbench/mod.rs, without painting): list, decide, keep,
 // hand on.
+#![tactic(auto)]
+
 ghost use Rattle.std.specs.Prelude.{◌≡◌, ◌*◌, ◌≤◌, length};
 ghost use Rattle.layer_table.specs.Table.{Table, table_of};
 ghost use Rattle.queue_statements.specs.Queue.{queue_of};
@@ -22,7 +24,7 @@ use passes::decide;
 use styling::Color;
 
 // The clear colour of the frame before, where one is given.
-#[derive(Drop)]
+#[derive(Clone, Copy)]
 pub enum PreviousClear {
     Absent,
     Given(Color),
@@ -30,7 +32,7 @@ pub enum PreviousClear {
 
 // What a tile's work gives: the decision, how many layers are listed and how many of them skipped, the cached tile, and
 // how many carries are handed on.
-#[derive(Drop)]
+#[derive(Clone, Copy)]
 pub struct Worked {
     pub decision: Decision,
     pub listed: usize,
@@ -40,7 +42,7 @@ pub struct Worked {
 }
 
 // What deciding gives: the decision, how many layers are skipped, and the cached tile.
-#[derive(Drop)]
+#[derive(Clone, Copy)]
 pub struct DecidedTile {
     pub decision: Decision,
     pub skipped: Index,

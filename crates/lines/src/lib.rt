@@ -1,4 +1,6 @@
 // Reading a text of names and lines of whole numbers into a lent list, and printing such a line.
+#![tactic(auto)]
+
 ghost use Rattle.std.specs.Prelude.{◌≡◌, ◌+◌, ◌*◌, ◌≤◌, length, drop};
 ghost use Rattle.decimal.specs.Print.{Printing};
 ghost use Rattle.lines.specs.Text.{line_text};
@@ -8,14 +10,14 @@ ghost use Rattle.lines.specs.Read.{PrefixRead, LineRead, LinesRead};
 use decimal::Signed;
 
 // The place after what was read, or a broken form.
-#[derive(Drop)]
+#[derive(Clone, Copy)]
 pub enum Place {
     At(usize),
     Broken,
 }
 
 // How many lines were read, and the place after them, or a broken form.
-#[derive(Drop)]
+#[derive(Clone, Copy)]
 pub enum Block {
     Lines(usize, usize),
     Cut,

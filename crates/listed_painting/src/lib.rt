@@ -1,5 +1,7 @@
 // The layers of a tile painted one after the other, in one walk over the queue that the tile took in and its part of
 // the row in step: nothing that is passed is looked at again. A clipped draw's need of a clip is told by one number.
+#![tactic(auto)]
+
 ghost use Rattle.std.specs.Prelude.{◌≡◌, false, not, ◌&&◌, ◌+◌, ◌≤◌, ◌<◌, ltb, length};
 ghost use Rattle.styling.specs.Style.{is_clipped_of};
 ghost use Rattle.layer_table.specs.Table.{table_of};
@@ -20,7 +22,7 @@ use tile_layers::walk::Next;
 // Where the walk stands, before the next layer: how many layers are passed, and with them how many carries and
 // segments; the painter's clip; the id below which the latest clip that was met frees clipped draws; and where in the
 // table the next layer's record may stand.
-#[derive(Drop)]
+#[derive(Clone, Copy)]
 pub struct PaintWalk {
     pub passed: usize,
     pub carries: usize,
@@ -31,7 +33,7 @@ pub struct PaintWalk {
 }
 
 // What painting the next layer gives: where the walk stands after it, its id and its mark.
-#[derive(Drop)]
+#[derive(Clone, Copy)]
 pub struct PaintedNext {
     pub walk: PaintWalk,
     pub id: u32,

@@ -1,4 +1,6 @@
 // The load program: reads the line that asks for a load from standard input, and prints its text.
+#![tactic(auto)]
+
 use libc::{STDIN_FILENO, STDOUT_FILENO};
 
 // The contract of `answer_front` holds both lengths: what is read decides the answer, and the buffer has room for it.

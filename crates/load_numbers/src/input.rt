@@ -6,13 +6,13 @@ ghost use Rattle.load_numbers.specs.Read.{FieldRead, input_of};
 use decimal::Unsigned;
 
 // A number and the place after the byte that ends its field, or a broken form.
-#[derive(Drop)]
+#[derive(Clone, Copy)]
 pub enum Field {
     Number(u32, usize),
     Broken,
 }
 
-#[derive(Drop)]
+#[derive(Clone, Copy)]
 pub enum Input {
     // The seed, the number of tiles, the number of segments.
     Asked(u32, u32, u32),

@@ -7,7 +7,7 @@ ghost use Rattle.load_statements.specs.Load.{slot_of, segment_from};
 use crate::draw::Generator;
 
 // A segment's line, and the generator after its draws.
-#[derive(Drop)]
+#[derive(Clone, Copy)]
 pub struct SegmentDrawn {
     pub line: [i32; 7],
     pub generator: Generator,

@@ -1,5 +1,7 @@
 // A load as text: the job text that a seed, a number of tiles and a number of segments make, as the answer to the line
 // that asks for it.
+#![tactic(auto)]
+
 pub mod blocks;
 
 ghost use Rattle.std.specs.Prelude.{◌≡◌, List, ℕ, ◌≤◌, length};

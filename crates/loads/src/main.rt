@@ -1,5 +1,7 @@
 // Answers the files that its arguments name, one after another, as the load program answers its input, and prints for
 // each a line with the file's name and then the answer.
+#![tactic(auto)]
+
 use libc::STDOUT_FILENO;
 
 // The contract of `answer_front` holds both lengths: what is read decides the answer, and the buffer has room for it.

@@ -1,4 +1,6 @@
 // The octets of a plane that hold a coverage above 0, as the bits of a mark, and their count.
+#![tactic(auto)]
+
 pub mod weights;
 
 ghost use Rattle.std.specs.Prelude.{◌≡◌, ◌<◌, ◌≤◌, ◌/◌, ◌%◌, length};

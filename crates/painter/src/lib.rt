@@ -1,11 +1,13 @@
 // Painting one layer in one tile (`paint_layer` of painter/mod.rs), without colours: its coverages, its mark, and the
 // painter's clip after it.
+#![tactic(auto)]
+
 pub mod clips;
 pub mod freed;
 pub mod painting;
 
 // The painter's clip: none, or one that lives up to a layer id.
-#[derive(Drop)]
+#[derive(Clone, Copy)]
 pub enum Clip {
     Absent,
     Until(u32),

@@ -18,7 +18,7 @@ use segment_rows::parts;
 use styling::{Func, Layer};
 
 // What painting gives: the painter's clip after it, and the mark.
-#[derive(Drop)]
+#[derive(Clone, Copy)]
 pub struct Painting {
     pub clip: Clip,
     pub mark: u32,

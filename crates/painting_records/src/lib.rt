@@ -1,5 +1,7 @@
 // The painting of a layer with a queue that is lent as a slice of carry records. `paint_layer` reads the records and
 // calls a covered function; it is walked by hand.
+#![tactic(auto)]
+
 ghost use Rattle.std.specs.Prelude.{◌≡◌};
 ghost use Rattle.row_statements.specs.Lent.{lent_table};
 ghost use Rattle.row_statements.specs.State.{state_in};

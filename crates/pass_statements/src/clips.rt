@@ -2,7 +2,7 @@
 use crate::Index;
 
 // The clip that was met last. `last` is wider than an id, so that id + span always fits.
-#[derive(Drop)]
+#[derive(Clone, Copy)]
 pub struct ActiveClip {
     pub full: bool,
     pub last: u64,
@@ -10,14 +10,14 @@ pub struct ActiveClip {
     pub used: bool,
 }
 
-#[derive(Drop)]
+#[derive(Clone, Copy)]
 pub enum Current {
     Nothing,
     Active(ActiveClip),
 }
 
 // A draw: the clip, now perhaps used; whether the draw is masked off; whether it is drawn unclipped.
-#[derive(Drop)]
+#[derive(Clone, Copy)]
 pub struct Drawn {
     pub cur: Current,
     pub masked: bool,
@@ -25,7 +25,7 @@ pub struct Drawn {
 }
 
 // The clip after a layer that may lie past its end: whether it ended unused, and where it stands.
-#[derive(Drop)]
+#[derive(Clone, Copy)]
 pub struct Closed {
     pub cur: Current,
     pub unused: bool,
@@ -33,7 +33,7 @@ pub struct Closed {
 }
 
 // One turn of the pass.
-#[derive(Drop)]
+#[derive(Clone, Copy)]
 pub struct Step {
     pub cur: Current,
     pub masked: bool,

@@ -3,7 +3,7 @@ use crate::Index;
 use styling::Color;
 
 // The first cover that tells whether the tile can be solid.
-#[derive(Drop)]
+#[derive(Clone, Copy)]
 pub enum InterestingCover {
     Absent,
     Opaque(Color),
@@ -11,7 +11,7 @@ pub enum InterestingCover {
 }
 
 // What the pass has found so far.
-#[derive(Drop)]
+#[derive(Clone, Copy)]
 pub struct Covered {
     pub first: InterestingCover,
     pub unchanged: bool,

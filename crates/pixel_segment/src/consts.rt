@@ -9,13 +9,13 @@ const CPU_WIDTHS: [u32; 7] = [11, 12, 21, 4, 4, 6, 6];
 const GPU_WIDTHS: [u32; 7] = [13, 12, 21, 4, 2, 6, 6];
 
 // Tiles 16 pixels high, or 4 as on the GPU.
-#[derive(Drop)]
+#[derive(Clone, Copy)]
 pub enum Layout {
     Cpu,
     Gpu,
 }
 
-#[derive(Drop)]
+#[derive(Clone, Copy)]
 pub enum BitField {
     TileY,
     TileX,

@@ -1,4 +1,6 @@
 // The packed pixel segment (cpu/pixel_segment.rs): seven fields in a word of 64 bits, and how two of them compare.
+#![tactic(auto)]
+
 pub mod consts;
 pub mod order;
 pub mod range;
@@ -14,11 +16,11 @@ use consts::{BitField, Layout};
 use order::Ordering;
 
 // A packed word. Any 64 bits are a segment.
-#[derive(Drop)]
+#[derive(Clone, Copy)]
 pub struct PixelSegment(pub u64);
 
 // What packing answers: the segment, or refusal 11, where a number lies outside its field's range.
-#[derive(Drop)]
+#[derive(Clone, Copy)]
 pub enum Packed {
     Segment(PixelSegment),
     FieldOutOfRange,

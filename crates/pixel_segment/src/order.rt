@@ -6,7 +6,7 @@ ghost use Rattle.pixel_segment.specs.Order.{rank, order_key, compare_of};
 use crate::consts;
 use crate::consts::{BitField, Layout};
 
-#[derive(Drop)]
+#[derive(Clone, Copy)]
 pub enum Ordering {
     Less,
     Equal,

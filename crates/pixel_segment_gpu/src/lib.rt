@@ -1,6 +1,8 @@
 // The packed pixel segment of tiles four pixels high (cpu/pixel_segment.rs at the GPU's layout): packing, fields,
 // order, searches and parts, each the one of `pixel_segment` or `segment_rows` at that layout. The two lowest fields
 // have the same bits at every height.
+#![tactic(auto)]
+
 pub mod order;
 pub mod parts;
 pub mod search;
@@ -17,11 +19,11 @@ use pixel_segment::order::Ordering;
 use pixel_segment::{Packed, PixelSegment, consts};
 
 // A packed word. Any 64 bits are a segment.
-#[derive(Drop)]
+#[derive(Clone, Copy)]
 pub struct GpuSegment(pub u64);
 
 // What packing answers: the segment, or refusal 11, where a number lies outside its field's range.
-#[derive(Drop)]
+#[derive(Clone, Copy)]
 pub enum GpuPacked {
     Segment(GpuSegment),
     FieldOutOfRange,

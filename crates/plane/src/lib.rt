@@ -1,4 +1,6 @@
 // The coverages of a part in a lent plane, at row × 16 + column.
+#![tactic(auto)]
+
 pub mod area;
 pub mod column;
 pub mod light;

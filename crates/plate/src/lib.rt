@@ -1,5 +1,7 @@
 // Which part of all segments of a plate is a row, and which rows are printed (painter/mod.rs: `for_each_row`,
 // `print_row`). None of these functions refuses anything.
+#![tactic(auto)]
+
 ghost use Rattle.std.specs.Prelude.{◌≡◌, ◌≤◌, length};
 ghost use Rattle.segment_rows.specs.Search.{between};
 ghost use Rattle.plate.specs.Rows.{cast_of, rows_start, not_negative, row_place, row_part};
@@ -10,21 +12,21 @@ use segment_rows::search::Found;
 use segment_rows::{parts, search};
 
 // Where a part of the segments starts, and where it ends: one past its last segment.
-#[derive(Drop)]
+#[derive(Clone, Copy)]
 pub struct Part {
     pub start: usize,
     pub end: usize,
 }
 
 // The rows that a crop leaves: all, or those from the first number up to the second, which is not among them.
-#[derive(Drop)]
+#[derive(Clone, Copy)]
 pub enum Crop {
     Absent,
     Rows(usize, usize),
 }
 
 // What `print_row` makes of a row: it is skipped, or printed from its part of the segments.
-#[derive(Drop)]
+#[derive(Clone, Copy)]
 pub enum Printed {
     Skipped,
     Row(Part),

@@ -1,5 +1,7 @@
 // The queue of carries (`CoverCarry` and `queue` of the Rust), lent as two columns: layer ids, and 16 signed bytes of
 // cover for each.
+#![tactic(auto)]
+
 pub mod search;
 
 ghost use Rattle.std.specs.Prelude.{◌≡◌, min};

@@ -1,5 +1,7 @@
 // The opening of a row (`paint_tile_row`, `covers_left_of_row`): one carry for each layer with segments left of the
 // first tile.
+#![tactic(auto)]
+
 ghost use Rattle.std.specs.Prelude.{◌≡◌, ◌≤◌, length, take};
 ghost use Rattle.laws.specs.Lists.{over};
 ghost use Rattle.queue_statements.specs.Queue.{LentQueueRoom};

@@ -1,5 +1,7 @@
 // A queue that is lent as a slice of carry records, read into the columns that the rest of the painter works on.
 // Functions over a `&[CarryRecord]` are walked by hand; what they call is covered.
+#![tactic(auto)]
+
 ghost use Rattle.std.specs.Prelude.{◌≡◌, ◌+◌, ◌*◌, ◌<◌, ◌≤◌, min, pos, length, get_or, set, take, replicate};
 ghost use Rattle.laws.specs.Lists.{over};
 ghost use Rattle.cover_statements.specs.Entry.{put_entry};
@@ -7,14 +9,14 @@ ghost use Rattle.queue_records.specs.Records.{no_record, record_ids, record_cove
 
 use cover::{Cover, entry};
 
-#[derive(Drop)]
+#[derive(Clone, Copy)]
 pub struct CarryRecord {
     pub id: u32,
     pub covers: [i8; 16],
 }
 
 // The columns of a queue's records, as many as count, and of how many records the lent slice has room, 256 at most.
-#[derive(Drop)]
+#[derive(Clone, Copy)]
 pub struct Columns {
     pub entries: usize,
     pub ids: [u32; 256],

@@ -1,4 +1,6 @@
 // The columns of a queue as an array of carry records.
+#![tactic(auto)]
+
 ghost use Rattle.std.specs.Prelude.{◌≡◌, ◌<◌, get_or};
 ghost use Rattle.cover_statements.specs.Entry.{cover_entry};
 ghost use Rattle.queue_records.specs.Records.{record_ids, record_covers};

@@ -1,9 +1,11 @@
 // Why a call is turned down. Every operation whose answer can be a refusal answers one of these.
+#![tactic(auto)]
+
 ghost use Rattle.std.specs.Prelude.{◌≡◌};
 ghost use Rattle.refusals.specs.Refusal.{number_of};
 
 // The conditions of the table of refusals, in its order. Number 10 is the job reader's own answer.
-#[derive(Drop)]
+#[derive(Clone, Copy)]
 pub enum Refusal {
     Room,
     Tile,
@@ -22,7 +24,7 @@ pub enum Refusal {
 }
 
 // What a judge says: pass, or the lowest refusal that applies.
-#[derive(Drop)]
+#[derive(Clone, Copy)]
 pub enum Verdict {
     Pass,
     Refuse(Refusal),

@@ -1,11 +1,13 @@
 // The lines that the row program prints, written into a lent buffer. `fields` prints the parts of a line.
+#![tactic(auto)]
+
 pub mod fields;
 
 ghost use Rattle.report.specs.Text.{tile_names, tile_text, refusal_text};
 ghost use Rattle.report.specs.Put.{Put};
 
 // The word for the decision about a tile.
-#[derive(Drop)]
+#[derive(Clone, Copy)]
 pub enum Op {
     None,
     Solid,
@@ -14,7 +16,7 @@ pub enum Op {
 
 // A tile's line: its number, the decision, layers listed, layers shown, used octets summed over the draws, carries
 // handed on.
-#[derive(Drop)]
+#[derive(Clone, Copy)]
 pub struct TileLine {
     pub tile: u32,
     pub op: Op,
@@ -24,7 +26,7 @@ pub struct TileLine {
     pub carried: u32,
 }
 
-#[derive(Drop)]
+#[derive(Clone, Copy)]
 pub enum Printed {
     // The place after the line.
     Next(usize),

@@ -20,7 +20,7 @@ const E: u64 = 0x002006000058F000;
 const OTHER: u64 = 0x0020060000630800;
 
 // The answer's number, and what the planes hold. 7 stands where nothing is written.
-#[derive(Drop)]
+#[derive(Clone, Copy)]
 struct Planes {
     number: u32,
     lowest: [i16; 256],

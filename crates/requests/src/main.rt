@@ -1,4 +1,6 @@
 // Worked examples of the requests, run: a line for each, with what it gave.
+#![tactic(auto)]
+
 mod bounds;
 mod four_high;
 mod paintings;

@@ -5,7 +5,7 @@ use cover::Cover;
 use segment_set_statements::SegmentSet;
 
 // The last answer's number, and what it left.
-#[derive(Drop)]
+#[derive(Clone, Copy)]
 struct Held {
     number: u32,
     set: SegmentSet,
@@ -102,7 +102,7 @@ fn without(held: Held, word: u64) -> Held {
 }
 
 // What one pixel row holds, from column x on; before it, and in all other rows, d is 512 and the carry 16.
-#[derive(Drop)]
+#[derive(Clone, Copy)]
 struct Row {
     y: usize,
     x: usize,

@@ -1,6 +1,8 @@
 // Which layer record stands (W-212): records that are sent again, with revisions or as withdrawals, are judged, and the
 // layer table of those that stand is written. A record is ten words (id, revision, kind, rule, func, span, clipped,
 // fill, blend mode, unchanged), kind 0 with properties and kind 1 a withdrawal, and four floats.
+#![tactic(auto)]
+
 pub mod judging;
 pub mod writing;
 

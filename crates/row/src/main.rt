@@ -1,4 +1,6 @@
 // The row program: reads a job from standard input, and prints the answer to it.
+#![tactic(auto)]
+
 use libc::{STDIN_FILENO, STDOUT_FILENO};
 
 // The contract of `answer_front` holds both lengths: what is read decides the answer, and the buffer has room for it.

@@ -1,6 +1,8 @@
 // A whole tile row driven: opened, each of its tiles worked, the shown layers of a painted tile painted, and a line
 // written for each tile. The row and the table are judged once, at the opening; the tiles are worked by the inner
 // functions, and two queues take turns.
+#![tactic(auto)]
+
 pub mod tile;
 
 ghost use Rattle.std.specs.Prelude.{◌≡◌, ◌+◌, ◌≤◌, min, length};

@@ -16,7 +16,7 @@ use shown_layers::Tally;
 use styling::Color;
 
 // The work on a tile, and its line; the line of a refused tile says nothing.
-#[derive(Drop)]
+#[derive(Clone, Copy)]
 pub struct TileLine {
     pub worked: TileWorked,
     pub line: Line,

@@ -1,9 +1,11 @@
 // What is said of a driven row: a line for each tile. No code stands here.
+#![tactic(auto)]
+
 use refusals::Refusal;
 
 // The line of a tile: the decision (0 none, 1 solid, 2 paint), layers listed, layers shown, used octets, carries handed
 // on.
-#[derive(Drop)]
+#[derive(Clone, Copy)]
 pub struct Line {
     pub decision: u32,
     pub listed: u32,
@@ -13,7 +15,7 @@ pub struct Line {
 }
 
 // How many lines are written: one for each tile that is due, or those before a refusal.
-#[derive(Drop)]
+#[derive(Clone, Copy)]
 pub enum Driven {
     Done(usize),
     Refused(Refusal, usize),

@@ -1,4 +1,6 @@
 // Opening a tile row: judged by 1 to 4, then by 7 and 9, and its queue of carries written.
+#![tactic(auto)]
+
 ghost use Rattle.std.specs.Prelude.{◌≡◌};
 ghost use Rattle.refusals.specs.Refusal.{judgement_in};
 ghost use Rattle.queue_statements.specs.Opening.{opening_answer};

@@ -1,5 +1,7 @@
 // Painting a layer of the tile just worked: judged by 1 to 5, then by 8 and 9 for the layer, and painted from the queue
 // that the tile took in.
+#![tactic(auto)]
+
 ghost use Rattle.std.specs.Prelude.{◌≡◌};
 ghost use Rattle.refusals.specs.Refusal.{judgement_in};
 ghost use Rattle.layer_table.specs.Table.{Table, table_of};

@@ -1,4 +1,6 @@
 // The lines of a driven row, printed into a lent buffer that has room for all of them.
+#![tactic(auto)]
+
 ghost use Rattle.std.specs.Prelude.{◌≡◌, ◌+◌, ◌*◌, ◌≤◌, length};
 ghost use Rattle.decimal.specs.Print.{Printing};
 ghost use Rattle.report.specs.Text.{tile_names, tile_text, refusal_text};

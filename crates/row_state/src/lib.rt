@@ -1,4 +1,6 @@
 // Where a caller stands in a row, and refusal 2 of the tile that it asks for.
+#![tactic(auto)]
+
 ghost use Rattle.std.specs.Prelude.{◌≡◌};
 ghost use Rattle.laws.specs.Integer.{plus};
 ghost use Rattle.row_statements.specs.State.{state_in, is_stray, is_not_next, is_not_worked, is_wrong_next, is_wrong_worked};

@@ -1,6 +1,8 @@
 // A row of tiles (`paint_tile_row` of painter/mod.rs), as operations that a caller makes one after the other: what they
 // take and answer. specs/ has what they promise, proofs/ the laws and the theorem over any list of them. The functions
 // are of row_state, row_opening, row_working and row_painting.
+#![tactic(auto)]
+
 use cached_tile::kept::Kept;
 use painter::Clip;
 use pass_statements::Index;
@@ -9,7 +11,7 @@ use refusals::{Refusal, Verdict};
 
 // Where a caller stands in a row: the row and its tiles from..to, the next tile, how many carries are left in the queue
 // and how many the last tile took in, and the painter's clip.
-#[derive(Drop)]
+#[derive(Clone, Copy)]
 pub struct RowState {
     pub tile_y: u32,
     pub from: u32,
@@ -21,35 +23,35 @@ pub struct RowState {
 }
 
 // What an opening answers: the state before the first tile, or why it is turned down.
-#[derive(Drop)]
+#[derive(Clone, Copy)]
 pub enum Opened {
     Row(RowState),
     Refused(Refusal),
 }
 
 // What the judge of a tile's layers says, and how many they are.
-#[derive(Drop)]
+#[derive(Clone, Copy)]
 pub struct ListJudged {
     pub verdict: Verdict,
     pub listed: usize,
 }
 
 // What an accepted work says: the decision, how many layers are listed, and how many of them are skipped.
-#[derive(Drop)]
+#[derive(Clone, Copy)]
 pub struct TileDone {
     pub decision: Decision,
     pub listed: usize,
     pub skipped: Index,
 }
 
-#[derive(Drop)]
+#[derive(Clone, Copy)]
 pub enum WorkAnswer {
     Refused(Refusal),
     Done(TileDone),
 }
 
 // The state and the cached tile after a work, which a refusal leaves equal, and its answer.
-#[derive(Drop)]
+#[derive(Clone, Copy)]
 pub struct TileWorked {
     pub state: RowState,
     pub kept: Kept,
@@ -57,13 +59,13 @@ pub struct TileWorked {
 }
 
 // What painting answers: the mark, or why it is turned down.
-#[derive(Drop)]
+#[derive(Clone, Copy)]
 pub enum PaintAnswer {
     Mark(u32),
     Refused(Refusal),
 }
 
-#[derive(Drop)]
+#[derive(Clone, Copy)]
 pub struct Painted {
     pub state: RowState,
     pub answer: PaintAnswer,

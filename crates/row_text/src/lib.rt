@@ -1,4 +1,6 @@
 // The answer of the row program to a job text, as the bytes that it prints.
+#![tactic(auto)]
+
 ghost use Rattle.std.specs.Prelude.{List, ℕ, ◌≤◌, length};
 ghost use Rattle.laws.specs.Integer.{plus};
 ghost use Rattle.input_front.specs.Front.{HoldsFront};

@@ -1,5 +1,7 @@
 // The work on the next tile of a row as a public operation, and settling: judged first, then done; a refusal leaves
 // everything as it was.
+#![tactic(auto)]
+
 pub mod judging;
 
 ghost use Rattle.std.specs.Prelude.{◌≡◌, ◌≤◌};

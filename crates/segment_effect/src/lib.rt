@@ -1,5 +1,7 @@
 // What one segment changes in a kept set: d of the pixels of its row, from its column rightward, and its row's carry
 // and load. Where a segment is let out, the amounts are the opposites.
+#![tactic(auto)]
+
 ghost use Rattle.std.specs.Prelude.{◌≡◌, ◌+◌, ◌-◌, ◌≤◌, ◌<◌, pos, ◌+ℤ◌, ◌-ℤ◌, ◌*ℤ◌, length, get_or, set};
 ghost use Rattle.pixel_segment.specs.Field.{cpu, local_y_of, cover_of};
 ghost use Rattle.cover_statements.specs.Carry.{abs_cover};

@@ -1,4 +1,6 @@
 // The lowest refusal that applies to an edit of a kept set: to a beginning, a taking in and a letting out.
+#![tactic(auto)]
+
 ghost use Rattle.std.specs.Prelude.{◌≡◌, ◌+◌, get_or};
 ghost use Rattle.laws.specs.Lists.{all};
 ghost use Rattle.refusals.specs.Refusal.{pass, judgement_in, unless};

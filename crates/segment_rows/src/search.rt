@@ -12,7 +12,7 @@ ghost use Rattle.segment_rows.specs.InnerHalving.{HalfOf};
 use pixel_segment::consts;
 use pixel_segment::consts::{BitField, Layout};
 
-#[derive(Drop)]
+#[derive(Clone, Copy)]
 pub enum Key {
     TileY(i16),
     TileX(i16),
@@ -26,7 +26,7 @@ pub enum Key {
 }
 
 // The last place with the key, or none and where such an element would stand.
-#[derive(Drop)]
+#[derive(Clone, Copy)]
 pub enum Found {
     At(usize),
     Absent(usize),
@@ -82,7 +82,7 @@ pub fn field_at(segments: &[u64], offset: u32, size: u64, i: usize) -> u32
 }
 
 // What is left of a slice: so many words from a place on.
-#[derive(Drop)]
+#[derive(Clone, Copy)]
 struct Rest {
     start: usize,
     len: usize,

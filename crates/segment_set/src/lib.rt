@@ -1,5 +1,7 @@
 // A kept set of segments of one layer in one tile: begun from a part and an incoming cover, a segment taken in, one
 // equal segment let out. d, the carry and the loads change with it. A refusal changes nothing.
+#![tactic(auto)]
+
 pub mod editing;
 
 ghost use Rattle.std.specs.Prelude.{◌≡◌};

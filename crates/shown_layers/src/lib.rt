@@ -1,4 +1,6 @@
 // The shown layers of a tile, counted and, where the tile is painted, painted one after the other.
+#![tactic(auto)]
+
 ghost use Rattle.std.specs.Prelude.{◌≡◌, true, cond, ◌+◌, ◌≤◌, length, take};
 ghost use Rattle.std.specs.Int.Count.{ones};
 ghost use Rattle.layer_table.specs.Table.{table_of};
@@ -11,7 +13,7 @@ ghost use Rattle.shown_layers.specs.InnerTally.{EntryTallied, CountsShown, Walka
 use listed_painting::PaintWalk;
 
 // Where the walk over the tile's layers stands, how many layers were shown so far, and how many octets they used.
-#[derive(Drop)]
+#[derive(Clone, Copy)]
 pub struct Tally {
     pub walk: PaintWalk,
     pub shown: u32,

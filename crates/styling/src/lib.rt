@@ -1,5 +1,7 @@
 // How layers are drawn (styling.rs), without the contents of gradients and textures. `codes` reads the numbers of a
 // layer record.
+#![tactic(auto)]
+
 pub mod codes;
 
 ghost use Rattle.std.specs.Prelude.{◌≡◌};
@@ -8,7 +10,7 @@ ghost use Rattle.styling.specs.Codes.{mode_code};
 ghost use Rattle.styling.specs.Style.{color_in, fill_color, has_alpha_one, is_clipped_of, solid_color, is_opaque};
 
 // Four binary32 numbers.
-#[derive(Drop)]
+#[derive(Clone, Copy)]
 pub struct Color {
     pub r: f32,
     pub g: f32,
@@ -17,20 +19,20 @@ pub struct Color {
 }
 
 // Which points a path's windings leave inside.
-#[derive(Drop)]
+#[derive(Clone, Copy)]
 pub enum FillRule {
     NonZero,
     EvenOdd,
 }
 
-#[derive(Drop)]
+#[derive(Clone, Copy)]
 pub enum Fill {
     Solid(Color),
     Gradient,
     Texture,
 }
 
-#[derive(Drop)]
+#[derive(Clone, Copy)]
 pub enum BlendMode {
     Over,
     Multiply,
@@ -50,7 +52,7 @@ pub enum BlendMode {
     Luminosity,
 }
 
-#[derive(Drop)]
+#[derive(Clone, Copy)]
 pub struct Style {
     pub is_clipped: bool,
     pub fill: Fill,
@@ -58,20 +60,20 @@ pub struct Style {
 }
 
 // A draw, or a clip of as many layer ids after its own, by which the clipped draws among them are cut.
-#[derive(Drop)]
+#[derive(Clone, Copy)]
 pub enum Func {
     Draw(Style),
     Clip(u32),
 }
 
-#[derive(Drop)]
+#[derive(Clone, Copy)]
 pub struct Props {
     pub fill_rule: FillRule,
     pub func: Func,
 }
 
 // A layer of the table: what `LayerProps` of the Rust answers for an id.
-#[derive(Drop)]
+#[derive(Clone, Copy)]
 pub struct Layer {
     pub id: u32,
     pub props: Props,
@@ -79,7 +81,7 @@ pub struct Layer {
 }
 
 // The one colour of a layer, where it has one.
-#[derive(Drop)]
+#[derive(Clone, Copy)]
 pub enum Paint {
     Color(Color),
     Absent,

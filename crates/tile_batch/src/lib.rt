@@ -1,5 +1,7 @@
 // Several tiles of a row worked and painted in one call, judged once. The tiles are worked by the inner functions, and
 // two queues take turns.
+#![tactic(auto)]
+
 pub mod tile;
 
 ghost use Rattle.std.specs.Prelude.{◌≡◌, cond};

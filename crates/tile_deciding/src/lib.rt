@@ -1,5 +1,7 @@
 // Deciding about a tile from a lent list as a public operation: judged first, then done; a refusal leaves everything as
 // it was. It goes by what the list says: there is no state, no row and no queue.
+#![tactic(auto)]
+
 pub mod judging;
 
 ghost use Rattle.std.specs.Prelude.{◌≡◌};

@@ -13,7 +13,7 @@ use segment_rows::search;
 use segment_rows::search::Found;
 
 // The next layer: its id, whether it has a carry, and the places after it in the queue and in the part.
-#[derive(Drop)]
+#[derive(Clone, Copy)]
 pub struct Next {
     pub id: u32,
     pub carried: bool,

@@ -1,5 +1,7 @@
 // Listing the next tile of a row as a public operation: judged first, then done; a refusal leaves everything as it was.
 // It is the half of a work that the row and the queue have to do with. The layer inspector calls it by itself.
+#![tactic(auto)]
+
 ghost use Rattle.std.specs.Prelude.{◌≡◌, ◌*◌, ◌≤◌, length};
 ghost use Rattle.layer_table.specs.Table.{Table, table_of};
 ghost use Rattle.queue_statements.specs.Queue.{queue_of};

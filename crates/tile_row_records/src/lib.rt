@@ -1,4 +1,6 @@
 // The work on a tile with a queue that is lent as a slice of carry records, and both operations with an array of them.
 // `working::work_tile` reads the records and calls a covered function; it is walked by hand.
+#![tactic(auto)]
+
 pub mod records;
 pub mod working;

@@ -1,4 +1,6 @@
 // The first pass, `tile_unchanged_pass`; and what all passes read of a listed layer.
+#![tactic(auto)]
+
 pub mod item;
 
 ghost use Rattle.std.specs.Prelude.{◌≡◌, ◌≤◌};

@@ -11,7 +11,7 @@ const TILE: u32 = 1;
 
 const LAYER: u32 = 2;
 
-#[derive(Drop)]
+#[derive(Clone, Copy)]
 pub struct Choice {
     // 0 stands for every part.
     pub parts: u32,

@@ -10,7 +10,7 @@ use job_text_statements::Head;
 use row_statements::{Opened, RowState};
 
 // What a frame leaves for the next: its layer table and its row, and the cached tiles, eight bytes each.
-#[derive(Drop)]
+#[derive(Clone, Copy)]
 pub struct Frame {
     pub given: bool,
     pub layers: [u32; 512],

@@ -2,6 +2,8 @@
 // reads one job from standard input, as the row program does. Else its arguments name job files, each a picture of its
 // own; with the word `then` before it a file is the next frame of the one before, and is worked with the cached tiles
 // that it left. Other words choose a tile, a layer or parts of a tile: see the module `choice`.
+#![tactic(auto)]
+
 mod changes;
 pub mod choice;
 pub mod frame;
@@ -33,7 +35,7 @@ fn trace_file(choice: Choice, path: &[u8], before: Frame) -> Frame {
 }
 
 // What the last file left, whether the next is its next frame, and which number the last word asks for.
-#[derive(Drop)]
+#[derive(Clone, Copy)]
 struct Step {
     then: bool,
     asked: u32,

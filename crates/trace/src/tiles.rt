@@ -15,7 +15,7 @@ use segment_rows::parts;
 use styling::Color;
 
 // The state after a tile, its cached tile, the queue that it hands on, and whether it was worked.
-#[derive(Drop)]
+#[derive(Clone, Copy)]
 pub struct Step {
     pub state: RowState,
     pub kept: Kept,
@@ -151,7 +151,7 @@ fn tell_after(
 }
 
 // What a work gives and leaves: its answer, the queue handed on and the list.
-#[derive(Drop)]
+#[derive(Clone, Copy)]
 struct TileLeft {
     worked: TileWorked,
     queue: Queue,

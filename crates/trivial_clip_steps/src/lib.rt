@@ -1,5 +1,7 @@
 // The second pass, `skip_trivial_clips_pass`, at one layer. The three `if let`s of the Rust's loop are `open_clip`,
 // `draw` and `close_clip`; the pass itself is of passes.
+#![tactic(auto)]
+
 ghost use Rattle.std.specs.Prelude.{◌≡◌};
 ghost use Rattle.pass_statements.specs.Clips.{opened_of, clipped_of, drawn_of, closed_of, is_clip, step_of};
 

@@ -1,4 +1,6 @@
 // From a doubled area to a coverage: the weight by each rule, and its 512th part as an f32.
+#![tactic(auto)]
+
 pub mod column;
 pub mod small;
 pub mod tile;

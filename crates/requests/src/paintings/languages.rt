@@ -8,7 +8,7 @@ use row_statements::{Opened, PaintAnswer, RowState, WorkAnswer};
 use styling::Color;
 
 // The state after a tile, and whether every call so far was accepted.
-#[derive(Drop)]
+#[derive(Clone, Copy)]
 struct Step {
     state: RowState,
     taken: bool,

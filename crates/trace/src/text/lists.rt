@@ -3,7 +3,7 @@ use cover::{Cover, entry};
 use styling::{FillRule, codes};
 
 // What a table's record says of a listed layer, as far as the trace tells it.
-#[derive(Drop)]
+#[derive(Clone, Copy)]
 pub struct Record {
     pub rule: FillRule,
     pub func: u32,

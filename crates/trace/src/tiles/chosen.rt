@@ -20,7 +20,7 @@ pub const HANDED_ON: u32 = 256;
 pub const LINE: u32 = 512;
 
 // What is told of a tile: its parts, none of them where it is not chosen, and the layers whose paintings are told.
-#[derive(Drop)]
+#[derive(Clone, Copy)]
 pub struct Chosen {
     pub parts: u32,
     pub every_layer: bool,

@@ -8,7 +8,7 @@ use cover::Cover;
 pub const LIST_FLAGS: usize = 512;
 
 // A layer table and how many records it has.
-#[derive(Drop)]
+#[derive(Clone, Copy)]
 pub struct Table {
     pub layers: [u32; 512],
     pub colors: [f32; 256],
@@ -16,14 +16,14 @@ pub struct Table {
 }
 
 // The two columns of a queue.
-#[derive(Drop)]
+#[derive(Clone, Copy)]
 pub struct Queue {
     pub ids: [u32; 256],
     pub covers: [i8; 4096],
 }
 
 // The four columns of a list.
-#[derive(Drop)]
+#[derive(Clone, Copy)]
 pub struct List {
     pub ids: [u32; 256],
     pub covers: [i8; 4096],

@@ -10,7 +10,7 @@ use segment_rows::parts;
 use styling::FillRule;
 
 // The state after the paintings of a tile, how many layers were shown, and how many octets they used.
-#[derive(Drop)]
+#[derive(Clone, Copy)]
 pub struct Tally {
     pub state: RowState,
     pub shown: u32,
