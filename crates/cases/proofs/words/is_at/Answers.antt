@@ -1,0 +1,6 @@
+-- `words::is_at` meets its contract. Assumes nothing.
+use Rattle.laws.proofs.Prelude.{rules}
+use Rattle.cases.proofs.words.is_at.Goals as goal
+
+pub returns-in-At : goal.returns-in-At
+returns-in-At c = rw c.in-At.is

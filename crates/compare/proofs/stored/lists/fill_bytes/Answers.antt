@@ -1,0 +1,9 @@
+-- `lists::fill_bytes` is safe and ends. Assumes nothing.
+use Rattle.laws.proofs.Prelude.{◌≡◌, refl, ◌∙◌, ◌-◌, arith, rules, length, length-set}
+use Rattle.compare.proofs.stored.lists.fill_bytes.Goals as goal
+
+pub loop-i-preserved : goal.loop-i-preserved
+loop-i-preserved c = simp length-set c.loop-i.invariant
+
+pub shape_of-out : goal.shape_of-out
+shape_of-out c = c.loop-i.invariant

@@ -1,0 +1,8 @@
+-- `cover::Cover::default` meets its contract. Assumes nothing.
+use Rattle.laws.proofs.Prelude.{refl}
+use Rattle.cover_statements.specs.Cover.{no_cover}
+use Rattle.cover.proofs.Cover.default.Goals as goal
+
+pub returns : goal.returns
+unfolding no_cover
+returns c = refl

@@ -1,0 +1,8 @@
+-- `cover::Cover::is_empty` meets its contract. Assumes nothing.
+use Rattle.laws.proofs.Prelude.{◌≡◌, arith, rules, length}
+use Rattle.cover.proofs.Cover.is_empty.Goals as goal
+
+pub are_empty-requires : goal.are_empty-requires
+are_empty-requires c =
+    let long : length c.args.self.covers ≡ 16 = search rules in
+    omega (arith, long)

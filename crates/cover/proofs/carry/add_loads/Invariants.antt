@@ -1,0 +1,10 @@
+use Rattle.laws.proofs.Prelude.{◌-◌, arith, rules, length, w8, kept}
+use Rattle.pixel_segment.specs.Field.{cpu}
+use Rattle.cover_statements.proofs.Loads.{Loading, load_start, load_next, load_end}
+use Rattle.cover.proofs.carry.add_loads.Given as goal
+
+abbrev pub invariant-loop-i : goal.invariant-loop-i
+invariant-loop-i l = Loading cpu 16 l.part l.initial.loads l.i l.loads
+
+abbrev pub decreases-loop-i : goal.decreases-loop-i
+decreases-loop-i l = length l.part - l.i

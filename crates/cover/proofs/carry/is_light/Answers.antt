@@ -1,0 +1,12 @@
+-- `cover::carry::is_light` meets its contract. Assumes nothing.
+use Rattle.laws.proofs.Prelude.{ap, ◌∙◌, List, ℕ, rules}
+use Rattle.pixel_segment.specs.Field.{cpu}
+use Rattle.cover_statements.specs.InnerLoad.{loads_of, all_light}
+use Rattle.cover_statements.proofs.Loads.{loads_judge}
+use Rattle.cover.proofs.carry.is_light.Goals as goal
+
+pub returns : goal.returns
+returns c =
+    c.are_light.ensures
+    ∙ ap all_light (c.add_loads.ensures ∙ ap (λ (l : List ℕ). loads_of cpu 16 l c.args.part.now) c.magnitudes.ensures.same)
+    ∙ loads_judge cpu 16 c.args.cover.covers c.args.part.now

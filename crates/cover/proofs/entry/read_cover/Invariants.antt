@@ -1,0 +1,9 @@
+use Rattle.laws.proofs.Prelude.{refl, ◌+◌, ◌*◌, ◌-◌, arith, pos, get_or, w8, kept}
+use Rattle.cover_statements.proofs.Entries.{Reading, read_start, read_next, read_end}
+use Rattle.cover.proofs.entry.read_cover.Given as goal
+
+abbrev pub invariant-loop-y : goal.invariant-loop-y
+invariant-loop-y l = Reading l.covers 16 l.place l.start l.y l.entry
+
+abbrev pub decreases-loop-y : goal.decreases-loop-y
+decreases-loop-y l = 16 - l.y

@@ -1,0 +1,13 @@
+use Rattle.laws.proofs.Prelude.{◌≡◌, refl, sym, ap, ◌∙◌, Bool, true, false, cond, ◌&&◌, ℕ, ◌+◌, ◌-◌, ◌≤◌, arith, rules, sfits_of, ne_eqb, eqb, pos}
+use Rattle.laws.proofs.Prelude.{length, to_z-of_z, w8}
+use Rattle.cover_statements.specs.Cover.{empty_at, is_empty}
+use Rattle.cover_statements.proofs.Areas.{and-false}
+use Rattle.cover_statements.proofs.Testing.{Testing, test_start, test_next, test_end, and-true}
+use Rattle.cover.proofs.rows.are_empty.Given as goal
+
+-- how many of the first y rows are not empty, and that none is exactly where all of them are
+abbrev pub invariant-loop-y : goal.invariant-loop-y
+invariant-loop-y l = (l.filled ≤ l.y) × Testing (empty_at l.rule) l.covers (length l.covers) (eqb l.filled 0) l.y
+
+abbrev pub decreases-loop-y : goal.decreases-loop-y
+decreases-loop-y l = length l.covers - l.y

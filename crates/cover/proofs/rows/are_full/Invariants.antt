@@ -1,0 +1,10 @@
+use Rattle.laws.proofs.Prelude.{refl, ◌-◌, arith, rules, sfits_of, pos, length, to_z-of_z, w8}
+use Rattle.cover_statements.specs.Cover.{full_at, is_full}
+use Rattle.cover_statements.proofs.Testing.{Testing, test_start, test_next, test_end}
+use Rattle.cover.proofs.rows.are_full.Given as goal
+
+abbrev pub invariant-loop-y : goal.invariant-loop-y
+invariant-loop-y l = Testing (full_at l.rule) l.covers (length l.covers) l.ok l.y
+
+abbrev pub decreases-loop-y : goal.decreases-loop-y
+decreases-loop-y l = length l.covers - l.y

@@ -1,0 +1,14 @@
+use Rattle.laws.proofs.Prelude.{◌≡◌, refl, sym, ◌∙◌, Bool, true, false, ◌&&◌, ℕ, ◌+◌, ◌-◌, ◌≤◌, add-one, arith, rules, ne_eqb, leb, eqb, length, get_or}
+use Rattle.laws.proofs.Prelude.{bool_byte}
+use Prim.Native.Nat.compare
+use Rattle.cover_statements.specs.InnerLoad.{all_light}
+use Rattle.cover_statements.proofs.Areas.{and-false}
+use Rattle.cover_statements.proofs.Testing.{Testing, test_start, test_next, test_end, and-true}
+use Rattle.cover.proofs.rows.are_light.Given as goal
+
+-- how many of the first y loads are light, and that all are exactly where these are y
+abbrev pub invariant-loop-y : goal.invariant-loop-y
+invariant-loop-y l = (l.light ≤ l.y) × Testing (λ load. leb load 127) l.loads (length l.loads) (eqb l.light l.y) l.y
+
+abbrev pub decreases-loop-y : goal.decreases-loop-y
+decreases-loop-y l = length l.loads - l.y

@@ -1,0 +1,43 @@
+-- `bound_part` meets its contract: judged, and then d at both sides and the planes. Assumes nothing.
+use Rattle.laws.proofs.Prelude.{◌≡◌, refl, sym, ap, ◌∙◌, rules, to_z-of_z}
+use Rattle.refusals.specs.Refusal.{judgement_in}
+use Rattle.cover_statements.specs.InnerCell.{no_cells}
+use Rattle.cover_bounds_statements.specs.Within.{bounds_call, bound_planes, bounds_verdict}
+use Rattle.cover_bounds_statements.proofs.Calls.{bounds_passed, low_addable, low_light, high_addable, high_light, areas_upward}
+use Rattle.cover_bounds_statements.proofs.Promises.{refused_part, written_part}
+use Rattle.cover_bounds.proofs.bound_part.Goals as goal
+use Rattle.cover_bounds.proofs.bound_part.Goals.{After-judge_bounds}
+
+told : (c : After-judge_bounds) → judgement_in c.judge_bounds.result ≡ bounds_verdict (bounds_call c.args.layer_id c.args.tile_x c.args.tile_y c.args.part.now c.args.bounds.now c.args.low.covers c.args.high.covers) (bound_planes c.args.lowest.now c.args.highest.now c.args.least_non_zero.now c.args.greatest_non_zero.now c.args.least_even_odd.now c.args.greatest_even_odd.now)
+told c =
+    rw (to_z-of_z c.ranges.tile_x, to_z-of_z c.ranges.tile_y) at c.judge_bounds.ensures
+
+pub sum_bounds-requires : goal.sum_bounds-requires
+unfolding no_cells
+sum_bounds-requires c =
+    let e = sym (told (goal.at.sum_bounds-requires c).After-judge_bounds) ∙ ap judgement_in c.in-Pass.is in
+    let p = bounds_passed e in
+    (low_addable p, low_light p, refl)
+
+pub sum_bounds-requires-in-Pass : goal.sum_bounds-requires-in-Pass
+unfolding no_cells
+sum_bounds-requires-in-Pass c =
+    let e = sym (told (goal.at.sum_bounds-requires-in-Pass c).After-judge_bounds) ∙ ap judgement_in c.in-Pass.is in
+    let p = bounds_passed e in
+    (high_addable p, high_light p, refl)
+
+pub write_planes-requires : goal.write_planes-requires
+write_planes-requires c =
+    let e = sym (told (goal.at.write_planes-requires c).After-judge_bounds) ∙ ap judgement_in c.in-Pass.is in
+    let p = bounds_passed e in
+    (areas_upward p c.sum_bounds.ensures c.sum_bounds-in-Pass.ensures, p.roomy)
+
+pub returns-in-Refuse : goal.returns-in-Refuse
+returns-in-Refuse c = refused_part _ (sym (told (goal.at.returns-in-Refuse c).After-judge_bounds) ∙ ap judgement_in c.in-Refuse.is) refl
+
+pub returns-in-Pass : goal.returns-in-Pass
+returns-in-Pass c =
+    written_part (bounds_call c.args.layer_id c.args.tile_x c.args.tile_y c.args.part.now c.args.bounds.now c.args.low.covers c.args.high.covers) (record { lows_are = c.sum_bounds.ensures; highs_are = c.sum_bounds-in-Pass.ensures })
+    (sym (told (goal.at.returns-in-Pass c).After-judge_bounds) ∙ ap judgement_in c.in-Pass.is)
+    refl
+    c.write_planes.ensures

@@ -1,0 +1,10 @@
+use Rattle.laws.proofs.Prelude.{◌-◌, arith, sfits_of, le_z, to_z-of_z, w8}
+use Rattle.cover_statements.specs.Cover.{cover_at}
+use Rattle.cover_bounds_statements.proofs.Loops.{Passing, pass_start, pass_next, pass_end}
+use Rattle.cover_bounds.proofs.judging.is_carry_bounded.Given as goal
+
+abbrev pub invariant-loop-y : goal.invariant-loop-y
+invariant-loop-y l = Passing 16 (λ r. le_z (cover_at l.lows r) (cover_at l.highs r)) l.y l.ok
+
+abbrev pub decreases-loop-y : goal.decreases-loop-y
+decreases-loop-y l = 16 - l.y

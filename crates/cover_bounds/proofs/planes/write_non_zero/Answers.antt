@@ -1,0 +1,53 @@
+-- `planes::write_non_zero` meets its contract. Assumes nothing.
+use Rattle.laws.proofs.Prelude.{ap, ◌∙◌, ℕ, ◌-◌, arith, w16, kept}
+use Rattle.styling.specs.declared.FillRule.TheVariants.{NonZero}
+use Rattle.cover_statements.specs.Cover.{cover_at}
+use Rattle.cover_statements.specs.Plane.{column_of, row_of, in_places}
+use Rattle.cover_bounds_statements.specs.Interval.{least_weight, greatest_weight}
+use Rattle.cover_bounds_statements.specs.InnerPlanes.{least_in, greatest_in}
+use Rattle.cover_bounds_statements.proofs.Loops.{Placing, place_start, place_next, place_end}
+use Rattle.cover_bounds.proofs.planes.write_non_zero.Goals as goal
+
+pub loop-place-init : goal.loop-place-init
+loop-place-init c =
+    (place_start c.requires.1, place_start c.requires.2)
+
+pub least_non_zero-requires : goal.least_non_zero-requires
+least_non_zero-requires c =
+    let lows = c.args.lows.now in
+    let highs = c.args.highs.now in
+    let z = c.cell-k.result in
+    rw (kept w16 (cover_at lows z) c.least_non_zero-arg-1.given, kept w16 (cover_at highs z) c.least_non_zero-arg-in-loop-place-1.given)
+    (c.requires.0.at z (omega arith))
+
+pub greatest_non_zero-requires : goal.greatest_non_zero-requires
+greatest_non_zero-requires c =
+    let lows = c.args.lows.now in
+    let highs = c.args.highs.now in
+    let z = c.cell-k.result in
+    rw (kept w16 (cover_at lows z) c.greatest_non_zero-arg-1.given, kept w16 (cover_at highs z) c.greatest_non_zero-arg-in-loop-place-1.given)
+    (c.requires.0.at z (omega arith))
+
+pub loop-place-preserved : goal.loop-place-preserved
+loop-place-preserved c =
+    let lows = c.args.lows.now in
+    let highs = c.args.highs.now in
+    let z = c.cell-k.result in (
+      place_next c.loop-place.invariant.0 (omega arith)
+          (rw (kept w16 (cover_at lows z) c.least_non_zero-arg-1.given, kept w16 (cover_at highs z) c.least_non_zero-arg-in-loop-place-1.given) at c.least_non_zero.ensures
+          ∙ ap (λ (v : ℕ). least_weight NonZero (cover_at lows v) (cover_at highs v)) c.cell-k.ensures),
+      place_next c.loop-place.invariant.1 (omega arith)
+          (rw (kept w16 (cover_at lows z) c.greatest_non_zero-arg-1.given, kept w16 (cover_at highs z) c.greatest_non_zero-arg-in-loop-place-1.given) at c.greatest_non_zero.ensures
+          ∙ ap (λ (v : ℕ). greatest_weight NonZero (cover_at lows v) (cover_at highs v)) c.cell-k.ensures),
+    )
+
+pub shape_of-least : goal.shape_of-least
+shape_of-least c = c.loop-place.invariant.0.long
+
+pub shape_of-greatest : goal.shape_of-greatest
+shape_of-greatest c = c.loop-place.invariant.1.long
+
+pub returns : goal.returns
+unfolding in_places
+returns c =
+    record { least_is = place_end c.loop-place.invariant.0 (omega arith); greatest_is = place_end c.loop-place.invariant.1 (omega arith) }

@@ -1,0 +1,14 @@
+use Rattle.laws.proofs.Prelude.{ap, ◌∙◌, ℕ, ◌-◌, arith, w16, kept}
+use Rattle.styling.specs.declared.FillRule.TheVariants.{NonZero}
+use Rattle.cover_statements.specs.Cover.{cover_at}
+use Rattle.cover_statements.specs.Plane.{column_of, row_of, in_places}
+use Rattle.cover_bounds_statements.specs.Interval.{least_weight, greatest_weight}
+use Rattle.cover_bounds_statements.specs.InnerPlanes.{least_in, greatest_in}
+use Rattle.cover_bounds_statements.proofs.Loops.{Placing, place_start, place_next, place_end}
+use Rattle.cover_bounds.proofs.planes.write_non_zero.Given as goal
+
+abbrev pub invariant-loop-place : goal.invariant-loop-place
+invariant-loop-place l = Placing 256 (λ p. least_in NonZero l.lows l.highs (column_of p) (row_of p)) l.initial.least l.place l.least × Placing 256 (λ p. greatest_in NonZero l.lows l.highs (column_of p) (row_of p)) l.initial.greatest l.place l.greatest
+
+abbrev pub decreases-loop-place : goal.decreases-loop-place
+decreases-loop-place l = 256 - l.place

@@ -1,0 +1,90 @@
+-- `area::shade_row` meets its contract. Assumes nothing.
+use Rattle.laws.proofs.Prelude.{◌≡◌, refl, sym, ◌∙◌, List, ℕ, ◌+◌, ◌-◌, ◌*◌, ◌≤◌, ◌<◌, arith, ℤ, pos, ◌+ℤ◌, ◌*ℤ◌, to_z-of_z, w8, w16, SFits, to_z, of_z}
+use Rattle.laws.proofs.Prelude.{sfits, small, kept, times, whole}
+use Rattle.pixel_segment.specs.Field.{gpu, local_y_of}
+use Rattle.cover_statements.specs.Area.{cover_before}
+use Rattle.cover_statements.specs.Cover.{cover_at}
+use Rattle.cover_statements.proofs.Carries.{light}
+use Rattle.cover_statements.specs.InnerRows.{RowsDone}
+use Rattle.cover_statements.proofs.Rows.{Fitting, sum_is, row_next, row_end_step, row_fits, first_sum}
+use Rattle.cover_gpu.proofs.area.shade_row.Goals as goal
+use Rattle.cover_gpu.proofs.area.shade_row.Goals.{In-loop-x}
+
+low : (w : ℕ) → local_y_of gpu w < 4
+low w = omega arith
+
+-- the sum of the row's columns passed, and the pixel
+abbrev sum_of : (c : In-loop-x) → ℤ
+sum_of c = to_z w8 c.loop-x.sum
+
+abbrev own_of : (c : In-loop-x) → ℤ
+own_of c = cover_at c.loop-x.areas (c.loop-x.x * 4 + c.args.y)
+
+abbrev cell-of : (c : In-loop-x) → ℤ
+cell-of c = cover_at c.args.covers.now (c.loop-x.x * 4 + c.args.y)
+
+fitting : (c : In-loop-x) → Fitting (sum_of c) (own_of c) (cell-of c)
+fitting c =
+    let e = c.requires.cover_is ∙ sym (to_z-of_z c.ranges.cover) in
+    let q = c.loop-x.invariant.1 c.requires.covers c.requires.part e c.requires.done in
+    row_fits low refl c.args.y c.loop-x.x q.0 c.requires.low c.loop-x-test.true e q.1 (light c.requires.light)
+
+scaled : (c : In-loop-x) → SFits w16 (pos 32 *ℤ sum_of c)
+scaled c = sfits w16 (pos 32 *ℤ sum_of c) (omega (arith, times 32 (sum_of c), whole (sum_of c), (fitting c).now_fits))
+
+pub loop-x-init : goal.loop-x-init
+loop-x-init c = (omega arith, λ cs part e d. (d, first_sum gpu part c.args.y (to_z w8 (of_z w8 c.args.cover))))
+
+pub overflow_mul-k : goal.overflow_mul-k
+overflow_mul-k c = omega arith
+
+pub overflow_add-k : goal.overflow_add-k
+overflow_add-k c = omega (arith, c.requires.low)
+
+pub bounds-covers-k : goal.bounds-covers-k
+bounds-covers-k c = omega (arith, c.requires.low)
+
+pub overflow_add-next : goal.overflow_add-next
+overflow_add-next c =
+    rw (kept w8 (cell-of (goal.at.overflow_add-next c).In-loop-x) c.next-1.given) (small w8 _ (omega (arith, (fitting (goal.at.overflow_add-next c).In-loop-x).next_fits)))
+
+pub overflow_cast-areas : goal.overflow_cast-areas
+overflow_cast-areas c = small w16 (sum_of (goal.at.overflow_cast-areas c).In-loop-x) (omega (arith, (fitting (goal.at.overflow_cast-areas c).In-loop-x).now_fits))
+
+pub overflow_mul-areas : goal.overflow_mul-areas
+overflow_mul-areas c = rw (to_z-of_z (overflow_cast-areas c)) (scaled (goal.at.overflow_mul-areas c).In-loop-x)
+
+pub offset_bounds-areas-k : goal.offset_bounds-areas-k
+offset_bounds-areas-k c = omega (arith, c.requires.low)
+
+pub bounds-areas-k : goal.bounds-areas-k
+bounds-areas-k c = omega (arith, c.requires.low)
+
+pub overflow_add-areas : goal.overflow_add-areas
+overflow_add-areas c =
+    rw (to_z-of_z (overflow_cast-areas (goal.at.overflow_add-areas c).After-next-1), to_z-of_z (scaled (goal.at.overflow_add-areas c).In-loop-x), kept w16 (own_of (goal.at.overflow_add-areas c).In-loop-x) c.areas-1.given)
+    (small w16 _ (omega (arith, (fitting (goal.at.overflow_add-areas c).In-loop-x).d_fits)))
+
+pub offset_bounds-areas-k-in-loop-x : goal.offset_bounds-areas-k-in-loop-x
+offset_bounds-areas-k-in-loop-x c = omega (arith, c.requires.low)
+
+pub bounds-areas-k-in-loop-x : goal.bounds-areas-k-in-loop-x
+bounds-areas-k-in-loop-x c = omega (arith, c.requires.low)
+
+pub loop-x-preserved : goal.loop-x-preserved
+loop-x-preserved c =
+    (
+      omega arith,
+      λ cs part e d.
+          let q = c.loop-x.invariant.1 cs part e d in (
+            row_next low c.args.y c.loop-x.x q.0 c.requires.low c.loop-x-test.true e q.1 refl
+                (rw (to_z-of_z (overflow_add-areas c), to_z-of_z (overflow_cast-areas (goal.at.loop-x-preserved c).After-next-1), to_z-of_z (scaled (goal.at.loop-x-preserved c).In-loop-x), kept w16 (own_of (goal.at.loop-x-preserved c).In-loop-x) c.areas-1.given) refl),
+            to_z-of_z (overflow_add-next (goal.at.loop-x-preserved c).After-next-1)
+                ∙ rw (kept w8 (cell-of (goal.at.loop-x-preserved c).In-loop-x) c.next-1.given) (sum_is low c.args.y c.loop-x.x q.0 c.requires.low c.loop-x-test.true e q.1),
+          ),
+    )
+
+pub returns : goal.returns
+returns c =
+    let e16 : c.loop-x.x ≡ 16 = omega arith in
+    record { done = λ cs part e d. row_end_step c.args.y (rw e16 at (c.loop-x.invariant.1 cs part (e ∙ sym (to_z-of_z c.ranges.cover)) d).0) }

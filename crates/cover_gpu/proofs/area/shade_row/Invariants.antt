@@ -1,0 +1,18 @@
+use Rattle.laws.proofs.Prelude.{◌≡◌, refl, sym, ◌∙◌, List, ℕ, ◌+◌, ◌-◌, ◌*◌, ◌≤◌, ◌<◌, arith, ℤ, pos, ◌+ℤ◌, ◌*ℤ◌, to_z-of_z, w8, w16, SFits, to_z, of_z}
+use Rattle.laws.proofs.Prelude.{sfits, small, kept, times, whole}
+use Rattle.pixel_segment.specs.Field.{gpu, local_y_of}
+use Rattle.cover_statements.specs.Area.{cover_before}
+use Rattle.cover_statements.specs.Cover.{cover_at}
+use Rattle.cover_statements.proofs.Carries.{light}
+use Rattle.cover_statements.specs.InnerRows.{RowsDone}
+use Rattle.cover_statements.proofs.Rows.{Fitting, sum_is, row_next, row_end_step, row_fits, first_sum}
+use Rattle.cover_gpu.proofs.area.shade_row.Given as goal
+
+-- of every part with these cells; a signed number of a loop is held as bits
+abbrev pub invariant-loop-x : goal.invariant-loop-x
+invariant-loop-x l =
+    (l.x ≤ 16)
+    × ((cs : List ℤ) (part : List ℕ) → cover_at cs l.y ≡ to_z w8 l.cover → RowsDone gpu 4 cs part l.covers l.y 0 l.initial.areas → RowsDone gpu 4 cs part l.covers l.y l.x l.areas × (to_z w8 l.sum ≡ to_z w8 l.cover +ℤ cover_before gpu l.x l.y part))
+
+abbrev pub decreases-loop-x : goal.decreases-loop-x
+decreases-loop-x l = 16 - l.x

@@ -1,0 +1,34 @@
+-- `area::sum_rows` meets its contract. Assumes nothing.
+use Rattle.laws.proofs.Prelude.{◌≡◌, sym, List, ℕ, ◌-◌, ◌≤◌, arith, w8, kept}
+use Rattle.pixel_segment.specs.Field.{gpu}
+use Rattle.cover_statements.specs.Cover.{cover_at}
+use Rattle.cover_statements.specs.InnerCell.{Accumulated}
+use Rattle.cover_statements.specs.InnerRows.{RowsDone}
+use Rattle.cover_statements.proofs.Rows.{rows_start, rows_end}
+use Rattle.cover_gpu.proofs.area.sum_rows.Goals as goal
+
+pub loop-y-init : goal.loop-y-init
+loop-y-init c = (omega arith, λ part a. rows_start (λ w. omega arith) a)
+
+pub shade_row-requires : goal.shade_row-requires
+shade_row-requires c =
+    record {
+      low = c.loop-y-test.true;
+      part = c.requires.part;
+      covers = c.args.t3;
+      cover_is = sym (kept w8 (cover_at c.args.t3 c.loop-y.y) c.shade_row-arg-in-loop-y-1.given);
+      light = c.requires.light;
+      done = c.loop-y.invariant.1 c.requires.part c.requires.cells;
+    }
+
+pub loop-y-preserved : goal.loop-y-preserved
+loop-y-preserved c =
+    (
+      omega arith,
+      λ part a. c.shade_row.ensures.done c.args.t3 part (sym (kept w8 (cover_at c.args.t3 c.loop-y.y) c.shade_row-arg-in-loop-y-1.given)) (c.loop-y.invariant.1 part a),
+    )
+
+pub returns : goal.returns
+returns c =
+    let e : c.loop-y.y ≡ 4 = omega arith in
+    record { areas_are = λ part a. rows_end (rw e at (c.loop-y.invariant.1 part a)) }

@@ -1,0 +1,24 @@
+-- `carry::add_segments` meets its contract. Assumes nothing.
+use Rattle.laws.proofs.Prelude.{◌-◌, arith, rules, pos, length, get_or, to_z-of_z, w8, small, kept}
+use Rattle.pixel_segment.specs.Field.{gpu, local_y_of, cover_of}
+use Rattle.cover_statements.specs.Carry.{carry_of}
+use Rattle.cover_statements.proofs.Carries.{light}
+use Rattle.cover_statements.proofs.Tables.{Filling, fill_start, fill_next, fill_fits, fill_end}
+use Rattle.cover_gpu.proofs.carry.add_segments.Goals as goal
+
+pub loop-i-init : goal.loop-i-init
+loop-i-init c = fill_start (search rules) (light c.requires).at
+
+pub overflow_add-covers : goal.overflow_add-covers
+overflow_add-covers c =
+    rw (kept w8 (get_or c.loop-i.covers c.local_y-y.result (pos 0)) c.covers-in-loop-i-1.given, kept w8 c.cover.result c.cover.type_inv, c.cover.ensures)
+    (small w8 _ (omega (arith, fill_fits c.loop-i.invariant (omega arith) (omega arith) c.local_y-y.ensures)))
+
+pub loop-i-preserved : goal.loop-i-preserved
+loop-i-preserved c =
+    fill_next c.loop-i.invariant (omega arith) (omega arith) c.local_y-y.ensures
+    (rw (to_z-of_z (overflow_add-covers c), kept w8 (get_or c.loop-i.covers c.local_y-y.result (pos 0)) c.covers-in-loop-i-1.given, kept w8 c.cover.result c.cover.type_inv, c.cover.ensures))
+
+pub returns : goal.returns
+unfolding carry_of
+returns c = fill_end c.loop-i.invariant (omega arith)

@@ -1,0 +1,12 @@
+use Rattle.laws.proofs.Prelude.{◌-◌, arith, rules, pos, length, get_or, to_z-of_z, w8, small, kept}
+use Rattle.pixel_segment.specs.Field.{gpu, local_y_of, cover_of}
+use Rattle.cover_statements.specs.Carry.{carry_of}
+use Rattle.cover_statements.proofs.Carries.{light}
+use Rattle.cover_statements.proofs.Tables.{Filling, fill_start, fill_next, fill_fits, fill_end}
+use Rattle.cover_gpu.proofs.carry.add_segments.Given as goal
+
+abbrev pub invariant-loop-i : goal.invariant-loop-i
+invariant-loop-i l = Filling (local_y_of gpu) (cover_of gpu) 4 127 l.part l.initial.covers l.i l.covers
+
+abbrev pub decreases-loop-i : goal.decreases-loop-i
+decreases-loop-i l = length l.part - l.i

@@ -1,0 +1,8 @@
+-- `painting::paint` meets its contract: what is judged again is not refused. Assumes nothing.
+use Rattle.laws.proofs.Prelude.{rules}
+use Rattle.cover_gpu.proofs.Paintings.{gpu_plane}
+use Rattle.cover_gpu.proofs.painting.paint.Goals as goal
+
+pub returns : goal.returns
+returns c =
+    gpu_plane c.paint_judged.ensures c.requires.1 c.requires.0

@@ -1,0 +1,11 @@
+use Rattle.laws.proofs.Prelude.{◌∙◌, ◌-◌, arith, rules}
+use Rattle.lines.proofs.LinesPrinting.{LinesPrinting, start, line_room, next}
+use Rattle.curve_text.specs.Curve.{curve_line}
+use Rattle.curve_text.proofs.CurvePrinting.{line_long, two, written}
+use Rattle.curve_text.proofs.write_curve.Given as goal
+
+abbrev pub invariant-loop-rest : goal.invariant-loop-rest
+invariant-loop-rest l = LinesPrinting curve_line 1024 9 l.initial.out l.initial.end l.end l.rest l.out
+
+abbrev pub decreases-loop-rest : goal.decreases-loop-rest
+decreases-loop-rest l = 1024 - l.rest

@@ -1,0 +1,12 @@
+-- `cached::ffi_layer_count` meets its contract: it tells what the tile keeps. Assumes nothing.
+use Rattle.laws.proofs.Prelude.{ap, ◌∙◌, rules}
+use Rattle.cached_tile.specs.Tile.{layer_count_of}
+use Rattle.ffi.proofs.Told.{optional}
+use Rattle.ffi.proofs.cached.ffi_layer_count.Goals as goal
+
+pub returns : goal.returns
+returns c =
+    optional
+    c.args.count.now
+    (c.layer_count.ensures ∙ ap layer_count_of c.to_tile.ensures)
+    c.put_count.ensures

@@ -1,0 +1,12 @@
+-- `counts::put_counted` meets its contract. Assumes nothing.
+use Rattle.laws.proofs.Prelude.{refl, true, false, rules}
+use Rattle.ffi_numbers.proofs.counts.put_counted.Goals as goal
+
+pub returns-in-Refused : goal.returns-in-Refused
+returns-in-Refused c = rw c.in-Refused.is (c.number_of.ensures, refl)
+
+pub returns-in-Stays : goal.returns-in-Stays
+returns-in-Stays c = rw c.in-Stays.is (refl, λ i. record { kept = c.put_kept.ensures i; stays = true })
+
+pub returns-in-Dropped : goal.returns-in-Dropped
+returns-in-Dropped c = rw c.in-Dropped.is (refl, λ i. record { kept = c.put_kept-in-Dropped.ensures i; stays = false })

@@ -1,0 +1,9 @@
+-- `put_edited` meets its contract. Assumes nothing.
+use Rattle.laws.proofs.Prelude.{refl, rules}
+use Rattle.ffi_sets.proofs.put_edited.Goals as goal
+
+pub returns-in-Refuse : goal.returns-in-Refuse
+returns-in-Refuse c = rw c.in-Refuse.is (c.number_of.ensures, refl)
+
+pub returns-in-Pass : goal.returns-in-Pass
+returns-in-Pass c = rw c.in-Pass.is (refl, refl)

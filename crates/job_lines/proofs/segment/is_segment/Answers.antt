@@ -1,0 +1,94 @@
+-- `is_segment` meets its contract: packing answers whether it takes the line's numbers, and where it does, 16 - y is a number. Assumes nothing.
+use Rattle.laws.proofs.Prelude.{◌≡◌, ap, sym, ◌∙◌, true, ◌<◌, ◌^◌, rules, ℤ, pos, mag, w32, w64, SFits, to_z, of_z, to_z-of_z, sfits_widen, given, plus}
+use Rattle.laws.proofs.Prelude.{minus, kept}
+use mir.Val.{hbits}
+use Rattle.pixel_segment.specs.Field.{cpu}
+use Rattle.pixel_segment.specs.Pack.{is_packable, packed_answer, pack_of}
+use Rattle.pixel_segment.proofs.Ranges.{cpu_layout, in_range_lem}
+use Rattle.pixel_segment.proofs.ReadBack.{given_word, refused_means}
+use Rattle.job_lines.specs.Rules.{segment_rule}
+use Rattle.job_lines.proofs.Ranges.{fits_below}
+use Rattle.job_lines.proofs.segment.is_segment.Goals as goal
+use Rattle.job_lines.proofs.segment.is_segment.Goals.{After-pack-packed, In-Segment}
+
+-- a number of 32 bits is one of 64
+wide : (z : ℤ) → mag z < 2 ^ hbits w32 → SFits w64 z
+wide z h = let f : SFits w32 z = record { sfits = h } in sfits_widen tt f
+
+widened : (z : ℤ) → mag z < 2 ^ hbits w32 → SFits w64 (to_z w32 (of_z w32 z))
+widened z h = rw (kept w32 z h) (wide z h)
+
+-- a number of the line, as packing is handed it
+handed : (z : ℤ) → mag z < 2 ^ hbits w32 → to_z w64 (of_z w64 (to_z w32 (of_z w32 z))) ≡ z
+handed z h = rw (kept w32 z h) (to_z-of_z (wide z h))
+
+-- what packing says of the line
+judged : (c : After-pack-packed) → let s = c.args.s in
+    packed_answer c.pack-packed.result ≡ pack_of cpu s.layer s.tile_x (pos 0) s.x s.y s.mult s.cover
+judged c =
+    let s = c.args.s in
+    let t = c.type_inv.s in
+    rw (
+      handed s.layer t.1.0.1,
+      handed s.tile_x t.0.1,
+      handed s.x t.1.1.0.1,
+      handed s.y t.1.1.1.0.1,
+      handed s.mult t.1.1.1.1.1.0.1,
+      handed s.cover t.1.1.1.1.1.1.0.1,
+    ) at c.pack-packed.ensures.answer
+
+-- where it gives a word, it takes the line's numbers
+taken : (c : In-Segment) → let s = c.args.s in
+    is_packable cpu s.layer s.tile_x (pos 0) s.x s.y s.mult s.cover ≡ true
+taken c =
+    let s = c.args.s in
+    (given_word cpu cpu_layout s.layer s.tile_x (pos 0) s.x s.y s.mult s.cover
+    (sym (judged c.before.before) ∙ ap packed_answer c.in-Segment.is)).0
+
+below : (c : In-Segment) → let y = c.args.s.y in (minus y ≡ 0) × (plus y < 16)
+below c =
+    let s = c.args.s in
+    (in_range_lem cpu cpu_layout s.layer s.tile_x (pos 0) s.x s.y s.mult s.cover (taken c)).local_y
+
+pub overflow_cast-s : goal.overflow_cast-s
+overflow_cast-s c = widened c.args.s.layer c.type_inv.s.1.0.1
+
+pub overflow_cast-s-2 : goal.overflow_cast-s-2
+overflow_cast-s-2 c = widened c.args.s.tile_x c.type_inv.s.0.1
+
+pub overflow_cast-s-3 : goal.overflow_cast-s-3
+overflow_cast-s-3 c = widened c.args.s.x c.type_inv.s.1.1.0.1
+
+pub overflow_cast-s-4 : goal.overflow_cast-s-4
+overflow_cast-s-4 c = widened c.args.s.y c.type_inv.s.1.1.1.0.1
+
+pub overflow_cast-s-5 : goal.overflow_cast-s-5
+overflow_cast-s-5 c = widened c.args.s.mult c.type_inv.s.1.1.1.1.1.0.1
+
+pub overflow_cast-s-6 : goal.overflow_cast-s-6
+overflow_cast-s-6 c = widened c.args.s.cover c.type_inv.s.1.1.1.1.1.1.0.1
+
+pub overflow_sub-s : goal.overflow_sub-s
+overflow_sub-s c =
+    let y = c.args.s.y in
+    rw (kept w32 y c.type_inv.s.1.1.1.0.1) (fits_below y (below (goal.at.overflow_sub-s c).In-Segment))
+
+pub returns-in-Segment : goal.returns-in-Segment
+unfolding segment_rule
+returns-in-Segment c =
+    let s = c.args.s in
+    let t = c.type_inv.s in
+    rw (
+      c.is_within.ensures,
+      taken (goal.at.returns-in-Segment c).In-Segment,
+      kept w32 s.rows t.1.1.1.1.0.1,
+      kept w32 s.y t.1.1.1.0.1,
+      to_z-of_z (fits_below s.y (below (goal.at.returns-in-Segment c).In-Segment)),
+    )
+
+pub returns-in-FieldOutOfRange : goal.returns-in-FieldOutOfRange
+unfolding segment_rule
+returns-in-FieldOutOfRange c =
+    let s = c.args.s in
+    rw (refused_means cpu cpu_layout s.layer s.tile_x (pos 0) s.x s.y s.mult s.cover
+    (sym (judged (goal.at.returns-in-FieldOutOfRange c).After-pack-packed) ∙ ap packed_answer c.in-FieldOutOfRange.is))

@@ -1,0 +1,10 @@
+use Rattle.laws.proofs.Prelude.{ap, ◌∙◌, ◌-◌, arith, plus}
+use Rattle.job_lines.specs.declared.segment.SegmentLine.{SegmentLine}
+use Rattle.job_text_statements.proofs.Counting.{Counting, start, rule_at, next, end}
+use Rattle.job_numbers.proofs.segment.count_segments.Given as goal
+
+abbrev pub invariant-loop-i : goal.invariant-loop-i
+invariant-loop-i l = Counting l.numbers l.m l.i l.count
+
+abbrev pub decreases-loop-i : goal.decreases-loop-i
+decreases-loop-i l = l.m - l.i

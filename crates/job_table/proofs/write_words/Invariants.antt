@@ -1,0 +1,11 @@
+use Rattle.laws.proofs.Prelude.{ap, ◌∙◌, List, ℕ, ◌*◌, ◌-◌, arith, over}
+use Rattle.job_statements.specs.Entries.{word_at}
+use Rattle.job_statements.proofs.Filling.{Filling, start, long, next, end}
+use Rattle.job_statements.proofs.Tables.{words_are}
+use Rattle.job_table.proofs.write_words.Given as goal
+
+abbrev pub invariant-loop-k : goal.invariant-loop-k
+invariant-loop-k l = Filling (8 * l.n) (word_at l.numbers) l.initial.layers l.k l.layers
+
+abbrev pub decreases-loop-k : goal.decreases-loop-k
+decreases-loop-k l = 8 * l.n - l.k

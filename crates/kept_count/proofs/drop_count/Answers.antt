@@ -1,0 +1,6 @@
+-- `drop_count` meets its contract. Assumes nothing.
+use Rattle.laws.proofs.Prelude.{refl, rules}
+use Rattle.kept_count.proofs.drop_count.Goals as goal
+
+pub returns-then-kept : goal.returns-then-kept
+returns-then-kept c = rw (c.if-kept.true, c.update_layer_count-updated.ensures.tile) refl

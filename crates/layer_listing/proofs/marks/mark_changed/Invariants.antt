@@ -1,0 +1,10 @@
+use Rattle.laws.proofs.Prelude.{◌-◌, arith}
+use Rattle.layer_table.specs.Table.{table_of}
+use Rattle.layer_listing.proofs.Marking.{Marking, mark_start, mark_long, mark_next, mark_end}
+use Rattle.layer_listing.proofs.marks.mark_changed.Given as goal
+
+abbrev pub invariant-loop-i : goal.invariant-loop-i
+invariant-loop-i l = Marking (table_of l.layers l.colors l.count) l.n l.ids l.initial.flags l.flags l.i
+
+abbrev pub decreases-loop-i : goal.decreases-loop-i
+decreases-loop-i l = l.n - l.i

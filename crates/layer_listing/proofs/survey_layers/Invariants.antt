@@ -1,0 +1,10 @@
+use Rattle.laws.proofs.Prelude.{◌+◌, ◌-◌, arith, rules, length}
+use Rattle.layer_table.specs.Table.{table_of}
+use Rattle.layer_listing.proofs.Surveying.{Surveying, survey_start, survey_next, survey_end}
+use Rattle.layer_listing.proofs.survey_layers.Given as goal
+
+abbrev pub invariant-loop-i : goal.invariant-loop-i
+invariant-loop-i l = Surveying l.n l.ids l.covers l.part (table_of l.layers l.colors l.count) l.initial.sums l.total l.known l.light l.sums l.i l.j
+
+abbrev pub decreases-loop-i : goal.decreases-loop-i
+decreases-loop-i l = l.n + length l.part - (l.i + l.j)

@@ -1,0 +1,12 @@
+use Rattle.laws.proofs.Prelude.{◌∙◌, ◌-◌, arith, rules, pos, length, get_or, replicate, length-replicate, to_z-of_z, w8, small, kept}
+use Rattle.pixel_segment.specs.Field.{gpu, local_y_of}
+use Rattle.cover_statements.proofs.Tables.{Filling, fill_start, fill_next, fill_fits, fill_end}
+use Rattle.layer_row_gpu.specs.InnerCovers.{cover_within}
+use Rattle.layer_row_gpu.proofs.Within.{covers_within, within_light}
+use Rattle.layer_row_gpu.proofs.covers.sum.Given as goal
+
+abbrev pub invariant-loop-i : goal.invariant-loop-i
+invariant-loop-i l = Filling (local_y_of gpu) (cover_within l.layer_id) 4 127 l.part (replicate 4 (pos 0)) l.i l.covers
+
+abbrev pub decreases-loop-i : goal.decreases-loop-i
+decreases-loop-i l = length l.part - l.i

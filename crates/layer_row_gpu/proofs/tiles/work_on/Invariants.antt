@@ -1,0 +1,12 @@
+use Rattle.laws.proofs.Prelude.{◌≡◌, refl, sym, ap, ◌∙◌, ℕ, ◌-◌, ◌/◌, arith, rules, leb, length}
+use Rattle.layer_row_gpu.specs.LayerState.{layer_state_in}
+use Rattle.layer_row_gpu.specs.InnerTiles.{next_in, next_judged}
+use Rattle.layer_row_gpu.proofs.Going.{Going, start, all_worked, stops, tile_ready, next, told_so}
+use Rattle.layer_row_gpu.proofs.tiles.work_on.Given as goal
+
+abbrev pub invariant-loop-k : goal.invariant-loop-k
+invariant-loop-k l =
+    Going l.row l.tiles l.k (layer_state_in l.initial.state) (layer_state_in l.state) l.initial.planes l.planes × (l.room ≡ length l.initial.planes / 64)
+
+abbrev pub decreases-loop-k : goal.decreases-loop-k
+decreases-loop-k l = l.tiles - l.k

@@ -1,0 +1,12 @@
+use Rattle.laws.proofs.Prelude.{◌∙◌, ◌-◌, arith, rules}
+use Rattle.lines.proofs.LinesPrinting.{line_room}
+use Rattle.load_statements.specs.Load.{asked}
+use Rattle.load_statements.proofs.Fields.{slot_small}
+use Rattle.load_text.proofs.Printing.{seven, Making, make, make_next, segments_printed}
+use Rattle.load_text.proofs.blocks.print_segments.Given as goal
+
+abbrev pub invariant-loop-k : goal.invariant-loop-k
+invariant-loop-k l = Making (asked l.seed l.tiles l.count) l.initial.out l.initial.end l.end l.generator.state l.k l.out
+
+abbrev pub decreases-loop-k : goal.decreases-loop-k
+decreases-loop-k l = l.count - l.k

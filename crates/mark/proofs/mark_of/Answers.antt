@@ -1,0 +1,23 @@
+-- `mark::mark_of` meets its contract. Assumes nothing.
+use Rattle.laws.proofs.Prelude.{arith, rules}
+use Rattle.cover_statements.proofs.Marks.{Marking, mark_start, mark_small, mark_next, mark_end, bit_lt}
+use Rattle.mark.proofs.mark_of.Goals as goal
+
+pub loop-octet-init : goal.loop-octet-init
+loop-octet-init c = mark_start
+
+pub overflow_mul-mark : goal.overflow_mul-mark
+overflow_mul-mark c = omega (arith, mark_small c.loop-octet.invariant c.loop-octet-test.true)
+
+pub is_used-requires : goal.is_used-requires
+is_used-requires c = omega (arith, c.loop-octet.invariant.reached)
+
+pub overflow_add-mark : goal.overflow_add-mark
+overflow_add-mark c =
+    omega (arith, mark_small c.loop-octet.invariant c.loop-octet-test.true, bit_lt c.is_used.result)
+
+pub loop-octet-preserved : goal.loop-octet-preserved
+loop-octet-preserved c = mark_next c.loop-octet.invariant c.loop-octet-test.true c.is_used.ensures
+
+pub returns : goal.returns
+returns c = mark_end c.loop-octet.invariant c.loop-octet-test.false

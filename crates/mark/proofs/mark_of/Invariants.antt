@@ -1,0 +1,9 @@
+use Rattle.laws.proofs.Prelude.{arith, rules}
+use Rattle.cover_statements.proofs.Marks.{Marking, mark_start, mark_small, mark_next, mark_end, bit_lt}
+use Rattle.mark.proofs.mark_of.Given as goal
+
+abbrev pub invariant-loop-octet : goal.invariant-loop-octet
+invariant-loop-octet l = Marking l.plane l.mark l.octet
+
+abbrev pub decreases-loop-octet : goal.decreases-loop-octet
+decreases-loop-octet l = l.octet

@@ -1,0 +1,11 @@
+use Rattle.laws.proofs.Prelude.{◌∙◌, ◌-◌, arith, rules}
+use Rattle.styling.specs.declared.FillRule.TheVariants.{EvenOdd}
+use Rattle.cover_statements.specs.InnerWeighed.{weights_of, coverages_in, weights_plane}
+use Rattle.cover_statements.proofs.Marks.{Marking, mark_start, mark_small, mark_next, mark_end, bit_lt, octet_used}
+use Rattle.mark.proofs.weights.mark_of.Given as goal
+
+abbrev pub invariant-loop-octet : goal.invariant-loop-octet
+invariant-loop-octet l = Marking (weights_plane 16 (weights_of EvenOdd l.areas)) l.mark l.octet
+
+abbrev pub decreases-loop-octet : goal.decreases-loop-octet
+decreases-loop-octet l = l.octet

@@ -1,0 +1,14 @@
+use Rattle.laws.proofs.Prelude.{◌∙◌, ◌-◌, arith}
+use Rattle.layer_table.specs.Table.{table_of}
+use Rattle.pass_statements.specs.Entry.{entries_of}
+use Rattle.pass_statements.specs.Item.{items_of}
+use Rattle.pass_statements.proofs.Clipping.{Passing, pass_start, pass_next, pass_end, passed}
+use Rattle.pass_statements.proofs.Listing.{length_items, drop_items}
+use Rattle.passes.proofs.clips.skip_trivial_clips_pass.Given as goal
+
+abbrev pub invariant-loop-i : goal.invariant-loop-i
+invariant-loop-i l =
+    Passing (items_of (table_of l.layers l.colors l.count) (entries_of l.n l.ids l.covers l.flags)) l.n l.initial.unmasked l.initial.unclipped l.unmasked l.unclipped l.cur l.i
+
+abbrev pub decreases-loop-i : goal.decreases-loop-i
+decreases-loop-i l = l.n - l.i

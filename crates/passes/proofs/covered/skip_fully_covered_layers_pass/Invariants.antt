@@ -1,0 +1,14 @@
+use Rattle.laws.proofs.Prelude.{◌-◌, arith, rules}
+use Rattle.layer_table.specs.Table.{table_of}
+use Rattle.pass_statements.specs.Entry.{entries_of}
+use Rattle.pass_statements.specs.Item.{items_of}
+use Rattle.pass_statements.proofs.Covering.{Looking, look_start, look_masked, look_next, look_found, look_end}
+use Rattle.pass_statements.proofs.Listing.{length_items, item_read}
+use Rattle.passes.proofs.covered.skip_fully_covered_layers_pass.Given as goal
+
+abbrev pub invariant-loop-i : goal.invariant-loop-i
+invariant-loop-i l =
+    Looking (items_of (table_of l.layers l.colors l.count) (entries_of l.n l.ids l.covers l.flags)) l.unmasked l.unclipped l.n l.removed l.i l.found
+
+abbrev pub decreases-loop-i : goal.decreases-loop-i
+decreases-loop-i l = l.i

@@ -1,0 +1,11 @@
+use Rattle.laws.proofs.Prelude.{◌≡◌, ◌+◌, ◌-◌, ◌≤◌, ◌<◌, arith, rules, drop, length}
+use Rattle.pixel_segment.specs.declared.consts.Layout.{Layout}
+use Rattle.pixel_segment.specs.Field.{sum, widths_of}
+use Rattle.pixel_segment.proofs.Widths.{sum_step, sum_past, index_lt, length_of, sum_le_of}
+use Rattle.pixel_segment.proofs.consts.shift.Given as goal
+
+abbrev pub invariant-loop-i : goal.invariant-loop-i
+invariant-loop-i l = (l.i ≤ 7) × (l.amount + sum (drop l.i (widths_of l.layout)) ≡ sum (drop l.initial.i (widths_of l.layout)))
+
+abbrev pub decreases-loop-i : goal.decreases-loop-i
+decreases-loop-i l = 7 - l.i

@@ -1,0 +1,6 @@
+-- `GpuSegment::cmp` meets its contract: that of the function over the layout. Assumes nothing.
+use Rattle.laws.proofs.Prelude.{rules}
+use Rattle.pixel_segment_gpu.proofs.GpuSegment.cmp.Goals as goal
+
+pub returns : goal.returns
+returns c = c.compare_words.ensures

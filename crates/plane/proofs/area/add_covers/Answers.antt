@@ -1,0 +1,53 @@
+-- `plane::area::add_covers` meets its contract: it is the half of shading a column that leaves the areas alone. Assumes nothing.
+use Rattle.laws.proofs.Prelude.{◌≡◌, refl, List, ℕ, ◌+◌, ◌-◌, ◌*◌, ◌≤◌, arith, rules, lt-ltb, ℤ, pos, ◌+ℤ◌, ◌*ℤ◌, replicate, set, length-replicate}
+use Rattle.laws.proofs.Prelude.{to_z-of_z, w8, small, kept, is_tabulate}
+use Rattle.cover_statements.specs.InnerCell.{Shaded}
+use Rattle.cover_statements.specs.Cover.{cover_at}
+use Rattle.cover_statements.proofs.Shades.{shade_start, shade_next}
+use Rattle.plane.proofs.area.add_covers.Invariants.{Raised}
+use Rattle.plane.proofs.area.add_covers.Goals as goal
+
+-- areas of no matter, shaded beside
+abbrev none : List ℤ
+none = replicate 256 (pos 0)
+
+pub loop-y-init : goal.loop-y-init
+loop-y-init c = record { reached = omega arith; areas = none; shaded = shade_start (length-replicate 256 (pos 0)) (search rules) }
+
+pub overflow_mul-next : goal.overflow_mul-next
+overflow_mul-next c = omega (arith, c.requires.0)
+
+pub overflow_add-next : goal.overflow_add-next
+overflow_add-next c = omega (arith, c.requires.0)
+
+pub bounds-covers-column : goal.bounds-covers-column
+bounds-covers-column c = omega (arith, c.requires.0)
+
+pub overflow_add-next-in-loop-y : goal.overflow_add-next-in-loop-y
+overflow_add-next-in-loop-y c =
+    rw (
+      kept w8 (cover_at c.args.t3 c.loop-y.y) c.next-1.given,
+      kept w8 (cover_at c.args.covers.now (c.args.column * 16 + c.loop-y.y)) c.next-in-loop-y-1.given,
+    )
+    (small w8 _ (omega (arith, c.requires.1 c.loop-y.y c.loop-y-test.true)))
+
+pub loop-y-preserved : goal.loop-y-preserved
+loop-y-preserved c =
+    record {
+      reached = omega arith;
+      areas = set c.loop-y.invariant.areas (c.args.column * 16 + c.loop-y.y) (pos 32 *ℤ cover_at c.args.t3 c.loop-y.y +ℤ cover_at c.loop-y.invariant.areas (c.args.column * 16 + c.loop-y.y));
+      shaded =
+          shade_next c.loop-y.invariant.shaded c.requires.0 c.loop-y-test.true refl refl
+          (rw (
+            to_z-of_z (overflow_add-next-in-loop-y c),
+            kept w8 (cover_at c.args.t3 c.loop-y.y) c.next-1.given,
+            kept w8 (cover_at c.args.covers.now (c.args.column * 16 + c.loop-y.y)) c.next-in-loop-y-1.given,
+          ));
+    }
+
+pub returns : goal.returns
+returns c =
+    let e : c.loop-y.y ≡ 16 = omega (arith, c.loop-y.invariant.reached) in
+    let h = rw e at c.loop-y.invariant.shaded in
+    is_tabulate 16 (λ y. cover_at c.args.t3 y +ℤ cover_at c.args.covers.now (c.args.column * 16 + y)) (pos 0) c.loop-y.next h.sums_long
+    (λ y p. rw (lt-ltb y 16 p) at (h.sum y p))

@@ -1,0 +1,91 @@
+-- `plane::area::compute_doubled_areas` meets its contract. Assumes nothing.
+use Rattle.laws.proofs.Prelude.{◌≡◌, refl, List, ℕ, ◌+◌, ◌-◌, ◌*◌, ◌^◌, ◌≤◌, ◌<◌, arith, rules, sfits_of, lt-ltb, ℤ, pos, ◌+ℤ◌, ◌*ℤ◌, set, mag}
+use Rattle.laws.proofs.Prelude.{to_z-of_z, sfits_widen, w8, w16, SFits, sfits, within, small, kept, times, length_tabulate, get_d_tabulate}
+use Rattle.cover_statements.specs.InnerCell.{Shaded}
+use Rattle.cover_statements.specs.Cover.{cover_at}
+use Rattle.cover_statements.proofs.Shades.{shade_start, shade_area, shade_next}
+use Rattle.plane.proofs.area.compute_doubled_areas.Invariants.{Shading}
+use Rattle.plane.proofs.area.compute_doubled_areas.Goals as goal
+
+-- a row's sum at 16 bits, and 32 times it
+wide : (z : ℤ) → mag z < 2 ^ 7 → SFits w16 z
+wide z h = sfits_widen {w = w8} tt (sfits_of h)
+
+scaled : (z : ℤ) → mag z < 2 ^ 7 → SFits w16 (pos 32 *ℤ z)
+scaled z h = sfits w16 (pos 32 *ℤ z) (omega (arith, times 32 z, within w8 z (sfits_of h)))
+
+pub loop-y-init : goal.loop-y-init
+loop-y-init c = record { reached = omega arith; next = c.args.t4; shaded = shade_start c.requires.room (search rules) }
+
+pub overflow_mul-k : goal.overflow_mul-k
+overflow_mul-k c = omega (arith, c.requires.low)
+
+pub overflow_add-k : goal.overflow_add-k
+overflow_add-k c = omega (arith, c.requires.low)
+
+pub overflow_cast-areas : goal.overflow_cast-areas
+overflow_cast-areas c =
+    let z = cover_at c.args.t4 c.loop-y.y in
+    rw (kept w8 z c.areas-1.given) (wide z c.areas-1.given)
+
+pub overflow_mul-areas : goal.overflow_mul-areas
+overflow_mul-areas c =
+    let z = cover_at c.args.t4 c.loop-y.y in
+    rw (kept w8 z c.areas-1.given, to_z-of_z (wide z c.areas-1.given)) (scaled z c.areas-1.given)
+
+pub offset_bounds-areas-k : goal.offset_bounds-areas-k
+offset_bounds-areas-k c = omega (arith, c.requires.low)
+
+pub bounds-areas-k : goal.bounds-areas-k
+bounds-areas-k c = omega (arith, c.requires.low)
+
+pub overflow_add-areas : goal.overflow_add-areas
+overflow_add-areas c =
+    let z = cover_at c.args.t4 c.loop-y.y in
+    rw (
+      kept w8 z c.areas-1.given,
+      to_z-of_z (wide z c.areas-1.given),
+      to_z-of_z (scaled z c.areas-1.given),
+      kept w16 (cover_at c.loop-y.areas (c.args.column * 16 + c.loop-y.y)) c.areas-in-loop-y-1.given,
+      shade_area c.loop-y.invariant.shaded c.requires.low c.loop-y-test.true,
+    )
+    (small w16 _ (omega (arith, c.requires.area_small c.loop-y.y c.loop-y-test.true)))
+
+pub offset_bounds-areas-k-in-loop-y : goal.offset_bounds-areas-k-in-loop-y
+offset_bounds-areas-k-in-loop-y c = omega (arith, c.requires.low)
+
+pub bounds-areas-k-in-loop-y : goal.bounds-areas-k-in-loop-y
+bounds-areas-k-in-loop-y c = omega (arith, c.requires.low)
+
+pub loop-y-preserved : goal.loop-y-preserved
+loop-y-preserved c =
+    let z = cover_at c.args.t4 c.loop-y.y in
+    record {
+      reached = omega arith;
+      next = set c.loop-y.invariant.next c.loop-y.y (z +ℤ cover_at c.args.covers.now (c.args.column * 16 + c.loop-y.y));
+      shaded =
+          shade_next c.loop-y.invariant.shaded c.requires.low c.loop-y-test.true refl
+          (rw (
+            to_z-of_z (overflow_add-areas c),
+            kept w8 z c.areas-1.given,
+            to_z-of_z (wide z c.areas-1.given),
+            to_z-of_z (scaled z c.areas-1.given),
+            kept w16 (cover_at c.loop-y.areas (c.args.column * 16 + c.loop-y.y)) c.areas-in-loop-y-1.given,
+          ))
+          refl;
+    }
+
+pub add_covers-requires : goal.add_covers-requires
+add_covers-requires c = (c.requires.low, c.requires.sum_small)
+
+pub returns : goal.returns
+returns c =
+    let e : c.loop-y.y ≡ 16 = omega (arith, c.loop-y.invariant.reached) in
+    let h = rw e at c.loop-y.invariant.shaded in
+    let f : ℕ → ℤ = λ y. cover_at c.args.t4 y +ℤ cover_at c.args.covers.now (c.args.column * 16 + y) in
+    record {
+      long = h.long;
+      area = h.area;
+      sums_long = rw c.add_covers.ensures (length_tabulate 16 f);
+      sum = λ y p. rw (c.add_covers.ensures, lt-ltb y 16 p) (get_d_tabulate 16 f (pos 0) y p);
+    }

@@ -1,0 +1,18 @@
+use Rattle.laws.proofs.Prelude.{◌≡◌, refl, List, ℕ, ◌+◌, ◌-◌, ◌*◌, ◌^◌, ◌≤◌, ◌<◌, arith, rules, sfits_of, lt-ltb, ℤ, pos, ◌+ℤ◌, ◌*ℤ◌, set, mag}
+use Rattle.laws.proofs.Prelude.{to_z-of_z, sfits_widen, w8, w16, SFits, sfits, within, small, kept, times, length_tabulate, get_d_tabulate}
+use Rattle.cover_statements.specs.InnerCell.{Shaded}
+use Rattle.cover_statements.specs.Cover.{cover_at}
+use Rattle.cover_statements.proofs.Shades.{shade_start, shade_area, shade_next}
+use Rattle.plane.proofs.area.compute_doubled_areas.Given as goal
+
+-- the sums that a loop over both would have by then
+pub record Shading (column y : ℕ) (areas₀ covers sums areas : List ℤ) : Type 0 where
+  reached : y ≤ 16
+  next : List ℤ
+  shaded : Shaded 16 column y areas₀ covers sums areas next
+
+abbrev pub invariant-loop-y : goal.invariant-loop-y
+invariant-loop-y l = Shading l.column l.y l.initial.areas l.covers l.sums l.areas
+
+abbrev pub decreases-loop-y : goal.decreases-loop-y
+decreases-loop-y l = 16 - l.y

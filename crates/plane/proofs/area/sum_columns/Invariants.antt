@@ -1,0 +1,13 @@
+use Rattle.laws.proofs.Prelude.{refl, List, ℕ, ◌-◌, arith}
+use Rattle.pixel_segment.specs.Field.{cpu}
+use Rattle.cover_statements.specs.InnerCell.{Accumulated}
+use Rattle.cover_statements.proofs.Carries.{light}
+use Rattle.cover_statements.proofs.Columns.{Columns, columns_start, columns_ready, columns_next, columns_end}
+use Rattle.plane.proofs.area.sum_columns.Given as goal
+
+-- of every part with these cells
+abbrev pub invariant-loop-column : goal.invariant-loop-column
+invariant-loop-column l = (part : List ℕ) → Accumulated cpu 16 part l.initial.areas l.covers → Columns cpu 16 l.initial.sums part l.covers l.column l.areas l.sums
+
+abbrev pub decreases-loop-column : goal.decreases-loop-column
+decreases-loop-column l = 16 - l.column

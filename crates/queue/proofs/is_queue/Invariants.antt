@@ -1,0 +1,9 @@
+use Rattle.laws.proofs.Prelude.{◌-◌, arith, rules}
+use Rattle.queue_statements.proofs.Judging.{Judging, begin, next, end, many}
+use Rattle.queue.proofs.is_queue.Given as goal
+
+abbrev pub invariant-loop-i : goal.invariant-loop-i
+invariant-loop-i l = Judging l.n l.ids l.i l.ok l.low
+
+abbrev pub decreases-loop-i : goal.decreases-loop-i
+decreases-loop-i l = l.there - l.i

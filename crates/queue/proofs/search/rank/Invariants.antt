@@ -1,0 +1,9 @@
+use Rattle.laws.proofs.Prelude.{◌-◌, arith}
+use Rattle.queue_statements.proofs.Ranks.{Halving, begin, upper, lower, end}
+use Rattle.queue.proofs.search.rank.Given as goal
+
+abbrev pub invariant-loop-low : goal.invariant-loop-low
+invariant-loop-low l = Halving l.ids l.n l.id l.low l.high
+
+abbrev pub decreases-loop-low : goal.decreases-loop-low
+decreases-loop-low l = l.high - l.low

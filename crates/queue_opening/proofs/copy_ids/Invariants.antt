@@ -1,0 +1,9 @@
+use Rattle.laws.proofs.Prelude.{refl, ◌-◌, arith}
+use Rattle.queue_statements.proofs.Copying.{Copying, copy_start, copy_next, copy_end}
+use Rattle.queue_opening.proofs.copy_ids.Given as goal
+
+abbrev pub invariant-loop-i : goal.invariant-loop-i
+invariant-loop-i l = Copying l.from l.n l.initial.to l.i l.to
+
+abbrev pub decreases-loop-i : goal.decreases-loop-i
+decreases-loop-i l = l.n - l.i

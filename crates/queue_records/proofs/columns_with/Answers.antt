@@ -1,0 +1,6 @@
+-- `queue_records::columns_with` meets its contract. Assumes nothing.
+use Rattle.laws.proofs.Prelude.{rules}
+use Rattle.queue_records.proofs.columns_with.Goals as goal
+
+pub returns : goal.returns
+returns c = rw c.lesser-entries.ensures

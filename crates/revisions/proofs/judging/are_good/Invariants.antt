@@ -1,0 +1,9 @@
+use Rattle.laws.proofs.Prelude.{List, ◌≤◌, ◌-◌, arith, Float}
+use Rattle.revision_statements.proofs.Judging.{Passing, pass_first, pass_next, pass_last}
+use Rattle.revisions.proofs.judging.are_good.Given as goal
+
+abbrev pub invariant-loop-i : goal.invariant-loop-i
+invariant-loop-i l = (l.i ≤ l.n) × ((floats : List Float) → Passing l.records floats l.n l.i l.ok)
+
+abbrev pub decreases-loop-i : goal.decreases-loop-i
+decreases-loop-i l = l.n - l.i

@@ -1,0 +1,9 @@
+use Rattle.laws.proofs.Prelude.{◌-◌, arith}
+use Rattle.row_printing.proofs.Lining.{Lining, start, words_there, line_room, next, end_of}
+use Rattle.row_printing.proofs.print_lines.Given as goal
+
+abbrev pub invariant-loop-i : goal.invariant-loop-i
+invariant-loop-i l = Lining l.told l.first l.n l.initial.out l.at l.out l.end l.tile l.i
+
+abbrev pub decreases-loop-i : goal.decreases-loop-i
+decreases-loop-i l = l.n - l.i

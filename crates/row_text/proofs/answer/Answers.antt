@@ -1,0 +1,67 @@
+-- `answer` meets its contract: what is lent to be driven is the job that was read, and arrays of these lengths hold every job. Assumes nothing.
+use Rattle.laws.proofs.Prelude.{refl, sym, ◌*◌, arith, rules, length-take-le}
+use Rattle.report.proofs.Lines.{at_front}
+use Rattle.row_answer.proofs.Reading.{accepts, has_room_lem, refuses, same_text}
+use Rattle.row_text.proofs.answer.Goals as goal
+
+pub overflow_mul-words : goal.overflow_mul-words
+overflow_mul-words c =
+    let j = c.read_job in
+    let x = accepts j.ensures refl refl refl c.in-Accepted.is in
+    omega (arith, x.words_fit)
+
+pub overflow_mul-floats : goal.overflow_mul-floats
+overflow_mul-floats c =
+    let j = c.read_job in
+    let x = accepts j.ensures refl refl refl c.in-Accepted.is in
+    omega (arith, x.colors_fit)
+
+pub slice_bounds-row-end : goal.slice_bounds-row-end
+slice_bounds-row-end c =
+    let j = c.read_job in
+    let x = accepts j.ensures refl refl refl c.in-Accepted.is in
+    omega (arith, x.row_fits)
+
+pub slice_bounds-drive-end : goal.slice_bounds-drive-end
+slice_bounds-drive-end c =
+    let j = c.read_job in
+    let x = accepts j.ensures refl refl refl c.in-Accepted.is in
+    sym (length-take-le c.in-Accepted.segments j.new.1.1.1.0 (omega (arith, x.row_fits, j.auto.1.1.1.0)))
+
+pub slice_bounds-layers-end : goal.slice_bounds-layers-end
+slice_bounds-layers-end c =
+    let j = c.read_job in
+    let x = accepts j.ensures refl refl refl c.in-Accepted.is in
+    omega (arith, x.words_fit)
+
+pub slice_bounds-drive-end-in-Accepted : goal.slice_bounds-drive-end-in-Accepted
+slice_bounds-drive-end-in-Accepted c =
+    let j = c.read_job in
+    let x = accepts j.ensures refl refl refl c.in-Accepted.is in
+    sym (length-take-le (c.in-Accepted.count * 8) j.new.1.0 (omega (arith, x.words_fit, j.auto.1.0)))
+
+pub slice_bounds-colors-end : goal.slice_bounds-colors-end
+slice_bounds-colors-end c =
+    let j = c.read_job in
+    let x = accepts j.ensures refl refl refl c.in-Accepted.is in
+    omega (arith, x.colors_fit)
+
+pub slice_bounds-drive-end-in-Accepted-2 : goal.slice_bounds-drive-end-in-Accepted-2
+slice_bounds-drive-end-in-Accepted-2 c =
+    let j = c.read_job in
+    let x = accepts j.ensures refl refl refl c.in-Accepted.is in
+    sym (length-take-le (c.in-Accepted.count * 4) j.new.1.1.0 (omega (arith, x.colors_fit, j.auto.1.1.0)))
+
+pub returns-in-Accepted : goal.returns-in-Accepted
+returns-in-Accepted c =
+    let j = c.read_job in
+    let x = accepts j.ensures refl refl refl c.in-Accepted.is in
+    same_text x.answer c.drive.ensures
+
+pub returns-in-NoRoom : goal.returns-in-NoRoom
+returns-in-NoRoom c = absurd (has_room_lem c.read_job.ensures refl refl refl c.in-NoRoom.is)
+
+pub returns-in-Malformed : goal.returns-in-Malformed
+returns-in-Malformed c =
+    let p = c.print_refusal.ensures in
+    same_text (refuses c.read_job.ensures refl refl refl c.in-Malformed.is) (at_front p.0 (omega (arith, p.1)))

@@ -1,0 +1,26 @@
+-- `spread` meets its contract. Assumes nothing.
+use Rattle.laws.proofs.Prelude.{◌≡◌, refl, ◌∙◌, cond, ◌+◌, ◌-◌, ◌*◌, arith, eq-eqb, ne_eqb, eqb, to_z-of_z, w16, to_z, kept}
+use Rattle.cover_statements.specs.Cover.{cover_at}
+use Rattle.segment_set_statements.proofs.Spreading.{Spreading, spread_start, spread_next, spread_end}
+use Rattle.segment_effect.proofs.spread.Goals as goal
+
+pub loop-column-init : goal.loop-column-init
+loop-column-init c =
+    (spread_start (omega arith) (omega arith) (omega arith), rw (eq-eqb c.args.x c.args.x refl))
+
+pub loop-column-preserved : goal.loop-column-preserved
+loop-column-preserved c =
+    let x = c.args.x in
+    let h = c.loop-column.invariant.0.from in (
+      spread_next c.loop-column.invariant.0 (omega arith)
+          (kept w16 c.add_area.result c.add_area.type_inv
+          ∙ rw (kept w16 (cover_at c.loop-column.areas (c.loop-column.column * 16 + c.args.y)) c.add_area-arg-1.given, c.loop-column.invariant.1) at c.add_area.ensures),
+      rw (ne_eqb x (c.loop-column.column + 1) (λ e. omega arith)),
+    )
+
+pub shape_of-areas : goal.shape_of-areas
+shape_of-areas c = c.loop-column.invariant.0.long
+
+pub returns : goal.returns
+returns c =
+    rw (to_z-of_z c.ranges.own, to_z-of_z c.ranges.past) at (spread_end c.loop-column.invariant.0 (omega arith))

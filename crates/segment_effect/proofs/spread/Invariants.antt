@@ -1,0 +1,11 @@
+use Rattle.laws.proofs.Prelude.{◌≡◌, refl, ◌∙◌, cond, ◌+◌, ◌-◌, ◌*◌, arith, eq-eqb, ne_eqb, eqb, to_z-of_z, w16, to_z, kept}
+use Rattle.cover_statements.specs.Cover.{cover_at}
+use Rattle.segment_set_statements.proofs.Spreading.{Spreading, spread_start, spread_next, spread_end}
+use Rattle.segment_effect.proofs.spread.Given as goal
+
+abbrev pub invariant-loop-column : goal.invariant-loop-column
+invariant-loop-column l =
+    Spreading l.x l.y (to_z w16 l.own) (to_z w16 l.past) l.initial.areas l.column l.areas × (to_z w16 l.amount ≡ cond (eqb l.x l.column) (to_z w16 l.own) (to_z w16 l.past))
+
+abbrev pub decreases-loop-column : goal.decreases-loop-column
+decreases-loop-column l = 16 - l.column

@@ -1,0 +1,15 @@
+-- `are_of` meets its contract. Assumes nothing.
+use Rattle.laws.proofs.Prelude.{refl, ◌-◌, arith, rules, length, to_z-of_z, w16, to_z}
+use Rattle.cover_statements.proofs.Testing.{Testing, test_start, test_next, test_end}
+use Rattle.segment_set_statements.specs.Set.{is_of}
+use Rattle.segment_judging.proofs.are_of.Goals as goal
+
+pub loop-i-init : goal.loop-i-init
+loop-i-init c = test_start refl
+
+pub loop-i-preserved : goal.loop-i-preserved
+loop-i-preserved c = test_next 0 c.loop-i.invariant (omega arith) c.is_of-ok.ensures
+
+pub returns : goal.returns
+returns c =
+    rw (to_z-of_z c.ranges.tile_x, to_z-of_z c.ranges.tile_y) at (test_end c.loop-i.invariant (omega arith))

@@ -1,0 +1,8 @@
+-- `parts::in_tile` meets its contract. Assumes nothing.
+use Rattle.laws.proofs.Prelude.{rules, to_z-of_z}
+use Rattle.segment_rows.specs.Search.{tile_part}
+use Rattle.segment_rows.proofs.parts.in_tile.Goals as goal
+
+pub returns : goal.returns
+unfolding tile_part
+returns c = rw (c.in_tile_in.ensures, to_z-of_z c.ranges.tile_x)

@@ -1,0 +1,29 @@
+-- `search::search_last_by_tile_x_at_least_in` meets its contract. Assumes nothing.
+use Rattle.laws.proofs.Prelude.{ap, fun_ext, Bool, ℕ, arith, rules, to_z-of_z}
+use Rattle.pixel_segment.specs.Field.{widths_of, tile_x_of}
+use Rattle.pixel_segment.specs.Order.{compare_bool}
+use Rattle.segment_rows.specs.Search.{search_of}
+use Rattle.segment_rows.proofs.Above.{wider, at_least_tile}
+use Rattle.pixel_segment.proofs.Widths.{readable}
+use Rattle.segment_rows.proofs.search.search_last_by_tile_x_at_least_in.Goals as goal
+
+pub overflow_cast-start : goal.overflow_cast-start
+overflow_cast-start c = rw (to_z-of_z c.ranges.start) (wider _ c.ranges.start)
+
+pub search_at_least-requires : goal.search_at_least-requires
+search_at_least-requires c =
+    let h = readable c.args.layout 1 c.shift-offset.ensures c.size.ensures in
+    (h.0, h.1, omega (arith, h.2))
+
+pub returns : goal.returns
+returns c =
+    rw (
+      c.search_at_least.ensures,
+      c.size.ensures,
+      c.stored-first.ensures,
+      c.shift-offset.ensures,
+      to_z-of_z c.ranges.start,
+      to_z-of_z (wider _ c.ranges.start),
+    )
+    (ap (λ (at : ℕ → ℕ). search_of at c.args.segments.now)
+    (fun_ext (λ w. ap (λ (b : Bool). compare_bool b c.args.wanted) (at_least_tile c.args.start (tile_x_of (widths_of c.args.layout) w)))))

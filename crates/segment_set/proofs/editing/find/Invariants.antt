@@ -1,0 +1,9 @@
+use Rattle.laws.proofs.Prelude.{◌-◌, arith, rules}
+use Rattle.segment_set_statements.proofs.Places.{Looking, look_start, look_found, look_next, look_end}
+use Rattle.segment_set.proofs.editing.find.Given as goal
+
+abbrev pub invariant-loop-i : goal.invariant-loop-i
+invariant-loop-i l = Looking l.word l.held l.slots l.i
+
+abbrev pub decreases-loop-i : goal.decreases-loop-i
+decreases-loop-i l = l.held - l.i

@@ -1,0 +1,10 @@
+use Rattle.laws.proofs.Prelude.{◌∙◌, ◌-◌, ◌%◌, arith, w16, w8, kept}
+use Rattle.cover_statements.specs.Cover.{cover_at}
+use Rattle.segment_set_statements.proofs.Begins.{Starting, start_areas, next_area, end_areas}
+use Rattle.segment_set.proofs.editing.start_areas.Given as goal
+
+abbrev pub invariant-loop-k : goal.invariant-loop-k
+invariant-loop-k l = Starting l.covers l.initial.areas l.k l.areas
+
+abbrev pub decreases-loop-k : goal.decreases-loop-k
+decreases-loop-k l = 256 - l.k

@@ -1,0 +1,140 @@
+-- `tile::work_here` meets its contract. Assumes nothing.
+use Rattle.laws.proofs.Prelude.{◌≡◌, refl, ap, sym, ◌∙◌, Bool, false, List, ℕ, arith, rules}
+use Rattle.refusals.specs.Refusal.{Judgement, pass, unless, and_then}
+use Rattle.cached_tile.specs.Kept.{tag_out_of_range}
+use Rattle.row_statements.specs.Lent.{ListColumns, columns, list_columns, lent_table}
+use Rattle.row_statements.specs.TileWork.{WorkLent, work_lent, layers_verdict, GivesWork}
+use Rattle.row_statements.specs.InnerWork.{worked_by}
+use Rattle.row_driver.specs.InnerSteps as driver
+use Rattle.row_working.proofs.PartLaws.{part_judged}
+use Rattle.row_driver.proofs.Listed.{painter, accepted, count, walkable}
+use Rattle.batch_statements.specs.BatchLent.{batch_lent, kept_at}
+use Rattle.batch_statements.specs.Batch.{BatchRow, BatchAt, batch_row, call_at}
+use Rattle.tile_batch.specs.InnerTurns.{batch_in, PartOf}
+use Rattle.tile_batch.proofs.Turning.{own_judged, own_tag, workable, all_few, turn_done, turn_refused, turn_left, turn_told_refused, both_pass}
+use Rattle.tile_batch.proofs.tile.work_here.Goals as goal
+use Rattle.tile_batch.proofs.tile.work_here.Goals.{After-work_part-worked, Start}
+
+-- what the function is called with where the part is a row's, where the batch stands, and the list
+abbrev row_of : Start → List ℕ → BatchRow
+row_of s row = let a = s.args in batch_row row (lent_table a.layers.now a.colors.now a.count) a.keeps a.clear a.previous
+
+abbrev standOf : Start → BatchAt
+standOf s =
+    let a = s.args in
+    batch_in a.at (batch_lent (columns a.ids.now a.covers.now) (columns a.next-ids.now a.next-covers.now) a.kept.now a.told.now a.bottoms.now a.planes.now a.painted.now)
+
+abbrev list_of : Start → ListColumns
+list_of s = let a = s.args in list_columns a.list_ids.now a.list_covers.now a.list_flags.now a.list_unmasked.now
+
+abbrev Own : Start → List ℕ → Type 0
+Own s row = PartOf (row_of s s.args.part.now) (standOf s) row
+
+-- the cached tile's tag is in range
+abbrev NoTag : Start → Type 0
+NoTag s = let a = s.args in tag_out_of_range (kept_at a.keeps a.kept.now a.at.worked) ≡ false
+
+-- neither 2 nor 6 applies
+own : (s : Start) (row : List ℕ) (p : Own s row) → NoTag s → own_judged (row_of s row) (standOf s) p.stands ≡ pass
+own s row p h = sym (own_tag (row_of s row) (standOf s) p.stands s.requires.inside) ∙ ap (λ (b : Bool). unless b 6 pass) h
+
+ready : (s : Start) (row : List ℕ) → Own s row → NoTag s → driver.Workable (call_at (row_of s row) (standOf s)) (work_lent (standOf s).lent.other (list_of s))
+ready s row p h = workable (row_of s row) (standOf s) p.stands (own s row p h) (list_of s) s.requires.list_long
+
+-- what the work leaves in the lent memory
+abbrev backOf : After-work_part-worked → WorkLent
+backOf c =
+    let l = c.work_part-worked.new.1.1.1.1.1.1.1.1.1.1 in
+    work_lent (columns l.0 l.1.0) (list_columns l.1.1.0 l.1.1.1.0 l.1.1.1.1.0 l.1.1.1.1.1.0)
+
+-- what the work says, once
+given_is : (c : After-work_part-worked) (row : List ℕ) → Own c row → GivesWork (worked_by (call_at (row_of c row) (standOf c)) (work_lent (standOf c).lent.other (list_of c))) c.work_part-worked.result (backOf c)
+given_is c row p =
+    rw c.kept_at-held.ensures at (c.work_part-worked.ensures.gives (standOf c.before.before.before.before.before.before.before.before.before.before.before.before.before.before.before.before.before.before.before.before.before.before.before.before.before).tile row p.part_is)
+
+no-tag : (c : After-work_part-worked) → NoTag c
+no-tag c = ap tag_out_of_range (sym c.kept_at-held.ensures) ∙ sym c.is_tag_out_of_range.ensures ∙ c.if-is_tag_out_of_range.false
+
+pub kept_at-held-requires : goal.kept_at-held-requires
+kept_at-held-requires c = c.requires.notes.kept_long
+
+pub returns-then-is_tag_out_of_range : goal.returns-then-is_tag_out_of_range
+returns-then-is_tag_out_of_range c =
+    let tag = ap tag_out_of_range (sym c.kept_at-held.ensures) ∙ sym c.is_tag_out_of_range.ensures ∙ c.if-is_tag_out_of_range.true in
+    record {
+      gives =
+          λ row p.
+          let told = sym (own_tag (row_of (goal.at.returns-then-is_tag_out_of_range c).Start row) (standOf (goal.at.returns-then-is_tag_out_of_range c).Start) p.stands c.requires.inside) ∙ ap (λ (b : Bool). unless b 6 pass) tag in
+          turn_left (row_of (goal.at.returns-then-is_tag_out_of_range c).Start row) (standOf (goal.at.returns-then-is_tag_out_of_range c).Start) c.args.at _ (standOf (goal.at.returns-then-is_tag_out_of_range c).Start).lent _ refl
+          (turn_refused (row_of (goal.at.returns-then-is_tag_out_of_range c).Start row) (standOf (goal.at.returns-then-is_tag_out_of_range c).Start) p.stands (ap (λ (j : Judgement). and_then j (layers_verdict (call_at (row_of (goal.at.returns-then-is_tag_out_of_range c).Start row) (standOf (goal.at.returns-then-is_tag_out_of_range c).Start)))) told))
+          c.refused.ensures;
+    }
+
+pub work_part-worked-requires : goal.work_part-worked-requires
+work_part-worked-requires c =
+    let a = c.args in
+    let t = c.requires in
+    let tag = ap tag_out_of_range (sym c.kept_at-held.ensures) ∙ sym c.is_tag_out_of_range.ensures ∙ c.if-is_tag_out_of_range.false in
+    part_judged a.at.state (standOf (goal.at.work_part-worked-requires c).Start).tile t.row (row_of (goal.at.work_part-worked-requires c).Start t.row).table (kept_at a.keeps a.kept.now a.at.worked) a.clear a.previous (standOf (goal.at.work_part-worked-requires c).Start).lent.queue
+    (work_lent (standOf (goal.at.work_part-worked-requires c).Start).lent.other (list_of (goal.at.work_part-worked-requires c).Start)) t.of_row.part_is (ready (goal.at.work_part-worked-requires c).Start t.row t.of_row tag).judged
+
+pub note_tile-requires : goal.note_tile-requires
+note_tile-requires c =
+    let row = c.requires.row in
+    let p = c.requires.of_row in
+    let tag = no-tag (goal.at.note_tile-requires c).After-work_part-worked in
+    let call = call_at (row_of (goal.at.note_tile-requires c).Start row) (standOf (goal.at.note_tile-requires c).Start) in
+    let lent = work_lent (standOf (goal.at.note_tile-requires c).Start).lent.other (list_of (goal.at.note_tile-requires c).Start) in
+    let g = given_is (goal.at.note_tile-requires c).After-work_part-worked row p in
+    let e = c.in-Done.is in
+    let t = accepted call lent (ready (goal.at.note_tile-requires c).Start row p tag) e g in
+    let many = count call lent (ready (goal.at.note_tile-requires c).Start row p tag) t in
+    let v = both_pass (row_of (goal.at.note_tile-requires c).Start row) c.args.at (standOf (goal.at.note_tile-requires c).Start).lent p.stands (own (goal.at.note_tile-requires c).Start row p tag) (list_of (goal.at.note_tile-requires c).Start) c.requires.list_long g e in
+    let few = all_few (row_of (goal.at.note_tile-requires c).Start row) (standOf (goal.at.note_tile-requires c).Start) p.stands v in
+    let r = (ready (goal.at.note_tile-requires c).Start row p tag).judged.rooms in
+    let planes = c.requires.planes in
+    rw p.part_is (
+      painter call lent (ready (goal.at.note_tile-requires c).Start row p tag),
+      walkable call lent (ready (goal.at.note_tile-requires c).Start row p tag) t,
+      omega (arith, many, few, r.list_ids, c.work_part-worked.auto.1.1.1.1.1.1.1.1.1.1.1.1.0),
+      c.requires.notes,
+      record { planes_long = omega (arith, planes.planes_long, many, few); painted_long = omega (arith, planes.painted_long, many, few) },
+      t.no_clip,
+    )
+
+pub returns-in-Refused : goal.returns-in-Refused
+returns-in-Refused c =
+    record {
+      gives =
+          λ row p.
+          turn_told_refused (row_of (goal.at.returns-in-Refused c).Start row) c.args.at (standOf (goal.at.returns-in-Refused c).Start).lent p.stands (own (goal.at.returns-in-Refused c).Start row p (no-tag (goal.at.returns-in-Refused c).After-work_part-worked)) (list_of (goal.at.returns-in-Refused c).Start) c.requires.list_long (given_is (goal.at.returns-in-Refused c).After-work_part-worked row p) c.in-Refused.is
+          c.refused-in-Refused.ensures;
+    }
+
+pub shape_of-next_ids-in-Done : goal.shape_of-next_ids-in-Done
+shape_of-next_ids-in-Done c = c.work_part-worked.auto.1.1.1.1.1.1.1.1.1.1.0
+
+pub shape_of-next_covers-in-Done : goal.shape_of-next_covers-in-Done
+shape_of-next_covers-in-Done c = c.work_part-worked.auto.1.1.1.1.1.1.1.1.1.1.1.0
+
+pub shape_of-list_ids-in-Done : goal.shape_of-list_ids-in-Done
+shape_of-list_ids-in-Done c = c.work_part-worked.auto.1.1.1.1.1.1.1.1.1.1.1.1.0
+
+pub shape_of-list_covers-in-Done : goal.shape_of-list_covers-in-Done
+shape_of-list_covers-in-Done c = c.work_part-worked.auto.1.1.1.1.1.1.1.1.1.1.1.1.1.0
+
+pub shape_of-list_flags-in-Done : goal.shape_of-list_flags-in-Done
+shape_of-list_flags-in-Done c = c.work_part-worked.auto.1.1.1.1.1.1.1.1.1.1.1.1.1.1.0
+
+pub returns-in-Done : goal.returns-in-Done
+returns-in-Done c =
+    let t = c.requires in
+    let e = c.in-Done.is in
+    record {
+      gives =
+          λ row p.
+          let g = given_is (goal.at.returns-in-Done c).After-work_part-worked row p in
+          let v = both_pass (row_of (goal.at.returns-in-Done c).Start row) c.args.at (standOf (goal.at.returns-in-Done c).Start).lent p.stands (own (goal.at.returns-in-Done c).Start row p (no-tag (goal.at.returns-in-Done c).After-work_part-worked)) (list_of (goal.at.returns-in-Done c).Start) t.list_long g e in
+          turn_done (row_of (goal.at.returns-in-Done c).Start row) (standOf (goal.at.returns-in-Done c).Start) p.stands v t.planes c.args.at (standOf (goal.at.returns-in-Done c).Start).lent refl (list_of (goal.at.returns-in-Done c).Start) t.list_long g e
+          (rw p.part_is at c.note_tile.ensures);
+    }

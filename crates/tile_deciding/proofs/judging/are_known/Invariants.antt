@@ -1,0 +1,9 @@
+use Rattle.laws.proofs.Prelude.{◌-◌, arith, rules}
+use Rattle.tile_deciding.proofs.Meeting.{Meeting, meet_start, meet_next, meet_end}
+use Rattle.tile_deciding.proofs.judging.are_known.Given as goal
+
+abbrev pub invariant-loop-p : goal.invariant-loop-p
+invariant-loop-p l = Meeting l.layers l.colors l.count l.ids l.n l.i l.p
+
+abbrev pub decreases-loop-p : goal.decreases-loop-p
+decreases-loop-p l = l.count - l.p

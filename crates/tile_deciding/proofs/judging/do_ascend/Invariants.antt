@@ -1,0 +1,10 @@
+use Rattle.laws.proofs.Prelude.{◌-◌, arith, rules}
+use Rattle.queue_statements.proofs.Judging.{Judging, begin, next}
+use Rattle.listing_statements.proofs.Decidings.{ascended}
+use Rattle.tile_deciding.proofs.judging.do_ascend.Given as goal
+
+abbrev pub invariant-loop-i : goal.invariant-loop-i
+invariant-loop-i l = Judging l.n l.ids l.i l.ok l.low
+
+abbrev pub decreases-loop-i : goal.decreases-loop-i
+decreases-loop-i l = l.there - l.i

@@ -1,0 +1,17 @@
+use Rattle.laws.proofs.Prelude.{ap, Bool, ◌-◌, arith}
+use Rattle.layer_table.specs.Table.{table_of}
+use Rattle.cover_statements.proofs.Testing.{Testing, test_start, test_next, test_end}
+use Rattle.pass_statements.specs.declared.item.Item.{Item}
+use Rattle.pass_statements.specs.Entry.{entries_of}
+use Rattle.pass_statements.specs.Item.{items_of}
+use Rattle.pass_statements.proofs.Listing.{length_items, item_read}
+use Rattle.tile_unchanged.proofs.are_unchanged.Given as goal
+
+abbrev pub isUnchanged : Item → Bool
+isUnchanged x = x.unchanged
+
+abbrev pub invariant-loop-i : goal.invariant-loop-i
+invariant-loop-i l = Testing isUnchanged (items_of (table_of l.layers l.colors l.count) (entries_of l.n l.ids l.covers l.flags)) l.n l.ok l.i
+
+abbrev pub decreases-loop-i : goal.decreases-loop-i
+decreases-loop-i l = l.n - l.i

@@ -1,0 +1,6 @@
+-- `tile_unchanged::item::item_for` meets its contract. Assumes nothing.
+use Rattle.laws.proofs.Prelude.{rules}
+use Rattle.tile_unchanged.proofs.item.item_for.Goals as goal
+
+pub returns : goal.returns
+returns c = rw c.is_full.ensures

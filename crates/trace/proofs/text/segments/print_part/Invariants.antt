@@ -1,0 +1,8 @@
+use Rattle.laws.proofs.Prelude.{◌-◌, rules, arith, length}
+use Rattle.trace.proofs.text.segments.print_part.Given as goal
+
+abbrev pub invariant-loop-i : goal.invariant-loop-i
+invariant-loop-i l = Unit {0}
+
+abbrev pub decreases-loop-i : goal.decreases-loop-i
+decreases-loop-i l = length l.part - l.i

@@ -1,0 +1,38 @@
+-- `weight::column::column_areas` meets its contract. Assumes nothing.
+use Rattle.laws.proofs.Prelude.{◌≡◌, sym, ◌-◌, ◌^◌, ◌<◌, arith, rules, sfits_of, ℤ, pos, ◌*ℤ◌, length, mag, to_z-of_z, sfits_widen, w8, w16, SFits}
+use Rattle.laws.proofs.Prelude.{sfits, within, kept, times}
+use Rattle.cover_statements.specs.Cover.{cover_at}
+use Rattle.cover_statements.proofs.Mapped.{Mapping, map_start, map_next, map_whole}
+use Rattle.weight.proofs.column.column_areas.Goals as goal
+
+-- a row's cover at 16 bits, and 32 times it
+wide : (z : ℤ) → mag z < 2 ^ 7 → SFits w16 z
+wide z h = sfits_widen {w = w8} tt (sfits_of h)
+
+scaled : (z : ℤ) → mag z < 2 ^ 7 → SFits w16 (pos 32 *ℤ z)
+scaled z h = sfits w16 (pos 32 *ℤ z) (omega (arith, times 32 z, within w8 z (sfits_of h)))
+
+pub loop-y-init : goal.loop-y-init
+loop-y-init c = map_start (omega (arith, c.requires))
+
+pub overflow_cast-areas : goal.overflow_cast-areas
+overflow_cast-areas c =
+    let z = cover_at c.args.covers.now c.loop-y.y in
+    rw (kept w8 z c.areas-1.given) (wide z c.areas-1.given)
+
+pub overflow_mul-areas : goal.overflow_mul-areas
+overflow_mul-areas c =
+    let z = cover_at c.args.covers.now c.loop-y.y in
+    rw (kept w8 z c.areas-1.given, to_z-of_z (wide z c.areas-1.given)) (scaled z c.areas-1.given)
+
+pub loop-y-preserved : goal.loop-y-preserved
+loop-y-preserved c =
+    let z = cover_at c.args.covers.now c.loop-y.y in
+    map_next c.loop-y.invariant (pos 0) (omega arith)
+    (rw (kept w8 z c.areas-1.given, to_z-of_z (wide z c.areas-1.given), to_z-of_z (scaled z c.areas-1.given)))
+
+pub returns : goal.returns
+returns c = map_whole c.loop-y.invariant (omega arith) c.requires
+
+pub shape_of-areas : goal.shape_of-areas
+shape_of-areas c = c.loop-y.invariant.long

@@ -1,0 +1,9 @@
+use Rattle.laws.proofs.Prelude.{◌-◌, arith, nan, length, get_or}
+use Rattle.cover_statements.proofs.PlaneRows.{PlaneRows, rows_start, rows_room, rows_next, rows_end}
+use Rattle.weight.proofs.column.repeat_column.Given as goal
+
+abbrev pub invariant-loop-y : goal.invariant-loop-y
+invariant-loop-y l = PlaneRows (length l.column) (λ x row. get_or l.column row nan) l.initial.plane l.y l.plane
+
+abbrev pub decreases-loop-y : goal.decreases-loop-y
+decreases-loop-y l = length l.column - l.y

@@ -1,0 +1,10 @@
+use Rattle.laws.proofs.Prelude.{◌-◌, arith, pos, length, get_or, w16, kept, unsigned, whole}
+use Rattle.cover_statements.specs.InnerWeighed.{coverage_in}
+use Rattle.cover_statements.proofs.Mapped.{Mapping, map_start, map_next, map_end}
+use Rattle.weight.proofs.tile.write_coverages.Given as goal
+
+abbrev pub invariant-loop-k : goal.invariant-loop-k
+invariant-loop-k l = Mapping coverage_in l.weights l.initial.plane l.k l.plane
+
+abbrev pub decreases-loop-k : goal.decreases-loop-k
+decreases-loop-k l = length l.weights - l.k

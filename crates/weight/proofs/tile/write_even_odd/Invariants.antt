@@ -1,0 +1,11 @@
+use Rattle.laws.proofs.Prelude.{◌+◌, ◌*◌, ◌-◌, arith, nan, get_or}
+use Rattle.styling.specs.declared.FillRule.TheVariants.{EvenOdd}
+use Rattle.cover_statements.specs.InnerWeighed.{weights_of, coverages_in}
+use Rattle.cover_statements.proofs.PlaneRows.{PlaneRows, rows_start, rows_room, rows_next, rows_end}
+use Rattle.weight.proofs.tile.write_even_odd.Given as goal
+
+abbrev pub invariant-loop-y : goal.invariant-loop-y
+invariant-loop-y l = PlaneRows 16 (λ column row. get_or (coverages_in (weights_of EvenOdd l.areas)) (column * 16 + row) nan) l.initial.plane l.y l.plane
+
+abbrev pub decreases-loop-y : goal.decreases-loop-y
+decreases-loop-y l = 16 - l.y

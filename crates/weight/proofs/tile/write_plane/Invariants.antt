@@ -1,0 +1,11 @@
+use Rattle.laws.proofs.Prelude.{ap, ◌∙◌, List, ◌+◌, ◌*◌, ◌-◌, arith, Float, nan, get_or}
+use Rattle.cover_statements.specs.InnerWeighed.{coverages_in, put_row}
+use Rattle.cover_statements.proofs.PlaneRows.{PlaneRows, rows_start, rows_room, rows_next, rows_end}
+use Rattle.weight.proofs.WeightRows.{long, row_weighed, row_coverages}
+use Rattle.weight.proofs.tile.write_plane.Given as goal
+
+abbrev pub invariant-loop-y : goal.invariant-loop-y
+invariant-loop-y l = PlaneRows 16 (λ column row. get_or (coverages_in l.weights) (column * 16 + row) nan) l.initial.plane l.y l.plane
+
+abbrev pub decreases-loop-y : goal.decreases-loop-y
+decreases-loop-y l = 16 - l.y
