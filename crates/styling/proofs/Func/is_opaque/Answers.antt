@@ -1,6 +1,6 @@
 -- `styling::Func::is_opaque` meets its contract.
 -- Assumes nothing.
-use Rattle.laws.proofs.Prelude.{sym, ap, rules}
+use Rattle.laws.proofs.Prelude.{sym, ap}
 use Rattle.styling.specs.Style.{is_opaque}
 use Rattle.styling.proofs.Func.is_opaque.Goals as goal
 

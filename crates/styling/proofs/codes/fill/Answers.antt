@@ -1,6 +1,6 @@
 -- `styling::codes::fill` meets its contract.
 -- Assumes nothing.
-use Rattle.laws.proofs.Prelude.{refl, sym, arith, rules, take}
+use Rattle.laws.proofs.Prelude.{refl, sym, arith, take}
 use Rattle.styling.specs.declared.Fill.TheVariants.{Texture}
 use Rattle.styling.specs.Codes.{fills}
 use Rattle.styling.proofs.Coded.{last_case}

@@ -1,6 +1,6 @@
 -- `styling::codes::fill_rule` meets its contract.
 -- Assumes nothing.
-use Rattle.laws.proofs.Prelude.{sym, arith, rules, take}
+use Rattle.laws.proofs.Prelude.{sym, arith, take}
 use Rattle.styling.specs.declared.FillRule.TheVariants.{EvenOdd}
 use Rattle.styling.specs.Codes.{rules}
 use Rattle.styling.proofs.Coded.{last_case}
