@@ -1,7 +1,7 @@
 -- What one byte does to the reading of a number.
 -- Assumes nothing.
-use Rattle.laws.proofs.Prelude.{◌≡◌, sym, ◌∙◌, Bool, true, false, not, ⊎_elim, List, ◌∷◌, ℕ, ◌-◌, ◌<◌, ◌≤◌, arith, lt-ltb, le-ltb, le-leb, leb-true}
-use Rattle.laws.proofs.Prelude.{not-true, not-false, leb, left, right, either}
+use Rattle.laws.proofs.Prelude.{◌≡◌, sym, ◌∙◌, Bool, true, false, ⊎_elim, List, ◌∷◌, ℕ, ◌-◌, ◌<◌, ◌≤◌, arith, lt-ltb, le-ltb, le-leb, leb-true}
+use Rattle.laws.proofs.Prelude.{leb, left, right, either}
 use Rattle.decimal.specs.Decimal.{is_digit}
 use Rattle.decimal.specs.Parse.{parsed, failed, append_digit, more_digits, parseℕ}
 
@@ -15,12 +15,12 @@ digit b h l = rw (le-leb 48 b h, le-leb b 57 l)
 pub digit_range : (b : ℕ) → is_digit b ≡ true → (48 ≤ b) × (b ≤ 57)
 digit_range b h = (leb-true 48 b (left (leb 48 b) (leb b 57) h), leb-true b 57 (right (leb 48 b) (leb b 57) h))
 
--- what the answer of a test that the code negates says of the test
-pub is_false : {r t : Bool} → r ≡ t → not r ≡ true → t ≡ false
-is_false {r} e h = sym e ∙ not-true r h
+-- what the answer of a test says of what the test stands for
+pub is_false : {r t : Bool} → r ≡ t → r ≡ false → t ≡ false
+is_false e h = sym e ∙ h
 
-pub is_true : {r t : Bool} → r ≡ t → not r ≡ false → t ≡ true
-is_true {r} e h = sym e ∙ not-false r h
+pub is_true : {r t : Bool} → r ≡ t → r ≡ true → t ≡ true
+is_true e h = sym e ∙ h
 
 module _ (limit n b : ℕ) (t : List ℕ) where
   pub more_digit : is_digit b ≡ true → 0 < n → append_digit n b < limit → more_digits limit n (b ∷ t) ≡ more_digits limit (append_digit n b) t

@@ -1,6 +1,6 @@
 -- `print_signed` meets its contract: the laws are those of `SignedPrint`.
 -- Assumes nothing.
-use Rattle.laws.proofs.Prelude.{◌∙◌, arith, rules, length-set, to_z-of_z}
+use Rattle.laws.proofs.Prelude.{◌∙◌, arith, length-set, to_z-of_z}
 use Rattle.decimal.proofs.Print.{ten}
 use Rattle.decimal.proofs.SignedPrint.{wide, fits_opposite, kept_opposite, cast_below, print_below, cast_above, print_above}
 use Rattle.decimal.proofs.print_signed.Goals as goal
@@ -21,7 +21,7 @@ print_decimal-requires c =
     rw (kept_opposite c.args.v c.ranges.v) (simp length-set (omega (arith, ten _ h.1)))
 
 pub shape_of-out-then-v-lt0 : goal.shape_of-out-then-v-lt0
-shape_of-out-then-v-lt0 c = c.print_decimal.auto.0 ∙ simp length-set
+shape_of-out-then-v-lt0 c = c.print_decimal.auto.out ∙ simp length-set
 
 pub returns-then-v-lt0 : goal.returns-then-v-lt0
 returns-then-v-lt0 c =

@@ -1,6 +1,6 @@
 -- `read_signed` meets its contract: each answer is a law of `Signs`.
 -- Assumes nothing.
-use Rattle.laws.proofs.Prelude.{arith, rules}
+use Rattle.laws.proofs.Prelude.{arith}
 use Rattle.decimal.proofs.Signs.{past, positive_value, positive_none, negative_value, negative_zero, negative_none, fits, fits_difference, as_signed, as_negative}
 use Rattle.decimal.proofs.read_signed.Goals as goal
 

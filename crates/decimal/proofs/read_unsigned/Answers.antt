@@ -1,8 +1,8 @@
 -- `read_unsigned` meets its contract. The invariant and its steps are those of `Reading`; the measure is what is left of the text.
 -- Assumes nothing.
-use Rattle.laws.proofs.Prelude.{◌-◌, arith, rules, length, get_or}
+use Rattle.laws.proofs.Prelude.{arith, get_or}
 use Rattle.decimal.proofs.Steps.{digit_range, is_false, is_true}
-use Rattle.decimal.proofs.Reading.{Reading, past, none, start, stop, end, after_zero, too_large, next}
+use Rattle.decimal.proofs.Reading.{past, none, start, stop, end, after_zero, too_large, next}
 use Rattle.decimal.proofs.read_unsigned.Goals as goal
 
 pub returns-then-s-at : goal.returns-then-s-at

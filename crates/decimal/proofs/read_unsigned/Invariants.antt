@@ -1,6 +1,5 @@
-use Rattle.laws.proofs.Prelude.{◌-◌, arith, rules, length, get_or}
-use Rattle.decimal.proofs.Steps.{digit_range, is_false, is_true}
-use Rattle.decimal.proofs.Reading.{Reading, past, none, start, stop, end, after_zero, too_large, next}
+use Rattle.laws.proofs.Prelude.{◌-◌, length}
+use Rattle.decimal.proofs.Reading.{Reading}
 use Rattle.decimal.proofs.read_unsigned.Given as goal
 
 abbrev pub invariant-loop-i : goal.invariant-loop-i
