@@ -1,2 +1,0 @@
--- The walks of the two updates, by hand.
-pub mod InLocal
