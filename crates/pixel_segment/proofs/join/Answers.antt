@@ -1,5 +1,5 @@
 -- `join` meets its contract: the word is put together by seven steps of one definition. Assumes nothing.
-use Rattle.laws.proofs.Prelude.{arith, rules, pow_pos, to_z-of_z}
+use Rattle.laws.proofs.Prelude.{arith, pow_pos, to_z-of_z}
 use Rattle.pixel_segment.specs.declared.consts.Layout.{Layout}
 use Rattle.pixel_segment.proofs.Joining.{Held, room, held_next, joined}
 use Rattle.pixel_segment.proofs.join.Goals as goal

@@ -1,5 +1,5 @@
 -- `new_in` meets its contract: its arguments, widened, are those of `pack_in`. Assumes nothing.
-use Rattle.laws.proofs.Prelude.{arith, rules, w64, SFits, to_z-of_z, to_z_pos, sfits_widen}
+use Rattle.laws.proofs.Prelude.{arith, w64, SFits, to_z-of_z, to_z_pos, sfits_widen}
 use Rattle.pixel_segment.proofs.new_in.Goals as goal
 
 pub overflow_cast-tile_x : goal.overflow_cast-tile_x

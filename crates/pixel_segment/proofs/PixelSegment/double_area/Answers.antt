@@ -1,6 +1,6 @@
 -- `PixelSegment::double_area` meets its contract. The cover is small at 8 bits and at 16, so each read gives the cover itself.
 -- Assumes nothing.
-use Rattle.laws.proofs.Prelude.{◌∙◌, arith, rules, w16, SFits, to_z-of_z, to_z_pos, sfits_widen}
+use Rattle.laws.proofs.Prelude.{◌∙◌, arith, w16, SFits, to_z-of_z, to_z_pos, sfits_widen}
 use Rattle.pixel_segment.specs.Field.{cpu, cover_of, multiplier_of, double_area_of}
 use Rattle.pixel_segment.proofs.Widths.{cover_fits, area_fits}
 use Rattle.pixel_segment.proofs.PixelSegment.double_area.Goals as goal

@@ -1,5 +1,5 @@
 -- `PixelSegment::pack` meets its contract. Assumes nothing.
-use Rattle.laws.proofs.Prelude.{rules, to_z-of_z}
+use Rattle.laws.proofs.Prelude.{to_z-of_z}
 use Rattle.pixel_segment.proofs.PixelSegment.pack.Goals as goal
 
 pub returns : goal.returns

@@ -1,5 +1,5 @@
 -- `consts::extract` meets its contract. Assumes nothing.
-use Rattle.laws.proofs.Prelude.{arith, rules, pow_pos}
+use Rattle.laws.proofs.Prelude.{arith, pow_pos}
 use Rattle.pixel_segment.specs.Field.{widths_of, index_of, width_of}
 use Rattle.pixel_segment.proofs.Widths.{shift_lt_of}
 use Rattle.pixel_segment.proofs.consts.extract.Goals as goal

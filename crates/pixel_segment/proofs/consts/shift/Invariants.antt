@@ -1,7 +1,5 @@
-use Rattle.laws.proofs.Prelude.{◌≡◌, ◌+◌, ◌-◌, ◌≤◌, ◌<◌, arith, rules, drop, length}
-use Rattle.pixel_segment.specs.declared.consts.Layout.{Layout}
+use Rattle.laws.proofs.Prelude.{◌≡◌, ◌+◌, ◌-◌, ◌≤◌, drop}
 use Rattle.pixel_segment.specs.Field.{sum, widths_of}
-use Rattle.pixel_segment.proofs.Widths.{sum_step, sum_past, index_lt, length_of, sum_le_of}
 use Rattle.pixel_segment.proofs.consts.shift.Given as goal
 
 abbrev pub invariant-loop-i : goal.invariant-loop-i

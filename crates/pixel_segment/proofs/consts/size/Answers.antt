@@ -1,5 +1,5 @@
 -- `consts::size` meets its contract. Assumes nothing.
-use Rattle.laws.proofs.Prelude.{arith, rules}
+use Rattle.laws.proofs.Prelude.{arith}
 use Rattle.pixel_segment.specs.Field.{widths_of, width_of, index_of}
 use Rattle.pixel_segment.proofs.Widths.{width_le_of, shifted, index_lt}
 use Rattle.pixel_segment.proofs.consts.size.Goals as goal

@@ -1,5 +1,4 @@
 -- `consts::width` meets its contract. Assumes nothing.
-use Rattle.laws.proofs.Prelude.{rules}
 use Rattle.pixel_segment.proofs.consts.width.Goals as goal
 
 pub returns-in-Cpu : goal.returns-in-Cpu

@@ -1,5 +1,5 @@
 -- `range::is_held` meets its contract: no field has more than 2^21 numbers. Assumes nothing.
-use Rattle.laws.proofs.Prelude.{arith, rules, to_z-of_z}
+use Rattle.laws.proofs.Prelude.{arith, to_z-of_z}
 use Rattle.pixel_segment.specs.Field.{index_of}
 use Rattle.pixel_segment.proofs.Widths.{size_le_of}
 use Rattle.pixel_segment.proofs.range.is_held.Goals as goal

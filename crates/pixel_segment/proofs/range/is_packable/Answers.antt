@@ -1,5 +1,5 @@
 -- `range::is_packable` meets its contract. Assumes nothing.
-use Rattle.laws.proofs.Prelude.{rules, w64, to_z-of_z, kept}
+use Rattle.laws.proofs.Prelude.{w64, to_z-of_z, kept}
 use Rattle.pixel_segment.specs.Pack.{is_packable}
 use Rattle.pixel_segment.proofs.Widths.{cover_width}
 use Rattle.pixel_segment.proofs.range.is_packable.Goals as goal

@@ -1,5 +1,5 @@
 -- `range::lowest_cover` meets its contract. Assumes nothing.
-use Rattle.laws.proofs.Prelude.{rules, lit<}
+use Rattle.laws.proofs.Prelude.{lit<}
 use Rattle.pixel_segment.proofs.range.lowest_cover.Goals as goal
 
 pub overflow_sub-result : goal.overflow_sub-result
