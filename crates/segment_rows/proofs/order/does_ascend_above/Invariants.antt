@@ -1,8 +1,5 @@
-use Rattle.laws.proofs.Prelude.{◌≡◌, refl, ℕ, ◌+◌, ◌-◌, ◌*◌, ◌/◌, ◌%◌, ◌^◌, ◌≤◌, ◌<◌, arith, length, get_or, pow_pos, pow_mono}
-use native.Mathlib.Nat.{lt_of_le_of_lt}
-use lib.Pow.{shr_lt}
-use Rattle.pixel_segment.proofs.Widths.{shifted}
-use Rattle.segment_rows.proofs.Ascending.{Counted, counted_begin, counted_next, counted_end}
+use Rattle.laws.proofs.Prelude.{ℕ, ◌-◌, ◌/◌, ◌^◌, length}
+use Rattle.segment_rows.proofs.Ascending.{Counted}
 use Rattle.segment_rows.proofs.order.does_ascend_above.Given as goal
 
 -- the bound of the keys

@@ -1,5 +1,4 @@
 -- `order::does_ascend_in` meets its contract. Assumes nothing.
-use Rattle.laws.proofs.Prelude.{rules}
 use Rattle.pixel_segment.proofs.Widths.{key_above, shift_lt_of}
 use Rattle.segment_rows.proofs.order.does_ascend_in.Goals as goal
 

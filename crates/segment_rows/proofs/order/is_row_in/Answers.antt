@@ -1,5 +1,5 @@
 -- `order::is_row_in` meets its contract. Assumes nothing.
-use Rattle.laws.proofs.Prelude.{sym, ◌∙◌, arith, not-true, not-false, rules}
+use Rattle.laws.proofs.Prelude.{sym, ◌∙◌, arith}
 use Rattle.pixel_segment.specs.Field.{widths_of}
 use Rattle.pixel_segment.proofs.Heights.{keyed_of}
 use Rattle.segment_rows.proofs.Rows.{descends, no_words, told_by_ends}

@@ -1,5 +1,5 @@
 -- `parts::end_of` meets its contract. Assumes nothing.
-use Rattle.laws.proofs.Prelude.{add-one, arith, rules}
+use Rattle.laws.proofs.Prelude.{add-one, arith}
 use Rattle.segment_rows.proofs.parts.end_of.Goals as goal
 
 pub overflow_add-result : goal.overflow_add-result

@@ -1,5 +1,5 @@
 -- `parts::in_tile` meets its contract. Assumes nothing.
-use Rattle.laws.proofs.Prelude.{rules, to_z-of_z}
+use Rattle.laws.proofs.Prelude.{to_z-of_z}
 use Rattle.segment_rows.specs.Search.{tile_part}
 use Rattle.segment_rows.proofs.parts.in_tile.Goals as goal
 

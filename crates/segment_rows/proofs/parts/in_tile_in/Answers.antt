@@ -1,5 +1,5 @@
 -- `parts::in_tile_in` meets its contract. Assumes nothing.
-use Rattle.laws.proofs.Prelude.{arith, rules, to_z-of_z}
+use Rattle.laws.proofs.Prelude.{arith, to_z-of_z}
 use Rattle.segment_rows.proofs.Halving.{told_le}
 use Rattle.segment_rows.proofs.parts.in_tile_in.Goals as goal
 

@@ -1,5 +1,4 @@
 -- `parts::of_layer` meets its contract. Assumes nothing.
-use Rattle.laws.proofs.Prelude.{rules}
 use Rattle.segment_rows.specs.Search.{layer_part}
 use Rattle.segment_rows.proofs.parts.of_layer.Goals as goal
 

@@ -1,5 +1,5 @@
 -- `parts::of_layer_in` meets its contract. Assumes nothing.
-use Rattle.laws.proofs.Prelude.{arith, rules}
+use Rattle.laws.proofs.Prelude.{arith}
 use Rattle.segment_rows.proofs.Halving.{told_le}
 use Rattle.segment_rows.proofs.parts.of_layer_in.Goals as goal
 

@@ -1,5 +1,5 @@
 -- `parts::up_to_tile` meets its contract. Assumes nothing.
-use Rattle.laws.proofs.Prelude.{arith, rules, to_z-of_z}
+use Rattle.laws.proofs.Prelude.{arith, to_z-of_z}
 use Rattle.segment_rows.specs.Search.{up_to_tile}
 use Rattle.segment_rows.proofs.Halving.{told_le}
 use Rattle.segment_rows.proofs.parts.up_to_tile.Goals as goal

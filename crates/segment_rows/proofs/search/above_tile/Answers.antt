@@ -1,5 +1,5 @@
 -- `search::above_tile` meets its contract. Assumes nothing.
-use Rattle.laws.proofs.Prelude.{arith, rules, pos, ◌+ℤ◌, w16, w32, to_z-of_z, SFits, added, within, sfits}
+use Rattle.laws.proofs.Prelude.{arith, pos, ◌+ℤ◌, w16, w32, to_z-of_z, SFits, added, within, sfits}
 use Rattle.segment_rows.proofs.Above.{wider}
 use Rattle.segment_rows.proofs.search.above_tile.Goals as goal
 use Rattle.segment_rows.proofs.search.above_tile.Goals.{Start}

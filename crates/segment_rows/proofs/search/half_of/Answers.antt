@@ -1,5 +1,4 @@
 -- `search::half_of` meets its contract. Assumes nothing.
-use Rattle.laws.proofs.Prelude.{rules}
 use Rattle.segment_rows.proofs.search.half_of.Goals as goal
 
 pub returns : goal.returns

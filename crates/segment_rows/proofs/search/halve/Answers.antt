@@ -1,6 +1,6 @@
 -- `search::halve` meets its contract. What holds of the part that is left is `Left`. Assumes nothing.
-use Rattle.laws.proofs.Prelude.{Bool, ℕ, ◌/◌, ◌%◌, ◌^◌, arith, rules, leb}
-use Rattle.segment_rows.proofs.Halving.{Left, begin, half_left, half_some, half_fewer, ends}
+use Rattle.laws.proofs.Prelude.{arith, rules}
+use Rattle.segment_rows.proofs.Halving.{begin, half_left, half_some, half_fewer, ends}
 use Rattle.segment_rows.proofs.search.halve.Goals as goal
 
 pub loop-len-init : goal.loop-len-init

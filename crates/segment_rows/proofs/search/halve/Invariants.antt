@@ -1,5 +1,5 @@
-use Rattle.laws.proofs.Prelude.{Bool, ℕ, ◌/◌, ◌%◌, ◌^◌, arith, rules, leb}
-use Rattle.segment_rows.proofs.Halving.{Left, begin, half_left, half_some, half_fewer, ends}
+use Rattle.laws.proofs.Prelude.{◌/◌, ◌%◌, ◌^◌, leb}
+use Rattle.segment_rows.proofs.Halving.{Left}
 use Rattle.segment_rows.proofs.search.halve.Given as goal
 
 abbrev pub invariant-loop-len : goal.invariant-loop-len

@@ -1,5 +1,5 @@
 -- `search::search_last_by_layer_id_at_least_in` meets its contract. Assumes nothing.
-use Rattle.laws.proofs.Prelude.{arith, rules}
+use Rattle.laws.proofs.Prelude.{arith}
 use Rattle.pixel_segment.proofs.Widths.{readable}
 use Rattle.segment_rows.proofs.search.search_last_by_layer_id_at_least_in.Goals as goal
 

@@ -1,5 +1,5 @@
 -- `search::search_last_by_layer_id_in` meets its contract. Assumes nothing.
-use Rattle.laws.proofs.Prelude.{ap, fun_ext, ℕ, arith, rules}
+use Rattle.laws.proofs.Prelude.{ap, fun_ext, ℕ, arith}
 use Rattle.pixel_segment.specs.Field.{widths_of, layer_id_of}
 use Rattle.segment_rows.specs.Search.{search_of}
 use Rattle.segment_rows.proofs.Above.{number_rank}

@@ -1,5 +1,5 @@
 -- `search::search_last_by_tile_x_at_least_in` meets its contract. Assumes nothing.
-use Rattle.laws.proofs.Prelude.{ap, fun_ext, Bool, ℕ, arith, rules, to_z-of_z}
+use Rattle.laws.proofs.Prelude.{ap, fun_ext, Bool, ℕ, arith, to_z-of_z}
 use Rattle.pixel_segment.specs.Field.{widths_of, tile_x_of}
 use Rattle.pixel_segment.specs.Order.{compare_bool}
 use Rattle.segment_rows.specs.Search.{search_of}

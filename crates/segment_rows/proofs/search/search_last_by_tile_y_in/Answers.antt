@@ -1,5 +1,5 @@
 -- `search::search_last_by_tile_y_in` meets its contract. Assumes nothing.
-use Rattle.laws.proofs.Prelude.{ap, fun_ext, ℕ, rules, to_z-of_z}
+use Rattle.laws.proofs.Prelude.{ap, fun_ext, ℕ, to_z-of_z}
 use Rattle.pixel_segment.specs.Field.{widths_of, tile_y_of}
 use Rattle.segment_rows.specs.Search.{search_of}
 use Rattle.segment_rows.proofs.Above.{tile_rank}

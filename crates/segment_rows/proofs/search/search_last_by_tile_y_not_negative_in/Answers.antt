@@ -1,5 +1,5 @@
 -- `search::search_last_by_tile_y_not_negative_in` meets its contract. Assumes nothing.
-use Rattle.laws.proofs.Prelude.{ap, fun_ext, Bool, ℕ, arith, rules, pos}
+use Rattle.laws.proofs.Prelude.{ap, fun_ext, Bool, ℕ, arith, pos}
 use Rattle.pixel_segment.specs.Field.{widths_of, tile_y_of}
 use Rattle.pixel_segment.specs.Order.{compare_bool}
 use Rattle.segment_rows.specs.Search.{search_of}
