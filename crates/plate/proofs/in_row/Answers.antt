@@ -1,5 +1,5 @@
 -- `in_row` meets its contract. Assumes nothing.
-use Rattle.laws.proofs.Prelude.{ap, ◌∙◌, rules}
+use Rattle.laws.proofs.Prelude.{ap, ◌∙◌}
 use Rattle.segment_rows.specs.Search.{between}
 use Rattle.plate.specs.Rows.{cast_of, row_part}
 use Rattle.plate.specs.declared.Part.{Part}

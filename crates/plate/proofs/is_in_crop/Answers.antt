@@ -1,5 +1,4 @@
 -- `is_in_crop` meets its contract. Assumes nothing.
-use Rattle.laws.proofs.Prelude.{rules}
 use Rattle.plate.proofs.is_in_crop.Goals as goal
 
 pub returns-in-Rows : goal.returns-in-Rows

@@ -1,5 +1,5 @@
 -- `print_row` meets its contract: a case for each answer of the crop. Assumes nothing.
-use Rattle.laws.proofs.Prelude.{ap, sym, ◌∙◌, rules}
+use Rattle.laws.proofs.Prelude.{ap, sym, ◌∙◌}
 use Rattle.plate.specs.declared.Part.{Part}
 use Rattle.plate.specs.Print.{row}
 use Rattle.plate.proofs.print_row.Goals as goal

@@ -1,5 +1,5 @@
 -- `GpuSegment::cover` meets its contract. Assumes nothing.
-use Rattle.laws.proofs.Prelude.{◌∙◌, rules, w8, kept}
+use Rattle.laws.proofs.Prelude.{◌∙◌, w8, kept}
 use Rattle.pixel_segment_gpu.proofs.Widths.{cover_same}
 use Rattle.pixel_segment_gpu.proofs.GpuSegment.cover.Goals as goal
 

@@ -1,5 +1,5 @@
 -- `GpuSegment::double_area` meets its contract. Assumes nothing.
-use Rattle.laws.proofs.Prelude.{◌∙◌, rules, w16, kept}
+use Rattle.laws.proofs.Prelude.{◌∙◌, w16, kept}
 use Rattle.pixel_segment_gpu.proofs.Widths.{double_area_same}
 use Rattle.pixel_segment_gpu.proofs.GpuSegment.double_area.Goals as goal
 

@@ -1,5 +1,5 @@
 -- `GpuSegment::new` meets its contract: a case for each answer of packing. Assumes nothing.
-use Rattle.laws.proofs.Prelude.{rules, to_z-of_z}
+use Rattle.laws.proofs.Prelude.{to_z-of_z}
 use Rattle.pixel_segment_gpu.proofs.GpuSegment.new.Goals as goal
 
 pub returns-in-Segment : goal.returns-in-Segment

@@ -1,5 +1,4 @@
 -- `order::is_row` meets its contract: that of the function over the layout. Assumes nothing.
-use Rattle.laws.proofs.Prelude.{rules}
 use Rattle.pixel_segment_gpu.proofs.order.is_row.Goals as goal
 
 pub returns : goal.returns

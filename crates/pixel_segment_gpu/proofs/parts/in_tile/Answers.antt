@@ -1,5 +1,5 @@
 -- `parts::in_tile` meets its contract. Assumes nothing.
-use Rattle.laws.proofs.Prelude.{rules, to_z-of_z}
+use Rattle.laws.proofs.Prelude.{to_z-of_z}
 use Rattle.pixel_segment_gpu.proofs.parts.in_tile.Goals as goal
 
 pub returns : goal.returns

@@ -1,5 +1,5 @@
 -- `parts::left_of_tile` meets its contract. Assumes nothing.
-use Rattle.laws.proofs.Prelude.{rules, to_z-of_z}
+use Rattle.laws.proofs.Prelude.{to_z-of_z}
 use Rattle.pixel_segment_gpu.proofs.parts.left_of_tile.Goals as goal
 
 pub returns : goal.returns

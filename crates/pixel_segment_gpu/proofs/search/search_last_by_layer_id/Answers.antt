@@ -1,5 +1,4 @@
 -- `search::search_last_by_layer_id` meets its contract: that of the function over the layout. Assumes nothing.
-use Rattle.laws.proofs.Prelude.{rules}
 use Rattle.pixel_segment_gpu.proofs.search.search_last_by_layer_id.Goals as goal
 
 pub returns : goal.returns

@@ -1,5 +1,5 @@
 -- `search::search_last_by_tile_x` meets its contract. Assumes nothing.
-use Rattle.laws.proofs.Prelude.{rules, to_z-of_z}
+use Rattle.laws.proofs.Prelude.{to_z-of_z}
 use Rattle.pixel_segment_gpu.proofs.search.search_last_by_tile_x.Goals as goal
 
 pub returns : goal.returns

@@ -1,5 +1,5 @@
 -- `search::search_last_by_tile_y` meets its contract. Assumes nothing.
-use Rattle.laws.proofs.Prelude.{rules, to_z-of_z}
+use Rattle.laws.proofs.Prelude.{to_z-of_z}
 use Rattle.pixel_segment_gpu.proofs.search.search_last_by_tile_y.Goals as goal
 
 pub returns : goal.returns
