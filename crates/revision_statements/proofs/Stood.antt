@@ -19,6 +19,7 @@ pub data Place (s : Sent) (ss : List Sent) : Type 0 where
   at : (i : ℕ) → i < length ss → get_or ss i s ≡ s → Place s ss
 
 pub place : (s : Sent) (ss : List Sent) → Among s ss → Place s ss
+place s [] a = elim a [ ]
 place s (t ∷ ts) (inl e) = at 0 (omega arith) e
 place s (t ∷ ts) (inr a) = more (place s ts a)
   where
@@ -27,6 +28,7 @@ place s (t ∷ ts) (inr a) = more (place s ts a)
 
 -- those that a test keeps
 pub among_kept : (p : Sent → Bool) (s : Sent) (ss : List Sent) → Among s (filter p ss) → Among s ss × (p s ≡ true)
+among_kept p s [] a = elim a [ ]
 among_kept p s (t ∷ ts) a = by (p t) refl a (among_kept p s ts)
   where
     by : (b : Bool) → p t ≡ b → Among s (cond b (t ∷ filter p ts) (filter p ts)) → (Among s (filter p ts) → Among s ts × (p s ≡ true)) → ((t ≡ s) ⊎ Among s ts) × (p s ≡ true)
@@ -35,6 +37,7 @@ among_kept p s (t ∷ ts) a = by (p t) refl a (among_kept p s ts)
     by false e q rest = (inr (rest q).0, (rest q).1)
 
 pub kept_among : (p : Sent → Bool) (s : Sent) (ss : List Sent) → Among s ss → p s ≡ true → Among s (filter p ss)
+kept_among p s [] a h = elim a [ ]
 kept_among p s (t ∷ ts) (inl q) h = rw (q, h) (inl refl)
 kept_among p s (t ∷ ts) (inr q) h = by (p t) (kept_among p s ts q h)
   where
@@ -87,6 +90,7 @@ unfolding add_sent
 topped_old r s ts (top u a p h) = found ts a
   where
     found : (ts : List Sent) → Among u ts → Topped r (add_sent s ts)
+    found [] a = elim a [ ]
     found (t ∷ ts) a = by (found ts) (order (id_of t) (id_of s)) a
       where
         by : (Among u ts → Topped r (add_sent s ts)) → Order (id_of t) (id_of s) → (t ≡ u) ⊎ Among u ts → Topped r (add_sent s (t ∷ ts))
@@ -116,6 +120,7 @@ all_topped r (s ∷ ss) ts t = all_topped r ss (add_sent s ts) (topped_old r s t
 
 sent_topped : (r : Sent) (ss ts : List Sent) → Among r ss → Topped r (add_sents ss ts)
 unfolding add_sents
+sent_topped r [] ts a = elim a [ ]
 sent_topped r (s ∷ ss) ts (inl e) = all_topped r ss (add_sent s ts) (rw e (topped_new r ts))
 sent_topped r (s ∷ ss) ts (inr a) = sent_topped r ss (add_sent s ts) a
 
@@ -125,11 +130,13 @@ latest_among r ss a = ⊎_elim (λ (w : Among r ss). w) (λ (w : Among r []). ab
 -- ---- one record for each layer, and one for each layer and revision
 
 pub among_low : (low : ℕ) (s : Sent) (ts : List Sent) → strictly_ascends_from low (sent_ids ts) ≡ true → Among s ts → low ≤ id_of s
+among_low low s [] h a = elim a [ ]
 among_low low s (t ∷ ts) h (inl e) = rw (← e) (ascends_head low (id_of t) (sent_ids ts) h)
 among_low low s (t ∷ ts) h (inr a) =
     omega (arith, ascends_head low (id_of t) (sent_ids ts) h, among_low (suc (id_of t)) s ts (ascends_tail low (id_of t) (sent_ids ts) h) a)
 
 one_of_layer : (low : ℕ) (a b : Sent) (ts : List Sent) → strictly_ascends_from low (sent_ids ts) ≡ true → Among a ts → Among b ts → id_of a ≡ id_of b → a ≡ b
+one_of_layer low a b [] h i _ e = elim i [ ]
 one_of_layer low a b (t ∷ ts) h (inl p) (inl q) e = sym p ∙ q
 one_of_layer low a b (t ∷ ts) h (inl p) (inr q) e =
     absurd (omega (arith, ap id_of p, e, among_low (suc (id_of t)) b ts (ascends_tail low (id_of t) (sent_ids ts) h) q))
@@ -141,11 +148,13 @@ is_twin_lem : (s t : Sent) → id_of t ≡ id_of s → t.revision ≡ s.revision
 is_twin_lem s t p q = both (eqb (id_of t) (id_of s)) (eqb t.revision s.revision) (eq-eqb (id_of t) (id_of s) p) (eq-eqb t.revision s.revision q)
 
 no_twin : (s t : Sent) (ts : List Sent) → any (is_twin s) ts ≡ false → Among t ts → is_twin s t ≡ false
+no_twin s t [] h a = elim a [ ]
 no_twin s t (u ∷ us) h (inl e) = rw (← e) (or_left (is_twin s u) (any (is_twin s) us) h)
 no_twin s t (u ∷ us) h (inr a) = no_twin s t us (or_right (is_twin s u) (any (is_twin s) us) h) a
 
 pub no_twins : (a b : Sent) (ss : List Sent) → has_twins ss ≡ false → Among a ss → Among b ss → id_of a ≡ id_of b → a.revision ≡ b.revision → a ≡ b
 unfolding has_twins
+no_twins a b [] h i _ e r = elim i [ ]
 no_twins a b (s ∷ ss) h (inl p) (inl q) e r = sym p ∙ q
 no_twins a b (s ∷ ss) h (inl p) (inr q) e r =
     absurd (clash (is_twin_lem s b (sym e ∙ sym (ap id_of p)) (sym r ∙ sym (ap (λ (x : Sent). x.revision) p))) (no_twin s b ss (or_left (any (is_twin s) ss) (has_twins ss) h) q))

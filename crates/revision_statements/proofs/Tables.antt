@@ -81,6 +81,7 @@ among_all p [] f = refl
 among_all p (s ∷ ss) f = both (p s) (all p ss) (f s (inl refl)) (among_all p ss (λ t a. f t (inr a)))
 
 all_among : (p : Sent → Bool) (s : Sent) (ss : List Sent) → all p ss ≡ true → Among s ss → p s ≡ true
+all_among p s [] h a = elim a [ ]
 all_among p s (t ∷ ts) h (inl e) = rw (← e) (left (p t) (all p ts) h)
 all_among p s (t ∷ ts) h (inr a) = all_among p s ts (right (p t) (all p ts) h) a
 
