@@ -1,5 +1,6 @@
 -- The walk over the layers of a solid tile, step by step. Assumes nothing.
-use Rattle.laws.proofs.Prelude.{◌≡◌, refl, ap, sym, ◌∙◌, Bool, true, false, cond, List, [], ◌∷◌, ℕ, zero, suc, ◌+◌, ◌-◌, ◌*◌, ◌≤◌, ◌<◌, arith, length}
+use Rattle.std.specs.Prelude.{◌≡◌, ◌∷◌, ◌+◌, ◌-◌, ◌*◌, ◌≤◌, ◌<◌}
+use Rattle.laws.proofs.Prelude.{refl, ap, sym, ◌∙◌, Bool, true, false, cond, List, [], ℕ, zero, suc, arith, length}
 use Rattle.laws.proofs.Prelude.{drop, take, get_or, sets, length-take-le, get_or-take}
 use Rattle.row_lines.specs.Shown.{shown_in}
 use Rattle.shown_layers.proofs.Rest.{walk_next_lem, walk_end}

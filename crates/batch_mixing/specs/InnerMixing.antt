@@ -1,5 +1,6 @@
 -- What the walk over the layers of a solid tile asks and gives: the first shown ones are passed over, the others are noted.
-use Rattle.laws.specs.Prelude.{Bool, true, false, List, [], ◌∷◌, ℕ, zero, suc, ◌+◌, ◌*◌, ◌≤◌, length, drop, sets}
+use Rattle.std.specs.Prelude.{◌∷◌, ◌+◌, ◌*◌, ◌≤◌}
+use Rattle.laws.specs.Prelude.{Bool, true, false, List, [], ℕ, zero, suc, length, drop, sets}
 use Rattle.pass_statements.specs.Decision.{TileDecision, none, solid, paint}
 use Rattle.batch_statements.specs.BatchLent.{WordsAt, words_at, mixes_from}
 use Rattle.batch_mixing.specs.declared.Mixing.{Mixing}

@@ -1,5 +1,6 @@
 -- What the noting of a tile asks.
-use Rattle.laws.specs.Prelude.{◌≡◌, Bool, true, List, ℕ, ◌+◌, ◌*◌, ◌≤◌, Float, length}
+use Rattle.std.specs.Prelude.{◌≡◌, ◌+◌, ◌*◌, ◌≤◌}
+use Rattle.laws.specs.Prelude.{Bool, true, List, ℕ, Float, length}
 
 -- room for what is noted of the tile of number i, beside its layers
 pub record NoteRoom (keeps : Bool) (i : ℕ) (kept told : List ℕ) (bottoms : List Float) : Type 0 where

@@ -1,5 +1,6 @@
 -- The shown layers of a tile, one after the other: how many are shown, and that nothing else moves where the tile is not painted. Assumes nothing.
-use Rattle.laws.proofs.Prelude.{◌≡◌, refl, Bool, true, false, List, [], ◌∷◌, Option, ℕ, ◌+◌, ◌*◌, arith, Float, length, sets, over}
+use Rattle.std.specs.Prelude.{◌≡◌, ◌∷◌, ◌+◌, ◌*◌}
+use Rattle.laws.proofs.Prelude.{refl, Bool, true, false, List, [], Option, ℕ, arith, Float, length, sets, over}
 use Rattle.styling.specs.declared.Layer.{Layer}
 use Rattle.queue_statements.specs.Queue.{Carry}
 use Rattle.row_statements.specs.State.{with_clip}

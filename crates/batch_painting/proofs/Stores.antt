@@ -1,5 +1,6 @@
 -- A plane that is lent out of the planes, and comes back written. Assumes nothing.
-use Rattle.laws.proofs.Prelude.{◌≡◌, ap, sym, ◌∙◌, List, ◌++◌, append_assoc, ℕ, ◌+◌, ◌-◌, ◌*◌, ◌≤◌, arith, Float, length, take, drop, length-drop}
+use Rattle.std.specs.Prelude.{◌≡◌, ◌++◌, ◌+◌, ◌-◌, ◌*◌, ◌≤◌}
+use Rattle.laws.proofs.Prelude.{ap, sym, ◌∙◌, List, append_assoc, ℕ, arith, Float, length, take, drop, length-drop}
 use Rattle.laws.proofs.Prelude.{sets, sets-eq, drop-drop, length-take-le, over}
 use Rattle.batch_statements.specs.BatchLent.{plane_at}
 

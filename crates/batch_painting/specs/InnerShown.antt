@@ -1,6 +1,7 @@
 -- What the walk over a tile's shown layers asks and gives: each is counted and, where the tile is painted, painted into the next plane.
 -- tile_batch/proofs has that these are the paintings of batch_statements/specs/Batch.
-use Rattle.laws.specs.Prelude.{◌≡◌, Bool, true, false, cond, List, [], ◌∷◌, none, ℕ, ◌+◌, ◌*◌, ◌≤◌, Float, ℤ, length, sets, over}
+use Rattle.std.specs.Prelude.{◌≡◌, ◌∷◌, ◌+◌, ◌*◌, ◌≤◌}
+use Rattle.laws.specs.Prelude.{Bool, true, false, cond, List, [], none, ℕ, Float, ℤ, length, sets, over}
 use Rattle.styling.specs.declared.Layer.{Layer}
 use Rattle.queue_statements.specs.Queue.{Carry, queue_of}
 use Rattle.painter.specs.Clip.{clip_in}

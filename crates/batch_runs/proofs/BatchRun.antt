@@ -1,5 +1,6 @@
 -- A batch in a run is a list of calls of that run, so that what it gives is what is due; and there is such a batch. Assumes nothing.
-use Rattle.laws.proofs.Prelude.{◌≡◌, refl, ap, sym, subst, ◌∙◌, true, false, ◌||◌, List, [], ◌++◌, ℕ, zero, suc, ◌+◌, ◌*◌, ◌/◌, ◌≤◌, ◌<◌, min, arith}
+use Rattle.std.specs.Prelude.{◌≡◌, ◌||◌, ◌++◌, ◌+◌, ◌*◌, ◌/◌, ◌≤◌, ◌<◌}
+use Rattle.laws.proofs.Prelude.{refl, ap, sym, subst, ◌∙◌, true, false, List, [], ℕ, zero, suc, min, arith}
 use Rattle.laws.proofs.Prelude.{eq-eqb, le-ltb, lt-ltb, le-leb, lt-leb, ltb, leb, Float, binary32, of_bits, pos, length, replicate, length-replicate}
 use Rattle.laws.proofs.Prelude.{both}
 use Rattle.refusals.specs.Refusal.{pass}

@@ -1,7 +1,8 @@
 -- The calls that a batch stands for, tile after tile, go on with a run: none of the paintings is refused, and what the batch leaves is what they leave.
 -- Assumes nothing.
-use Rattle.laws.proofs.Prelude.{◌≡◌, refl, ap, ap₂, sym, subst, ◌∙◌, Bool, true, false, cond, ◌||◌, List, [], ◌∷◌, ◌++◌, Option, ℕ, zero, suc, ◌+◌}
-use Rattle.laws.proofs.Prelude.{◌-◌, ◌*◌, ◌≤◌, ◌<◌, min, arith, eq-eqb, ne_eqb, le-ltb, leb-true, ltb, leb, Float, ℤ, pos, length, take, drop}
+use Rattle.std.specs.Prelude.{◌≡◌, ◌||◌, ◌∷◌, ◌++◌, ◌+◌, ◌-◌, ◌*◌, ◌≤◌, ◌<◌}
+use Rattle.laws.proofs.Prelude.{refl, ap, ap₂, sym, subst, ◌∙◌, Bool, true, false, cond, List, [], Option, ℕ, zero, suc}
+use Rattle.laws.proofs.Prelude.{min, arith, eq-eqb, ne_eqb, le-ltb, leb-true, ltb, leb, Float, ℤ, pos, length, take, drop}
 use Rattle.laws.proofs.Prelude.{length-drop, length-map, sets, length-sets, length-take-le, Answer, refused, given, right}
 use mathlib.Core.Option as option
 use Rattle.refusals.specs.Refusal.{Judgement, pass, refuse, unless}

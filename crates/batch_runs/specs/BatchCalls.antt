@@ -1,6 +1,7 @@
 -- The public calls that a batch stands for: the work on each tile, and where it is painted the painting of each shown layer, ascending. What is noted is
 -- read from what the calls answered and left in lent memory, as a caller reads it. proofs/BatchTiles has that a batch in a run is such calls.
-use Rattle.laws.specs.Prelude.{◌≡◌, true, false, List, [], ◌∷◌, ◌++◌, ℕ, zero, suc, ◌+◌, ◌*◌, leb, Float, ℤ, sets, refused, given}
+use Rattle.std.specs.Prelude.{◌≡◌, ◌∷◌, ◌++◌, ◌+◌, ◌*◌}
+use Rattle.laws.specs.Prelude.{true, false, List, [], ℕ, zero, suc, leb, Float, ℤ, sets, refused, given}
 use Rattle.row_statements.specs.Lent.{Columns}
 use Rattle.row_statements.specs.State.{state_in}
 use Rattle.row_statements.specs.TileWork.{WorkLent, WorkGiven, TileAnswer, work_answer}

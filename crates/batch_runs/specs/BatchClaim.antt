@@ -1,7 +1,8 @@
 -- A batch in a run of demand 3: called with the state, the row, the table and the carries that the caller holds after any calls, it stands for calls that
 -- go on with the run, and leaves what they leave, whatever it answers. So everything that the claim of row_statements says holds of each of them: it gives
 -- what is due of it, worked from the whole row. A refused batch is the first tile's refused call, and leaves everything as it was.
-use Rattle.laws.specs.Prelude.{◌≡◌, List, ◌++◌, ℕ, zero, suc}
+use Rattle.std.specs.Prelude.{◌≡◌, ◌++◌}
+use Rattle.laws.specs.Prelude.{List, ℕ, zero, suc}
 use Rattle.segment_rows.specs.Rows.{Words}
 use Rattle.row_statements.specs.Lent.{Columns}
 use Rattle.row_statements.specs.Opening.{OpenCall, open_of, OpensRow}

@@ -1,5 +1,6 @@
 -- How many layers of a tile can be shown. Assumes nothing.
-use Rattle.laws.proofs.Prelude.{Bool, true, false, List, [], ◌∷◌, ℕ, ◌≤◌, arith, length, drop, length-drop}
+use Rattle.std.specs.Prelude.{◌∷◌, ◌≤◌}
+use Rattle.laws.proofs.Prelude.{Bool, true, false, List, [], ℕ, arith, length, drop, length-drop}
 use Rattle.row_lines.specs.Shown.{flagged, shown_in}
 
 -- as many ids are shown as are listed, at most

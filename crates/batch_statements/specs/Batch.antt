@@ -3,7 +3,8 @@
 -- layers that it mixes are noted. Every tile is told by what the public operations give (`work_of`, `paint_of`), each called with what the one before it left,
 -- so that a batch has no verdict of its own: it is refused where its first tile is, by that number, and nothing is worked or written then; else it is accepted,
 -- and tells why it ended. Where it calls nothing (no tile is asked for, none is left, or there is no room for one), it judges nothing.
-use Rattle.laws.specs.Prelude.{◌≡◌, Bool, true, false, not, cond, List, [], ◌∷◌, ℕ, zero, suc, ◌+◌, ◌*◌, leb, Float, ℤ, pos, length, replicate, sets}
+use Rattle.std.specs.Prelude.{◌≡◌, ◌∷◌, ◌+◌, ◌*◌}
+use Rattle.laws.specs.Prelude.{Bool, true, false, not, cond, List, [], ℕ, zero, suc, leb, Float, ℤ, pos, length, replicate, sets}
 use Rattle.laws.specs.Prelude.{Answer, refused, given, plus}
 use Rattle.refusals.specs.Refusal.{Judgement, pass, refuse, number_of}
 use Rattle.styling.specs.declared.Color.{Color}

@@ -1,7 +1,8 @@
 -- The memory that a batch is lent: two queues, and for each tile the bytes of its cached tile, six numbers and a colour; for each plane 256 coverages
 -- and two words. How the bytes of a tile, its numbers and a plane lie in it, and whether there is room for a further tile. Stands for 'lent arrays with
 -- counts', of many tiles at once; that memory ends is no refusal.
-use Rattle.laws.specs.Prelude.{Bool, true, false, cond, ◌&&◌, List, [], ◌∷◌, ℕ, ◌+◌, ◌*◌, ◌/◌, min, ltb, leb, Float, length, take, drop, sets}
+use Rattle.std.specs.Prelude.{◌&&◌, ◌∷◌, ◌+◌, ◌*◌, ◌/◌}
+use Rattle.laws.specs.Prelude.{Bool, true, false, cond, List, [], ℕ, min, ltb, leb, Float, length, take, drop, sets}
 use Rattle.cached_tile.specs.Kept.{no_tile}
 use Rattle.cached_tile.specs.declared.kept.Kept as kept
 use Rattle.ffi_numbers.specs.Cached.{kept_of, tile_bytes}

@@ -1,5 +1,6 @@
 -- Laws of the tests between two tiles. Assumes nothing.
-use Rattle.laws.proofs.Prelude.{◌≡◌, refl, ap, sym, ◌∙◌, Bool, true, false, cond, ◌&&◌, ℕ, zero, suc, ◌+◌, ◌-◌, ◌≤◌, ◌<◌, arith, le-leb, lt-leb}
+use Rattle.std.specs.Prelude.{◌≡◌, ◌&&◌, ◌+◌, ◌-◌, ◌≤◌, ◌<◌}
+use Rattle.laws.proofs.Prelude.{refl, ap, sym, ◌∙◌, Bool, true, false, cond, ℕ, zero, suc, arith, le-leb, lt-leb}
 use Rattle.laws.proofs.Prelude.{leb-true, leb-false, ltb, leb, given}
 use Rattle.batch_statements.specs.BatchLent.{has_room}
 use Rattle.row_statements.specs.State.{State}

@@ -1,5 +1,6 @@
 -- Where the code of a batch stands between two tiles, whether it works another, and why it ends.
-use Rattle.laws.specs.Prelude.{◌≡◌, Bool, true, false, cond, ◌&&◌, ℕ, ltb, leb}
+use Rattle.std.specs.Prelude.{◌≡◌, ◌&&◌}
+use Rattle.laws.specs.Prelude.{Bool, true, false, cond, ℕ, ltb, leb}
 use Rattle.refusals.specs.Refusal.{Judgement, pass, refuse, judgement_in}
 use Rattle.refusals.specs.declared.Verdict.TheVariants.{Pass}
 use Rattle.row_statements.specs.State.{State, state_in}

@@ -1,5 +1,6 @@
 -- P8 and P12, and the other cases of document 01 on cached tiles, as theorems over the definitions. Assumes nothing.
-use Rattle.laws.proofs.Prelude.{◌≡◌, refl, true, false, List, [], ◌∷◌, some, none, ℕ, eq-eqb, refused, given}
+use Rattle.std.specs.Prelude.{◌≡◌, ◌∷◌}
+use Rattle.laws.proofs.Prelude.{refl, true, false, List, [], some, none, ℕ, eq-eqb, refused, given}
 use Rattle.cached_tile.specs.declared.CachedTile.{CachedTile}
 use Rattle.cached_tile.specs.declared.kept.Kept.{Kept}
 use Rattle.cached_tile.specs.Tile.{layer_count_of, update_count, update_color}

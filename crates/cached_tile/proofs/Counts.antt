@@ -1,6 +1,7 @@
 -- What is kept after an update, for every count, all bytes and every tag that no operation refuses: what was kept last is read back, what
 -- was dropped is not, the other of the two is left alone, and the tag stays in range. Assumes nothing.
-use Rattle.laws.proofs.Prelude.{◌≡◌, refl, sym, ap, Bool, true, false, not, ◌&&◌, Bool·beq, List, some, none, ℕ, ◌%◌, ◌^◌, ◌≤◌, arith, leb-true}
+use Rattle.std.specs.Prelude.{◌≡◌, ◌&&◌, ◌%◌, ◌^◌, ◌≤◌}
+use Rattle.laws.proofs.Prelude.{refl, sym, ap, Bool, true, false, not, Bool·beq, List, some, none, ℕ, arith, leb-true}
 use Rattle.laws.proofs.Prelude.{not-true, bit_and, leb, every_at}
 use lib.Bits.{bit_or}
 use Rattle.cached_tile.specs.declared.CachedTile.{CachedTile}

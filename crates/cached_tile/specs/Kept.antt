@@ -1,7 +1,8 @@
 -- A cached tile through the work of a tile, and settling. Stands for 'any tile work updates the count where a cached tile is given; paint
 -- clears tag 1; solid is settled by a second call with the four display bytes, which says write or keep. .. Without a cached tile settling
 -- says write', and for refusal 6, 'cached tag above 3', which asks that a tile is given.
-use Rattle.laws.specs.Prelude.{◌≡◌, Bool, true, false, cond, ◌&&◌, List, Option, none, ℕ, ltb, eqb, get_or, Answer, refused, given}
+use Rattle.std.specs.Prelude.{◌≡◌, ◌&&◌}
+use Rattle.laws.specs.Prelude.{Bool, true, false, cond, List, Option, none, ℕ, ltb, eqb, get_or, Answer, refused, given}
 use Rattle.cached_tile.specs.declared.CachedTile.{CachedTile}
 use Rattle.cached_tile.specs.declared.kept.Kept.{Kept}
 use Rattle.cached_tile.specs.declared.kept.Counted.{Counted}

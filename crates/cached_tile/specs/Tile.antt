@@ -1,7 +1,8 @@
 -- A cached tile and the Rust's methods on it. Stands for 'a cached tile is a tag byte (1 solid kept, 2 count kept), three count bytes
 -- lowest first, four colour bytes' and for 'update_layer_count stores the low 24 bits; a cleared tag leaves its bytes' (P8). Every tag
 -- byte has its answer, as in the Rust: above 3 nothing is kept, setting a bit leaves the others, and dropping one leaves only the other.
-use Rattle.laws.specs.Prelude.{◌≡◌, Bool, cond, ◌||◌, List, [], ◌∷◌, Option, some, none, ℕ, ◌+◌, ◌*◌, ◌/◌, ◌%◌, bit_and, eqb, get_or}
+use Rattle.std.specs.Prelude.{◌≡◌, ◌||◌, ◌∷◌, ◌+◌, ◌*◌, ◌/◌, ◌%◌}
+use Rattle.laws.specs.Prelude.{Bool, cond, List, [], Option, some, none, ℕ, bit_and, eqb, get_or}
 use Rattle.std.specs.Int.Bits.{bit_or}
 use Rattle.cached_tile.specs.declared.CachedTile.{CachedTile}
 use Rattle.cached_tile.specs.declared.LayerCount.{LayerCount}

@@ -1,5 +1,6 @@
 -- The flag of what adding answers says whether a carry is given. Assumes nothing.
-use Rattle.laws.proofs.Prelude.{◌≡◌, refl, ◌∙◌, sym, ap, Bool, true, false, cond, List, ℕ, ℤ, refused, given, is_given}
+use Rattle.std.specs.Prelude.{◌≡◌}
+use Rattle.laws.proofs.Prelude.{refl, ◌∙◌, sym, ap, Bool, true, false, cond, List, ℕ, ℤ, refused, given, is_given}
 use Rattle.cover_statements.specs.Carry.{add_of}
 use Rattle.cover.specs.Adding.{Adding}
 use Rattle.cover.specs.declared.carry.Carried.{Carried}

@@ -1,5 +1,6 @@
 -- What the calls with carry records give, computed: P11's carry, and the mark and the plane of P7's draw. Assumes nothing.
-use Rattle.laws.proofs.Prelude.{◌≡◌, refl, ap, ◌∙◌, true, List, [], ◌∷◌, some, ℕ, eqb, Float, pos, length, replicate, Answer, is_given, all, over}
+use Rattle.std.specs.Prelude.{◌≡◌, ◌∷◌}
+use Rattle.laws.proofs.Prelude.{refl, ap, ◌∙◌, true, List, [], some, ℕ, eqb, Float, pos, length, replicate, Answer, is_given, all, over}
 use Rattle.refusals.specs.Refusal.{Judgement, pass}
 use Rattle.pixel_segment.specs.Field.{cover_of, tile_of}
 use Rattle.segment_rows.specs.Rows.{ascends_from}

@@ -1,5 +1,6 @@
 -- The worked cases hold, and so do the edges beside them. What computes is proved by computing. Assumes nothing.
-use Rattle.laws.proofs.Prelude.{◌≡◌, refl, Bool, true, false, cond, ◌&&◌, List, [], ◌∷◌, ℕ, eq-eqb, odd, of_bits, ℤ, pos, plus, refused, given}
+use Rattle.std.specs.Prelude.{◌≡◌, ◌&&◌, ◌∷◌}
+use Rattle.laws.proofs.Prelude.{refl, Bool, true, false, cond, List, [], ℕ, eq-eqb, odd, of_bits, ℤ, pos, plus, refused, given}
 use Rattle.cached_tile.specs.Kept.{keep, settle_of, settled_kept}
 use Rattle.cached_tile.proofs.Counts.{count_kept}
 use Rattle.cover_statements.specs.Area.{doubled_area}

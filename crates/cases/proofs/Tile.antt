@@ -1,5 +1,6 @@
 -- The tile of P7 as it lies in lent memory: painting may be asked of it, and what painting then says is about its three layers. Assumes nothing.
-use Rattle.laws.proofs.Prelude.{◌≡◌, refl, ◌∙◌, true, List, [], ◌∷◌, Option, some, none, ℕ, ◌≤◌, not-suc-le-zero, leb-true, Float, eq, of_bits, ℤ, pos}
+use Rattle.std.specs.Prelude.{◌≡◌, ◌∷◌, ◌≤◌}
+use Rattle.laws.proofs.Prelude.{refl, ◌∙◌, true, List, [], Option, some, none, ℕ, not-suc-le-zero, leb-true, Float, eq, of_bits, ℤ, pos}
 use Rattle.laws.proofs.Prelude.{length, replicate, over, all, every_at}
 use Rattle.styling.specs.Ascending.{strictly_ascends_from}
 use Rattle.layer_table.specs.Lookup.{lookup}

@@ -1,5 +1,6 @@
 -- How the program reads an answer.
-use Rattle.laws.specs.Prelude.{Bool, true, false, [], ◌∷◌, Option, some, none, ℕ, eqb, Float, eq, Answer, refused, given}
+use Rattle.std.specs.Prelude.{◌∷◌}
+use Rattle.laws.specs.Prelude.{Bool, true, false, [], Option, some, none, ℕ, eqb, Float, eq, Answer, refused, given}
 use Rattle.cached_tile.specs.Kept.{Writing, write, keep}
 use Rattle.cached_tile.specs.declared.CachedTile.{CachedTile}
 use Rattle.segment_rows.specs.Search.{Place, found, absent}

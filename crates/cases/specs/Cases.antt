@@ -1,6 +1,7 @@
 -- The worked cases P1 to P12, one table in the scope's order, about the definitions that the contracts cite. proofs/Table proves it; the program
 -- runs the cases.
-use Rattle.laws.specs.Prelude.{◌≡◌, true, false, List, [], ◌∷◌, some, none, ℕ, ◌%◌, ◌^◌, ◌≤◌, ℤ, pos, replicate, refused, given}
+use Rattle.std.specs.Prelude.{◌≡◌, ◌∷◌, ◌%◌, ◌^◌, ◌≤◌}
+use Rattle.laws.specs.Prelude.{true, false, List, [], some, none, ℕ, ℤ, pos, replicate, refused, given}
 use Rattle.cached_tile.specs.Kept.{write, keep, settle_of, settled_kept}
 use Rattle.cached_tile.specs.Tile.{layer_count_of, update_count, update_color}
 use Rattle.cached_tile.specs.declared.CachedTile.{CachedTile}

@@ -1,6 +1,7 @@
 -- Cases that the scope does not number: both sides of what packing and adding refuse, covers that are not full for one row, and what an update of
 -- a cached tile leaves. proofs/Table proves them.
-use Rattle.laws.specs.Prelude.{◌≡◌, true, false, List, [], ◌∷◌, some, none, ℕ, pos, replicate, refused, given}
+use Rattle.std.specs.Prelude.{◌≡◌, ◌∷◌}
+use Rattle.laws.specs.Prelude.{true, false, List, [], some, none, ℕ, pos, replicate, refused, given}
 use Rattle.cached_tile.specs.Tile.{layer_count_of, update_count, update_color}
 use Rattle.cover_statements.specs.Carry.{add_of}
 use Rattle.cover_statements.specs.Cover.{is_full}

@@ -1,5 +1,6 @@
 -- What the cases are about: words, a tile's three layers, cached tiles.
-use Rattle.laws.specs.Prelude.{true, false, List, [], ◌∷◌, ℕ, ℤ, pos}
+use Rattle.std.specs.Prelude.{◌∷◌}
+use Rattle.laws.specs.Prelude.{true, false, List, [], ℕ, ℤ, pos}
 use Rattle.cached_tile.specs.declared.CachedTile.{CachedTile}
 use Rattle.cached_tile.specs.declared.kept.Kept.{Kept}
 use Rattle.pixel_segment.specs.Field.{cpu, tile_of, tile_x_of, tile_y_of}

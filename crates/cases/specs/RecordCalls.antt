@@ -1,6 +1,7 @@
 -- The calls with a queue of carry records, as the program makes them: P11 as the work on tile 2, and the painting of P7's draw. What they give is
 -- `work_of` and `paint_of` of these calls, with the columns that the records stand for.
-use Rattle.laws.specs.Prelude.{false, List, [], ◌∷◌, some, none, ℕ, pos, replicate}
+use Rattle.std.specs.Prelude.{◌∷◌}
+use Rattle.laws.specs.Prelude.{false, List, [], some, none, ℕ, pos, replicate}
 use Rattle.styling.specs.declared.Color.{Color}
 use Rattle.cached_tile.specs.declared.kept.Kept.{Kept}
 use Rattle.layer_workbench.specs.declared.PreviousClear.TheVariants.{Absent}

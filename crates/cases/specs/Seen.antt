@@ -1,5 +1,6 @@
 -- Painting a layer of P7's tile, as the program does it: what it asks, and what is seen of a plane that held zeros.
-use Rattle.laws.specs.Prelude.{◌≡◌, true, List, [], Option, ℕ, Float, replicate, given, over, all}
+use Rattle.std.specs.Prelude.{◌≡◌}
+use Rattle.laws.specs.Prelude.{true, List, [], Option, ℕ, Float, replicate, given, over, all}
 use Rattle.layer_table.specs.Lookup.{lookup}
 use Rattle.styling.specs.declared.Layer.{Layer}
 use Rattle.painter.specs.Clip.{clip_in, clip_after}

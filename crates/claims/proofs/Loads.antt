@@ -1,5 +1,6 @@
 -- The claims of specs/Loads, cited. Assumes nothing.
-use Rattle.laws.proofs.Prelude.{◌≡◌, refl, true, not, all}
+use Rattle.std.specs.Prelude.{◌≡◌}
+use Rattle.laws.proofs.Prelude.{refl, true, not, all}
 use Rattle.decimal.specs.Parse.{parseℕ, more_digits}
 use Rattle.load_statements.specs.Input.{parse_field, ask}
 use Rattle.load_statements.proofs.Examples as examples

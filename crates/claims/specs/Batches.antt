@@ -1,6 +1,7 @@
 -- What a caller of works and batches relies on when it lends planes: an accepted work lists at most 256 layers, and at most as many as its table has records.
 -- So there is room for all paintings of a tile where so many planes are free (batch_statements/specs/BatchLent, `room_for`).
-use Rattle.laws.specs.Prelude.{◌≡◌, ◌≤◌, min, given}
+use Rattle.std.specs.Prelude.{◌≡◌, ◌≤◌}
+use Rattle.laws.specs.Prelude.{min, given}
 use Rattle.segment_rows.specs.Rows.{Words}
 use Rattle.row_statements.specs.TileWork.{WorkCall, WorkLent, TileAnswer, work_of}
 

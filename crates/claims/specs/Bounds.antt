@@ -1,6 +1,7 @@
 -- Covers known within bounds: every d that a choice gives lies between the lowest and the highest d, which choices give; narrower bounds give an interval
 -- inside; and each bound of a weight is the weight of some number of the interval. Stands for W-211.
-use Rattle.laws.specs.Prelude.{◌≡◌, true, List, ℕ, ◌≤◌, ◌<◌, ℤ, pos, negsuc, nat_abs, length, AtMost}
+use Rattle.std.specs.Prelude.{◌≡◌, ◌≤◌, ◌<◌}
+use Rattle.laws.specs.Prelude.{true, List, ℕ, ℤ, pos, negsuc, nat_abs, length, AtMost}
 use Rattle.pixel_segment.specs.Field.{width_of}
 use Rattle.pixel_segment.specs.Layout.{Layout}
 use Rattle.styling.specs.declared.FillRule.{FillRule}

@@ -1,5 +1,6 @@
 -- Layer records: colours, what is opaque, and looking a layer up. Stands for document 01, 'compared by ==, so NaN equals nothing and both zeros agree'.
-use Rattle.laws.specs.Prelude.{◌≡◌, true, ◌&&◌, false, ◌⊎◌, List, ℕ, eqb, eq, of_bits, binary32, Float, nan, of_int, pos}
+use Rattle.std.specs.Prelude.{◌≡◌, ◌&&◌, ◌⊎◌}
+use Rattle.laws.specs.Prelude.{true, false, List, ℕ, eqb, eq, of_bits, binary32, Float, nan, of_int, pos}
 use Rattle.layer_table.specs.declared.Words.{Words}
 use Rattle.styling.specs.Color.{same_color}
 use Rattle.styling.specs.declared.Color.{Color}

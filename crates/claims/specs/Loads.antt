@@ -1,6 +1,7 @@
 -- Loads that can be made again. Stands for W-204: the line that asks is read exactly as it prints and has at most 20 bytes, so that the first 21 bytes of an
 -- input decide; every load is read back and its row ascends; and no row of a load is refused but by 9. With the first draws and texts, worked.
-use Rattle.laws.specs.Prelude.{◌≡◌, Bool, true, false, not, List, [], ◌∷◌, some, none, ℕ, suc, ◌≤◌, ◌<◌, tabulate, all}
+use Rattle.std.specs.Prelude.{◌≡◌, ◌∷◌, ◌≤◌, ◌<◌}
+use Rattle.laws.specs.Prelude.{Bool, true, false, not, List, [], some, none, ℕ, suc, tabulate, all}
 use Rattle.lines.specs.Bytes.{bytes}
 use Rattle.lines.specs.Text.{lines_text}
 use Rattle.job_text_statements.specs.Job.{segment_values}

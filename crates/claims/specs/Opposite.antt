@@ -1,5 +1,6 @@
 -- A word with another cover, and the opposite of a word: every other field, order and range stay. Stands for W-210.
-use Rattle.laws.specs.Prelude.{List, ◌≡◌, ℕ, ◌<◌, ◌≤◌, ◌^◌, ◌-◌, ◌/◌, ◌*◌, ◌+◌, ◌%◌, ℤ, nat_abs, neg_ℤ, length, minus, plus}
+use Rattle.std.specs.Prelude.{◌≡◌, ◌<◌, ◌≤◌, ◌^◌, ◌-◌, ◌/◌, ◌*◌, ◌+◌, ◌%◌}
+use Rattle.laws.specs.Prelude.{List, ℕ, ℤ, nat_abs, neg_ℤ, length, minus, plus}
 use Rattle.pixel_segment.specs.Layout.{Layout}
 use Rattle.pixel_segment.specs.Field.{field_of, width_of, cover_of, sum}
 use Rattle.pixel_segment.specs.Pack.{with_cover, word_of}

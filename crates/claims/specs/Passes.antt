@@ -1,5 +1,6 @@
 -- The passes in document 01's own words, of the definitions that the contracts cite.
-use Rattle.laws.specs.Prelude.{List, [], map, ◌≡◌, true, not, ◌||◌, Bool, false, ℕ, ◌<◌}
+use Rattle.std.specs.Prelude.{◌≡◌, ◌||◌, ◌<◌}
+use Rattle.laws.specs.Prelude.{List, [], map, true, not, Bool, false, ℕ}
 use Rattle.pass_statements.specs.declared.item.Item.{Item}
 use Rattle.pass_statements.specs.Rules.{ClipAt, is_followed, is_unmasked, is_ascending, DrawAt, is_under, latest_below, Alike, is_free, needs_clip, Over}
 use Rattle.pass_statements.specs.Covered.{item_at, covered_of}

@@ -1,6 +1,7 @@
 -- Planes and marks. Stands for W-209: planes row by row, which are the planes by columns with their two places exchanged, for draws and clips; octets and
 -- marks go on meaning columns.
-use Rattle.laws.specs.Prelude.{◌≡◌, List, [], cond, true, Option, ℕ, ◌<◌, ◌/◌, ◌^◌, ◌*◌, ◌+◌, ◌%◌, get_or, Float, nan, ℤ, pos, ◌*ℤ◌, ones, over}
+use Rattle.std.specs.Prelude.{◌≡◌, ◌<◌, ◌/◌, ◌^◌, ◌*◌, ◌+◌, ◌%◌, ◌*ℤ◌}
+use Rattle.laws.specs.Prelude.{List, [], cond, true, Option, ℕ, get_or, Float, nan, ℤ, pos, ones, over}
 use Rattle.cover_statements.specs.Plane.{place_of, size_of, column_of, row_of, in_places, exchange, by_columns, exchange_back, pixel_of, plane_of}
 use Rattle.styling.specs.declared.FillRule.{FillRule}
 use Rattle.cover_statements.specs.WholeRow.{row_plane, left_cover, part_of}

@@ -1,5 +1,6 @@
 -- A changed clip repaints. Stands for W-208.
-use Rattle.laws.specs.Prelude.{List, Bool, true, false, not, ◌≡◌, ℕ, length}
+use Rattle.std.specs.Prelude.{◌≡◌}
+use Rattle.laws.specs.Prelude.{List, Bool, true, false, not, ℕ, length}
 use Rattle.styling.specs.declared.Layer.{Layer}
 use Rattle.pass_statements.specs.Entry.{Entry}
 use Rattle.pass_statements.specs.Rules.{ChangedClipAt, ClipAt, with_mark, DrawAt, is_unmasked}

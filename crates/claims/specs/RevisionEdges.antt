@@ -1,5 +1,6 @@
 -- Which records stand, and both sides of the edges of 4, 15 and 1, on a few records. Stands for W-212.
-use Rattle.laws.specs.Prelude.{◌≡◌, true, false, List, [], ◌∷◌, ℕ, Float, nan}
+use Rattle.std.specs.Prelude.{◌≡◌, ◌∷◌}
+use Rattle.laws.specs.Prelude.{true, false, List, [], ℕ, Float, nan}
 use Rattle.refusals.specs.Refusal.{pass, refuse}
 use Rattle.revision_statements.specs.Sent.{Sent, is_good, sent_room}
 use Rattle.revision_statements.specs.Standing.{standing_of}

@@ -1,6 +1,7 @@
 -- Which layer record stands, without the steps of adding. Stands for W-212: of each layer the highest revision; a withdrawal that stands leaves the layer
 -- out; every entry is one of the records given; ids ascend; order carries no meaning; rows begin from that table.
-use Rattle.laws.specs.Prelude.{◌≡◌, true, false, List, ◌∷◌, ◌++◌, ℕ, ◌<◌, Float, given}
+use Rattle.std.specs.Prelude.{◌≡◌, ◌∷◌, ◌++◌, ◌<◌}
+use Rattle.laws.specs.Prelude.{true, false, List, ℕ, Float, given}
 use Rattle.styling.specs.Ascending.{strictly_ascends}
 use Rattle.revision_statements.specs.Sent.{Sent, sent_of, has_properties, id_of}
 use Rattle.revision_statements.specs.Standing.{sent_ids, standing_of}

@@ -1,6 +1,7 @@
 -- Rows and their parts, found by last-key search: at every tile height. Stands for document 01, 'a tile's segments are handed on as a part of the row,
 -- found by search', 'on a sorted slice a key is called absent only if no element has it', and for the rows of a plate.
-use Rattle.laws.specs.Prelude.{List, ◌≡◌, true, ℕ, ◌<◌, ◌+◌, ◌%◌, length, get_or, eqb, ltb, count_by, filter}
+use Rattle.std.specs.Prelude.{◌≡◌, ◌<◌, ◌+◌, ◌%◌}
+use Rattle.laws.specs.Prelude.{List, true, ℕ, length, get_or, eqb, ltb, count_by, filter}
 use Rattle.segment_rows.specs.Rows.{Ordered, Words, is_row, ascends}
 use Rattle.segment_rows.specs.Search.{search_of, absent, last_place, tile_part_in, left_part_in, layer_part_in}
 use Rattle.pixel_segment.specs.Order.{is_lt, is_eq, order_key}

@@ -1,7 +1,8 @@
 -- Runs: after every accepted opening every list of choices is that of some run's calls, with the verdicts that are due; runs of works and paintings are
 -- runs of calls, by values and by numbers; the driver's lines are those of some run; a state written as numbers is read again. So the claims over runs
 -- are empty for no opening.
-use Rattle.laws.specs.Prelude.{◌≡◌, List, [], map, ℕ, ◌+◌, ◌≤◌, plus}
+use Rattle.std.specs.Prelude.{◌≡◌, ◌+◌, ◌≤◌}
+use Rattle.laws.specs.Prelude.{List, [], map, ℕ, plus}
 use Rattle.segment_rows.specs.Rows.{Words}
 use Rattle.row_statements.specs.Lent.{Columns}
 use Rattle.row_statements.specs.State.{State}

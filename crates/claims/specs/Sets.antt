@@ -1,5 +1,6 @@
 -- Kept sets of segments. Stands for W-207: after any edits all of the set equals a fresh working of its held words.
-use Rattle.laws.specs.Prelude.{List, ◌∷◌, ◌≡◌, cond, false, ℕ, ◌+◌, ◌<◌, ◌*◌, ◌/◌, ◌%◌, ◌≤◌, ℤ, ◌+ℤ◌, pos, nat_abs, length, take}
+use Rattle.std.specs.Prelude.{◌∷◌, ◌≡◌, ◌+◌, ◌<◌, ◌*◌, ◌/◌, ◌%◌, ◌≤◌, ◌+ℤ◌}
+use Rattle.laws.specs.Prelude.{List, cond, false, ℕ, ℤ, pos, nat_abs, length, take}
 use Rattle.segment_set_statements.specs.Set.{Beginning, SetState, held_of, take_verdict, let_out, taken_in, loads_from, begin_verdict, fresh_state, beginning}
 use Rattle.segment_set_statements.specs.Edits.{Edits, take_all}
 use Rattle.segment_set_statements.specs.Alike.{OrderLaw}

@@ -1,6 +1,7 @@
 -- The job text: what is read is exactly what prints so, and every word reads back as the text's numbers. Stands for document 01, 'The row program', and for
 -- W-203.
-use Rattle.laws.specs.Prelude.{◌≡◌, some, List, [], ◌∷◌, true, ℕ, ◌<◌, ◌≤◌, ℤ, ◌+ℤ◌, pos, negsuc, length, get_or, plus, minus}
+use Rattle.std.specs.Prelude.{◌≡◌, ◌∷◌, ◌<◌, ◌≤◌, ◌+ℤ◌}
+use Rattle.laws.specs.Prelude.{some, List, [], true, ℕ, ℤ, pos, negsuc, length, get_or, plus, minus}
 use Rattle.job_text_statements.specs.Job.{Job, WellFormed, render, Prints}
 use Rattle.job_text_statements.specs.Parse.{parse}
 use Rattle.job_lines.specs.declared.segment.SegmentLine.{SegmentLine}

@@ -1,6 +1,7 @@
 -- Doubled areas, weights and coverages. Stands for document 01, 'the weight is a whole number from 0 to 512', 'exact in binary32', 'SVG 2's fill-rule', and
 -- for W-201 and W-205.
-use Rattle.laws.specs.Prelude.{List, ◌≡◌, cond, true, false, ℕ, ◌+◌, ◌≤◌, ◌*◌, ◌<◌, ℤ, nat_abs, ◌+ℤ◌, pos, ◌*ℤ◌, HasValue, fits, binary32, mul, of_int}
+use Rattle.std.specs.Prelude.{◌≡◌, ◌+◌, ◌≤◌, ◌*◌, ◌<◌, ◌+ℤ◌, ◌*ℤ◌}
+use Rattle.laws.specs.Prelude.{List, cond, true, false, ℕ, ℤ, nat_abs, pos, HasValue, fits, binary32, mul, of_int}
 use Rattle.laws.specs.Prelude.{of_bits, ltb, modℤ}
 use Rattle.pixel_segment.specs.Field.{width_of}
 use Rattle.cover_statements.specs.Carry.{load_in}

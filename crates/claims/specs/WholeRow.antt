@@ -1,5 +1,6 @@
 -- What a row says of its tiles, worked from the whole row: openings, carries, lists, planes. Stands for document 01, 'Working from the whole row'.
-use Rattle.laws.specs.Prelude.{List, map, ◌≡◌, true, ℕ, ◌+◌, ◌<◌, suc, ◌+ℤ◌, ℤ, pos, length, get_or, replicate, tabulate, modℤ, refused}
+use Rattle.std.specs.Prelude.{◌≡◌, ◌+◌, ◌<◌, ◌+ℤ◌}
+use Rattle.laws.specs.Prelude.{List, map, true, ℕ, suc, ℤ, pos, length, get_or, replicate, tabulate, modℤ, refused}
 use Rattle.cover_statements.specs.WholeRow.{left_cover, part_of, FromRow, row_plane}
 use Rattle.cover_statements.specs.Carry.{cover_in, carry_of}
 use Rattle.styling.specs.declared.FillRule.{FillRule}

@@ -1,6 +1,7 @@
 -- Packed words over any table of seven widths, and at every tile height: each field of a word reads back, packing is exact, and order is that of tile y,
 -- tile x and layer. Stands for document 01, 'consts.rs, cpu/pixel_segment.rs', and for W-203 and W-213.
-use Rattle.laws.specs.Prelude.{List, ◌∷◌, [], ◌≡◌, true, ℕ, ◌≤◌, ◌<◌, ◌%◌, ◌^◌, ◌/◌, ◌-◌, length, get_or, ℤ, modℤ, plus, minus, given}
+use Rattle.std.specs.Prelude.{◌∷◌, ◌≡◌, ◌≤◌, ◌<◌, ◌%◌, ◌^◌, ◌/◌, ◌-◌}
+use Rattle.laws.specs.Prelude.{List, [], true, ℕ, length, get_or, ℤ, modℤ, plus, minus, given}
 use Rattle.pixel_segment.specs.Field.{field_of, width_of, cover_of, cpu, widths_at, gpu, tile_y_of, tile_x_of, layer_id_of}
 use Rattle.pixel_segment.specs.Pack.{join, word_of, stored_of, FieldsInRange, ReadsBack, pack_of, Same, is_packable}
 use Rattle.pixel_segment.specs.Layout.{Layout, Keyed, Compared}

@@ -1,7 +1,8 @@
 -- The covers of each pixel row summed onto those that come in, in the pass that judges number 9: at word i, the sums so far. None is above the
 -- load of its row, so none outgrows its type where the loads stay within 127. Over any widths whose local y stays below the height n. Assumes
 -- nothing.
-use Rattle.laws.proofs.Prelude.{◌≡◌, refl, sym, ap, ◌∙◌, cond, List, map, ℕ, ◌+◌, ◌≤◌, ◌<◌, add_assoc, add-zero, arith, ℤ, pos, nat_abs, ◌+ℤ◌, +ℤ_idr}
+use Rattle.std.specs.Prelude.{◌≡◌, ◌+◌, ◌≤◌, ◌<◌, ◌+ℤ◌}
+use Rattle.laws.proofs.Prelude.{refl, sym, ap, ◌∙◌, cond, List, map, ℕ, add_assoc, add-zero, arith, ℤ, pos, nat_abs, +ℤ_idr}
 use Rattle.laws.proofs.Prelude.{+ℤ_assoc, length, get_or, drop, set, length-set, List·getD-map, add_one, entry_one, is_tabulate, abs_add, abs_cond}
 use Rattle.laws.proofs.Prelude.{sum_step, sum_end}
 use Rattle.pixel_segment.specs.Field.{local_y_of, cover_of}

@@ -1,5 +1,6 @@
 -- What adding to a cover answers and gives back.
-use Rattle.laws.specs.Prelude.{◌≡◌, Bool, cond, List, ℕ, ℤ, Answer, refused, given}
+use Rattle.std.specs.Prelude.{◌≡◌}
+use Rattle.laws.specs.Prelude.{Bool, cond, List, ℕ, ℤ, Answer, refused, given}
 use Rattle.cover_statements.specs.Carry.{is_light, carry_of, add_of}
 use Rattle.cover.specs.declared.carry.Carried.{Carried}
 

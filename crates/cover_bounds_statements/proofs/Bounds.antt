@@ -1,7 +1,8 @@
 -- Laws of covers within bounds, for every table of seven widths: the lowest and the highest d are the least and the greatest of all choices and are
 -- reached; every choice has its weights inside, and is light where the heavier bounds are; equal bounds tell all exactly; narrower bounds give an
 -- interval inside. Assumes nothing.
-use Rattle.laws.proofs.Prelude.{◌≡◌, refl, sym, ap, ◌∙◌, true, List, ℕ, ◌+◌, ◌-◌, ◌^◌, ◌≤◌, ◌<◌, arith, le-leb, ℤ, pos, nat_abs, length, plus, minus}
+use Rattle.std.specs.Prelude.{◌≡◌, ◌+◌, ◌-◌, ◌^◌, ◌≤◌, ◌<◌}
+use Rattle.laws.proofs.Prelude.{refl, sym, ap, ◌∙◌, true, List, ℕ, arith, le-leb, ℤ, pos, nat_abs, length, plus, minus}
 use Rattle.laws.proofs.Prelude.{is_within, AtMost, tabulate, every_intro, whole, equal, is_within_lem, get_d_tabulate}
 use Rattle.laws.proofs.Parts.{most_of}
 use Rattle.laws.proofs.Ranges.{within}

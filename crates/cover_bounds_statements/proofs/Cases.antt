@@ -1,5 +1,6 @@
 -- Intervals of d worked out: the least and the greatest weight by NonZero, and by EvenOdd. Assumes nothing.
-use Rattle.laws.proofs.Prelude.{◌≡◌, refl, sym, true, ℕ, ℤ, pos, negsuc, le_z, le_true}
+use Rattle.std.specs.Prelude.{◌≡◌}
+use Rattle.laws.proofs.Prelude.{refl, sym, true, ℕ, ℤ, pos, negsuc, le_z, le_true}
 use Rattle.styling.specs.declared.FillRule.TheVariants.{NonZero, EvenOdd}
 use Rattle.cover_bounds_statements.specs.Interval.{least_weight, greatest_weight}
 use Rattle.cover_bounds_statements.specs.InnerEnds.{has_multiple, least_by_ends, greatest_by_ends}

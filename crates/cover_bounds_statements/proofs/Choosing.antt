@@ -1,7 +1,8 @@
 -- Laws of chosen covers, for every table of seven widths: the words of a part with other covers, d in the order of the covers, and the loads of a
 -- choice within those of the heavier bounds. Assumes nothing.
-use Rattle.laws.proofs.Prelude.{◌≡◌, sym, ap, ap₂, ◌∙◌, Bool, true, false, cond, List, ⊎_elim, ℕ, ◌+◌, ◌*◌, ◌≤◌, ◌<◌, arith, le-leb, lt-leb, leb, ℤ}
-use Rattle.laws.proofs.Prelude.{pos, nat_abs, ◌+ℤ◌, ◌*ℤ◌, length, get_or, le_or_lt, whole, length_tabulate, get_d_tabulate, AtMost}
+use Rattle.std.specs.Prelude.{◌≡◌, ◌+◌, ◌*◌, ◌≤◌, ◌<◌, ◌+ℤ◌, ◌*ℤ◌}
+use Rattle.laws.proofs.Prelude.{sym, ap, ap₂, ◌∙◌, Bool, true, false, cond, List, ⊎_elim, ℕ, arith, le-leb, lt-leb, leb, ℤ}
+use Rattle.laws.proofs.Prelude.{pos, nat_abs, length, get_or, le_or_lt, whole, length_tabulate, get_d_tabulate, AtMost}
 use Rattle.laws.proofs.Parts.{sum_most, times_most}
 use Rattle.laws.proofs.Sums.{sumℤ_le, sumℕ_each}
 use Rattle.pixel_segment.specs.Field.{local_x_of, local_y_of, multiplier_of, cover_of, double_area_of}

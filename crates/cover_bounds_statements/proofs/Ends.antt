@@ -1,9 +1,10 @@
 -- The least and the greatest weight of an interval by its ends are those of the walk, by both rules. EvenOdd sees the interval by the remainder of
 -- its first number and by its length: a number that leaves a given remainder is within reach or it is not, and where it is not the weights go
 -- straight from end to end, or down and up again. Assumes nothing.
-use Rattle.laws.proofs.Prelude.{◌≡◌, refl, sym, ap, subst, ◌∙◌, Bool, true, false, cond, ◌||◌, ◌⊎◌, inl, inr, ⊎_elim, ℕ, ◌+◌, ◌-◌, ◌%◌, ◌≤◌, ◌<◌, min}
+use Rattle.std.specs.Prelude.{◌≡◌, ◌||◌, ◌⊎◌, ◌+◌, ◌-◌, ◌%◌, ◌≤◌, ◌<◌, ◌+ℤ◌}
+use Rattle.laws.proofs.Prelude.{refl, sym, ap, subst, ◌∙◌, Bool, true, false, cond, inl, inr, ⊎_elim, ℕ, min}
 use Rattle.laws.proofs.Prelude.{max, add-zero, mod-lt, mod-eq_of_lt, arith, eqb-true, eqb-false, leb-true, leb-false, eqb, leb, lit<, ℤ, pos, nat_abs}
-use Rattle.laws.proofs.Prelude.{◌+ℤ◌, +ℤ_idr, le_z, plus, minus, modℤ, AtMost, both, left, right, clash, either, remainder, le_or_lt, whole, added}
+use Rattle.laws.proofs.Prelude.{+ℤ_idr, le_z, plus, minus, modℤ, AtMost, both, left, right, clash, either, remainder, le_or_lt, whole, added}
 use Rattle.laws.proofs.Prelude.{difference, le_true, true_le}
 use mathlib.Core.Logic.{⊎_swap}
 use Rattle.refusals.proofs.Judging.{or_left, or_right}

@@ -1,6 +1,7 @@
 -- Laws of the walk over an interval: its least and its greatest weight are each met by a number of the interval, and no number's weight lies
 -- outside them; and whatever is so is the least or the greatest weight. Assumes nothing.
-use Rattle.laws.proofs.Prelude.{◌≡◌, refl, ap, subst, true, ⊎_elim, ℕ, zero, suc, ◌≤◌, arith, eq-or-lt_of_le, ℤ, pos, ◌+ℤ◌, +ℤ_idr, is_within, AtMost}
+use Rattle.std.specs.Prelude.{◌≡◌, ◌≤◌, ◌+ℤ◌}
+use Rattle.laws.proofs.Prelude.{refl, ap, subst, true, ⊎_elim, ℕ, zero, suc, arith, eq-or-lt_of_le, ℤ, pos, +ℤ_idr, is_within, AtMost}
 use Rattle.laws.proofs.Prelude.{le_or_lt, added, taken, equal, is_within_lem}
 use Rattle.laws.proofs.Ranges.{within}
 use Rattle.styling.specs.declared.FillRule.{FillRule}

@@ -1,6 +1,7 @@
 -- The loops of the code, as laws over plain lists: a test of every index, a list given by its places that is written at the front of a lent one, and
 -- the cells of chosen words summed up. Assumes nothing.
-use Rattle.laws.proofs.Prelude.{◌≡◌, refl, sym, ap, ap₂, ◌∙◌, Bool, true, ◌&&◌, List, ℕ, ◌+◌, ◌*◌, ◌≤◌, ◌<◌, add-one, arith, eq-eqb, ℤ, nat_abs, ◌+ℤ◌}
+use Rattle.std.specs.Prelude.{◌≡◌, ◌&&◌, ◌+◌, ◌*◌, ◌≤◌, ◌<◌, ◌+ℤ◌}
+use Rattle.laws.proofs.Prelude.{refl, sym, ap, ap₂, ◌∙◌, Bool, true, List, ℕ, add-one, arith, eq-eqb, ℤ, nat_abs}
 use Rattle.laws.proofs.Prelude.{length, get_or, set, length-set, replicate, length-replicate, tabulate, every, over, filled, filled_more, filled_all}
 use Rattle.laws.proofs.Prelude.{length_tabulate, get_d_tabulate, sum_step}
 use mathlib.Core.Bool.{and_comm}

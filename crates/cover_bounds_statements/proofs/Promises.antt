@@ -1,6 +1,7 @@
 -- The promise of bounding a part, from what the code leaves: a refused call leaves the planes, an accepted one writes them from d by columns.
 -- Assumes nothing.
-use Rattle.laws.proofs.Prelude.{◌≡◌, sym, ap, ap₂, ◌∙◌, List, ℕ, ◌<◌, arith, ℤ, over}
+use Rattle.std.specs.Prelude.{◌≡◌, ◌<◌}
+use Rattle.laws.proofs.Prelude.{sym, ap, ap₂, ◌∙◌, List, ℕ, arith, ℤ, over}
 use Rattle.refusals.specs.Refusal.{Judgement, pass, refuse, judgement_in}
 use Rattle.refusals.specs.declared.Verdict.{Verdict}
 use Rattle.pixel_segment.specs.Field.{cpu}

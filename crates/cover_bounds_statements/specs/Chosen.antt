@@ -1,7 +1,8 @@
 -- Covers chosen within bounds: a part with each word's own cover replaced, and d of a pixel then. Stands for W-211, 'each segment comes with a lowest and
 -- a highest cover in place of its own, each carry with a lowest and highest byte per row', and for 'any row chosen within the bounds'. The field
 -- widths `ws` are a parameter; a cover is said of each segment's place in the part, and a carry of each pixel row.
-use Rattle.laws.specs.Prelude.{◌≡◌, Bool, true, cond, List, ℕ, ◌-◌, ◌^◌, ◌≤◌, ◌<◌, leb, ℤ, nat_abs, length, get_or, plus, minus, is_within, AtMost}
+use Rattle.std.specs.Prelude.{◌≡◌, ◌-◌, ◌^◌, ◌≤◌, ◌<◌}
+use Rattle.laws.specs.Prelude.{Bool, true, cond, List, ℕ, leb, ℤ, nat_abs, length, get_or, plus, minus, is_within, AtMost}
 use Rattle.laws.specs.Prelude.{tabulate}
 use Rattle.pixel_segment.specs.Field.{width_of}
 use Rattle.pixel_segment.specs.Pack.{with_cover}

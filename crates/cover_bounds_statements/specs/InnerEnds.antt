@@ -1,6 +1,7 @@
 -- How the code finds the least and the greatest weight of an interval: by its ends, and by whether it has a number of weight 0 or 512 in between.
 -- proofs/Ends shows that these are the weights of the walk.
-use Rattle.laws.specs.Prelude.{Bool, cond, ◌&&◌, ◌||◌, ℕ, ◌+◌, min, max, eqb, leb, ℤ, pos, ◌+ℤ◌, le_z, modℤ}
+use Rattle.std.specs.Prelude.{◌&&◌, ◌||◌, ◌+◌, ◌+ℤ◌}
+use Rattle.laws.specs.Prelude.{Bool, cond, ℕ, min, max, eqb, leb, ℤ, pos, le_z, modℤ}
 use Rattle.styling.specs.declared.FillRule.{FillRule}
 use Rattle.styling.specs.declared.FillRule.TheVariants.{NonZero, EvenOdd}
 use Rattle.cover_statements.specs.Weight.{weight_of}

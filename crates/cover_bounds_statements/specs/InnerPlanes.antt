@@ -1,5 +1,6 @@
 -- How the code writes the planes: from d of all pixels by columns, at the lowest and at the highest covers.
-use Rattle.laws.specs.Prelude.{◌≡◌, true, List, ℕ, ◌+◌, ◌*◌, ◌≤◌, ◌<◌, ℤ, length, le_z, over}
+use Rattle.std.specs.Prelude.{◌≡◌, ◌+◌, ◌*◌, ◌≤◌, ◌<◌}
+use Rattle.laws.specs.Prelude.{true, List, ℕ, ℤ, length, le_z, over}
 use Rattle.pixel_segment.specs.Field.{cpu}
 use Rattle.styling.specs.declared.FillRule.{FillRule}
 use Rattle.styling.specs.declared.FillRule.TheVariants.{NonZero, EvenOdd}

@@ -1,6 +1,7 @@
 -- The least and the greatest weight over all whole numbers of an interval, both ends included. Stands for W-211, 'the least and greatest weight over all
 -- whole numbers between them, under both rules': a walk from the lowest number upward, one number after the other.
-use Rattle.laws.specs.Prelude.{◌≡◌, true, ℕ, zero, suc, ◌≤◌, min, max, ℤ, pos, ◌+ℤ◌, ◌-ℤ◌, plus, is_within}
+use Rattle.std.specs.Prelude.{◌≡◌, ◌≤◌, ◌+ℤ◌, ◌-ℤ◌}
+use Rattle.laws.specs.Prelude.{true, ℕ, zero, suc, min, max, ℤ, pos, plus, is_within}
 use Rattle.styling.specs.declared.FillRule.{FillRule}
 use Rattle.cover_statements.specs.Weight.{weight_of}
 

@@ -1,5 +1,6 @@
 -- The promise of bounding a part: the answer, each of the six lent planes, and what those of an accepted call say.
-use Rattle.laws.specs.Prelude.{◌≡◌, List, ℕ, over}
+use Rattle.std.specs.Prelude.{◌≡◌}
+use Rattle.laws.specs.Prelude.{List, ℕ, over}
 use Rattle.refusals.specs.Refusal.{Judgement, pass, refuse, judgement_in}
 use Rattle.refusals.specs.declared.Verdict.{Verdict}
 use Rattle.styling.specs.declared.FillRule.TheVariants.{NonZero, EvenOdd}

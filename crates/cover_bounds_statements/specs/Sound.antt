@@ -1,6 +1,7 @@
 -- What the planes of an accepted call say. Stands for W-211, 'any row chosen within the bounds has its weights inside; with equal bounds the two are
 -- the ordinary weight'.
-use Rattle.laws.specs.Prelude.{◌≡◌, true, List, ℕ, ◌≤◌, ◌<◌, ℤ, length, is_within}
+use Rattle.std.specs.Prelude.{◌≡◌, ◌≤◌, ◌<◌}
+use Rattle.laws.specs.Prelude.{true, List, ℕ, ℤ, length, is_within}
 use Rattle.pixel_segment.specs.Field.{cpu}
 use Rattle.styling.specs.declared.FillRule.{FillRule}
 use Rattle.cover_statements.specs.Carry.{is_light}

@@ -1,6 +1,7 @@
 -- Calls worked out: by which number each is refused, where more than one applies. Stands for W-211's refusals and for 'the lowest that applies', in the
 -- order 1, 3, 14, 9. proofs/Verdicts has them.
-use Rattle.laws.specs.Prelude.{◌≡◌, List, [], ◌∷◌, ℕ, ℤ, pos, negsuc, replicate}
+use Rattle.std.specs.Prelude.{◌≡◌, ◌∷◌}
+use Rattle.laws.specs.Prelude.{List, [], ℕ, ℤ, pos, negsuc, replicate}
 use Rattle.refusals.specs.Refusal.{pass, refuse}
 use Rattle.pixel_segment.specs.Field.{cpu}
 use Rattle.pixel_segment.specs.Pack.{word_of}

@@ -2,7 +2,8 @@
 -- least and the greatest weight of the numbers between them by both rules. Refused by 1 where a plane is below 256 numbers or the bounds are
 -- below two bytes a segment, by 3 for a segment of another layer or tile, by 14 where a lowest is above its highest or a segment's bound is outside
 -- -32 to 31, and by 9. No table is lent, so 8 cannot apply. A refusal leaves the planes as they were.
-use Rattle.laws.specs.Prelude.{Bool, not, ◌&&◌, ◌||◌, List, ℕ, ◌+◌, ◌*◌, ◌/◌, ltb, ℤ, pos, negsuc, length, le_z, is_within, every, all}
+use Rattle.std.specs.Prelude.{◌&&◌, ◌||◌, ◌+◌, ◌*◌, ◌/◌}
+use Rattle.laws.specs.Prelude.{Bool, not, List, ℕ, ltb, ℤ, pos, negsuc, length, le_z, is_within, every, all}
 use Rattle.refusals.specs.Refusal.{Judgement, pass, unless}
 use Rattle.pixel_segment.specs.Field.{cpu}
 use Rattle.styling.specs.declared.FillRule.{FillRule}

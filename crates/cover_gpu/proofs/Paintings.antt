@@ -1,5 +1,6 @@
 -- What painting answers in each case: uses at 4 of the laws over the height. Assumes nothing.
-use Rattle.laws.proofs.Prelude.{◌≡◌, sym, ◌∙◌, true, false, List, ℕ, ◌≤◌, ◌<◌, Float, ℤ, length, over}
+use Rattle.std.specs.Prelude.{◌≡◌, ◌≤◌, ◌<◌}
+use Rattle.laws.proofs.Prelude.{sym, ◌∙◌, true, false, List, ℕ, Float, ℤ, length, over}
 use Rattle.pixel_segment.specs.Field.{gpu}
 use Rattle.styling.specs.declared.FillRule.{FillRule}
 use Rattle.cover_statements.specs.Carry.{is_light}

@@ -1,6 +1,7 @@
 -- Painting a part in a tile four pixels high: its 64 coverages written into a lent plane. Refused by 1 where the plane is below 64 numbers, then by
 -- 9. Stands for W-213, 'planes have 64 numbers' and 'numbers 1, 2 and 11 go by these sizes'. There is no mark: octets are not part of this profile.
-use Rattle.laws.specs.Prelude.{◌≡◌, List, ℕ, Float, ℤ, Answer, refused, given}
+use Rattle.std.specs.Prelude.{◌≡◌}
+use Rattle.laws.specs.Prelude.{List, ℕ, Float, ℤ, Answer, refused, given}
 use Rattle.pixel_segment.specs.Field.{gpu}
 use Rattle.styling.specs.declared.FillRule.{FillRule}
 use Rattle.cover_statements.specs.Paint.{judged_part, painted_plane}

@@ -1,5 +1,6 @@
 -- Covers that agree by a rule: sums of them agree, they are empty or full together, and an empty one agrees with 0. Assumes nothing.
-use Rattle.laws.proofs.Prelude.{◌≡◌, refl, sym, ap, ◌∙◌, true, ℕ, arith, eqb-true, eqb, lit<, ℤ, pos, nat_abs, ◌+ℤ◌, whole, equal, modℤ}
+use Rattle.std.specs.Prelude.{◌≡◌, ◌+ℤ◌}
+use Rattle.laws.proofs.Prelude.{refl, sym, ap, ◌∙◌, true, ℕ, arith, eqb-true, eqb, lit<, ℤ, pos, nat_abs, whole, equal, modℤ}
 use Rattle.laws.proofs.Mod.{agree_add}
 use Rattle.styling.specs.declared.FillRule.{FillRule}
 use Rattle.styling.specs.declared.FillRule.TheVariants.{NonZero, EvenOdd}

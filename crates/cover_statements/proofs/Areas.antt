@@ -1,7 +1,8 @@
 -- Laws of the doubled area, over any widths. Assumes nothing.
-use Rattle.laws.proofs.Prelude.{◌≡◌, refl, sym, ap, ◌∙◌, Bool, true, false, cond, not, ◌&&◌, List, [], ◌∷◌, ⊎_elim, ℕ, ◌+◌, ◌*◌, ◌^◌, ◌/◌, ◌≤◌, ◌<◌}
+use Rattle.std.specs.Prelude.{◌≡◌, ◌&&◌, ◌∷◌, ◌+◌, ◌*◌, ◌^◌, ◌/◌, ◌≤◌, ◌<◌, ◌+ℤ◌, ◌*ℤ◌}
+use Rattle.laws.proofs.Prelude.{refl, sym, ap, ◌∙◌, Bool, true, false, cond, not, List, [], ⊎_elim, ℕ}
 use Rattle.laws.proofs.Prelude.{mul-le-mul_right, mod-lt, arith, ltb-true, eqb-true, eq-eqb, ne_eqb, lt-ltb, le-ltb, eqb, ltb, lit<, ℤ, pos, nat_abs}
-use Rattle.laws.proofs.Prelude.{◌+ℤ◌, ◌*ℤ◌, +ℤ_idl, +ℤ_idr, get_or, left, all_intro, le_or_lt, eq_or_ne, added, times, abs_times, abs_add, sumℤ}
+use Rattle.laws.proofs.Prelude.{+ℤ_idl, +ℤ_idr, get_or, left, all_intro, le_or_lt, eq_or_ne, added, times, abs_times, abs_add, sumℤ}
 use Rattle.laws.proofs.Sums.{sum_abs, sum_none, sumℕ_le, sumℤ_split}
 use Rattle.pixel_segment.specs.Field.{local_x_of, cover_of, multiplier_of, double_area_of, width_of, shift_of}
 use Rattle.cover_statements.specs.Area.{is_before, is_own, cover_before, own_area, doubled_area}

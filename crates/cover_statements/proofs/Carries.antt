@@ -1,5 +1,6 @@
 -- Laws of the carry and of number 9. Assumes nothing.
-use Rattle.laws.proofs.Prelude.{◌≡◌, sym, ◌∙◌, true, List, [], ℕ, ◌+◌, ◌≤◌, ◌<◌, arith, leb-true, ℤ, pos, nat_abs, ◌+ℤ◌, +ℤ_idr, ext_get_or, length}
+use Rattle.std.specs.Prelude.{◌≡◌, ◌+◌, ◌≤◌, ◌<◌, ◌+ℤ◌}
+use Rattle.laws.proofs.Prelude.{sym, ◌∙◌, true, List, [], ℕ, arith, leb-true, ℤ, pos, nat_abs, +ℤ_idr, ext_get_or, length}
 use Rattle.laws.proofs.Prelude.{every_at, abs_add, length_tabulate, get_d_tabulate}
 use Rattle.laws.proofs.Sums.{sum_abs}
 use Rattle.pixel_segment.specs.Field.{cover_of}

@@ -1,6 +1,7 @@
 -- Document 01's cases of covers and coverages, P6, P9, P10 and P11, and both sides of the edge of number 9, over the definitions that the
 -- contracts cite. Assumes nothing.
-use Rattle.laws.proofs.Prelude.{◌≡◌, refl, true, false, List, [], ◌∷◌, ℕ, binary32, odd, of_bits, ℤ, pos, negsuc, replicate, refused, given}
+use Rattle.std.specs.Prelude.{◌≡◌, ◌∷◌}
+use Rattle.laws.proofs.Prelude.{refl, true, false, List, [], ℕ, binary32, odd, of_bits, ℤ, pos, negsuc, replicate, refused, given}
 use Rattle.pixel_segment.specs.Field.{cpu, cover_of}
 use Rattle.pixel_segment.specs.Pack.{word_of}
 use Rattle.styling.specs.declared.FillRule.TheVariants.{NonZero, EvenOdd}

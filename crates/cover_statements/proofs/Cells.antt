@@ -1,6 +1,7 @@
 -- Laws of the cells: a cell's segments are its pixel's own. Over any widths whose local y stays below the height n. Assumes nothing.
-use Rattle.laws.proofs.Prelude.{◌≡◌, sym, ap, ◌∙◌, Bool, cond, List, ℕ, ◌*◌, ◌/◌, ◌%◌, ◌<◌, div-add-mod', eqb-true, eq-eqb, digits_div, digits_mod}
-use Rattle.laws.proofs.Prelude.{eqb, ℤ, pos, ◌+ℤ◌, both, left, right, same, get_d_tabulate, sum_ext, sumℤ}
+use Rattle.std.specs.Prelude.{◌≡◌, ◌*◌, ◌/◌, ◌%◌, ◌<◌, ◌+ℤ◌}
+use Rattle.laws.proofs.Prelude.{sym, ap, ◌∙◌, Bool, cond, List, ℕ, div-add-mod', eqb-true, eq-eqb, digits_div, digits_mod}
+use Rattle.laws.proofs.Prelude.{eqb, ℤ, pos, both, left, right, same, get_d_tabulate, sum_ext, sumℤ}
 use Rattle.pixel_segment.specs.Field.{local_x_of, local_y_of}
 use Rattle.cover_statements.specs.Area.{is_own}
 use Rattle.cover_statements.specs.Carry.{in_row}

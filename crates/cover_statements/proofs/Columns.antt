@@ -1,8 +1,9 @@
 -- The doubled areas of a tile, one column after another: the columns passed hold d, the others their own double areas, and each row's sum is the
 -- cover that comes in with what lies left of the column. Over any widths whose local y stays below the height n and whose multiplier has six bits.
 -- Assumes nothing.
-use Rattle.laws.proofs.Prelude.{◌≡◌, sym, ap, ◌∙◌, cond, List, ⊎_elim, ℕ, ◌+◌, ◌*◌, ◌/◌, ◌%◌, ◌≤◌, ◌<◌, arith, eq-eqb, ne_eqb, lt-ltb, le-ltb}
-use Rattle.laws.proofs.Prelude.{digits_lt, digits_div, digits_mod, eqb, ltb, ℤ, pos, ◌+ℤ◌, ◌*ℤ◌, +ℤ_assoc, +ℤ_idr, length, eq_or_ne, is_tabulate}
+use Rattle.std.specs.Prelude.{◌≡◌, ◌+◌, ◌*◌, ◌/◌, ◌%◌, ◌≤◌, ◌<◌, ◌+ℤ◌, ◌*ℤ◌}
+use Rattle.laws.proofs.Prelude.{sym, ap, ◌∙◌, cond, List, ⊎_elim, ℕ, arith, eq-eqb, ne_eqb, lt-ltb, le-ltb}
+use Rattle.laws.proofs.Prelude.{digits_lt, digits_div, digits_mod, eqb, ltb, ℤ, pos, +ℤ_assoc, +ℤ_idr, length, eq_or_ne, is_tabulate}
 use Rattle.laws.proofs.Prelude.{length_tabulate, abs_add, sumℤ}
 use native.Mathlib.Nat.{le_of_eq, le_trans}
 use Rattle.pixel_segment.specs.Field.{local_y_of, cover_of, double_area_of, width_of}

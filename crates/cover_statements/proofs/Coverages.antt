@@ -1,6 +1,7 @@
 -- Laws of the coverages: a coverage is its weight over 512, binary32 holds it, the code's product is it, and which are above 0. What is said of
 -- all 513 weights is one test that antt computes. Assumes nothing.
-use Rattle.laws.proofs.Prelude.{◌≡◌, refl, Bool, true, false, Bool·beq, ℕ, ◌*◌, ◌≤◌, arith, ltb, binary32, fits, odd, mul, of_int, of_bits, lt}
+use Rattle.std.specs.Prelude.{◌≡◌, ◌*◌, ◌≤◌}
+use Rattle.laws.proofs.Prelude.{refl, Bool, true, false, Bool·beq, ℕ, arith, ltb, binary32, fits, odd, mul, of_int, of_bits, lt}
 use Rattle.laws.proofs.Prelude.{HasValue, pos, every_at}
 use lib.Ieee.Exact.{odd_sign}
 use Rattle.cover_statements.specs.Coverage.{coverage_of, is_above}

@@ -1,5 +1,6 @@
 -- Laws of covers in a lent list: reading what was written, and elsewhere what was there. Assumes nothing.
-use Rattle.laws.proofs.Prelude.{◌≡◌, refl, sym, ap, ◌∙◌, List, ◌++◌, append_assoc, inl, inr, ⊎_elim, ℕ, suc, ◌+◌, ◌*◌, ◌-◌, ◌≤◌, ◌<◌}
+use Rattle.std.specs.Prelude.{◌≡◌, ◌++◌, ◌+◌, ◌*◌, ◌-◌, ◌≤◌, ◌<◌}
+use Rattle.laws.proofs.Prelude.{refl, sym, ap, ◌∙◌, List, append_assoc, inl, inr, ⊎_elim, ℕ, suc}
 use Rattle.laws.proofs.Prelude.{mul-le-mul_right, add-one, arith, ℤ, pos, length, get_or, take, drop, set, length-set, length-take, length-drop}
 use Rattle.laws.proofs.Prelude.{length-append, replicate, length-replicate, List·getD-append, take_all, drop-drop, get_or-take, get_or-drop, ext_get_or}
 use Rattle.laws.proofs.Prelude.{length-take-le, get_or-append-add, paste, le_or_lt, filled, filled_more, over}

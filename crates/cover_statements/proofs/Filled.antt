@@ -1,5 +1,6 @@
 -- A buffer of n zeros that is filled from the front with a list of n. Assumes nothing.
-use Rattle.laws.proofs.Prelude.{◌≡◌, refl, ap, ap₂, ◌∙◌, List, ◌++◌, append-nil, ℕ, zero, suc, arith, length, get_or, replicate, drop_of_length-le}
+use Rattle.std.specs.Prelude.{◌≡◌, ◌++◌}
+use Rattle.laws.proofs.Prelude.{refl, ap, ap₂, ◌∙◌, List, append-nil, ℕ, zero, suc, arith, length, get_or, replicate, drop_of_length-le}
 use Rattle.laws.proofs.Prelude.{take_all, filled, over}
 
 pub filled_whole {ℓ} : {A : Type ℓ} (d s : List A) (n : ℕ) → length d ≡ n → length s ≡ n → filled d s n ≡ s

@@ -1,6 +1,7 @@
 -- A test of two floats that they are the same data, for tests that antt computes: IEEE 754's == would not tell the two zeros apart.
 -- Assumes nothing.
-use Rattle.laws.proofs.Prelude.{◌≡◌, refl, ap, Bool, true, false, Bool·beq, ◌&&◌, false≢true, eqb-true, eqb, Float, nan, inf, fin, ℤ, pos, negsuc}
+use Rattle.std.specs.Prelude.{◌≡◌, ◌&&◌}
+use Rattle.laws.proofs.Prelude.{refl, ap, Bool, true, false, Bool·beq, false≢true, eqb-true, eqb, Float, nan, inf, fin, ℤ, pos, negsuc}
 use Rattle.laws.proofs.Prelude.{left, right}
 
 abbrev same_int : ℤ → ℤ → Bool

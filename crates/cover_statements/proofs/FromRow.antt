@@ -1,6 +1,7 @@
 -- Laws that join a tile's part and a carry with the whole row, over any widths and any height. Assumes nothing.
-use Rattle.laws.proofs.Prelude.{◌≡◌, sym, ap, ◌∙◌, Bool, true, false, cond, not, ◌&&◌, List, [], ℕ, ◌+◌, ◌<◌, arith, le-ltb, eqb, ltb, Float, ℤ, pos}
-use Rattle.laws.proofs.Prelude.{◌+ℤ◌, ◌*ℤ◌, +ℤ_idl, +ℤ_idr, length, get_or, all_at, all_intro, filter_none, sum_filter, every}
+use Rattle.std.specs.Prelude.{◌≡◌, ◌&&◌, ◌+◌, ◌<◌, ◌+ℤ◌, ◌*ℤ◌}
+use Rattle.laws.proofs.Prelude.{sym, ap, ◌∙◌, Bool, true, false, cond, not, List, [], ℕ, arith, le-ltb, eqb, ltb, Float, ℤ, pos}
+use Rattle.laws.proofs.Prelude.{+ℤ_idl, +ℤ_idr, length, get_or, all_at, all_intro, filter_none, sum_filter, every}
 use Rattle.laws.proofs.Sums.{sumℤ_split}
 use Rattle.pixel_segment.specs.Field.{tile_x_of, layer_id_of, cover_of}
 use Rattle.styling.specs.declared.FillRule.{FillRule}

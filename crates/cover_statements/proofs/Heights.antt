@@ -1,5 +1,6 @@
 -- What the fields of a word are at both heights, by the layout: a column, a pixel row, a cover and a double area. Assumes nothing.
-use Rattle.laws.proofs.Prelude.{◌≡◌, refl, ℕ, ◌<◌, arith, w8, SFits}
+use Rattle.std.specs.Prelude.{◌≡◌, ◌<◌}
+use Rattle.laws.proofs.Prelude.{refl, ℕ, arith, w8, SFits}
 use Rattle.pixel_segment.specs.Field.{cpu, widths_of, width_of, local_x_of, local_y_of, cover_of, double_area_of}
 use Rattle.pixel_segment.specs.declared.consts.Layout.{Layout}
 use Rattle.pixel_segment.specs.declared.consts.Layout.TheVariants.{Cpu, Gpu}

@@ -1,6 +1,7 @@
 -- Two lists of segments joined: specs/Joined's claim. Assumes nothing.
-use Rattle.laws.proofs.Prelude.{◌≡◌, ap, ap₂, sym, ◌∙◌, Bool, cond, List, ◌++◌, ℕ, ◌+◌, ◌<◌, arith, zero-add, add_assoc, le-leb, eqb, leb, ℤ, pos}
-use Rattle.laws.proofs.Prelude.{nat_abs, ◌+ℤ◌, +ℤ_idl, refused, given, tabulate, every, count_by, every_intro, is_tabulate, sum_append, sumℤ_same}
+use Rattle.std.specs.Prelude.{◌≡◌, ◌++◌, ◌+◌, ◌<◌, ◌+ℤ◌}
+use Rattle.laws.proofs.Prelude.{ap, ap₂, sym, ◌∙◌, Bool, cond, List, ℕ, arith, zero-add, add_assoc, le-leb, eqb, leb, ℤ, pos}
+use Rattle.laws.proofs.Prelude.{nat_abs, +ℤ_idl, refused, given, tabulate, every, count_by, every_intro, is_tabulate, sum_append, sumℤ_same}
 use Rattle.laws.proofs.Prelude.{sumℕ_same}
 use native.Mathlib.Nat.{add_comm}
 use Rattle.laws.proofs.Sums.{sumℤ_append}

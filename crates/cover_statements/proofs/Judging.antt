@@ -1,8 +1,9 @@
 -- Number 9 judged in the pass that sums up: at word i, the loads of each row so far and the tables of cells so far. No load is above 127, and no
 -- entry of a table is above m times the load of its row (m is 1 for covers and 63 for double areas), so no sum outgrows its type. Over any
 -- widths whose local y stays below the height n. Assumes nothing.
-use Rattle.laws.proofs.Prelude.{◌≡◌, refl, sym, ap, ◌∙◌, true, false, cond, List, ⊎_elim, ℕ, ◌+◌, ◌*◌, ◌%◌, ◌≤◌, ◌<◌, add_assoc, add-zero}
-use Rattle.laws.proofs.Prelude.{mul-le-mul_left, arith, eq-eqb, ne_eqb, le-leb, lt-leb, digits_lt, digits_mod, eqb, ℤ, pos, nat_abs, ◌+ℤ◌, +ℤ_idl}
+use Rattle.std.specs.Prelude.{◌≡◌, ◌+◌, ◌*◌, ◌%◌, ◌≤◌, ◌<◌, ◌+ℤ◌}
+use Rattle.laws.proofs.Prelude.{refl, sym, ap, ◌∙◌, true, false, cond, List, ⊎_elim, ℕ, add_assoc, add-zero}
+use Rattle.laws.proofs.Prelude.{mul-le-mul_left, arith, eq-eqb, ne_eqb, le-leb, lt-leb, digits_lt, digits_mod, eqb, ℤ, pos, nat_abs, +ℤ_idl}
 use Rattle.laws.proofs.Prelude.{+ℤ_idr, +ℤ_assoc, length, get_or, drop, set, length-set, length-replicate, every_intro, add_one, entry_one, eq_or_ne}
 use Rattle.laws.proofs.Prelude.{is_tabulate, abs_add, sum_step, sum_end, sumℤ}
 use native.Mathlib.Nat.{mul-add}

@@ -1,6 +1,7 @@
 -- Laws of the judging of number 9: the absolute covers of each row, capped at 128, one segment after another. Over any widths whose local y
 -- stays below the height n. Assumes nothing.
-use Rattle.laws.proofs.Prelude.{◌≡◌, refl, sym, ap, ap₂, ◌∙◌, Bool, true, false, cond, ◌&&◌, List, map, ⊎_elim, ℕ, zero, suc, ◌+◌, ◌≤◌, ◌<◌, min}
+use Rattle.std.specs.Prelude.{◌≡◌, ◌&&◌, ◌+◌, ◌≤◌, ◌<◌}
+use Rattle.laws.proofs.Prelude.{refl, sym, ap, ap₂, ◌∙◌, Bool, true, false, cond, List, map, ⊎_elim, ℕ, zero, suc, min}
 use Rattle.laws.proofs.Prelude.{arith, le-leb, lt-leb, leb-true, eq-eqb, ne_eqb, leb, eqb, ℤ, pos, nat_abs, length, get_or, drop, set, length-set}
 use Rattle.laws.proofs.Prelude.{length-map, replicate, length-replicate, List·getD-map, get_or-set_same, get_or-set_other, clash, all_at, all_intro}
 use Rattle.laws.proofs.Prelude.{le_or_lt, eq_or_ne, filled, filled_more, is_tabulate, length_tabulate, get_d_tabulate, sum_step, sum_end, every}

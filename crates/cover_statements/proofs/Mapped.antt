@@ -1,6 +1,7 @@
 -- A loop that writes what f says of each element of a list at the front of a lent list, in its order: at element k, those before it. The lent
 -- list may be the list itself. Assumes nothing.
-use Rattle.laws.proofs.Prelude.{◌≡◌, refl, sym, ap, ap₂, ◌∙◌, List, ◌++◌, map, ℕ, suc, ◌+◌, ◌≤◌, ◌<◌, arith, length, get_or, set, take, drop}
+use Rattle.std.specs.Prelude.{◌≡◌, ◌++◌, ◌+◌, ◌≤◌, ◌<◌}
+use Rattle.laws.proofs.Prelude.{refl, sym, ap, ap₂, ◌∙◌, List, map, ℕ, suc, arith, length, get_or, set, take, drop}
 use Rattle.laws.proofs.Prelude.{length-set, length-map, List·getD-map, drop-cons, length-take-le, filled, filled_more, filled_all, over}
 use lib.Seq.{get_or_at}
 use Rattle.cover_statements.proofs.Filled.{filled_whole}

@@ -1,7 +1,8 @@
 -- Laws of the mark: its size, one more octet below, its bits, that its ones are the used octets, and that it is the mark of the plane by columns.
 -- Assumes nothing.
-use Rattle.laws.proofs.Prelude.{◌≡◌, refl, sym, ap, ap₂, ◌∙◌, Bool, true, false, ◌||◌, List, [], ◌∷◌, ℕ, zero, suc, ◌+◌, ◌-◌, ◌*◌, ◌/◌, ◌%◌, ◌^◌, ◌<◌}
-use Rattle.laws.proofs.Prelude.{◌≤◌, lt_of_lt_of_le, div-one, arith, ones, Float, nan, odd, of_bits, lt, length, get_or, drop, length-drop, pow_mono}
+use Rattle.std.specs.Prelude.{◌≡◌, ◌||◌, ◌∷◌, ◌+◌, ◌-◌, ◌*◌, ◌/◌, ◌%◌, ◌^◌, ◌<◌, ◌≤◌}
+use Rattle.laws.proofs.Prelude.{refl, sym, ap, ap₂, ◌∙◌, Bool, true, false, List, [], ℕ, zero, suc}
+use Rattle.laws.proofs.Prelude.{lt_of_lt_of_le, div-one, arith, ones, Float, nan, odd, of_bits, lt, length, get_or, drop, length-drop, pow_mono}
 use Rattle.laws.proofs.Prelude.{drop-cons, length_tabulate, get_d_tabulate, is_tabulate}
 use native.Mathlib.Nat.{pow-suc, zero-div, zero-mul}
 use native.Mathlib.Numerals.{one-add}

@@ -1,7 +1,8 @@
 -- Segments run the other way: of a part of mild covers, each word the other's opposite, covers, carries and d are negated exactly; loads, whether a
 -- cover is empty or full, weights, coverages and planes are the same. Assumes nothing.
-use Rattle.laws.proofs.Prelude.{◌≡◌, refl, ap, ap₂, sym, ◌∙◌, Bool, true, cond, ◌&&◌, List, [], ◌∷◌, map, ℕ, zero, suc, ◌+◌, ◌-◌, ◌%◌, ◌<◌, min}
-use Rattle.laws.proofs.Prelude.{mod-eq_of_lt, arith, eqb-true, eq-eqb, eqb, ltb, leb, lit<, ℤ, pos, neg_ℤ, nat_abs, ◌+ℤ◌, ◌*ℤ◌, List·getD-map, modℤ}
+use Rattle.std.specs.Prelude.{◌≡◌, ◌&&◌, ◌∷◌, ◌+◌, ◌-◌, ◌%◌, ◌<◌, ◌+ℤ◌, ◌*ℤ◌}
+use Rattle.laws.proofs.Prelude.{refl, ap, ap₂, sym, ◌∙◌, Bool, true, cond, List, [], map, ℕ, zero, suc, min}
+use Rattle.laws.proofs.Prelude.{mod-eq_of_lt, arith, eqb-true, eq-eqb, eqb, ltb, leb, lit<, ℤ, pos, neg_ℤ, nat_abs, List·getD-map, modℤ}
 use Rattle.laws.proofs.Prelude.{tabulate, every, sumℤ, left, right, same, all_kept, all_map, filter_map, remainder, difference}
 use native.Mathlib.Nat.{mod_self}
 use lib.IntN.{neg_ℤ-+ℤ}

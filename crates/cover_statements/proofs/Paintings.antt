@@ -1,5 +1,6 @@
 -- What painting answers in each case. Assumes nothing.
-use Rattle.laws.proofs.Prelude.{◌≡◌, sym, ap, ◌∙◌, true, false, List, ℕ, ◌≤◌, ◌<◌, lt-ltb, le-ltb, le-leb, lt-leb, Float, ℤ, length, refused, given}
+use Rattle.std.specs.Prelude.{◌≡◌, ◌≤◌, ◌<◌}
+use Rattle.laws.proofs.Prelude.{sym, ap, ◌∙◌, true, false, List, ℕ, lt-ltb, le-ltb, le-leb, lt-leb, Float, ℤ, length, refused, given}
 use Rattle.laws.proofs.Prelude.{over}
 use Rattle.styling.specs.declared.FillRule.{FillRule}
 use Rattle.cover_statements.specs.Carry.{is_light}

@@ -1,5 +1,6 @@
 -- A plane written a row after another, and a row a number after another: 16 numbers a row, over any height. Assumes nothing.
-use Rattle.laws.proofs.Prelude.{◌≡◌, refl, sym, ap, ap₂, ◌∙◌, List, ◌++◌, ℕ, ◌+◌, ◌*◌, ◌≤◌, ◌<◌, add-one, arith, length, take, drop, set, length-drop}
+use Rattle.std.specs.Prelude.{◌≡◌, ◌++◌, ◌+◌, ◌*◌, ◌≤◌, ◌<◌}
+use Rattle.laws.proofs.Prelude.{refl, sym, ap, ap₂, ◌∙◌, List, ℕ, add-one, arith, length, take, drop, set, length-drop}
 use Rattle.laws.proofs.Prelude.{length-set, ext_get_or, get_or-take, get_or-drop, take_all, take_at, drop_at, take-add, drop-drop, length-take-le, paste}
 use Rattle.laws.proofs.Prelude.{filled, filled_all, length_tabulate, get_d_tabulate, over, tabulate}
 use lib.Seq.{paste-zero, paste-suc, length-paste}

@@ -1,6 +1,7 @@
 -- Laws of planes: the place of a pixel, the exchange of its two places, and the doubled areas that become a plane, over any widths and any height.
 -- Assumes nothing.
-use Rattle.laws.proofs.Prelude.{◌≡◌, sym, ap, ap₂, ◌∙◌, true, List, ℕ, ◌+◌, ◌*◌, ◌/◌, ◌%◌, ◌<◌, mod-lt, div-add-mod', div-lt_iff_lt-mul, arith}
+use Rattle.std.specs.Prelude.{◌≡◌, ◌+◌, ◌*◌, ◌/◌, ◌%◌, ◌<◌}
+use Rattle.laws.proofs.Prelude.{sym, ap, ap₂, ◌∙◌, true, List, ℕ, mod-lt, div-add-mod', div-lt_iff_lt-mul, arith}
 use Rattle.laws.proofs.Prelude.{digits_lt, digits_div, digits_mod, lit<, Float, ℤ, pos, length, get_or, length-map, List·getD-map, ext_get_or}
 use Rattle.laws.proofs.Prelude.{length_tabulate, get_d_tabulate, is_tabulate}
 use Rattle.pixel_segment.specs.Field.{width_of}

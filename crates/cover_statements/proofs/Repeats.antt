@@ -1,6 +1,7 @@
 -- Laws of a part without segments: all columns of its plane are the same, so one column of weights gives the plane and the mark. Assumes nothing.
-use Rattle.laws.proofs.Prelude.{◌≡◌, refl, sym, ap, ◌∙◌, Bool, true, false, cond, List, [], ⊎_elim, ℕ, ◌+◌, ◌*◌, ◌/◌, ◌%◌, ◌<◌, arith, eqb, Float}
-use Rattle.laws.proofs.Prelude.{nan, ℤ, pos, ◌*ℤ◌, length, get_or, length-map, eq_or_ne, abs_times, is_tabulate, over, tabulate}
+use Rattle.std.specs.Prelude.{◌≡◌, ◌+◌, ◌*◌, ◌/◌, ◌%◌, ◌<◌, ◌*ℤ◌}
+use Rattle.laws.proofs.Prelude.{refl, sym, ap, ◌∙◌, Bool, true, false, cond, List, [], ⊎_elim, ℕ, arith, eqb, Float}
+use Rattle.laws.proofs.Prelude.{nan, ℤ, pos, length, get_or, length-map, eq_or_ne, abs_times, is_tabulate, over, tabulate}
 use Rattle.styling.specs.declared.FillRule.{FillRule}
 use Rattle.cover_statements.specs.Carry.{is_light}
 use Rattle.cover_statements.specs.Cover.{cover_at}

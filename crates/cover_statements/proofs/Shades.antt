@@ -1,6 +1,7 @@
 -- A column's double areas become its doubled areas, one pixel row after another, over any height. Assumes nothing.
-use Rattle.laws.proofs.Prelude.{◌≡◌, refl, sym, ap, ap₂, ◌∙◌, Bool, false, ◌&&◌, List, ⊎_elim, ℕ, ◌+◌, ◌*◌, ◌/◌, ◌%◌, ◌<◌, div-add-mod', arith}
-use Rattle.laws.proofs.Prelude.{eqb-true, ltb-true, eq-eqb, lt-ltb, le-ltb, digits_lt, digits_div, digits_mod, eqb, ltb, ℤ, pos, ◌+ℤ◌, ◌*ℤ◌, length}
+use Rattle.std.specs.Prelude.{◌≡◌, ◌&&◌, ◌+◌, ◌*◌, ◌/◌, ◌%◌, ◌<◌, ◌+ℤ◌, ◌*ℤ◌}
+use Rattle.laws.proofs.Prelude.{refl, sym, ap, ap₂, ◌∙◌, Bool, false, List, ⊎_elim, ℕ, div-add-mod', arith}
+use Rattle.laws.proofs.Prelude.{eqb-true, ltb-true, eq-eqb, lt-ltb, le-ltb, digits_lt, digits_div, digits_mod, eqb, ltb, ℤ, pos, length}
 use Rattle.laws.proofs.Prelude.{set, length-set, get_or-set_same, get_or-set_other, both, left, right, same, not_right, eq_or_ne}
 use native.Mathlib.Nat.{le_refl}
 use Rattle.cover_statements.specs.InnerCell.{Shaded}

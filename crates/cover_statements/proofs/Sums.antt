@@ -1,5 +1,6 @@
 -- d summed up by rows and by columns, over any widths whose local y stays below the height, and at both heights. Assumes nothing.
-use Rattle.laws.proofs.Prelude.{◌≡◌, refl, List, ℕ, zero, suc, ◌+◌, ◌≤◌, ◌<◌, add-one, arith, ℤ}
+use Rattle.std.specs.Prelude.{◌≡◌, ◌+◌, ◌≤◌, ◌<◌}
+use Rattle.laws.proofs.Prelude.{refl, List, ℕ, zero, suc, add-one, arith, ℤ}
 use Rattle.pixel_segment.specs.Field.{local_y_of, widths_of}
 use Rattle.cover_statements.specs.Cover.{cover_at}
 use Rattle.cover_statements.specs.Height.{height_of}

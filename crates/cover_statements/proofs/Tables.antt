@@ -1,6 +1,7 @@
 -- A table of sums, an entry for each value of a key, as a loop over a part makes it: at word i, the table so far. The sums are whole numbers,
 -- and the absolute values still to come bound them, so that no sum outgrows its type on the way. Assumes nothing.
-use Rattle.laws.proofs.Prelude.{◌≡◌, refl, sym, ap, ◌∙◌, cond, List, ℕ, ◌+◌, ◌≤◌, ◌<◌, arith, eq-eqb, eqb, ℤ, pos, nat_abs, ◌+ℤ◌, +ℤ_assoc, +ℤ_idr}
+use Rattle.std.specs.Prelude.{◌≡◌, ◌+◌, ◌≤◌, ◌<◌, ◌+ℤ◌}
+use Rattle.laws.proofs.Prelude.{refl, sym, ap, ◌∙◌, cond, List, ℕ, arith, eq-eqb, eqb, ℤ, pos, nat_abs, +ℤ_assoc, +ℤ_idr}
 use Rattle.laws.proofs.Prelude.{length, get_or, drop, set, length-set, entry_one, is_tabulate, abs_add, abs_cond, sum_step, sum_end, tabulate, sumℤ}
 use Rattle.laws.proofs.Prelude.{sumℕ}
 

@@ -1,5 +1,6 @@
 -- A loop that tests every element of a list, with no early exit: at element i, whether those before it pass. Assumes nothing.
-use Rattle.laws.proofs.Prelude.{◌≡◌, refl, sym, ap, ◌∙◌, Bool, true, false, ◌&&◌, and_assoc, List, ℕ, suc, ◌+◌, ◌≤◌, ◌<◌, add-one, arith, length}
+use Rattle.std.specs.Prelude.{◌≡◌, ◌&&◌, ◌+◌, ◌≤◌, ◌<◌}
+use Rattle.laws.proofs.Prelude.{refl, sym, ap, ◌∙◌, Bool, true, false, and_assoc, List, ℕ, suc, add-one, arith, length}
 use Rattle.laws.proofs.Prelude.{get_or, drop, drop_of_length-le, drop-cons, same, every_intro, every_at, all_at, all_intro, all, every}
 
 pub record Testing {A : Type 0} (p : A → Bool) (l : List A) (n : ℕ) (ok : Bool) (i : ℕ) : Type 0 where

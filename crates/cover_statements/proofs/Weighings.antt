@@ -1,5 +1,6 @@
 -- Laws of weights in the places of doubled areas: they are 0 to 512, and their coverages are the coverages of the areas. Assumes nothing.
-use Rattle.laws.proofs.Prelude.{◌≡◌, refl, ap, ◌∙◌, List, [], ◌∷◌, map, ℕ, ◌<◌, arith, Float, ℤ, pos, length, get_or, length-map, drop-cons, map_at}
+use Rattle.std.specs.Prelude.{◌≡◌, ◌∷◌, ◌<◌}
+use Rattle.laws.proofs.Prelude.{refl, ap, ◌∙◌, List, [], map, ℕ, arith, Float, ℤ, pos, length, get_or, length-map, drop-cons, map_at}
 use Rattle.styling.specs.declared.FillRule.{FillRule}
 use Rattle.cover_statements.specs.Cover.{cover_at}
 use Rattle.cover_statements.specs.Coverage.{coverage_of}

@@ -1,6 +1,7 @@
 -- Laws of the weights. Assumes nothing.
-use Rattle.laws.proofs.Prelude.{◌≡◌, refl, ap, ◌∙◌, Bool, true, false, cond, ⊎_elim, ℕ, ◌+◌, ◌*◌, ◌-◌, ◌/◌, ◌%◌, ◌≤◌, ◌<◌, arith, eqb-true, eq-eqb}
-use Rattle.laws.proofs.Prelude.{ne_eqb, leb-true, le-leb, lit<, ℤ, pos, negsuc, nat_abs, ◌+ℤ◌, ◌*ℤ◌, +ℤ_idr, remainder, unique, eq_or_ne, whole, times}
+use Rattle.std.specs.Prelude.{◌≡◌, ◌+◌, ◌*◌, ◌-◌, ◌/◌, ◌%◌, ◌≤◌, ◌<◌, ◌+ℤ◌, ◌*ℤ◌}
+use Rattle.laws.proofs.Prelude.{refl, ap, ◌∙◌, Bool, true, false, cond, ⊎_elim, ℕ, arith, eqb-true, eq-eqb}
+use Rattle.laws.proofs.Prelude.{ne_eqb, leb-true, le-leb, lit<, ℤ, pos, negsuc, nat_abs, +ℤ_idr, remainder, unique, eq_or_ne, whole, times}
 use Rattle.laws.proofs.Prelude.{difference, plus, minus, modℤ}
 use native.Mathlib.Nat.{mul_comm}
 use Rattle.laws.proofs.Mod.{agree_add, agree}

@@ -1,6 +1,7 @@
 -- The doubled area d that a pixel sees: 32 × (incoming cover of its row + covers of the part's segments in its row with local x below its
 -- column) + double areas of its own segments. `incoming` says the incoming cover of each pixel row.
-use Rattle.laws.specs.Prelude.{Bool, ◌&&◌, List, ℕ, ◌*◌, ◌/◌, ◌%◌, eqb, ltb, ℤ, pos, ◌+ℤ◌, ◌*ℤ◌, tabulate, sumℤ}
+use Rattle.std.specs.Prelude.{◌&&◌, ◌*◌, ◌/◌, ◌%◌, ◌+ℤ◌, ◌*ℤ◌}
+use Rattle.laws.specs.Prelude.{Bool, List, ℕ, eqb, ltb, ℤ, pos, tabulate, sumℤ}
 use Rattle.pixel_segment.specs.Field.{local_x_of, cover_of, double_area_of}
 use Rattle.cover_statements.specs.Carry.{in_row}
 

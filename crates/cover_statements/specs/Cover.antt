@@ -1,6 +1,7 @@
 -- A cover, a whole number for each pixel row of a tile: when it is empty and when it is full by a rule. Stands for P6, for 'a carry is
 -- dropped when empty: NonZero, all zero; EvenOdd, all multiples of 32', and for W-205, 'full when each row's absolute value is 16 or more'.
-use Rattle.laws.specs.Prelude.{◌≡◌, Bool, List, ℕ, eqb, leb, ℤ, pos, nat_abs, get_or, replicate, modℤ, all}
+use Rattle.std.specs.Prelude.{◌≡◌}
+use Rattle.laws.specs.Prelude.{Bool, List, ℕ, eqb, leb, ℤ, pos, nat_abs, get_or, replicate, modℤ, all}
 use Rattle.styling.specs.declared.FillRule.{FillRule}
 use Rattle.styling.specs.declared.FillRule.TheVariants.{NonZero, EvenOdd}
 

@@ -1,5 +1,6 @@
 -- Covers one after the other in a lent list, n numbers each: the queue of carries, and a list's incoming covers.
-use Rattle.laws.specs.Prelude.{List, ◌++◌, ℕ, ◌*◌, ℤ, take, drop, over}
+use Rattle.std.specs.Prelude.{◌++◌, ◌*◌}
+use Rattle.laws.specs.Prelude.{List, ℕ, ℤ, take, drop, over}
 
 -- the cover at a place
 unfoldable pub cover_entry : ℕ → ℕ → List ℤ → List ℤ

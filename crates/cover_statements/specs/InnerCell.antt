@@ -1,5 +1,6 @@
 -- How the code works d out: the double areas and the covers of each cell, which is a pixel at column × n + row, and then a column after the other.
-use Rattle.laws.specs.Prelude.{Bool, true, cond, ◌&&◌, List, ◌≡◌, ℕ, ◌+◌, ◌*◌, ◌/◌, ◌%◌, ◌≤◌, ◌<◌, eqb, ltb, ℤ, pos, nat_abs, ◌+ℤ◌, ◌*ℤ◌, length}
+use Rattle.std.specs.Prelude.{◌&&◌, ◌≡◌, ◌+◌, ◌*◌, ◌/◌, ◌%◌, ◌≤◌, ◌<◌, ◌+ℤ◌, ◌*ℤ◌}
+use Rattle.laws.specs.Prelude.{Bool, true, cond, List, ℕ, eqb, ltb, ℤ, pos, nat_abs, length}
 use Rattle.laws.specs.Prelude.{replicate, tabulate, sumℤ}
 use Rattle.pixel_segment.specs.Field.{local_x_of, local_y_of, cover_of, double_area_of}
 use Rattle.cover_statements.specs.Area.{areas_of}

@@ -1,5 +1,6 @@
 -- How the code judges number 9: the absolute covers of each pixel row, where 128 stands for every number above 127.
-use Rattle.laws.specs.Prelude.{Bool, List, map, ◌≡◌, ℕ, ◌+◌, ◌≤◌, min, leb, ℤ, nat_abs, get_or, tabulate, all}
+use Rattle.std.specs.Prelude.{◌≡◌, ◌+◌, ◌≤◌}
+use Rattle.laws.specs.Prelude.{Bool, List, map, ℕ, min, leb, ℤ, nat_abs, get_or, tabulate, all}
 use Rattle.cover_statements.specs.Carry.{load_in}
 
 -- no load is above 128

@@ -1,6 +1,7 @@
 -- How d is worked out a pixel row after the other: in the cells of `InnerCell`, each row from its first column to its last. Over any widths `ws`
 -- and any height n; a column after the other is `Shadable` and `Shaded` there.
-use Rattle.laws.specs.Prelude.{◌≡◌, Bool, true, cond, ◌&&◌, ◌||◌, List, ℕ, ◌+◌, ◌*◌, ◌/◌, ◌%◌, ◌<◌, eqb, ltb, ℤ, length}
+use Rattle.std.specs.Prelude.{◌≡◌, ◌&&◌, ◌||◌, ◌+◌, ◌*◌, ◌/◌, ◌%◌, ◌<◌}
+use Rattle.laws.specs.Prelude.{Bool, true, cond, List, ℕ, eqb, ltb, ℤ, length}
 use Rattle.pixel_segment.specs.Field.{cover_of}
 use Rattle.cover_statements.specs.Area.{own_area, doubled_area}
 use Rattle.cover_statements.specs.Carry.{is_light}

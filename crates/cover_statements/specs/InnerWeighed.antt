@@ -1,6 +1,7 @@
 -- How the code works coverages out: in the place of each doubled area its weight, then the coverages of the weights, a row of the plane after the
 -- other; and where no segment lies in the tile, one column for all. Weights are signed numbers here, for they take the places of doubled areas.
-use Rattle.laws.specs.Prelude.{◌≡◌, List, map, ℕ, ◌+◌, ◌*◌, ◌≤◌, ◌<◌, Float, nan, ℤ, pos, nat_abs, ◌*ℤ◌, length, get_or, paste, minus, tabulate}
+use Rattle.std.specs.Prelude.{◌≡◌, ◌+◌, ◌*◌, ◌≤◌, ◌<◌, ◌*ℤ◌}
+use Rattle.laws.specs.Prelude.{List, map, ℕ, Float, nan, ℤ, pos, nat_abs, length, get_or, paste, minus, tabulate}
 use Rattle.styling.specs.declared.FillRule.{FillRule}
 use Rattle.cover_statements.specs.Cover.{cover_at}
 use Rattle.cover_statements.specs.Coverage.{coverage_of}

@@ -1,6 +1,7 @@
 -- Two lists of segments joined, one after the other. Stands for W-210: 'the cover of two joined segment lists is the sum of their covers, in either
 -- order, where the absolute sums stay within 127'. The cover of a list is what adding it to no cover answers, which number 9 judges.
-use Rattle.laws.specs.Prelude.{◌≡◌, List, ◌++◌, ℕ, ◌≤◌, ◌<◌, eqb, ℤ, ◌+ℤ◌, Answer, given, tabulate, count_by}
+use Rattle.std.specs.Prelude.{◌≡◌, ◌++◌, ◌≤◌, ◌<◌, ◌+ℤ◌}
+use Rattle.laws.specs.Prelude.{List, ℕ, eqb, ℤ, Answer, given, tabulate, count_by}
 use Rattle.cover_statements.specs.Carry.{load_in, add_of}
 use Rattle.cover_statements.specs.Cover.{cover_at, no_cover}
 

@@ -1,6 +1,7 @@
 -- Which octets of a plane a draw uses, and the mark that says so. Octet h (0 or 1) of a column is its rows 8h to 8h + 7; bit 2 × column + h of
 -- the mark is set when some coverage of it is above 0. The octet count is the number of used octets.
-use Rattle.laws.specs.Prelude.{Bool, false, cond, ◌||◌, ◌≡◌, List, [], ◌∷◌, ℕ, zero, suc, ◌+◌, ◌*◌, ◌/◌, ◌%◌, ones, ltb, length, get_or, Float, nan}
+use Rattle.std.specs.Prelude.{◌||◌, ◌≡◌, ◌∷◌, ◌+◌, ◌*◌, ◌/◌, ◌%◌}
+use Rattle.laws.specs.Prelude.{Bool, false, cond, List, [], ℕ, zero, suc, ones, ltb, length, get_or, Float, nan}
 use Rattle.laws.specs.Prelude.{bool_byte, Answer, refused, given, tabulate}
 use Rattle.cover_statements.specs.Coverage.{is_above}
 use Rattle.cover_statements.specs.Plane.{place_of, size_of}

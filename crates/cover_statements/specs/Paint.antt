@@ -1,5 +1,6 @@
 -- Painting a part: its 256 coverages written into a lent plane, and their mark. Refused by 1 where the plane is below 256 numbers, then by 9.
-use Rattle.laws.specs.Prelude.{cond, ◌&&◌, List, ◌≡◌, ℕ, leb, ltb, Float, ℤ, length, Answer, refused, given, over}
+use Rattle.std.specs.Prelude.{◌&&◌, ◌≡◌}
+use Rattle.laws.specs.Prelude.{cond, List, ℕ, leb, ltb, Float, ℤ, length, Answer, refused, given, over}
 use Rattle.styling.specs.declared.FillRule.{FillRule}
 use Rattle.cover_statements.specs.Carry.{is_light}
 use Rattle.cover_statements.specs.Cover.{cover_at}

@@ -1,6 +1,7 @@
 -- A plane: a coverage for each pixel of a tile that is 16 pixels wide and n high. Stands for W-209, 'coverage and mask planes are stored at
 -- row × 16 + column', and for 'the new plane is the old one with its two places exchanged'.
-use Rattle.laws.specs.Prelude.{List, map, ℕ, ◌+◌, ◌*◌, ◌/◌, ◌%◌, Float, ℤ, get_or, tabulate}
+use Rattle.std.specs.Prelude.{◌+◌, ◌*◌, ◌/◌, ◌%◌}
+use Rattle.laws.specs.Prelude.{List, map, ℕ, Float, ℤ, get_or, tabulate}
 use Rattle.styling.specs.declared.FillRule.{FillRule}
 use Rattle.cover_statements.specs.Area.{doubled_area}
 use Rattle.cover_statements.specs.Coverage.{area_coverage}

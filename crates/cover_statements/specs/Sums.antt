@@ -1,6 +1,7 @@
 -- The two ways in which d is summed up in the cells of a part: a pixel row after the other, and a column after the other. Stands for W-213, 'facts
 -- about fields and sums are shown over the tile height, with 4 and 16 as its uses'.
-use Rattle.laws.specs.Prelude.{◌≡◌, List, ℕ, ◌+◌, ◌<◌, ℤ}
+use Rattle.std.specs.Prelude.{◌≡◌, ◌+◌, ◌<◌}
+use Rattle.laws.specs.Prelude.{List, ℕ, ℤ}
 use Rattle.pixel_segment.specs.Field.{local_y_of, widths_of}
 use Rattle.pixel_segment.specs.declared.consts.Layout.{Layout}
 use Rattle.cover_statements.specs.Area.{areas_of}

@@ -1,5 +1,6 @@
 -- The weight of d, a whole number from 0 to 512, by each rule; and which windings are inside, as SVG 2 says of 'fill-rule'.
-use Rattle.laws.specs.Prelude.{Bool, not, ℕ, ◌%◌, min, eqb, ℤ, nat_abs, modℤ}
+use Rattle.std.specs.Prelude.{◌%◌}
+use Rattle.laws.specs.Prelude.{Bool, not, ℕ, min, eqb, ℤ, nat_abs, modℤ}
 use Rattle.weight_table.specs.Rest.{rest_weight}
 use Rattle.styling.specs.declared.FillRule.{FillRule}
 use Rattle.styling.specs.declared.FillRule.TheVariants.{NonZero, EvenOdd}

@@ -1,7 +1,8 @@
 -- Working from the whole row: a layer's incoming cover is the exact sum of its covers in a pixel row over all tiles to the left, -1 included; d,
 -- weight, coverage and plane follow from it and from the tile's own segments. A tile is given by its stored number, which is its own plus 1, so
 -- tile -1 is 0.
-use Rattle.laws.specs.Prelude.{Bool, ◌&&◌, List, ℕ, ◌<◌, eqb, ltb, Float, ℤ, filter}
+use Rattle.std.specs.Prelude.{◌&&◌, ◌<◌}
+use Rattle.laws.specs.Prelude.{Bool, List, ℕ, eqb, ltb, Float, ℤ, filter}
 use Rattle.pixel_segment.specs.Field.{tile_x_of, layer_id_of}
 use Rattle.styling.specs.declared.FillRule.{FillRule}
 use Rattle.cover_statements.specs.Area.{doubled_area}

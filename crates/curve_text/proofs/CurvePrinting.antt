@@ -1,6 +1,7 @@
 -- The curve printed: how long its lines are, and its names before them.
 -- Assumes nothing.
-use Rattle.laws.proofs.Prelude.{◌≡◌, ap, List, ℕ, ◌*◌, ◌<◌, ◌≤◌, arith, ℤ, pos, length, length-append, tabulate}
+use Rattle.std.specs.Prelude.{◌≡◌, ◌*◌, ◌<◌, ◌≤◌}
+use Rattle.laws.proofs.Prelude.{ap, List, ℕ, arith, ℤ, pos, length, length-append, tabulate}
 use Rattle.styling.specs.declared.FillRule.TheVariants.{EvenOdd}
 use Rattle.cover_statements.specs.Weight.{weight_of}
 use Rattle.cover_statements.proofs.Weights.{weight_le}

@@ -1,6 +1,7 @@
 -- What the curve says of every d, and where it is greatest.
 -- Assumes nothing.
-use Rattle.laws.proofs.Prelude.{◌≡◌, refl, ap, ℕ, ◌%◌, ◌<◌, arith, ℤ, pos, negsuc, modℤ, difference}
+use Rattle.std.specs.Prelude.{◌≡◌, ◌%◌, ◌<◌}
+use Rattle.laws.proofs.Prelude.{refl, ap, ℕ, arith, ℤ, pos, negsuc, modℤ, difference}
 use Rattle.styling.specs.declared.FillRule.TheVariants.{EvenOdd}
 use Rattle.weight_table.specs.Rest.{rest_weight}
 use Rattle.cover_statements.specs.Weight.{weight_of}

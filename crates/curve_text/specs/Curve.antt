@@ -1,6 +1,7 @@
 -- The even-odd curve as text. Stands for 'a line of names, `rest weight`, then 1,024 lines: the remainder of d by 1,024 and its EvenOdd
 -- weight, ascending'. Its form is that of a block of a job text.
-use Rattle.laws.specs.Prelude.{◌≡◌, List, [], ◌∷◌, ℕ, ℤ, pos, length, tabulate}
+use Rattle.std.specs.Prelude.{◌≡◌, ◌∷◌}
+use Rattle.laws.specs.Prelude.{List, [], ℕ, ℤ, pos, length, tabulate}
 use Rattle.styling.specs.declared.FillRule.TheVariants.{EvenOdd}
 use Rattle.cover_statements.specs.Weight.{weight_of}
 use Rattle.lines.specs.Bytes.{bytes}

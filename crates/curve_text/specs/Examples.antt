@@ -1,5 +1,6 @@
 -- Lines of the curve as they are printed: the names and the first three, and the one of greatest weight. Stands for W-201.
-use Rattle.laws.specs.Prelude.{◌≡◌, tabulate}
+use Rattle.std.specs.Prelude.{◌≡◌}
+use Rattle.laws.specs.Prelude.{tabulate}
 use Rattle.lines.specs.Bytes.{bytes}
 use Rattle.lines.specs.Text.{line_text, block_text}
 use Rattle.curve_text.specs.Curve.{curve_names, curve_line}

@@ -1,6 +1,7 @@
 -- `decimal` by its two laws: one digit, and one more digit after a number above 0.
 -- Assumes nothing.
-use Rattle.laws.proofs.Prelude.{◌≡◌, sym, ap, ◌∙◌, List, [], ◌∷◌, ◌++◌, ℕ, zero, suc, ◌+◌, ◌*◌, ◌/◌, ◌%◌, ◌<◌, ◌≤◌, dec_lt, arith, lt-ltb, le-ltb}
+use Rattle.std.specs.Prelude.{◌≡◌, ◌∷◌, ◌++◌, ◌+◌, ◌*◌, ◌/◌, ◌%◌, ◌<◌, ◌≤◌}
+use Rattle.laws.proofs.Prelude.{sym, ap, ◌∙◌, List, [], ℕ, zero, suc, dec_lt, arith, lt-ltb, le-ltb}
 use Rattle.decimal.specs.Decimal.{decimal_in, decimal}
 
 one_in : (k n : ℕ) → n < 10 → decimal_in (suc k) n ≡ (48 + n) ∷ []

@@ -1,7 +1,8 @@
 -- Reading is the inverse of printing: `parseℕ` and `parseℤ` read exactly what `decimal` and `decimalℤ` print, and so two prints agree
 -- only where the numbers do.
 -- Assumes nothing.
-use Rattle.laws.proofs.Prelude.{◌≡◌, refl, sym, ap, ◌∙◌, false, List, [], ◌∷◌, ◌++◌, append_assoc, ℕ, zero, suc, ◌+◌, ◌-◌, ◌/◌, ◌%◌, ◌<◌, ◌≤◌, dec_lt}
+use Rattle.std.specs.Prelude.{◌≡◌, ◌∷◌, ◌++◌, ◌+◌, ◌-◌, ◌/◌, ◌%◌, ◌<◌, ◌≤◌}
+use Rattle.laws.proofs.Prelude.{refl, sym, ap, ◌∙◌, false, List, [], append_assoc, ℕ, zero, suc, dec_lt}
 use Rattle.laws.proofs.Prelude.{arith, eq-eqb, ne_eqb, eqb-true, eqb, ℤ, pos, negsuc, nat_abs}
 use Rattle.decimal.specs.Decimal.{decimal, decimalℤ, is_digit, Stops}
 use Rattle.decimal.specs.Parse.{Parsed, parsed, failed, append_digit, more_digits, parseℕ, positive, negative, starts_with, parseℤ}

@@ -1,6 +1,7 @@
 -- Printing a number: its last digit after the print of the others.
 -- Assumes nothing.
-use Rattle.laws.proofs.Prelude.{◌≡◌, refl, sym, ap, ◌∙◌, List, [], ◌∷◌, ◌++◌, ℕ, zero, suc, ◌+◌, ◌/◌, ◌%◌, ◌^◌, ◌<◌, ◌≤◌, add-zero, dec_lt, arith}
+use Rattle.std.specs.Prelude.{◌≡◌, ◌∷◌, ◌++◌, ◌+◌, ◌/◌, ◌%◌, ◌^◌, ◌<◌, ◌≤◌}
+use Rattle.laws.proofs.Prelude.{refl, sym, ap, ◌∙◌, List, [], ℕ, zero, suc, add-zero, dec_lt, arith}
 use Rattle.laws.proofs.Prelude.{length, set, length-append, sets, w32, Fits}
 use Rattle.decimal.specs.Decimal.{decimal}
 use Rattle.decimal.specs.Print.{Printing}

@@ -1,7 +1,8 @@
 -- What holds while the digits of a number are read: the digits of n are passed, and what is left to read from place i on is what was
 -- to be read at the start.
 -- Assumes nothing.
-use Rattle.laws.proofs.Prelude.{◌≡◌, refl, sym, ap, ◌∙◌, true, false, List, ℕ, ◌+◌, ◌-◌, ◌*◌, ◌<◌, ◌≤◌, add-one, arith, length, drop, get_or}
+use Rattle.std.specs.Prelude.{◌≡◌, ◌+◌, ◌-◌, ◌*◌, ◌<◌, ◌≤◌}
+use Rattle.laws.proofs.Prelude.{refl, sym, ap, ◌∙◌, true, false, List, ℕ, add-one, arith, length, drop, get_or}
 use Rattle.laws.proofs.Prelude.{drop_of_length-le, drop-cons}
 use Rattle.decimal.specs.declared.Unsigned.TheVariants.{Natural, Missing}
 use Rattle.decimal.specs.Decimal.{is_digit}

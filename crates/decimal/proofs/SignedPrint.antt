@@ -1,6 +1,7 @@
 -- Printing a number with its sign: its opposite in the machine's integers, and the two ways that the sign parts.
 -- Assumes nothing.
-use Rattle.laws.proofs.Prelude.{◌≡◌, refl, ap, ◌∙◌, true, false, List, ◌∷◌, ℕ, ◌+◌, ◌≤◌, arith, ltb-true, T, ℤ, pos, negsuc, nat_abs, ◌-ℤ◌, set, lt_z}
+use Rattle.std.specs.Prelude.{◌≡◌, ◌∷◌, ◌+◌, ◌≤◌, ◌-ℤ◌}
+use Rattle.laws.proofs.Prelude.{refl, ap, ◌∙◌, true, false, List, ℕ, arith, ltb-true, T, ℤ, pos, negsuc, nat_abs, set, lt_z}
 use Rattle.laws.proofs.Prelude.{non_neg, to_z-of_z, sfits_widen, w32, w64, SFits, Fits, to_z, of_z, sfits, within, unsigned, whole, taken, lt_true}
 use Rattle.laws.proofs.Prelude.{lt_false}
 use mathlib.Core.Bool.{true≢false}

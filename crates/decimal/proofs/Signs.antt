@@ -1,6 +1,7 @@
 -- Each answer of `read_signed`, from the tests that lead to it.
 -- Assumes nothing.
-use Rattle.laws.proofs.Prelude.{◌≡◌, refl, sym, ap, ◌∙◌, List, ℕ, zero, suc, ◌+◌, ◌<◌, ◌≤◌, add-one, arith, ne_eqb, ℤ, pos, negsuc, neg_ℤ, ◌-ℤ◌}
+use Rattle.std.specs.Prelude.{◌≡◌, ◌+◌, ◌<◌, ◌≤◌, ◌-ℤ◌}
+use Rattle.laws.proofs.Prelude.{refl, sym, ap, ◌∙◌, List, ℕ, zero, suc, add-one, arith, ne_eqb, ℤ, pos, negsuc, neg_ℤ}
 use Rattle.laws.proofs.Prelude.{+ℤ_idl, length, drop, get_or, drop_of_length-le, drop-cons, w32, SFits, to_z, of_z, to_z-of_z, small}
 use mir.ValLaws.{to_z_pos}
 use Rattle.decimal.specs.declared.Unsigned.TheVariants.{Natural, Missing}

@@ -1,6 +1,7 @@
 -- What one byte does to the reading of a number.
 -- Assumes nothing.
-use Rattle.laws.proofs.Prelude.{◌≡◌, sym, ◌∙◌, Bool, true, false, ⊎_elim, List, ◌∷◌, ℕ, ◌-◌, ◌<◌, ◌≤◌, arith, lt-ltb, le-ltb, le-leb, leb-true}
+use Rattle.std.specs.Prelude.{◌≡◌, ◌∷◌, ◌-◌, ◌<◌, ◌≤◌}
+use Rattle.laws.proofs.Prelude.{sym, ◌∙◌, Bool, true, false, ⊎_elim, List, ℕ, arith, lt-ltb, le-ltb, le-leb, leb-true}
 use Rattle.laws.proofs.Prelude.{leb, left, right, either}
 use Rattle.decimal.specs.Decimal.{is_digit}
 use Rattle.decimal.specs.Parse.{parsed, failed, append_digit, more_digits, parseℕ}

@@ -1,6 +1,7 @@
 -- Whole numbers as text, as a printer writes them. Stands for 'whole numbers without leading zeros, a minus only before a number that is
 -- not 0': what no number prints to is no number's text.
-use Rattle.laws.specs.Prelude.{◌≡◌, Bool, false, ◌&&◌, cond, List, [], ◌∷◌, ◌++◌, ℕ, zero, suc, ◌+◌, ◌/◌, ◌%◌, ◌<◌, ltb, leb, ℤ, pos, negsuc, nat_abs}
+use Rattle.std.specs.Prelude.{◌≡◌, ◌&&◌, ◌∷◌, ◌++◌, ◌+◌, ◌/◌, ◌%◌, ◌<◌}
+use Rattle.laws.specs.Prelude.{Bool, false, cond, List, [], ℕ, zero, suc, ltb, leb, ℤ, pos, negsuc, nat_abs}
 
 -- the digits of n, of which there are at most k
 unfoldable pub decimal_in : ℕ → ℕ → List ℕ

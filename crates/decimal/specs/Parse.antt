@@ -1,5 +1,6 @@
 -- Reading a whole number from the front of a text, byte by byte. proofs/Laws says what this is: the inverse of `decimal` and `decimalℤ`.
-use Rattle.laws.specs.Prelude.{Bool, false, ◌&&◌, cond, List, [], ◌∷◌, ℕ, zero, suc, ◌+◌, ◌-◌, ◌*◌, ltb, eqb, ℤ, pos, negsuc, drop}
+use Rattle.std.specs.Prelude.{◌&&◌, ◌∷◌, ◌+◌, ◌-◌, ◌*◌}
+use Rattle.laws.specs.Prelude.{Bool, false, cond, List, [], ℕ, zero, suc, ltb, eqb, ℤ, pos, negsuc, drop}
 use Rattle.decimal.specs.Decimal.{is_digit}
 
 -- what was read and the text after it, or nothing

@@ -1,5 +1,6 @@
 -- What the readers of numbers promise.
-use Rattle.laws.specs.Prelude.{◌≡◌, List, ◌++◌, ℕ, ◌<◌, ◌≤◌, ℤ, length, drop}
+use Rattle.std.specs.Prelude.{◌≡◌, ◌++◌, ◌<◌, ◌≤◌}
+use Rattle.laws.specs.Prelude.{List, ℕ, ℤ, length, drop}
 use Rattle.decimal.specs.declared.Unsigned.{Unsigned}
 use Rattle.decimal.specs.declared.Unsigned.TheVariants.{Natural, Missing}
 use Rattle.decimal.specs.declared.Signed.{Signed}

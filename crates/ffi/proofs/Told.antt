@@ -1,5 +1,6 @@
 -- What is told of an answer by numbers is told of an equal one. Assumes nothing.
-use Rattle.laws.proofs.Prelude.{◌≡◌, ap, subst, ◌∙◌, Bool, List, Option, ℕ, Float, ℤ, Answer}
+use Rattle.std.specs.Prelude.{◌≡◌}
+use Rattle.laws.proofs.Prelude.{ap, subst, ◌∙◌, Bool, List, Option, ℕ, Float, ℤ, Answer}
 use Rattle.refusals.specs.Refusal.{Judgement, judgement_in}
 use Rattle.cached_tile.specs.declared.SolidColor.{SolidColor}
 use Rattle.cached_tile.specs.declared.kept.Kept.{Kept}

@@ -1,5 +1,6 @@
 -- Covers known within bounds, told by numbers: the refusal or 0, and the six lent planes.
-use Rattle.laws.specs.Prelude.{◌≡◌, ℕ}
+use Rattle.std.specs.Prelude.{◌≡◌}
+use Rattle.laws.specs.Prelude.{ℕ}
 use Rattle.refusals.specs.Refusal.{Judgement, pass, refuse}
 use Rattle.refusals.specs.declared.Verdict.{Verdict}
 use Rattle.cover_bounds_statements.specs.Within.{BoundsCall, BoundPlanes, bounds_verdict}

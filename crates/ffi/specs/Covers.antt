@@ -1,5 +1,6 @@
 -- A plane after a part was painted.
-use Rattle.laws.specs.Prelude.{cond, ◌&&◌, List, ℕ, leb, ℤ, Float, length, over}
+use Rattle.std.specs.Prelude.{◌&&◌}
+use Rattle.laws.specs.Prelude.{cond, List, ℕ, leb, ℤ, Float, length, over}
 use Rattle.styling.specs.declared.FillRule.{FillRule}
 use Rattle.cover_statements.specs.Carry.{is_light}
 use Rattle.cover_statements.specs.Paint.{part_plane}

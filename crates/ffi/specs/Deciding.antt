@@ -1,6 +1,7 @@
 -- Deciding about a tile as numbers: the cached tile's bytes; the decision, of a solid tile how many shown layers lie before those to mix, how many
 -- layers are skipped; and of a solid tile the bottom colour.
-use Rattle.laws.specs.Prelude.{◌≡◌, Bool, List, [], ◌∷◌, ℕ, Float, Answer, refused, given}
+use Rattle.std.specs.Prelude.{◌≡◌, ◌∷◌}
+use Rattle.laws.specs.Prelude.{Bool, List, [], ℕ, Float, Answer, refused, given}
 use Rattle.cached_tile.specs.declared.kept.Kept.{Kept}
 use Rattle.pass_statements.specs.Decision.{code_of}
 use Rattle.listing_statements.specs.Deciding as deciding

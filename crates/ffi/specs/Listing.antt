@@ -1,5 +1,6 @@
 -- Listing a tile as numbers: the state, and how many layers are listed.
-use Rattle.laws.specs.Prelude.{◌≡◌, List, ℕ, Answer, refused, given}
+use Rattle.std.specs.Prelude.{◌≡◌}
+use Rattle.laws.specs.Prelude.{List, ℕ, Answer, refused, given}
 use Rattle.row_statements.specs.State.{State}
 use Rattle.listing_statements.specs.Listing.{ListLent, ListGiven}
 use Rattle.ffi_numbers.specs.Numbers.{refusal_number}

@@ -1,5 +1,6 @@
 -- Painting a layer as numbers: what it answers, and what it leaves.
-use Rattle.laws.specs.Prelude.{◌≡◌, List, ℕ, Float, Answer, refused, given}
+use Rattle.std.specs.Prelude.{◌≡◌}
+use Rattle.laws.specs.Prelude.{List, ℕ, Float, Answer, refused, given}
 use Rattle.row_statements.specs.State.{State}
 use Rattle.row_statements.specs.Painting.{PaintGiven}
 use Rattle.ffi_numbers.specs.Numbers.{refusal_number}

@@ -1,5 +1,6 @@
 -- Which layer record stands, told by numbers: the refusal or 0, how many layers stand, and the lent table.
-use Rattle.laws.specs.Prelude.{◌≡◌, List, ℕ, Float}
+use Rattle.std.specs.Prelude.{◌≡◌}
+use Rattle.laws.specs.Prelude.{List, ℕ, Float}
 use Rattle.refusals.specs.Refusal.{Judgement}
 use Rattle.revision_statements.specs.Sent.{Sent}
 use Rattle.revision_statements.specs.Standing.{standing_of}

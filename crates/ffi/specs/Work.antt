@@ -1,6 +1,7 @@
 -- The work on a tile as numbers: the decision (0 none, 1 solid, 2 paint), of a solid tile how many shown layers lie before those to mix, how many
 -- layers are listed, how many are skipped; and of a solid tile the bottom colour.
-use Rattle.laws.specs.Prelude.{◌≡◌, List, [], ◌∷◌, ℕ, Float, Answer, refused, given}
+use Rattle.std.specs.Prelude.{◌≡◌, ◌∷◌}
+use Rattle.laws.specs.Prelude.{List, [], ℕ, Float, Answer, refused, given}
 use Rattle.cached_tile.specs.declared.kept.Kept.{Kept}
 use Rattle.pass_statements.specs.Decision.{TileDecision, none, solid, paint, code_of}
 use Rattle.row_statements.specs.State.{State}

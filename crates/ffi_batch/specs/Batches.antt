@@ -1,5 +1,6 @@
 -- A batch of tiles as numbers: the state's, and how many tiles were worked, how many planes used, which queue holds the carries, and why it ended.
-use Rattle.laws.specs.Prelude.{◌≡◌, Bool, true, false, List, [], ◌∷◌, ℕ, Answer, refused, given}
+use Rattle.std.specs.Prelude.{◌≡◌, ◌∷◌}
+use Rattle.laws.specs.Prelude.{Bool, true, false, List, [], ℕ, Answer, refused, given}
 use Rattle.row_statements.specs.State.{State}
 use Rattle.batch_statements.specs.BatchLent.{BatchLent, sided}
 use Rattle.batch_statements.specs.Batch.{BatchEnd, asked, row_end, no_room, next_refused, BatchGiven, batch_answer}

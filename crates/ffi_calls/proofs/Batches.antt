@@ -1,5 +1,6 @@
 -- The claim of specs/Batches: between batches the caller holds by numbers what it holds in a run, and each batch goes on with the run. Assumes nothing.
-use Rattle.laws.proofs.Prelude.{◌≡◌, refl, ap, sym, subst, ◌∙◌, Bool, true, false, List, [], ◌∷◌, ℕ, zero, suc, ◌+◌, ◌<◌, arith, get_or, Answer}
+use Rattle.std.specs.Prelude.{◌≡◌, ◌∷◌, ◌+◌, ◌<◌}
+use Rattle.laws.proofs.Prelude.{refl, ap, sym, subst, ◌∙◌, Bool, true, false, List, [], ℕ, zero, suc, arith, get_or, Answer}
 use Rattle.laws.proofs.Prelude.{refused, given}
 use Rattle.row_statements.specs.Lent.{Columns}
 use Rattle.row_statements.specs.Due.{OpenRow, Past, at_first}

@@ -1,5 +1,6 @@
 -- The claim of specs/Calls: calls of works and paintings are calls of specs/ListingCalls, and what is right of them there is right here. Assumes nothing.
-use Rattle.laws.proofs.Prelude.{List, [], ◌∷◌, map}
+use Rattle.std.specs.Prelude.{◌∷◌}
+use Rattle.laws.proofs.Prelude.{List, [], map}
 use Rattle.row_statements.specs.Due.{OpenRow, Past}
 use Rattle.listing_runs.specs.Run.{HeldList}
 use Rattle.ffi_calls.specs.Calls.{HeldNumbers, NumbersTold, Calls, past_told, AllTold, CallsClaim}

@@ -1,6 +1,7 @@
 -- The claim of specs/Example: a call tells what its contract says of any numbers that are lent, so that calls by numbers exist for every list of
 -- choices. Assumes nothing.
-use Rattle.laws.proofs.Prelude.{◌≡◌, refl, ap, sym, subst, ◌∙◌, Bool, true, false, List, [], ◌∷◌, ℕ, Float, of_bits, binary32, replicate}
+use Rattle.std.specs.Prelude.{◌≡◌, ◌∷◌}
+use Rattle.laws.proofs.Prelude.{refl, ap, sym, subst, ◌∙◌, Bool, true, false, List, [], ℕ, Float, of_bits, binary32, replicate}
 use Rattle.refusals.specs.Refusal.{Judgement, pass, refuse}
 use Rattle.cached_tile.specs.declared.kept.Kept as kept
 use Rattle.row_statements.specs.TileWork.{WorkCall, WorkLent, work_verdict, work_of}

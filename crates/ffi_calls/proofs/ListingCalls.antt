@@ -1,6 +1,7 @@
 -- The claim of specs/ListingCalls: between calls the caller holds by numbers what it holds in a run, each call keeps that, and what is held makes each
 -- call tell what is due. Assumes nothing.
-use Rattle.laws.proofs.Prelude.{◌≡◌, refl, ap, ap₂, subst, ◌∙◌, List, ℕ, Float}
+use Rattle.std.specs.Prelude.{◌≡◌}
+use Rattle.laws.proofs.Prelude.{refl, ap, ap₂, subst, ◌∙◌, List, ℕ, Float}
 use Rattle.refusals.specs.Refusal.{Judgement, refuse}
 use Rattle.layer_carrying.specs.Carrying.{handed_on}
 use Rattle.row_statements.specs.Lent.{layers_of}

@@ -1,6 +1,7 @@
 -- A state written as numbers is read again as it was, a refusal's number is never 0, and an opening that tells 0 leaves what a run begins with. Assumes
 -- nothing.
-use Rattle.laws.proofs.Prelude.{◌≡◌, refl, ap, sym, subst, ◌∙◌, Bool, true, false, not, cond, ◌||◌, Option, some, none, ℕ, suc, ◌<◌, arith, ltb}
+use Rattle.std.specs.Prelude.{◌≡◌, ◌||◌, ◌<◌}
+use Rattle.laws.proofs.Prelude.{refl, ap, sym, subst, ◌∙◌, Bool, true, false, not, cond, Option, some, none, ℕ, suc, arith, ltb}
 use Rattle.laws.proofs.Prelude.{length, Answer, refused, given, plus}
 use Rattle.refusals.specs.Refusal.{Judgement, pass, refuse, unless, number_of}
 use Rattle.refusals.specs.declared.Refusal.{Refusal}

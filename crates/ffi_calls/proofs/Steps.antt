@@ -1,6 +1,7 @@
 -- One call by numbers: it tells what is due of it, and what the caller then holds by numbers is what it holds after the step of a run with the answer
 -- that these numbers are of. Assumes nothing.
-use Rattle.laws.proofs.Prelude.{◌≡◌, refl, ap, ap₂, sym, subst, ◌∙◌, Bool, List, ◌∷◌, ℕ, zero, suc, ◌-◌, ◌<◌, arith, Float, length}
+use Rattle.std.specs.Prelude.{◌≡◌, ◌∷◌, ◌-◌, ◌<◌}
+use Rattle.laws.proofs.Prelude.{refl, ap, ap₂, sym, subst, ◌∙◌, Bool, List, ℕ, zero, suc, arith, Float, length}
 use Rattle.refusals.specs.Refusal.{Judgement, pass, refuse}
 use Rattle.refusals.proofs.Naming.{Named}
 use Rattle.row_statements.specs.Lent.{Columns}

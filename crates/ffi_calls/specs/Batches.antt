@@ -4,7 +4,8 @@
 -- row_statements/specs/Claim); a refused one is the first tile's refused work, tells its number, and all is as it was. A caller that sets the five numbers to
 -- 0 before a batch finds by the third which queue holds the carries, however the batch ended.
 -- proofs/Batches proves it.
-use Rattle.laws.specs.Prelude.{◌≡◌, true, false, List, [], ◌∷◌, ℕ, zero, suc, ◌*◌, ◌≤◌, ◌<◌, leb, get_or, Answer, refused, given}
+use Rattle.std.specs.Prelude.{◌≡◌, ◌∷◌, ◌*◌, ◌≤◌, ◌<◌}
+use Rattle.laws.specs.Prelude.{true, false, List, [], ℕ, zero, suc, leb, get_or, Answer, refused, given}
 use Rattle.refusals.specs.Refusal.{pass}
 use Rattle.segment_rows.specs.Rows.{Words}
 use Rattle.styling.specs.declared.Color.{Color}

@@ -1,7 +1,8 @@
 -- Demand 3 for callers of the exports: an accepted opening and any list of tile works and paintings after it, told by numbers and lent slices alone.
 -- Every call tells what is due of it (row_statements/specs/Due). The premise of each call is the export's own contract, at the numbers that the call
 -- before it left. proofs/Calls proves it.
-use Rattle.laws.specs.Prelude.{List, [], ◌∷◌, ℕ, zero, suc, Float}
+use Rattle.std.specs.Prelude.{◌∷◌}
+use Rattle.laws.specs.Prelude.{List, [], ℕ, zero, suc, Float}
 use Rattle.segment_rows.specs.Rows.{Words}
 use Rattle.row_statements.specs.Lent.{Columns}
 use Rattle.row_statements.specs.Opening.{OpenCall, open_of}

@@ -1,7 +1,8 @@
 -- The claims are not empty: after every opening that tells 0, every list of choices (listing_runs/specs/Example) is that of some calls by numbers, with
 -- the verdicts that are due. proofs/Existing has it; specs/Example of listing_runs has an opening that is accepted and choices with each kind of call,
 -- those with another row, table, queue and list too.
-use Rattle.laws.specs.Prelude.{◌≡◌, List, [], ◌∷◌}
+use Rattle.std.specs.Prelude.{◌≡◌, ◌∷◌}
+use Rattle.laws.specs.Prelude.{List, []}
 use Rattle.refusals.specs.Refusal.{Judgement}
 use Rattle.segment_rows.specs.Rows.{Words}
 use Rattle.row_statements.specs.Lent.{Columns}

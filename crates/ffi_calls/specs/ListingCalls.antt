@@ -3,7 +3,8 @@
 -- (listing_runs/specs/Due). Beside the numbers the caller holds the lists that accepted listings and works left, one a tile, each of as many entries
 -- as the call told, and a deciding names one of them by its tile. Stands for W-206's 'what holds along a row holds for lists decided as the listing
 -- call left them'. proofs/ListingCalls proves it.
-use Rattle.laws.specs.Prelude.{◌≡◌, Bool, List, [], ◌∷◌, ℕ, zero, suc, ◌<◌, Float, get_or, refused}
+use Rattle.std.specs.Prelude.{◌≡◌, ◌∷◌, ◌<◌}
+use Rattle.laws.specs.Prelude.{Bool, List, [], ℕ, zero, suc, Float, get_or, refused}
 use Rattle.refusals.specs.Refusal.{refuse}
 use Rattle.segment_rows.specs.Rows.{Words}
 use Rattle.row_statements.specs.Lent.{Columns}

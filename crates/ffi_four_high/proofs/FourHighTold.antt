@@ -1,5 +1,6 @@
 -- What is told by numbers of an opening, a work and a range of one layer's row. Assumes nothing.
-use Rattle.laws.proofs.Prelude.{◌≡◌, ap, subst, ◌∙◌, List, ℕ, Float}
+use Rattle.std.specs.Prelude.{◌≡◌}
+use Rattle.laws.proofs.Prelude.{ap, subst, ◌∙◌, List, ℕ, Float}
 use Rattle.refusals.specs.Refusal.{judgement_in}
 use Rattle.layer_row_gpu.specs.LayerState.{LayerState, layer_state_in}
 use Rattle.layer_row_gpu.specs.OpenLayer.{LayerCall, OpensLayer}

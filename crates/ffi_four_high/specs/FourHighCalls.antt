@@ -2,7 +2,8 @@
 -- numbers and lent slices alone. Every call tells what is due of it (layer_row_gpu/specs/LayerDue), which is worked from the whole row. The premise of
 -- each call is the export's own contract, at the numbers that the call before it left. A work paints its tile, so there is no painting beside it.
 -- proofs/FourHighCalls proves it, and that such calls exist after every opening.
-use Rattle.laws.specs.Prelude.{◌≡◌, List, [], ◌∷◌, map, ℕ, ◌+◌, Float}
+use Rattle.std.specs.Prelude.{◌≡◌, ◌∷◌, ◌+◌}
+use Rattle.laws.specs.Prelude.{List, [], map, ℕ, Float}
 use Rattle.refusals.specs.Refusal.{refuse}
 use Rattle.layer_row_gpu.specs.OpenLayer.{LayerCall}
 use Rattle.layer_row_gpu.specs.LayerState.{LayerState}

@@ -1,6 +1,7 @@
 -- One layer's row of tiles four pixels high as numbers, six words and the four bytes of a cover; its opening, its works and its ranges by them. Stands for
 -- W-213, for callers that know no struct.
-use Rattle.laws.specs.Prelude.{◌≡◌, List, [], ◌∷◌, ℕ, Float, ℤ, get_or}
+use Rattle.std.specs.Prelude.{◌≡◌, ◌∷◌}
+use Rattle.laws.specs.Prelude.{List, [], ℕ, Float, ℤ, get_or}
 use Rattle.refusals.specs.Refusal.{Judgement, pass, refuse}
 use Rattle.styling.specs.Codes.{rule_code, rule_of}
 use Rattle.layer_row_gpu.specs.LayerState.{LayerState}

@@ -1,5 +1,6 @@
 -- A cached tile as its eight bytes: the tag, the count's three, lowest first, and the colour's four.
-use Rattle.laws.specs.Prelude.{Bool, true, false, cond, List, [], ◌∷◌, Option, some, none, ℕ, get_or, Answer, refused, given}
+use Rattle.std.specs.Prelude.{◌∷◌}
+use Rattle.laws.specs.Prelude.{Bool, true, false, cond, List, [], Option, some, none, ℕ, get_or, Answer, refused, given}
 use Rattle.cached_tile.specs.declared.CachedTile.{CachedTile}
 use Rattle.cached_tile.specs.declared.SolidColor.{SolidColor}
 use Rattle.cached_tile.specs.declared.kept.Kept.{Kept}

@@ -1,5 +1,6 @@
 -- Whether a tile may keep its count, told by numbers: the refusal or 0, whether the count stays, and the cached tile's bytes.
-use Rattle.laws.specs.Prelude.{◌≡◌, Bool, List, ℕ, Answer, refused, given}
+use Rattle.std.specs.Prelude.{◌≡◌}
+use Rattle.laws.specs.Prelude.{Bool, List, ℕ, Answer, refused, given}
 use Rattle.cached_tile.specs.declared.kept.Kept.{Kept}
 use Rattle.kept_count.specs.Keeping.{CountGiven}
 use Rattle.ffi_numbers.specs.Numbers.{refusal_number}

@@ -1,5 +1,6 @@
 -- A row's state as numbers, six words and two counts, and its opening by them. Stands for 'a state passed by value' for callers that know no struct.
-use Rattle.laws.specs.Prelude.{◌≡◌, cond, List, [], ◌∷◌, Option, some, none, ℕ, eqb, get_or, Answer, refused, given}
+use Rattle.std.specs.Prelude.{◌≡◌, ◌∷◌}
+use Rattle.laws.specs.Prelude.{cond, List, [], Option, some, none, ℕ, eqb, get_or, Answer, refused, given}
 use Rattle.row_statements.specs.Lent.{Columns}
 use Rattle.row_statements.specs.State.{State}
 use Rattle.row_statements.specs.Opening.{OpenGiven}

@@ -1,5 +1,6 @@
 -- Any list of calls by numbers is that of edits. Assumes nothing.
-use Rattle.laws.proofs.Prelude.{◌≡◌, refl, sym, ap, subst, ◌∙◌, Bool, true, false, not, List, [], ◌∷◌, ℕ, zero, suc, ◌+◌, arith, leb, ltb, ℤ, length}
+use Rattle.std.specs.Prelude.{◌≡◌, ◌∷◌, ◌+◌}
+use Rattle.laws.proofs.Prelude.{refl, sym, ap, subst, ◌∙◌, Bool, true, false, not, List, [], ℕ, zero, suc, arith, leb, ltb, ℤ, length}
 use Rattle.laws.proofs.Prelude.{get_or, le-ltb, all}
 use Rattle.refusals.specs.Refusal.{Judgement, pass, refuse, unless, number_of, judgement_in}
 use Rattle.refusals.specs.declared.Refusal.{Refusal}

@@ -1,5 +1,6 @@
 -- What is told of an edit by numbers, from what the operation gives. Assumes nothing.
-use Rattle.laws.proofs.Prelude.{◌≡◌, ap, ◌∙◌, List, ℕ, ℤ}
+use Rattle.std.specs.Prelude.{◌≡◌}
+use Rattle.laws.proofs.Prelude.{ap, ◌∙◌, List, ℕ, ℤ}
 use Rattle.refusals.specs.Refusal.{Judgement, judgement_in}
 use Rattle.segment_set_statements.specs.Set.{SetState, Beginning, Gives, begin_verdict, begin_of}
 use Rattle.segment_set_statements.specs.declared.Edited.{Edited}

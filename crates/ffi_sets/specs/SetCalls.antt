@@ -1,7 +1,8 @@
 -- Demand 3 for callers of a kept set's exports: a beginning that tells 0 and any list of edits after it, refused ones included, told by numbers and
 -- lent memory alone. The premise of each call is the export's own contract, at the memory that the call before it left; between calls other slots
 -- may be lent, longer ones say. Stands for W-207. proofs/Calls proves it.
-use Rattle.laws.specs.Prelude.{◌≡◌, not, List, [], ◌∷◌, ℕ, zero, suc, ℤ}
+use Rattle.std.specs.Prelude.{◌≡◌, ◌∷◌}
+use Rattle.laws.specs.Prelude.{not, List, [], ℕ, zero, suc, ℤ}
 use Rattle.refusals.specs.Refusal.{Judgement, pass, unless}
 use Rattle.segment_set_statements.specs.Set.{held_of, is_of, is_word_held, Beginning, beginning, begin_verdict}
 use Rattle.segment_set_statements.specs.Kept.{Holds}

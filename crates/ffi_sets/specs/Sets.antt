@@ -1,7 +1,8 @@
 -- A kept set of segments as numbers in lent memory: the layer and the tile that it is of, which its beginning alone writes and each edit reads; its
 -- carry, its loads and how many slots are held; the slots and d. Every content is a set's: of a layer or a tile that no segment has, each edit is
 -- refused by 3. Stands for W-207, for callers that know no struct.
-use Rattle.laws.specs.Prelude.{◌≡◌, List, [], ◌∷◌, ℕ, ℤ, pos, get_or}
+use Rattle.std.specs.Prelude.{◌≡◌, ◌∷◌}
+use Rattle.laws.specs.Prelude.{List, [], ℕ, ℤ, pos, get_or}
 use Rattle.refusals.specs.Refusal.{Judgement, pass, refuse}
 use Rattle.segment_set_statements.specs.Set.{SetState, state, Beginning, begin_verdict, begin_of, take_verdict, take_of, let_verdict, let_of}
 use Rattle.segment_set_statements.specs.declared.SegmentSet.{SegmentSet}

@@ -1,5 +1,6 @@
 -- What a buffer holds of an input, by the room that it has. Assumes nothing.
-use Rattle.laws.proofs.Prelude.{◌≡◌, sym, ap, ◌∙◌, List, ℕ, arith, length, take, length-take, take_all}
+use Rattle.std.specs.Prelude.{◌≡◌}
+use Rattle.laws.proofs.Prelude.{sym, ap, ◌∙◌, List, ℕ, arith, length, take, length-take, take_all}
 use Rattle.input_front.specs.Front.{HoldsFront}
 
 pub held : {buffer whole part : List ℕ} {n : ℕ} (room : ℕ) → HoldsFront buffer n whole → part ≡ take n buffer → length buffer ≡ room → part ≡ take room whole

@@ -1,6 +1,7 @@
 -- The first 65,537 bytes of an input decide the job that it is: a longer text is none, and so is its front.
 -- Assumes nothing.
-use Rattle.laws.proofs.Prelude.{◌≡◌, sym, ap, subst, ◌∙◌, ⊎_elim, List, none, ℕ, ◌≤◌, ◌<◌, arith, lt-ltb, Float, length, take, length-take-le}
+use Rattle.std.specs.Prelude.{◌≡◌, ◌≤◌, ◌<◌}
+use Rattle.laws.proofs.Prelude.{sym, ap, subst, ◌∙◌, ⊎_elim, List, none, ℕ, arith, lt-ltb, Float, length, take, length-take-le}
 use Rattle.laws.proofs.Prelude.{take_all, le_or_lt}
 use Rattle.job_text_statements.specs.Parse.{parse_blocks, parse}
 use Rattle.job_statements.specs.Read.{JobOutcome, outcome_by, job_outcome, Left, JobRead}

@@ -1,6 +1,7 @@
 -- What the rules on a line say of its numbers, as bounds on their parts.
 -- Assumes nothing.
-use Rattle.laws.proofs.Prelude.{◌≡◌, true, not, ◌&&◌, ◌||◌, ◌+◌, ◌≤◌, ◌<◌, arith, ℤ, pos, ◌-ℤ◌, w32, SFits, plus, minus, is_within, left, right, whole}
+use Rattle.std.specs.Prelude.{◌≡◌, ◌&&◌, ◌||◌, ◌+◌, ◌≤◌, ◌<◌, ◌-ℤ◌}
+use Rattle.laws.proofs.Prelude.{true, not, arith, ℤ, pos, w32, SFits, plus, minus, is_within, left, right, whole}
 use Rattle.laws.proofs.Prelude.{added, taken, sfits}
 use Rattle.laws.proofs.Ranges.{within}
 use Rattle.pixel_segment.specs.Field.{cpu}

@@ -1,7 +1,8 @@
 -- The rules on the values of a job's lines. Stands for '`rows` repeats a segment downward, 1 to 16 - y', 'alpha is 0 to 256', 'a clip has 0 in
 -- clipped, fill, mode and alpha; a draw has span 0', 'at most 2,048 segments' and 'a segment field outside its width (tile_x -1 to 4,094)', which packing judges (W-203).
 -- Layer ids, codes and spans have no rule here, nor have the numbers of block 1: refusals 4 and 2 judge them later.
-use Rattle.laws.specs.Prelude.{Bool, not, ◌&&◌, ◌||◌, List, [], ◌∷◌, ℕ, ◌+◌, ℤ, pos, ◌-ℤ◌, plus, is_within}
+use Rattle.std.specs.Prelude.{◌&&◌, ◌||◌, ◌∷◌, ◌+◌, ◌-ℤ◌}
+use Rattle.laws.specs.Prelude.{Bool, not, List, [], ℕ, ℤ, pos, plus, is_within}
 use Rattle.pixel_segment.specs.Field.{cpu}
 use Rattle.pixel_segment.specs.Pack.{is_packable}
 use Rattle.job_lines.specs.declared.layer.LayerLine.{LayerLine}

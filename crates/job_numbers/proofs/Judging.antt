@@ -1,6 +1,7 @@
 -- Loops over lines: a test of each, and a sum over them.
 -- Assumes nothing.
-use Rattle.laws.proofs.Prelude.{◌≡◌, refl, ap, ap₂, ◌∙◌, Bool, true, ◌&&◌, ℕ, ◌+◌, ◌<◌, ◌≤◌, add-one, arith, tabulate, every, all, same, every_intro}
+use Rattle.std.specs.Prelude.{◌≡◌, ◌&&◌, ◌+◌, ◌<◌, ◌≤◌}
+use Rattle.laws.proofs.Prelude.{refl, ap, ap₂, ◌∙◌, Bool, true, ℕ, add-one, arith, tabulate, every, all, same, every_intro}
 use Rattle.laws.proofs.Prelude.{every_at, all_intro, all_at, length_tabulate, get_d_tabulate}
 
 module _ {A : Type 0} (p : A → Bool) (f : ℕ → A) where

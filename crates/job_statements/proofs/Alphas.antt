@@ -1,7 +1,8 @@
 -- Laws of alpha: it is a number over 256, binary32 holds it, and the code's product is it. What is said of all 257 numbers is one test that
 -- antt computes.
 -- Assumes nothing.
-use Rattle.laws.proofs.Prelude.{◌≡◌, refl, sym, ap, ◌∙◌, Bool, true, false, List, ℕ, ◌*◌, ◌≤◌, arith, Float, nan, binary32, fits, odd, mul, of_int}
+use Rattle.std.specs.Prelude.{◌≡◌, ◌*◌, ◌≤◌}
+use Rattle.laws.proofs.Prelude.{refl, sym, ap, ◌∙◌, Bool, true, false, List, ℕ, arith, Float, nan, binary32, fits, odd, mul, of_int}
 use Rattle.laws.proofs.Prelude.{of_bits, HasValue, pos, get_or, tabulate, every_at, get_d_tabulate}
 use lib.Ieee.Exact.{odd_sign}
 use Rattle.job_statements.specs.Table.{alpha_of}

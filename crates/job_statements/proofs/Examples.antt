@@ -1,7 +1,8 @@
 -- What reading leaves of a few lines, as numbers: P1 and P2 as lines of a text, row numbers that refusal 2 later turns down, a negative layer
 -- id, and alphas.
 -- Assumes nothing.
-use Rattle.laws.proofs.Prelude.{◌≡◌, refl, List, [], ◌∷◌, flatten, odd, of_bits, binary32, pos, negsuc}
+use Rattle.std.specs.Prelude.{◌≡◌, ◌∷◌}
+use Rattle.laws.proofs.Prelude.{refl, List, [], flatten, odd, of_bits, binary32, pos, negsuc}
 use Rattle.job_lines.specs.declared.segment.SegmentLine.{SegmentLine}
 use Rattle.job_text_statements.specs.Parse.{layer_line_of, segment_of}
 use Rattle.job_statements.specs.Table.{alpha_of, table_words}

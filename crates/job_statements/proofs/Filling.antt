@@ -1,6 +1,7 @@
 -- What holds while a lent list is filled from the front, an entry a turn, with f 0, f 1, ..: laws of use for any such loop.
 -- Assumes nothing.
-use Rattle.laws.proofs.Prelude.{◌≡◌, refl, sym, ap, ◌∙◌, List, ℕ, ◌+◌, ◌<◌, ◌≤◌, arith, length, get_or, set, tabulate, over, length_tabulate}
+use Rattle.std.specs.Prelude.{◌≡◌, ◌+◌, ◌<◌, ◌≤◌}
+use Rattle.laws.proofs.Prelude.{refl, sym, ap, ◌∙◌, List, ℕ, arith, length, get_or, set, tabulate, over, length_tabulate}
 use Rattle.laws.proofs.Prelude.{get_d_tabulate, filled, length_filled, filled_more, filled_all}
 
 module _ {A : Type 0} (n : ℕ) (f : ℕ → A) where

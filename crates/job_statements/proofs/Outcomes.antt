@@ -1,6 +1,7 @@
 -- What each outcome leaves, from the test of the lent arrays and from what the writers leave.
 -- Assumes nothing.
-use Rattle.laws.proofs.Prelude.{◌≡◌, refl, ◌∙◌, true, false, ◌&&◌, List, Option, some, none, ℕ, ◌*◌, ◌/◌, ◌≤◌, arith, leb-true, leb, Float, ℤ, length}
+use Rattle.std.specs.Prelude.{◌≡◌, ◌&&◌, ◌*◌, ◌/◌, ◌≤◌}
+use Rattle.laws.proofs.Prelude.{refl, ◌∙◌, true, false, List, Option, some, none, ℕ, arith, leb-true, leb, Float, ℤ, length}
 use Rattle.laws.proofs.Prelude.{over, all, left, right, length_tabulate}
 use Rattle.decimal.proofs.Steps.{cases}
 use Rattle.job_text_statements.specs.declared.Head.{Head}

@@ -1,5 +1,6 @@
 -- The words of a line: packing gives each of them, and each reads back as the numbers of the text. Assumes nothing.
-use Rattle.laws.proofs.Prelude.{◌≡◌, refl, ◌∙◌, Bool, true, false, cond, ◌&&◌, ℕ, ◌+◌, ◌<◌, ◌≤◌, arith, ℤ, pos, ◌+ℤ◌, leb, length, get_or, refused}
+use Rattle.std.specs.Prelude.{◌≡◌, ◌&&◌, ◌+◌, ◌<◌, ◌≤◌, ◌+ℤ◌}
+use Rattle.laws.proofs.Prelude.{refl, ◌∙◌, Bool, true, false, cond, ℕ, arith, ℤ, pos, leb, length, get_or, refused}
 use Rattle.laws.proofs.Prelude.{given, plus, minus, all, left, right, all_at, added}
 use Rattle.pixel_segment.specs.Field.{cpu, width_of}
 use Rattle.pixel_segment.specs.Pack.{lowest_tile, is_packable, pack_of, ReadsBack}

@@ -1,6 +1,7 @@
 -- The table that reading leaves, as `styling` reads it: record i is that of line i, so the table's layers are those of the lines, in order.
 -- Assumes nothing.
-use Rattle.laws.proofs.Prelude.{◌≡◌, refl, sym, ap, ap₂, ◌∙◌, List, [], ◌∷◌, ◌++◌, map, flatten, ℕ, zero, suc, ◌+◌, ◌*◌, ◌<◌, ◌≤◌, add-zero, arith}
+use Rattle.std.specs.Prelude.{◌≡◌, ◌∷◌, ◌++◌, ◌+◌, ◌*◌, ◌<◌, ◌≤◌}
+use Rattle.laws.proofs.Prelude.{refl, sym, ap, ap₂, ◌∙◌, List, [], map, flatten, ℕ, zero, suc, add-zero, arith}
 use Rattle.laws.proofs.Prelude.{Float, nan, length, drop, get_or, length-append, length-map, List·getD-append, List·getD-map, get_or-append-add, over}
 use Rattle.laws.proofs.Prelude.{is_tabulate}
 use Rattle.styling.specs.declared.Layer.{Layer}

@@ -1,6 +1,7 @@
 -- Lent arrays of 512 words, 256 floats and 2,048 row words hold every job, so that reading into such arrays answers the numbers of a job or 10.
 -- Assumes nothing.
-use Rattle.laws.proofs.Prelude.{◌≡◌, true, ◌&&◌, List, map, ℕ, ◌/◌, ◌≤◌, arith, le-leb, leb-true, leb, Float, length, length-map, all, both, right}
+use Rattle.std.specs.Prelude.{◌≡◌, ◌&&◌, ◌/◌, ◌≤◌}
+use Rattle.laws.proofs.Prelude.{true, List, map, ℕ, arith, le-leb, leb-true, leb, Float, length, length-map, all, both, right}
 use Rattle.job_lines.specs.Rules.{layer_rule, segment_rule, segment_count}
 use Rattle.job_text_statements.specs.Job.{Job, layer_values, is_allowed, WellFormed}
 use Rattle.job_statements.specs.Read.{has_room}

@@ -1,6 +1,7 @@
 -- What holds while a line's words are written, and while the lines' words are.
 -- Assumes nothing.
-use Rattle.laws.proofs.Prelude.{◌≡◌, refl, sym, ap, ap₂, subst, ◌∙◌, true, List, [], ◌∷◌, ◌++◌, map, flatten, ℕ, ◌+◌, ◌<◌, ◌≤◌, zero-add, add-one}
+use Rattle.std.specs.Prelude.{◌≡◌, ◌∷◌, ◌++◌, ◌+◌, ◌<◌, ◌≤◌}
+use Rattle.laws.proofs.Prelude.{refl, sym, ap, ap₂, subst, ◌∙◌, true, List, [], map, flatten, ℕ, zero-add, add-one}
 use Rattle.laws.proofs.Prelude.{arith, ℤ, length, drop, set, length-append, drop_of_length-le, sets, sets-eq, length-sets, drop-cons, plus, tabulate}
 use Rattle.laws.proofs.Prelude.{over, length_tabulate, get_d_tabulate}
 use Rattle.decimal.proofs.Print.{sets_append}

@@ -1,6 +1,7 @@
 -- Lists given by their elements: joined, compared, and cut into parts of one width.
 -- Assumes nothing.
-use Rattle.laws.proofs.Prelude.{◌≡◌, refl, sym, ap, ap₂, ◌∙◌, List, [], ◌∷◌, ◌++◌, map, flatten, ℕ, zero, suc, ◌+◌, ◌*◌, ◌<◌, add-zero, arith}
+use Rattle.std.specs.Prelude.{◌≡◌, ◌∷◌, ◌++◌, ◌+◌, ◌*◌, ◌<◌}
+use Rattle.laws.proofs.Prelude.{refl, sym, ap, ap₂, ◌∙◌, List, [], map, flatten, ℕ, zero, suc, add-zero, arith}
 use Rattle.laws.proofs.Prelude.{tabulate}
 
 module _ {A : Type 0} where

@@ -1,6 +1,7 @@
 -- The table's entries by their place are those of its records, one after another.
 -- Assumes nothing.
-use Rattle.laws.proofs.Prelude.{◌≡◌, sym, ap, ◌∙◌, true, List, flatten, ℕ, ◌+◌, ◌*◌, ◌/◌, ◌%◌, ◌<◌, ◌≤◌, add-zero, arith, ℤ, plus, minus, tabulate}
+use Rattle.std.specs.Prelude.{◌≡◌, ◌+◌, ◌*◌, ◌/◌, ◌%◌, ◌<◌, ◌≤◌}
+use Rattle.laws.proofs.Prelude.{sym, ap, ◌∙◌, true, List, flatten, ℕ, add-zero, arith, ℤ, plus, minus, tabulate}
 use Rattle.laws.proofs.Prelude.{all, all_at, length_tabulate, get_d_tabulate}
 use Rattle.job_lines.specs.Rules.{layer_rule}
 use Rattle.job_text_statements.specs.Numbers.{number_at, layer_line_at, layer_lines}

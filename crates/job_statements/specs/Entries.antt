@@ -1,6 +1,7 @@
 -- What the inner functions promise: an entry of the table by its place, a line's fields as packing takes them, and a packed word.
 -- proofs/Tables and proofs/Rows say that these are the entries of `table_words`, `table_colors` and `row_words`.
-use Rattle.laws.specs.Prelude.{◌≡◌, Bool, cond, List, ℕ, ◌+◌, ◌*◌, ◌/◌, ◌%◌, eqb, Float, ℤ, pos, sets, plus}
+use Rattle.std.specs.Prelude.{◌≡◌, ◌+◌, ◌*◌, ◌/◌, ◌%◌}
+use Rattle.laws.specs.Prelude.{Bool, cond, List, ℕ, eqb, Float, ℤ, pos, sets, plus}
 use Rattle.pixel_segment.specs.Field.{cpu}
 use Rattle.pixel_segment.specs.Pack.{word_of, is_packable}
 use Rattle.job_lines.specs.declared.segment.SegmentLine.{SegmentLine}

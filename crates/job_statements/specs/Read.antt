@@ -1,5 +1,6 @@
 -- What `read_job` promises: its answer, and all three lent arrays at exit.
-use Rattle.laws.specs.Prelude.{◌≡◌, Bool, true, false, cond, ◌&&◌, List, [], Option, some, none, ℕ, ◌*◌, ◌/◌, ◌≤◌, leb, Float, ℤ, length, Answer}
+use Rattle.std.specs.Prelude.{◌≡◌, ◌&&◌, ◌*◌, ◌/◌, ◌≤◌}
+use Rattle.laws.specs.Prelude.{Bool, true, false, cond, List, [], Option, some, none, ℕ, leb, Float, ℤ, length, Answer}
 use Rattle.laws.specs.Prelude.{refused, given, over, all}
 use Rattle.job_text_statements.specs.declared.Head.{Head}
 use Rattle.job_statements.specs.declared.Reading.{Reading}

@@ -2,7 +2,8 @@
 -- segment downward'.
 -- The words are those of packing (`word_of`), at the tile y of the job's row. Only refusal 2 judges the row number, after the text is read, so
 -- it can be any number here: where packing does not take it, the words have tile y -1, which no opening accepts either.
-use Rattle.laws.specs.Prelude.{Bool, cond, List, map, flatten, ℕ, ◌+◌, ℤ, plus, tabulate}
+use Rattle.std.specs.Prelude.{◌+◌}
+use Rattle.laws.specs.Prelude.{Bool, cond, List, map, flatten, ℕ, ℤ, plus, tabulate}
 use Rattle.pixel_segment.specs.Field.{cpu, width_of}
 use Rattle.pixel_segment.specs.Pack.{word_of, is_held, lowest_tile}
 use Rattle.job_lines.specs.declared.segment.SegmentLine.{SegmentLine}

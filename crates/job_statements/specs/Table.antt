@@ -1,6 +1,7 @@
 -- The layer table that a job leaves: eight words a record (id, rule, func, span, clipped, fill, blend mode, unchanged) and four floats (red,
 -- green, blue, alpha). Stands for 'alpha is 0 to 256, divided by 256; other colours are 0' and 'every layer counts as changed'.
-use Rattle.laws.specs.Prelude.{false, List, [], ◌∷◌, map, flatten, ℕ, ◌^◌, Float, binary32, odd, of_bits, ℤ, plus, modℤ}
+use Rattle.std.specs.Prelude.{◌∷◌, ◌^◌}
+use Rattle.laws.specs.Prelude.{false, List, [], map, flatten, ℕ, Float, binary32, odd, of_bits, ℤ, plus, modℤ}
 use Rattle.styling.specs.declared.Color.{Color}
 use Rattle.layer_table.specs.declared.Words.{Words}
 use Rattle.job_lines.specs.declared.layer.LayerLine.{LayerLine}

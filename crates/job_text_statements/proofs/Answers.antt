@@ -1,7 +1,8 @@
 -- Each answer of `read_blocks`, from what its blocks give. An answer's text is `block_of s r`: of `Lines n i` the text from place i on, of `Cut`
 -- none.
 -- Assumes nothing.
-use Rattle.laws.proofs.Prelude.{◌≡◌, refl, sym, ap, ◌∙◌, List, [], ◌∷◌, Option, some, none, ℕ, suc, ◌<◌, ◌≤◌, ℤ, length, drop, get_or}
+use Rattle.std.specs.Prelude.{◌≡◌, ◌∷◌, ◌<◌, ◌≤◌}
+use Rattle.laws.proofs.Prelude.{refl, sym, ap, ◌∙◌, List, [], Option, some, none, ℕ, suc, ℤ, length, drop, get_or}
 use Rattle.laws.proofs.Prelude.{drop_of_length-le, drop-cons}
 use Rattle.lines.specs.declared.Block.{Block}
 use Rattle.lines.specs.declared.Block.TheVariants.{Lines, Cut}

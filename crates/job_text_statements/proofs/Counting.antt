@@ -1,6 +1,7 @@
 -- What holds while segments are counted: those counted and those of the lines left are those of all lines.
 -- Assumes nothing.
-use Rattle.laws.proofs.Prelude.{◌≡◌, ap, true, List, ℕ, ◌+◌, ◌*◌, ◌<◌, ◌≤◌, add-one, arith, ℤ, length, drop, get_or, drop_of_length-le, drop-cons, plus}
+use Rattle.std.specs.Prelude.{◌≡◌, ◌+◌, ◌*◌, ◌<◌, ◌≤◌}
+use Rattle.laws.proofs.Prelude.{ap, true, List, ℕ, add-one, arith, ℤ, length, drop, get_or, drop_of_length-le, drop-cons, plus}
 use Rattle.laws.proofs.Prelude.{all, all_at, length_tabulate, get_d_tabulate}
 use Rattle.job_lines.specs.declared.segment.SegmentLine.{SegmentLine}
 use Rattle.job_lines.specs.Rules.{segment_rule, segment_count}

@@ -1,6 +1,7 @@
 -- Document 01's job, as the text that it prints and as what is read of it; and the edges of the rules, tried on short texts.
 -- Assumes nothing.
-use Rattle.laws.proofs.Prelude.{◌≡◌, refl, Bool, true, false, not, List, [], ◌∷◌, ◌++◌, some, none, ℕ, zero, suc, pos, negsuc, is_within, all}
+use Rattle.std.specs.Prelude.{◌≡◌, ◌∷◌, ◌++◌}
+use Rattle.laws.proofs.Prelude.{refl, Bool, true, false, not, List, [], some, none, ℕ, zero, suc, pos, negsuc, is_within, all}
 use Prim.Native.String.{String}
 use Rattle.decimal.specs.Decimal.{decimal, decimal_in}
 use Rattle.decimal.specs.Parse.{parseℤ, parseℕ, more_digits}

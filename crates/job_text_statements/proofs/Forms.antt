@@ -1,6 +1,7 @@
 -- Reading the three blocks is the inverse of printing them: `parse_blocks` takes exactly the texts of well-formed blocks.
 -- Assumes nothing.
-use Rattle.laws.proofs.Prelude.{◌≡◌, refl, sym, ap, ◌∙◌, subst, false, List, [], ◌∷◌, ◌++◌, append-nil, Option, some, none, ℕ, ◌≤◌, ◌<◌, dec_lt, arith}
+use Rattle.std.specs.Prelude.{◌≡◌, ◌∷◌, ◌++◌, ◌≤◌, ◌<◌}
+use Rattle.laws.proofs.Prelude.{refl, sym, ap, ◌∙◌, subst, false, List, [], append-nil, Option, some, none, ℕ, dec_lt, arith}
 use Rattle.laws.proofs.Prelude.{eq-eqb, ne_eqb, eqb-true, eqb-false, lt-ltb, le-ltb, eqb, ℤ, length}
 use Rattle.decimal.proofs.Steps.{cases}
 use Rattle.lines.specs.Text.{block_text, AllFields}

@@ -1,7 +1,8 @@
 -- Reading is the inverse of printing: `parse` takes exactly the texts of well-formed jobs, and so two well-formed jobs have the same text
 -- only where they are the same.
 -- Assumes nothing.
-use Rattle.laws.proofs.Prelude.{◌≡◌, refl, sym, ap, ap₂, ◌∙◌, subst, Bool, true, cond, List, [], ◌∷◌, map, Option, some, none, ℕ, arith, ℤ, pos}
+use Rattle.std.specs.Prelude.{◌≡◌, ◌∷◌}
+use Rattle.laws.proofs.Prelude.{refl, sym, ap, ap₂, ◌∙◌, subst, Bool, true, cond, List, [], map, Option, some, none, ℕ, arith, ℤ, pos}
 use Rattle.laws.proofs.Prelude.{length, get_or, is_tabulate}
 use mathlib.Core.Option.{some-injective}
 use Rattle.lines.specs.Text.{Fields, AllFields}

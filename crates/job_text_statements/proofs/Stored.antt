@@ -1,6 +1,7 @@
 -- The lines of blocks that are stored one after another are the lines of the job that they say.
 -- Assumes nothing.
-use Rattle.laws.proofs.Prelude.{◌≡◌, sym, ap, ◌∙◌, List, [], map, flatten, ℕ, ◌+◌, ◌*◌, ◌<◌, ◌≤◌, arith, ℤ, length, get_or, length-map, List·getD-map}
+use Rattle.std.specs.Prelude.{◌≡◌, ◌+◌, ◌*◌, ◌<◌, ◌≤◌}
+use Rattle.laws.proofs.Prelude.{sym, ap, ◌∙◌, List, [], map, flatten, ℕ, arith, ℤ, length, get_or, length-map, List·getD-map}
 use Rattle.laws.proofs.Prelude.{sets, tabulate, is_tabulate}
 use Rattle.lines.specs.Text.{AllFields}
 use Rattle.lines.proofs.Stored.{length_flatten, flatten_at, stored_at}

@@ -1,6 +1,7 @@
 -- Each answer of `read_numbers`, from what the blocks and the judges of their lines give.
 -- Assumes nothing.
-use Rattle.laws.proofs.Prelude.{◌≡◌, sym, ap, ◌∙◌, true, false, cond, ◌&&◌, List, flatten, some, none, ℕ, ◌*◌, ◌<◌, ◌≤◌, arith, le-leb, lt-leb, leb}
+use Rattle.std.specs.Prelude.{◌≡◌, ◌&&◌, ◌*◌, ◌<◌, ◌≤◌}
+use Rattle.laws.proofs.Prelude.{sym, ap, ◌∙◌, true, false, cond, List, flatten, some, none, ℕ, arith, le-leb, lt-leb, leb}
 use Rattle.laws.proofs.Prelude.{ℤ, length, length-sets, all}
 use Rattle.job_text_statements.specs.Text.{Formed}
 use Rattle.job_lines.specs.Rules.{layer_rule, segment_rule, segment_count}

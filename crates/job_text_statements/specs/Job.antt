@@ -1,6 +1,7 @@
 -- A job, its text, and which jobs are well formed. The printer `render` defines the form of the text: a text that is malformed (number 10) is
 -- one that no well-formed job prints to.
-use Rattle.laws.specs.Prelude.{◌≡◌, Bool, true, ◌&&◌, List, [], ◌∷◌, map, ℕ, leb, ℤ, all}
+use Rattle.std.specs.Prelude.{◌≡◌, ◌&&◌, ◌∷◌}
+use Rattle.laws.specs.Prelude.{Bool, true, List, [], map, ℕ, leb, ℤ, all}
 use Rattle.job_text_statements.specs.declared.Head.{Head}
 use Rattle.job_lines.specs.declared.layer.LayerLine.{LayerLine}
 use Rattle.job_lines.specs.declared.segment.SegmentLine.{SegmentLine}

@@ -1,5 +1,6 @@
 -- The lines of a job as they lie in lists of numbers, one line after another.
-use Rattle.laws.specs.Prelude.{List, ℕ, ◌+◌, ◌*◌, ℤ, pos, get_or, tabulate}
+use Rattle.std.specs.Prelude.{◌+◌, ◌*◌}
+use Rattle.laws.specs.Prelude.{List, ℕ, ℤ, pos, get_or, tabulate}
 use Rattle.job_lines.specs.declared.layer.LayerLine.{LayerLine}
 use Rattle.job_lines.specs.declared.segment.SegmentLine.{SegmentLine}
 use Rattle.job_text_statements.specs.Job.{Job}

@@ -1,5 +1,6 @@
 -- Reading a job text block by block. proofs/Laws says what this is: the inverse of `render` on well-formed jobs.
-use Rattle.laws.specs.Prelude.{cond, List, [], ◌∷◌, map, Option, some, none, ℕ, ltb, eqb, ℤ, pos, length, get_or}
+use Rattle.std.specs.Prelude.{◌∷◌}
+use Rattle.laws.specs.Prelude.{cond, List, [], map, Option, some, none, ℕ, ltb, eqb, ℤ, pos, length, get_or}
 use Rattle.lines.specs.Parse.{parse_block}
 use Rattle.job_text_statements.specs.declared.Head.{Head}
 use Rattle.job_lines.specs.declared.layer.LayerLine.{LayerLine}

@@ -1,5 +1,6 @@
 -- What the readers of a job's numbers promise.
-use Rattle.laws.specs.Prelude.{◌≡◌, List, flatten, some, none, ℕ, ◌≤◌, ℤ, length, sets}
+use Rattle.std.specs.Prelude.{◌≡◌, ◌≤◌}
+use Rattle.laws.specs.Prelude.{List, flatten, some, none, ℕ, ℤ, length, sets}
 use Rattle.job_text_statements.specs.declared.Numbers.{Numbers}
 use Rattle.job_text_statements.specs.declared.Numbers.TheVariants.{Malformed}
 use Rattle.job_text_statements.specs.declared.blocks.Blocks.TheVariants.{Lines, Broken}

@@ -1,6 +1,7 @@
 -- The form of a job text, as a printer writes it. Stands for 'three blocks, each a line of names, then lines of values', for 'block 1 has one
 -- value line, 2 has 0 to 64, 3 has 0 to 512', for 'at most 65,536 bytes' and 'a number above seven digits'.
-use Rattle.laws.specs.Prelude.{◌≡◌, List, ◌++◌, ℕ, ◌≤◌, ℤ, length}
+use Rattle.std.specs.Prelude.{◌≡◌, ◌++◌, ◌≤◌}
+use Rattle.laws.specs.Prelude.{List, ℕ, ℤ, length}
 use Rattle.lines.specs.Bytes.{bytes}
 use Rattle.lines.specs.Text.{block_text, AllFields}
 

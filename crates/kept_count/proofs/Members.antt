@@ -1,5 +1,6 @@
 -- The members of a lent list, one after the other. Assumes nothing.
-use Rattle.laws.proofs.Prelude.{◌≡◌, sym, ap, ◌∙◌, Bool, true, false, cond, List, [], ◌∷◌, ℕ, suc, ◌+◌, ◌≤◌, ◌<◌, arith, length, drop}
+use Rattle.std.specs.Prelude.{◌≡◌, ◌∷◌, ◌+◌, ◌≤◌, ◌<◌}
+use Rattle.laws.proofs.Prelude.{sym, ap, ◌∙◌, Bool, true, false, cond, List, [], ℕ, suc, arith, length, drop}
 use Rattle.laws.proofs.Prelude.{drop_of_length-le, take, length_tabulate}
 use Rattle.styling.specs.Ascending.{strictly_ascends}
 use Rattle.layer_table.proofs.Listed.{drop_tabulate, map_tabulate}

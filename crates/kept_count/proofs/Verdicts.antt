@@ -1,5 +1,6 @@
 -- What a passed verdict tells, and the operation put together from its parts. Assumes nothing.
-use Rattle.laws.proofs.Prelude.{◌≡◌, refl, sym, ap, ◌∙◌, Bool, true, false, not, ◌&&◌, ◌||◌, List, ℕ, ◌≤◌, min, arith, not-false, ltb-false, ltb}
+use Rattle.std.specs.Prelude.{◌≡◌, ◌&&◌, ◌||◌, ◌≤◌}
+use Rattle.laws.proofs.Prelude.{refl, sym, ap, ◌∙◌, Bool, true, false, not, List, ℕ, min, arith, not-false, ltb-false, ltb}
 use Rattle.laws.proofs.Prelude.{length, take, left, right}
 use Rattle.refusals.specs.Refusal.{Judgement, pass, refuse, unless, number_of}
 use Rattle.refusals.specs.declared.Refusal.{Refusal}

@@ -1,5 +1,6 @@
 -- Two lists of members that ascend: the walk over today's that meets the others in their order. Assumes nothing.
-use Rattle.laws.proofs.Prelude.{◌≡◌, refl, sym, ap, ◌∙◌, Bool, true, false, cond, ◌&&◌, ◌||◌, List, [], ◌∷◌, map, ⊎_elim, ℕ, zero, suc, ◌+◌, ◌≤◌, ◌<◌}
+use Rattle.std.specs.Prelude.{◌≡◌, ◌&&◌, ◌||◌, ◌∷◌, ◌+◌, ◌≤◌, ◌<◌}
+use Rattle.laws.proofs.Prelude.{refl, sym, ap, ◌∙◌, Bool, true, false, cond, List, [], map, ⊎_elim, ℕ, zero, suc}
 use Rattle.laws.proofs.Prelude.{add-one, arith, eq-eqb, ne_eqb, eqb-true, ltb-true, ltb-false, le-leb, eqb, ltb, leb, length, drop, drop_of_length-le}
 use Rattle.laws.proofs.Prelude.{all, both, left, not_left, either, nil_le, cons_lt, cons_rest}
 use Rattle.styling.specs.Ascending.{strictly_ascends_from}

@@ -1,5 +1,6 @@
 -- What the functions below `keep_count` ask and give.
-use Rattle.laws.specs.Prelude.{◌≡◌, Bool, true, false, cond, List, [], ◌∷◌, ℕ, ◌+◌, ◌≤◌, length, drop, take}
+use Rattle.std.specs.Prelude.{◌≡◌, ◌∷◌, ◌+◌, ◌≤◌}
+use Rattle.laws.specs.Prelude.{Bool, true, false, cond, List, [], ℕ, length, drop, take}
 use Rattle.styling.specs.Ascending.{strictly_ascends}
 use Rattle.cached_tile.specs.declared.kept.Kept as kept
 use Rattle.kept_frames.specs.Stays.{Member, same_member}

@@ -3,7 +3,8 @@
 -- of the two lists, and where it is no, the count's tag is dropped and nothing else. Asked twice, of the shown layers of the tile's last accepted work and of
 -- today and then the other way, it is the comparison of the keep rule (`kept_frames/specs/Right`, `TwiceAlike`); asked once, of all that are listed, it is
 -- not enough (`Wrong`, `KeptOtherwise`). A caller who wants the Rust's behaviour leaves the call out.
-use Rattle.laws.specs.Prelude.{◌≡◌, Bool, true, false, cond, not, ◌&&◌, ◌||◌, List, ℕ, min, ltb, leb, length, get_or, Answer, refused, given, tabulate}
+use Rattle.std.specs.Prelude.{◌≡◌, ◌&&◌, ◌||◌}
+use Rattle.laws.specs.Prelude.{Bool, true, false, cond, not, List, ℕ, min, ltb, leb, length, get_or, Answer, refused, given, tabulate}
 use Rattle.laws.specs.Prelude.{every}
 use Rattle.refusals.specs.Refusal.{Judgement, pass, refuse, unless, number_of}
 use Rattle.cached_tile.specs.Kept.{tag_out_of_range, changed}

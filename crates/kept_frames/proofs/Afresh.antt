@@ -1,5 +1,6 @@
 -- The shown layers of a work that draws the tile, and with them the picture, rest neither on flags nor on whether layers were removed. Assumes nothing.
-use Rattle.laws.proofs.Prelude.{◌≡◌, refl, sym, ap, ap₂, ◌∙◌, Bool, true, false, cond, not, ◌&&◌, List, [], ◌∷◌, map, Option, some, none, ℕ, zero}
+use Rattle.std.specs.Prelude.{◌≡◌, ◌&&◌, ◌∷◌}
+use Rattle.laws.proofs.Prelude.{refl, sym, ap, ap₂, ◌∙◌, Bool, true, false, cond, not, List, [], map, Option, some, none, ℕ, zero}
 use Rattle.laws.proofs.Prelude.{suc, leb, length, get_or, replicate, length-map, List·getD-map}
 use Rattle.pass_statements.specs.Clips.{step_of, clips_from, marks_of}
 use Rattle.pass_statements.specs.Covered.{hides, look_at, item_at, covered_from, start_of, covered_of}

@@ -1,5 +1,6 @@
 -- The keep rule matters only where the full-cover pass would keep the tile. Assumes nothing.
-use Rattle.laws.proofs.Prelude.{◌≡◌, refl, sym, ap, ◌∙◌, Bool, true, List, ◌⊎◌, inl, inr, length}
+use Rattle.std.specs.Prelude.{◌≡◌, ◌⊎◌}
+use Rattle.laws.proofs.Prelude.{refl, sym, ap, ◌∙◌, Bool, true, List, inl, inr, length}
 use Rattle.styling.specs.declared.Color.{Color}
 use Rattle.pass_statements.specs.Decide.{Outcome, passed_of, outcome_of}
 use Rattle.pass_statements.specs.Decision as decision

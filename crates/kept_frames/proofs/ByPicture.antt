@@ -1,6 +1,7 @@
 -- The decision of a work without a count rests on its paintings and the clear colour alone. Assumes nothing.
-use Rattle.laws.proofs.Prelude.{◌≡◌, refl, sym, ap, ap₂, subst, fun_ext, ◌∙◌, Bool, true, false, cond, not, ◌&&◌, ◌||◌, false≢true, List, [], ◌∷◌}
-use Rattle.laws.proofs.Prelude.{map, ⊎_elim, Option, none, ℕ, zero, suc, ◌+◌, ◌≤◌, ◌<◌, arith, le-leb, leb-true, lt-leb, leb, length, get_or, drop, all}
+use Rattle.std.specs.Prelude.{◌≡◌, ◌&&◌, ◌||◌, ◌∷◌, ◌+◌, ◌≤◌, ◌<◌}
+use Rattle.laws.proofs.Prelude.{refl, sym, ap, ap₂, subst, fun_ext, ◌∙◌, Bool, true, false, cond, not, false≢true, List, []}
+use Rattle.laws.proofs.Prelude.{map, ⊎_elim, Option, none, ℕ, zero, suc, arith, le-leb, leb-true, lt-leb, leb, length, get_or, drop, all}
 use Rattle.laws.proofs.Prelude.{left, right, either}
 use Rattle.styling.specs.Style.{is_clipped_of, is_opaque, solid_color}
 use Rattle.styling.specs.declared.Color.{Color}

@@ -1,6 +1,7 @@
 -- Whether layers were removed, and flags, matter to a decision in one way alone: it may be *none*. Else it is that of a work without a count, and the shown
 -- layers are the same in any case. Assumes nothing.
-use Rattle.laws.proofs.Prelude.{◌≡◌, refl, sym, ap, ap₂, ◌∙◌, Bool, true, false, cond, not, ◌&&◌, List, ◌⊎◌, inl, inr, ⊎_elim, ℕ, zero, suc, length}
+use Rattle.std.specs.Prelude.{◌≡◌, ◌&&◌, ◌⊎◌}
+use Rattle.laws.proofs.Prelude.{refl, sym, ap, ap₂, ◌∙◌, Bool, true, false, cond, not, List, inl, inr, ⊎_elim, ℕ, zero, suc, length}
 use Rattle.laws.proofs.Prelude.{get_or}
 use Rattle.styling.specs.declared.Color.{Color}
 use Rattle.pass_statements.specs.Clips.{marks_of}

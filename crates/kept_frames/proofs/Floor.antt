@@ -1,6 +1,7 @@
 -- *None* by the third pass: a unmasked layer hides all below it, and every unmasked layer from it up is unchanged.
-use Rattle.laws.proofs.Prelude.{◌≡◌, refl, sym, ap, subst, ◌∙◌, Bool, true, false, cond, not, ◌&&◌, false≢true, List, ◌⊎◌, inl, inr, ⊎_elim, ℕ, zero}
-use Rattle.laws.proofs.Prelude.{suc, ◌≤◌, ◌<◌, arith, eqb-true, eqb-false, not-true, eqb, length, get_or, left, right, either}
+use Rattle.std.specs.Prelude.{◌≡◌, ◌&&◌, ◌⊎◌, ◌≤◌, ◌<◌}
+use Rattle.laws.proofs.Prelude.{refl, sym, ap, subst, ◌∙◌, Bool, true, false, cond, not, false≢true, List, inl, inr, ⊎_elim, ℕ, zero}
+use Rattle.laws.proofs.Prelude.{suc, arith, eqb-true, eqb-false, not-true, eqb, length, get_or, left, right, either}
 use Rattle.styling.specs.declared.Color.{Color}
 use Rattle.styling.specs.Style.{is_opaque, solid_color}
 use Rattle.pass_statements.specs.Clips.{marks_of}

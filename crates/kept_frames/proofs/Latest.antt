@@ -1,5 +1,6 @@
 -- The latest clip below a layer does not rest on flags, nor does whether a layer needs a clip. Assumes nothing.
-use Rattle.laws.proofs.Prelude.{◌≡◌, refl, sym, ap, ◌∙◌, Bool, true, false, cond, not, ◌&&◌, List, [], ◌∷◌, map, Option, some, none, ℕ, ltb}
+use Rattle.std.specs.Prelude.{◌≡◌, ◌&&◌, ◌∷◌}
+use Rattle.laws.proofs.Prelude.{refl, sym, ap, ◌∙◌, Bool, true, false, cond, not, List, [], map, Option, some, none, ℕ, ltb}
 use Rattle.styling.specs.Style.{is_clipped_of}
 use Rattle.styling.specs.declared.Func.{Func}
 use Rattle.pass_statements.specs.Clips.{is_clip}

@@ -1,7 +1,8 @@
 -- A tile that the full-cover pass keeps: every shown layer is unchanged and needs no clip. So where the shown layers are alike, the paintings are those of
 -- the last work. Assumes nothing.
-use Rattle.laws.proofs.Prelude.{◌≡◌, refl, sym, ap, ap₂, ◌∙◌, Bool, true, false, cond, not, ◌&&◌, ◌||◌, Bool·beq, false≢true, List, [], ◌∷◌, map}
-use Rattle.laws.proofs.Prelude.{Option, none, ℕ, ◌≤◌, ◌<◌, arith, eqb-true, eq-eqb, eqb, length, both, left, right, not_right, clash}
+use Rattle.std.specs.Prelude.{◌≡◌, ◌&&◌, ◌||◌, ◌∷◌, ◌≤◌, ◌<◌}
+use Rattle.laws.proofs.Prelude.{refl, sym, ap, ap₂, ◌∙◌, Bool, true, false, cond, not, Bool·beq, false≢true, List, [], map}
+use Rattle.laws.proofs.Prelude.{Option, none, ℕ, arith, eqb-true, eq-eqb, eqb, length, both, left, right, not_right, clash}
 use Rattle.styling.specs.declared.Color.{Color}
 use Rattle.styling.specs.Style.{is_clipped_of}
 use Rattle.pass_statements.specs.Clips.{marks_of}

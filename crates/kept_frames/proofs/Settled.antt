@@ -1,5 +1,6 @@
 -- *Keep* is right, whatever flags, counts and crops said: a colour is kept only where the whole tile shows it. Assumes nothing.
-use Rattle.laws.proofs.Prelude.{◌≡◌, refl, sym, ap, ◌∙◌, Bool, true, false, ◌&&◌, false≢true, List, ℕ, arith, eqb-true, eqb, get_or, left, right}
+use Rattle.std.specs.Prelude.{◌≡◌, ◌&&◌}
+use Rattle.laws.proofs.Prelude.{refl, sym, ap, ◌∙◌, Bool, true, false, false≢true, List, ℕ, arith, eqb-true, eqb, get_or, left, right}
 use Rattle.cached_tile.specs.Tile.{keeps_color, keep_color}
 use Rattle.cached_tile.specs.Kept.{same_bytes, keep_or_write, keeps_same}
 use Rattle.cached_tile.specs.declared.CachedTile.{CachedTile}

@@ -1,5 +1,6 @@
 -- The painter's way through the shown layers, turn by turn, and what holds of each shown layer. Assumes nothing.
-use Rattle.laws.proofs.Prelude.{◌≡◌, refl, ap, ◌∙◌, Bool, true, false, cond, ◌&&◌, List, [], ◌∷◌, map, Option, ℕ, suc, ◌+◌, ◌≤◌, ◌<◌, arith, leb-true}
+use Rattle.std.specs.Prelude.{◌≡◌, ◌&&◌, ◌∷◌, ◌+◌, ◌≤◌, ◌<◌}
+use Rattle.laws.proofs.Prelude.{refl, ap, ◌∙◌, Bool, true, false, cond, List, [], map, Option, ℕ, suc, arith, leb-true}
 use Rattle.laws.proofs.Prelude.{leb, length, get_or, left, right}
 use Rattle.pass_statements.specs.Covered.{item_at}
 use Rattle.pass_statements.specs.Decide.{shown_from}

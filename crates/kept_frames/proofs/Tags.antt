@@ -1,5 +1,6 @@
 -- What dropping the one of a tile's tags leaves of the other, for every tag that no operation refuses. Assumes nothing.
-use Rattle.laws.proofs.Prelude.{◌≡◌, refl, sym, Bool, true, false, ◌&&◌, Bool·beq, ℕ, ◌≤◌, arith, leb-true, bit_and, leb, every_at}
+use Rattle.std.specs.Prelude.{◌≡◌, ◌&&◌, ◌≤◌}
+use Rattle.laws.proofs.Prelude.{refl, sym, Bool, true, false, Bool·beq, ℕ, arith, leb-true, bit_and, leb, every_at}
 use Rattle.cached_tile.specs.declared.CachedTile.{CachedTile}
 use Rattle.cached_tile.specs.Tile.{keeps_count, keeps_color, layer_count_of, solid_color_of, drop_count, drop_color}
 

@@ -1,6 +1,7 @@
 -- Two askings of `keep_count`, of the shown layers in either order, are the comparison of the keep rule. Assumes nothing.
-use Rattle.laws.proofs.Prelude.{◌≡◌, refl, sym, ap, ◌∙◌, Bool, true, false, cond, ◌&&◌, ◌||◌, Bool·beq, false≢true, List, [], ◌∷◌, map, ◌⊎◌, inl, inr}
-use Rattle.laws.proofs.Prelude.{⊎_elim, Option, none, ℕ, suc, ◌≤◌, ◌<◌, arith, eqb-true, eq-eqb, le-leb, eqb, leb, both, left, right, same}
+use Rattle.std.specs.Prelude.{◌≡◌, ◌&&◌, ◌||◌, ◌∷◌, ◌⊎◌, ◌≤◌, ◌<◌}
+use Rattle.laws.proofs.Prelude.{refl, sym, ap, ◌∙◌, Bool, true, false, cond, Bool·beq, false≢true, List, [], map, inl, inr}
+use Rattle.laws.proofs.Prelude.{⊎_elim, Option, none, ℕ, suc, arith, eqb-true, eq-eqb, le-leb, eqb, leb, both, left, right, same}
 use Rattle.styling.specs.Ascending.{strictly_ascends_from}
 use Rattle.styling.proofs.Ascents.{ascends_head, ascends_tail, ascends_weaken}
 use Rattle.pass_statements.specs.Clips.{marks_of}

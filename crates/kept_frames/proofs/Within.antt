@@ -1,6 +1,7 @@
 -- Who was listed, by places and flags; and lists all of whose layers were listed before: they are no longer, and where they are as long they are the same.
 -- Assumes nothing.
-use Rattle.laws.proofs.Prelude.{◌≡◌, refl, sym, ap, ap₂, ◌∙◌, true, List, [], ◌∷◌, map, inl, inr, ℕ, zero, suc, ◌≤◌, ◌<◌, arith, length}
+use Rattle.std.specs.Prelude.{◌≡◌, ◌∷◌, ◌≤◌, ◌<◌}
+use Rattle.laws.proofs.Prelude.{refl, sym, ap, ap₂, ◌∙◌, true, List, [], map, inl, inr, ℕ, zero, suc, arith, length}
 use Rattle.styling.specs.Ascending.{strictly_ascends_from}
 use Rattle.styling.proofs.Ascents.{ascends_head, ascends_tail}
 use Rattle.pass_statements.specs.Covered.{item_at}

@@ -1,7 +1,8 @@
 -- The keep rule: the count that a tile keeps stays only where the clear colour has the bits that it had at the tile's last accepted work, and the layers
 -- that are shown today, draws and clips, are those of then, by their ids, and each needs a clip now as it did then. So of a tile's last work nothing but
 -- that is to be remembered. With the rule every *none* is right, and no rule that is right allows more (specs/Right).
-use Rattle.laws.specs.Prelude.{Bool, true, false, ◌&&◌, Bool·beq, List, [], ◌∷◌, map, ℕ, eqb, Float, nan, inf, fin, ℤ, pos, negsuc}
+use Rattle.std.specs.Prelude.{◌&&◌, ◌∷◌}
+use Rattle.laws.specs.Prelude.{Bool, true, false, Bool·beq, List, [], map, ℕ, eqb, Float, nan, inf, fin, ℤ, pos, negsuc}
 use Rattle.styling.specs.declared.Color.{Color}
 use Rattle.pass_statements.specs.declared.item.Item.{Item}
 use Rattle.kept_frames.specs.Picture.{Stroke, picture_of}

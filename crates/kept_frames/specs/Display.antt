@@ -1,6 +1,7 @@
 -- What stands in a tile of the caller's buffer, through works on it and settling: one colour in all 256 pixels, or something else. Stands for
 -- '*solid* is settled by a second call with the four display bytes, which says write or keep'.
-use Rattle.laws.specs.Prelude.{◌≡◌, true, List, ℕ, ◌≤◌, get_or}
+use Rattle.std.specs.Prelude.{◌≡◌, ◌≤◌}
+use Rattle.laws.specs.Prelude.{true, List, ℕ, get_or}
 use Rattle.cached_tile.specs.Tile.{empty_tile, solid_color_of, keep_count, drop_count, keep_color, drop_color}
 use Rattle.cached_tile.specs.Kept.{Writing, keep_or_write, keeps_same}
 use Rattle.cached_tile.specs.declared.CachedTile.{CachedTile}

@@ -1,7 +1,8 @@
 -- P7 in a picture: the latest listed clip is not always the one that cuts. Clip 1 (span 1), clip 2 (span 5), clipped draw 3: the painter keeps the last
 -- layer id of clip 1, so at 3 it has no clip, and the draw paints nothing. Without clip 1 the draw is cut by clip 2. And an opaque draw over a clip makes
 -- it be skipped, so that a clipped draw above is left without one. proofs/Refuted has them computed.
-use Rattle.laws.specs.Prelude.{◌≡◌, true, false, List, [], ◌∷◌, Option, some, none, ℕ, binary32, of_bits}
+use Rattle.std.specs.Prelude.{◌≡◌, ◌∷◌}
+use Rattle.laws.specs.Prelude.{true, false, List, [], Option, some, none, ℕ, binary32, of_bits}
 use Rattle.styling.specs.declared.BlendMode.TheVariants.{Over}
 use Rattle.styling.specs.declared.Color.{Color}
 use Rattle.styling.specs.declared.Fill.TheVariants.{Solid}

@@ -2,7 +2,8 @@
 -- ascending, from no clip. Of each: its record, whether it needs a clip, and whose coverages cut it. Those are of the clip that was painted last, while the
 -- painter has a clip, which is not always the latest listed one (P7). A draw that needs a clip while the painter has none paints nothing. Flags have no
 -- part in it. Whatever makes pixels of these, and of the clear colour, makes the same of the same; nothing is said of blending.
-use Rattle.laws.specs.Prelude.{Bool, true, false, cond, not, ◌&&◌, List, [], ◌∷◌, Option, some, none, ℕ}
+use Rattle.std.specs.Prelude.{◌&&◌, ◌∷◌}
+use Rattle.laws.specs.Prelude.{Bool, true, false, cond, not, List, [], Option, some, none, ℕ}
 use Rattle.styling.specs.declared.Color.{Color}
 use Rattle.styling.specs.declared.Func.{Func}
 use Rattle.styling.specs.declared.Func.TheVariants.{Draw, Clip}

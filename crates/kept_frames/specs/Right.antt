@@ -1,6 +1,7 @@
 -- When *none* is right: the tile, drawn afresh, would be drawn by the same decision and the same paintings as when it was last drawn, under a clear colour of
 -- the same bits. So it is wherever the count was kept by the rule of specs/Alike, and no wider rule is right.
-use Rattle.laws.specs.Prelude.{◌≡◌, Bool, true, false, cond, ◌&&◌, List, [], ◌∷◌, map, ◌⊎◌, Option, some, ℕ, length}
+use Rattle.std.specs.Prelude.{◌≡◌, ◌&&◌, ◌∷◌, ◌⊎◌}
+use Rattle.laws.specs.Prelude.{Bool, true, false, cond, List, [], map, Option, some, ℕ, length}
 use Rattle.std.proofs.Math.Option as option
 use Rattle.styling.specs.declared.Color.{Color}
 use Rattle.pass_statements.specs.Decide.{shown_of, passed_of, outcome_of}

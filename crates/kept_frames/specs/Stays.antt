@@ -1,6 +1,7 @@
 -- What `keep_count` compares: whoever is in the one list is in the other still, and as the same kind of layer. Asked of the shown layers, and then the other
 -- way, it is the keep rule's comparison (specs/Right, `TwiceAlike`). Asked once, of all that are listed, it is not enough (specs/Wrong, `KeptOtherwise`).
-use Rattle.laws.specs.Prelude.{Bool, cond, ◌&&◌, List, map, ℕ, eqb, all, any}
+use Rattle.std.specs.Prelude.{◌&&◌}
+use Rattle.laws.specs.Prelude.{Bool, cond, List, map, ℕ, eqb, all, any}
 use Rattle.styling.specs.declared.Func.{Func}
 use Rattle.styling.specs.declared.Func.TheVariants.{Draw, Clip}
 use Rattle.pass_statements.specs.declared.item.Item.{Item}

@@ -1,6 +1,7 @@
 -- Flags that are truthful since the tile's last accepted work: a layer that is listed as unchanged stood in the list of that work, with the same
 -- record, and as full. 'Since the last frame' is less: specs/Wrong has what comes of it.
-use Rattle.laws.specs.Prelude.{◌≡◌, true, List, [], ◌∷◌, ◌⊎◌}
+use Rattle.std.specs.Prelude.{◌≡◌, ◌∷◌, ◌⊎◌}
+use Rattle.laws.specs.Prelude.{true, List, []}
 use Rattle.pass_statements.specs.declared.item.Item.{Item}
 use Rattle.kept_frames.specs.Picture.{unflagged}
 

@@ -1,7 +1,8 @@
 -- *None* by the full-cover pass is no more right than specs/Right says, here as in the Rust: the smallest histories in which a tile is kept with a wrong
 -- picture, flags truthful and no clip changed. In each frame of A to F every layer is full. Beside each, the ids of the layers that are shown at the last
 -- work, and of those that drawing afresh would show. proofs/Refuted has them computed.
-use Rattle.laws.specs.Prelude.{◌≡◌, Bool, true, false, List, [], ◌∷◌, map, ℕ, binary32, of_bits, length}
+use Rattle.std.specs.Prelude.{◌≡◌, ◌∷◌}
+use Rattle.laws.specs.Prelude.{Bool, true, false, List, [], map, ℕ, binary32, of_bits, length}
 use Rattle.styling.specs.declared.BlendMode.TheVariants.{Over}
 use Rattle.styling.specs.declared.Color.{Color}
 use Rattle.styling.specs.declared.Fill.TheVariants.{Solid}

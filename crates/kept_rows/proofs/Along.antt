@@ -1,5 +1,6 @@
 -- Rows whose flags are truthful: so are the flags of each tile's list, and an unchanged layer has the coverages of then. Assumes nothing.
-use Rattle.laws.proofs.Prelude.{◌≡◌, sym, ap, ◌∙◌, map, ℕ, ◌+◌, arith, Answer}
+use Rattle.std.specs.Prelude.{◌≡◌, ◌+◌}
+use Rattle.laws.proofs.Prelude.{sym, ap, ◌∙◌, map, ℕ, arith, Answer}
 use Rattle.styling.specs.declared.Props.{Props}
 use Rattle.layer_workbench.specs.Work.{entry_of}
 use Rattle.row_carries.proofs.Carried.{layers_ascend}

@@ -1,5 +1,6 @@
 -- The history of specs/Example, by the existence of runs. Assumes nothing.
-use Rattle.laws.proofs.Prelude.{◌≡◌, refl, Bool, true, false, cond, false≢true, List, [], ◌∷◌, ℕ, eqb, binary32, eq, odd, of_bits, pos, replicate}
+use Rattle.std.specs.Prelude.{◌≡◌, ◌∷◌}
+use Rattle.laws.proofs.Prelude.{refl, Bool, true, false, cond, false≢true, List, [], ℕ, eqb, binary32, eq, odd, of_bits, pos, replicate}
 use Rattle.laws.proofs.Prelude.{given, refused}
 use Rattle.refusals.specs.Refusal.{pass}
 use Rattle.pixel_segment.specs.Field.{cover_of, tile_of}

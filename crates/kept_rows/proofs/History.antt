@@ -1,5 +1,6 @@
 -- The theorem over frames: what stands of a tile is right after each of them. Assumes nothing.
-use Rattle.laws.proofs.Prelude.{◌≡◌, refl, sym, ap, ◌∙◌, Bool, true, false, cond, List, ⊎_elim, some, ℕ, ◌+◌, ◌%◌, ◌^◌, ◌≤◌, arith, length, either}
+use Rattle.std.specs.Prelude.{◌≡◌, ◌+◌, ◌%◌, ◌^◌, ◌≤◌}
+use Rattle.laws.proofs.Prelude.{refl, sym, ap, ◌∙◌, Bool, true, false, cond, List, ⊎_elim, some, ℕ, arith, length, either}
 use mathlib.Core.Option as option
 use Rattle.cached_tile.specs.Tile.{empty_tile, layer_count_of, keep_count, drop_count, drop_color}
 use Rattle.cached_tile.specs.Kept.{previous_count, counted}

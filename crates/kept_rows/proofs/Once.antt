@@ -1,5 +1,6 @@
 -- After every accepted opening, every work on its first tile that no condition refuses is an accepted work of some run. Assumes nothing.
-use Rattle.laws.proofs.Prelude.{◌≡◌, ap, ◌∙◌, List, [], ◌∷◌, ℕ, given}
+use Rattle.std.specs.Prelude.{◌≡◌, ◌∷◌}
+use Rattle.laws.proofs.Prelude.{ap, ◌∙◌, List, [], ℕ, given}
 use Rattle.refusals.specs.Refusal.{Judgement, pass}
 use Rattle.segment_rows.specs.Rows.{Words}
 use Rattle.row_statements.specs.Lent.{Columns}

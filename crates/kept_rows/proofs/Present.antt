@@ -1,6 +1,7 @@
 -- What a list says of a layer, and what the passes read of it but for its flag. Assumes nothing.
-use Rattle.laws.proofs.Prelude.{◌≡◌, refl, sym, ap, ap₂, ◌∙◌, Bool, true, false, cond, not, ◌&&◌, false≢true, List, [], ◌∷◌, map, inl, inr, Option}
-use Rattle.laws.proofs.Prelude.{some, none, ℕ, suc, ◌≤◌, arith, eq-eqb, ne_eqb, eqb-true, eqb, Answer, refused, given}
+use Rattle.std.specs.Prelude.{◌≡◌, ◌&&◌, ◌∷◌, ◌≤◌}
+use Rattle.laws.proofs.Prelude.{refl, sym, ap, ap₂, ◌∙◌, Bool, true, false, cond, not, false≢true, List, [], map, inl, inr, Option}
+use Rattle.laws.proofs.Prelude.{some, none, ℕ, suc, arith, eq-eqb, ne_eqb, eqb-true, eqb, Answer, refused, given}
 use Rattle.styling.specs.Ascending.{strictly_ascends_from}
 use Rattle.styling.specs.declared.Func.TheVariants.{Clip}
 use Rattle.styling.specs.declared.Layer.{Layer}

@@ -1,5 +1,6 @@
 -- The operation, called twice, is the comparison of the keep rule. Assumes nothing.
-use Rattle.laws.proofs.Prelude.{◌≡◌, refl, sym, ap, ap₂, ◌∙◌, Bool, true, false, cond, ◌&&◌, List, ℕ, ◌%◌, arith, bit_and}
+use Rattle.std.specs.Prelude.{◌≡◌, ◌&&◌, ◌%◌}
+use Rattle.laws.proofs.Prelude.{refl, sym, ap, ap₂, ◌∙◌, Bool, true, false, cond, List, ℕ, arith, bit_and}
 use lib.Bits.{and_mask}
 use Rattle.refusals.specs.Refusal.{Judgement, pass}
 use Rattle.cached_tile.specs.Tile.{drop_count}

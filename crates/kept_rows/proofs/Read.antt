@@ -1,5 +1,6 @@
 -- The paintings of shown layers are read as `paint_on` says. Assumes nothing.
-use Rattle.laws.proofs.Prelude.{◌≡◌, refl, sym, ap, subst, ◌∙◌, List, [], ◌∷◌, Option, ℕ, suc, ◌-◌, arith, Float, Answer, refused, given, over}
+use Rattle.std.specs.Prelude.{◌≡◌, ◌∷◌, ◌-◌}
+use Rattle.laws.proofs.Prelude.{refl, sym, ap, subst, ◌∙◌, List, [], Option, ℕ, suc, arith, Float, Answer, refused, given, over}
 use Rattle.refusals.specs.Refusal.{Judgement, pass, refuse}
 use Rattle.pass_statements.specs.declared.item.Item.{Item}
 use Rattle.painter.specs.Clip.{clip_after}

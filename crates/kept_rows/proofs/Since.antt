@@ -1,6 +1,7 @@
 -- Flags that are worked out from two rows and two tables are truthful. Assumes nothing.
-use Rattle.laws.proofs.Prelude.{◌≡◌, refl, sym, ap, ap₂, ◌∙◌, Bool, true, false, cond, not, ◌&&◌, ◌||◌, false≢true, List, [], ◌∷◌, map, ℕ, zero, suc}
-use Rattle.laws.proofs.Prelude.{◌+◌, ◌*◌, ◌/◌, ◌%◌, ◌≤◌, ◌<◌, min, arith, eqb-true, eq-eqb, ne_eqb, lt-ltb, leb-true, le-leb, eqb, ltb, leb, Float}
+use Rattle.std.specs.Prelude.{◌≡◌, ◌&&◌, ◌||◌, ◌∷◌, ◌+◌, ◌*◌, ◌/◌, ◌%◌, ◌≤◌, ◌<◌}
+use Rattle.laws.proofs.Prelude.{refl, sym, ap, ap₂, ◌∙◌, Bool, true, false, cond, not, false≢true, List, [], map, ℕ, zero, suc}
+use Rattle.laws.proofs.Prelude.{min, arith, eqb-true, eq-eqb, ne_eqb, lt-ltb, leb-true, le-leb, eqb, ltb, leb, Float}
 use Rattle.laws.proofs.Prelude.{length, get_or, Answer, refused, given, tabulate, all, count_by, both, left, right, length_tabulate, get_d_tabulate}
 use Rattle.laws.proofs.Prelude.{is_tabulate}
 use Rattle.laws.proofs.Maps.{map_tabulate}

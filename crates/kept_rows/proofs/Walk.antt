@@ -1,6 +1,7 @@
 -- The walk over both rows meets the layers whose words differ, and no other. Assumes nothing.
-use Rattle.laws.proofs.Prelude.{◌≡◌, refl, sym, ap, ◌∙◌, Bool, true, false, cond, ◌&&◌, ◌||◌, false≢true, List, [], ◌∷◌, map, ⊎_elim, ℕ, suc, ◌%◌}
-use Rattle.laws.proofs.Prelude.{◌^◌, ◌≤◌, ◌<◌, arith, eqb-true, eqb-false, eq-eqb, ne_eqb, ltb-true, ltb-false, leb-true, le-leb, eqb, ltb, leb, get_or}
+use Rattle.std.specs.Prelude.{◌≡◌, ◌&&◌, ◌||◌, ◌∷◌, ◌%◌, ◌^◌, ◌≤◌, ◌<◌}
+use Rattle.laws.proofs.Prelude.{refl, sym, ap, ◌∙◌, Bool, true, false, cond, false≢true, List, [], map, ⊎_elim, ℕ, suc}
+use Rattle.laws.proofs.Prelude.{arith, eqb-true, eqb-false, eq-eqb, ne_eqb, ltb-true, ltb-false, leb-true, le-leb, eqb, ltb, leb, get_or}
 use Rattle.laws.proofs.Prelude.{drop, any, filter, both, left, right, either, clash}
 use Rattle.pixel_segment.specs.Field.{cpu, layer_id_of}
 use Rattle.pixel_segment.specs.Order.{order_key}

@@ -1,5 +1,6 @@
 -- What an accepted work says of its tile, by the whole row. Assumes nothing.
-use Rattle.laws.proofs.Prelude.{◌≡◌, refl, sym, ap, ◌∙◌, not, ◌||◌, Bool, List, map, ℕ, suc, ◌≤◌, arith, ltb-false, length, length-map, given}
+use Rattle.std.specs.Prelude.{◌≡◌, ◌||◌, ◌≤◌}
+use Rattle.laws.proofs.Prelude.{refl, sym, ap, ◌∙◌, not, Bool, List, map, ℕ, suc, arith, ltb-false, length, length-map, given}
 use Rattle.refusals.specs.Refusal.{Judgement, pass, refuse, unless}
 use Rattle.refusals.proofs.Judging.{passed}
 use Rattle.cached_tile.specs.Kept.{tag_out_of_range, previous_count, counted}

@@ -1,7 +1,8 @@
 -- Flags that are truthful along rows: a layer that today's table calls unchanged has the same record and the same words as in the row of the tile's
 -- last accepted work, and both rows begin at one tile (W-214's agreement). Then it is truthfully unchanged in every tile, and its coverages are the
 -- same. What a gradient or a texture holds no record has: a caller numbers it, and a new number is a new content.
-use Rattle.laws.specs.Prelude.{◌≡◌, false, List, ℕ, ◌+◌, get_or, Answer, refused, given}
+use Rattle.std.specs.Prelude.{◌≡◌, ◌+◌}
+use Rattle.laws.specs.Prelude.{false, List, ℕ, get_or, Answer, refused, given}
 use Rattle.segment_rows.specs.Rows.{Words}
 use Rattle.layer_table.specs.Lookup.{lookup, record_place}
 use Rattle.layer_table.specs.Table.{table_ids}

@@ -1,6 +1,7 @@
 -- The theorems over frames are not empty: two frames of one tile that meet their premises, in the second of which the tile is kept. One opaque layer comes
 -- in from tile -1 and fills the tile; in the second frame it is unchanged, and so by what its rows and tables say. proofs/Example has it.
-use Rattle.laws.specs.Prelude.{◌≡◌, List, [], ◌∷◌, ℕ, binary32, of_bits, pos, negsuc, replicate, tabulate}
+use Rattle.std.specs.Prelude.{◌≡◌, ◌∷◌}
+use Rattle.laws.specs.Prelude.{List, [], ℕ, binary32, of_bits, pos, negsuc, replicate, tabulate}
 use Rattle.pixel_segment.specs.Field.{cpu}
 use Rattle.pixel_segment.specs.Pack.{word_of}
 use Rattle.cached_tile.specs.declared.CachedTile.{CachedTile}

@@ -3,7 +3,8 @@
 -- tile is worked with its count where it counts as worked, the row begins where that one began, and the keep rule allows it; else the count is dropped.
 -- Then the tile is right after every frame: the caller's flags, crops, refusals and frames left out have no part in it. A frame that leaves the whole row
 -- out is none of it.
-use Rattle.laws.specs.Prelude.{◌≡◌, Bool, true, false, ◌&&◌, List, [], ◌∷◌, ℕ, suc, ◌+◌, ◌-◌, eqb, leb, ltb, get_or}
+use Rattle.std.specs.Prelude.{◌≡◌, ◌&&◌, ◌∷◌, ◌+◌, ◌-◌}
+use Rattle.laws.specs.Prelude.{Bool, true, false, List, [], ℕ, suc, eqb, leb, ltb, get_or}
 use Rattle.styling.specs.declared.Color.{Color}
 use Rattle.cached_tile.specs.Tile.{empty_tile}
 use Rattle.cached_tile.specs.declared.CachedTile.{CachedTile}

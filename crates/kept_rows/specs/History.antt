@@ -3,7 +3,8 @@
 -- is kept only by the keep rule, and every solid tile is settled and obeyed. Then what stands in the tile is always what drawing it afresh at its last
 -- accepted work draws, by the same decision and the same calls. A frame in which the tile is not worked, or turned down, leaves it as it is; and it may be
 -- forgotten.
-use Rattle.laws.specs.Prelude.{◌≡◌, Bool, true, cond, List, [], ℕ, ◌+◌, given}
+use Rattle.std.specs.Prelude.{◌≡◌, ◌+◌}
+use Rattle.laws.specs.Prelude.{Bool, true, cond, List, [], ℕ, given}
 use Rattle.segment_rows.specs.Rows.{Words}
 use Rattle.styling.specs.declared.Color.{Color}
 use Rattle.cached_tile.specs.Tile.{empty_tile, drop_count, keep_color}

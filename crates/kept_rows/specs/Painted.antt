@@ -1,6 +1,7 @@
 -- What a caller reads who paints the shown layers: in a run as demand 3 has it, after a tile's work, by one accepted call for each layer of a list and in
 -- its order. Every mark and every plane is that of `paint_on`, from the clip that the painting before it left: the way that `paintings_from` goes.
-use Rattle.laws.specs.Prelude.{◌≡◌, List, [], ◌∷◌, Option, ℕ, suc, Float, given, over}
+use Rattle.std.specs.Prelude.{◌≡◌, ◌∷◌}
+use Rattle.laws.specs.Prelude.{List, [], Option, ℕ, suc, Float, given, over}
 use Rattle.pass_statements.specs.declared.item.Item.{Item}
 use Rattle.row_statements.specs.Painting.{PaintSays, paint_answer}
 use Rattle.row_statements.specs.Due.{OpenRow, Past, PaintChoice, paint_on}

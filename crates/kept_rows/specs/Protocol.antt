@@ -1,7 +1,8 @@
 -- The layers of the keep rule are compared by the operation `keep_count`, called twice: with the shown layers of the tile's last accepted work and of
 -- today, and then the other way with the cached tile that the first call gave back. What it leaves is the cached tile that the theorem over frames asks
 -- for, where the clear colour has the bits of then; where it has not, a caller drops the count itself.
-use Rattle.laws.specs.Prelude.{◌≡◌, true, List}
+use Rattle.std.specs.Prelude.{◌≡◌}
+use Rattle.laws.specs.Prelude.{true, List}
 use Rattle.refusals.specs.Refusal.{pass}
 use Rattle.cached_tile.specs.declared.CachedTile.{CachedTile}
 use Rattle.pass_statements.specs.Rules.{is_ascending}

@@ -2,7 +2,8 @@
 -- ascending, from no clip; every painting is `paint_on`, as demand 3 has it. Of each layer its style, the revision of what it holds, its 256 coverages and its
 -- mark; and what cuts it: the coverages of the clip that was painted last, where the layer needs a clip and the painter has one. And the clear colour. Here our
 -- equality ends: nothing is blended, and whatever makes pixels of these makes the same of the same.
-use Rattle.laws.specs.Prelude.{◌≡◌, Bool, cond, List, [], ◌∷◌, map, Option, some, none, ℕ, Float}
+use Rattle.std.specs.Prelude.{◌≡◌, ◌∷◌}
+use Rattle.laws.specs.Prelude.{Bool, cond, List, [], map, Option, some, none, ℕ, Float}
 use Rattle.styling.specs.declared.Color.{Color}
 use Rattle.styling.specs.declared.Func.{Func}
 use Rattle.styling.specs.declared.Func.TheVariants.{Draw, Clip}

@@ -1,7 +1,8 @@
 -- How `mark_unchanged` may find the layers whose words differ, in one walk over both rows: words that are the same are passed on both sides; else the layer
 -- of the word that comes first in the order of rows is changed, and that word is passed. That no other layer differs holds of any two lists; that the walk
 -- meets no layer whose words are the same, of lists that don't descend.
-use Rattle.laws.specs.Prelude.{◌≡◌, Bool, true, false, cond, List, [], ◌∷◌, map, ℕ, eqb, ltb, any}
+use Rattle.std.specs.Prelude.{◌≡◌, ◌∷◌}
+use Rattle.laws.specs.Prelude.{Bool, true, false, cond, List, [], map, ℕ, eqb, ltb, any}
 use Rattle.pixel_segment.specs.Field.{cpu, layer_id_of}
 use Rattle.pixel_segment.specs.Order.{order_key}
 use Rattle.segment_rows.specs.Rows.{ascends}

@@ -1,6 +1,7 @@
 -- The keep rule for tiles is what the theorem over frames asks for. Assumes nothing.
-use Rattle.laws.proofs.Prelude.{◌≡◌, refl, sym, ap, ap₂, ◌∙◌, Bool, true, false, cond, not, ◌&&◌, ◌||◌, false≢true, List, [], ◌∷◌, ℕ, suc, ◌+◌, ◌-◌}
-use Rattle.laws.proofs.Prelude.{◌*◌, ◌/◌, ◌%◌, ◌≤◌, ◌<◌, arith, eqb-true, eq-eqb, ne_eqb, lt-ltb, ltb-false, bit_and, eqb, leb, ltb, length, get_or}
+use Rattle.std.specs.Prelude.{◌≡◌, ◌&&◌, ◌||◌, ◌∷◌, ◌+◌, ◌-◌, ◌*◌, ◌/◌, ◌%◌, ◌≤◌, ◌<◌}
+use Rattle.laws.proofs.Prelude.{refl, sym, ap, ap₂, ◌∙◌, Bool, true, false, cond, not, false≢true, List, [], ℕ, suc}
+use Rattle.laws.proofs.Prelude.{arith, eqb-true, eq-eqb, ne_eqb, lt-ltb, ltb-false, bit_and, eqb, leb, ltb, length, get_or}
 use Rattle.laws.proofs.Prelude.{take, drop, get_or-take, get_or-drop, every, both, left, right, get_d_tabulate}
 use Rattle.refusals.specs.Refusal.{Judgement, pass, refuse, unless}
 use Rattle.refusals.proofs.Judging.{passed}

@@ -1,6 +1,7 @@
 -- The carries that a tile hands on: for every listed layer, shown, masked off or skipped alike, incoming plus own covers, without those that are
 -- empty by the layer's rule; ascending. Stands for 'a carry is incoming cover plus segment covers, painted or not; it is dropped when empty'.
-use Rattle.laws.specs.Prelude.{◌≡◌, Bool, cond, not, List, map, ℕ, ◌+◌, ◌*◌, ◌≤◌, ℤ, length, set, Answer, refused, given, filter, over}
+use Rattle.std.specs.Prelude.{◌≡◌, ◌+◌, ◌*◌, ◌≤◌}
+use Rattle.laws.specs.Prelude.{Bool, cond, not, List, map, ℕ, ℤ, length, set, Answer, refused, given, filter, over}
 use Rattle.pixel_segment.specs.Field.{cpu}
 use Rattle.cover_statements.specs.Carry.{carry_of}
 use Rattle.cover_statements.specs.Cover.{is_empty}

@@ -1,5 +1,6 @@
 -- The loop that marks the changed layers of a list, in the places from 256 on; and the whole list, written and then marked. Assumes nothing.
-use Rattle.laws.proofs.Prelude.{◌≡◌, sym, ap, ◌∙◌, Bool, true, false, not, List, ◌++◌, ℕ, ◌+◌, ◌≤◌, ◌<◌, arith, ℤ, length, get_or, set, take, drop}
+use Rattle.std.specs.Prelude.{◌≡◌, ◌++◌, ◌+◌, ◌≤◌, ◌<◌}
+use Rattle.laws.proofs.Prelude.{sym, ap, ◌∙◌, Bool, true, false, not, List, ℕ, arith, ℤ, length, get_or, set, take, drop}
 use Rattle.laws.proofs.Prelude.{length-append, length-drop, length-map, take-append-drop, List·getD-append, List·getD-map, length-take-le, given}
 use Rattle.laws.proofs.Prelude.{refused, over, length_tabulate, get_d_tabulate, is_tabulate, filled, length_filled, filled_more, filled_all}
 use Rattle.layer_table.specs.Lookup.{lookup}

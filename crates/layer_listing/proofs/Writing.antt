@@ -1,5 +1,6 @@
 -- The loop that writes a tile's list: its three columns, filled up to the k-th entry. Assumes nothing.
-use Rattle.laws.proofs.Prelude.{◌≡◌, refl, ap, sym, ◌∙◌, Bool, true, false, cond, List, map, ℕ, ◌+◌, ◌*◌, ◌≤◌, ◌<◌, arith, ltb, ℤ, length, set}
+use Rattle.std.specs.Prelude.{◌≡◌, ◌+◌, ◌*◌, ◌≤◌, ◌<◌}
+use Rattle.laws.proofs.Prelude.{refl, ap, sym, ◌∙◌, Bool, true, false, cond, List, map, ℕ, arith, ltb, ℤ, length, set}
 use Rattle.laws.proofs.Prelude.{length-map, cons_lt, map_at, map_drop, filled, filled_more, filled_all, length_filled}
 use Rattle.cover_statements.specs.Entry.{cover_entry, put_entry}
 use Rattle.queue_statements.specs.Queue.{Carry, queue_of, ids_in, covers_in, zeros}

@@ -1,5 +1,6 @@
 -- What the functions below the list of a tile's layers give: its three columns without marks, and the marks of the layers that a column of ids names.
-use Rattle.laws.specs.Prelude.{◌≡◌, Bool, List, ℕ, ℤ, get_or, tabulate, over}
+use Rattle.std.specs.Prelude.{◌≡◌}
+use Rattle.laws.specs.Prelude.{Bool, List, ℕ, ℤ, get_or, tabulate, over}
 use Rattle.styling.specs.declared.Layer.{Layer}
 use Rattle.queue_statements.specs.Queue.{ids_in, covers_in}
 use Rattle.tile_layers.specs.Listing.{Listed, incoming_of, segments_of, is_changed}

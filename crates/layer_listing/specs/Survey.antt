@@ -1,5 +1,6 @@
 -- What a survey of a tile's layers promises.
-use Rattle.laws.specs.Prelude.{◌≡◌, true, List, ◌≤◌, ℤ, length}
+use Rattle.std.specs.Prelude.{◌≡◌, ◌≤◌}
+use Rattle.laws.specs.Prelude.{true, List, ℤ, length}
 use Rattle.styling.specs.declared.Layer.{Layer}
 use Rattle.tile_layers.specs.Listing.{Listed, are_known, are_light}
 use Rattle.layer_carrying.specs.Carrying.{HoldsCarries}

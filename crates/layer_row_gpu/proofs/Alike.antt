@@ -1,7 +1,8 @@
 -- A tile four pixels high is rows 0 to 3 of one 16 high with the same segments: the plane of a row of words packed at 4 is the first 64 places of
 -- the plane of the same numbers packed at 16. It ties this profile to the Rust's painter, which has no such height. Assumes nothing.
-use Rattle.laws.proofs.Prelude.{◌≡◌, refl, sym, ap, ap₂, ◌∙◌, Bool, cond, ◌&&◌, List, [], ◌∷◌, ℕ, zero, suc, ◌<◌, arith, Float, nan, ℤ, pos, negsuc}
-use Rattle.laws.proofs.Prelude.{nat_abs, ◌+ℤ◌, ◌*ℤ◌, +ℤ_idl, take, length-take, ext_get_or, get_or-take, filter, sumℤ, sum_filter}
+use Rattle.std.specs.Prelude.{◌≡◌, ◌&&◌, ◌∷◌, ◌<◌, ◌+ℤ◌, ◌*ℤ◌}
+use Rattle.laws.proofs.Prelude.{refl, sym, ap, ap₂, ◌∙◌, Bool, cond, List, [], ℕ, zero, suc, arith, Float, nan, ℤ, pos, negsuc}
+use Rattle.laws.proofs.Prelude.{nat_abs, +ℤ_idl, take, length-take, ext_get_or, get_or-take, filter, sumℤ, sum_filter}
 use Rattle.pixel_segment.specs.Field.{cpu, gpu, tile_of, tile_x_of, layer_id_of, local_x_of, local_y_of, cover_of, double_area_of}
 use Rattle.pixel_segment.specs.Pack.{ReadsBack}
 use Rattle.pixel_segment.proofs.Ranges.{cpu_layout, gpu_layout}

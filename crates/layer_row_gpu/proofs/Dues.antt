@@ -1,5 +1,6 @@
 -- A work after an accepted opening is as the whole row has it. Assumes nothing.
-use Rattle.laws.proofs.Prelude.{◌≡◌, refl, ap, ◌∙◌, Bool, true, false, cond, not, ◌||◌, List, ℕ, zero, suc, ◌+◌, ◌≤◌, ◌<◌, add-zero, add-suc, add-one}
+use Rattle.std.specs.Prelude.{◌≡◌, ◌||◌, ◌+◌, ◌≤◌, ◌<◌}
+use Rattle.laws.proofs.Prelude.{refl, ap, ◌∙◌, Bool, true, false, cond, not, List, ℕ, zero, suc, add-zero, add-suc, add-one}
 use Rattle.laws.proofs.Prelude.{arith, le-ltb, lit<, ltb, Float, ℤ, pos, length, length-replicate, plus, over}
 use Rattle.refusals.specs.Refusal.{Judgement, pass, refuse, unless}
 use Rattle.refusals.proofs.Judging.{passed}

@@ -1,5 +1,6 @@
 -- The run of specs/LayerExample. Assumes nothing.
-use Rattle.laws.proofs.Prelude.{◌≡◌, refl, sym, ap, subst, ◌∙◌, List, [], ◌∷◌, ℕ, ◌+◌, lit≤, ℤ, pos, replicate}
+use Rattle.std.specs.Prelude.{◌≡◌, ◌∷◌, ◌+◌}
+use Rattle.laws.proofs.Prelude.{refl, sym, ap, subst, ◌∙◌, List, [], ℕ, lit≤, ℤ, pos, replicate}
 use Rattle.refusals.specs.Refusal.{Judgement, pass, refuse, number_of}
 use Rattle.refusals.specs.declared.Refusal.{Refusal}
 use Rattle.refusals.specs.declared.Refusal.TheVariants.{Room, Tile, Row, Covers}

@@ -1,6 +1,7 @@
 -- The parts that searches find in a row in order are those that the whole row has of the layer. The stored number of tile t is t + 1. Uses of the
 -- laws over the tile height at 4. Assumes nothing.
-use Rattle.laws.proofs.Prelude.{◌≡◌, sym, ap, ◌∙◌, true, List, ℕ, suc, arith, eqb, ltb, ℤ, pos, plus, minus, filter, filter_twice, whole, equal}
+use Rattle.std.specs.Prelude.{◌≡◌}
+use Rattle.laws.proofs.Prelude.{sym, ap, ◌∙◌, true, List, ℕ, suc, arith, eqb, ltb, ℤ, pos, plus, minus, filter, filter_twice, whole, equal}
 use Rattle.pixel_segment.specs.Field.{gpu, tile_x_of, layer_id_of}
 use Rattle.pixel_segment.proofs.Heights.{gpu_keyed}
 use Rattle.segment_rows.specs.Rows.{is_row, Ordered, Words}

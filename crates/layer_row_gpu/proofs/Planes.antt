@@ -1,5 +1,6 @@
 -- Planes of 64 numbers that lie one after the other: one that is lent out and comes back written. Assumes nothing.
-use Rattle.laws.proofs.Prelude.{◌≡◌, ap, sym, ◌∙◌, List, ◌++◌, append_assoc, append-nil, ℕ, ◌+◌, ◌-◌, ◌*◌, ◌≤◌, arith, Float, length, take, drop}
+use Rattle.std.specs.Prelude.{◌≡◌, ◌++◌, ◌+◌, ◌-◌, ◌*◌, ◌≤◌}
+use Rattle.laws.proofs.Prelude.{ap, sym, ◌∙◌, List, append_assoc, append-nil, ℕ, arith, Float, length, take, drop}
 use Rattle.laws.proofs.Prelude.{length-take, length-drop, length-append, drop_of_length-le, sets, sets-eq, drop-drop, length-take-le, take_at}
 use Rattle.laws.proofs.Prelude.{drop_at, over}
 use Rattle.layer_row_gpu.specs.WorkTiles.{plane_at}

@@ -1,5 +1,6 @@
 -- A range of tiles after an accepted opening is as the whole row has it. Assumes nothing.
-use Rattle.laws.proofs.Prelude.{◌≡◌, refl, sym, ap, ◌∙◌, Bool, true, false, cond, List, ◌++◌, ℕ, zero, suc, ◌+◌, ◌-◌, ◌*◌, ◌/◌, ◌≤◌, ◌<◌, min}
+use Rattle.std.specs.Prelude.{◌≡◌, ◌++◌, ◌+◌, ◌-◌, ◌*◌, ◌/◌, ◌≤◌, ◌<◌}
+use Rattle.laws.proofs.Prelude.{refl, sym, ap, ◌∙◌, Bool, true, false, cond, List, ℕ, zero, suc, min}
 use Rattle.laws.proofs.Prelude.{add-zero, add-suc, arith, leb, eqb, ltb, Float, pos, length, drop, length-append, length-take, length-drop, sets}
 use Rattle.laws.proofs.Prelude.{plus, over, length_over}
 use Rattle.refusals.specs.Refusal.{Judgement, pass, refuse}

@@ -1,5 +1,6 @@
 -- The theorem over any works and ranges after an accepted opening: each call is as the whole row has it. Assumes nothing.
-use Rattle.laws.proofs.Prelude.{◌≡◌, refl, sym, ap, subst, ◌∙◌, List, ◌∷◌, ℕ, ◌+◌, ◌≤◌, arith, plus}
+use Rattle.std.specs.Prelude.{◌≡◌, ◌∷◌, ◌+◌, ◌≤◌}
+use Rattle.laws.proofs.Prelude.{refl, sym, ap, subst, ◌∙◌, List, ℕ, arith, plus}
 use Rattle.refusals.specs.Refusal.{Judgement, pass, refuse}
 use Rattle.layer_row_gpu.specs.LayerState.{LayerState, layer_state_in}
 use Rattle.layer_row_gpu.specs.OpenLayer.{LayerCall, first_state, opened_state}

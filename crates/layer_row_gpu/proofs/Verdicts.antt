@@ -1,5 +1,6 @@
 -- What verdicts that pass tell of an opening and of a work, and what the operations give by their verdicts. Assumes nothing.
-use Rattle.laws.proofs.Prelude.{◌≡◌, true, false, not, ◌||◌, ⊎_elim, List, ℕ, suc, ◌≤◌, ◌<◌, arith, not-false, lt-ltb, le-leb, eqb-true, ltb, leb}
+use Rattle.std.specs.Prelude.{◌≡◌, ◌||◌, ◌≤◌, ◌<◌}
+use Rattle.laws.proofs.Prelude.{true, false, not, ⊎_elim, List, ℕ, suc, arith, not-false, lt-ltb, le-leb, eqb-true, ltb, leb}
 use Rattle.laws.proofs.Prelude.{eqb, Float, ℤ, pos, length, lt_z, plus, minus, whole, lt_false, equal, clash, le_or_lt}
 use Rattle.refusals.specs.Refusal.{pass, unless}
 use Rattle.refusals.proofs.Judging.{passed, or_left, or_right}

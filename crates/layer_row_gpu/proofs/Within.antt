@@ -1,6 +1,7 @@
 -- The sums of one layer in a part with other layers: those of its own segments. Assumes nothing.
-use Rattle.laws.proofs.Prelude.{◌≡◌, refl, ap, ◌∙◌, fun_ext, Bool, true, false, cond, ◌&&◌, List, ℕ, ◌+◌, ◌≤◌, ◌<◌, min, zero-add, eqb, ℤ, pos}
-use Rattle.laws.proofs.Prelude.{nat_abs, ◌+ℤ◌, +ℤ_idl, get_or, replicate, tabulate, sumℤ, sumℕ, sum_ext, sum_filter}
+use Rattle.std.specs.Prelude.{◌≡◌, ◌&&◌, ◌+◌, ◌≤◌, ◌<◌, ◌+ℤ◌}
+use Rattle.laws.proofs.Prelude.{refl, ap, ◌∙◌, fun_ext, Bool, true, false, cond, List, ℕ, min, zero-add, eqb, ℤ, pos}
+use Rattle.laws.proofs.Prelude.{nat_abs, +ℤ_idl, get_or, replicate, tabulate, sumℤ, sumℕ, sum_ext, sum_filter}
 use Rattle.pixel_segment.specs.Field.{gpu, layer_id_of, local_y_of, cover_of}
 use Rattle.cover_statements.specs.Carry.{in_row, abs_cover, cover_in, load_in, is_light, carry_of}
 use Rattle.cover_statements.specs.Cover.{cover_at, no_cover}

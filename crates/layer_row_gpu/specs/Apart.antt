@@ -1,5 +1,6 @@
 -- Numbers packed at a height, as a row. Stands for 'the same segments' of a tile 4 high and of one 16 high: rows 0 to 3 of the second are the first.
-use Rattle.laws.specs.Prelude.{◌≡◌, List, [], ◌∷◌, ℕ, ℤ, given}
+use Rattle.std.specs.Prelude.{◌≡◌, ◌∷◌}
+use Rattle.laws.specs.Prelude.{List, [], ℕ, ℤ, given}
 use Rattle.pixel_segment.specs.Pack.{pack_of}
 
 -- the seven numbers of a segment

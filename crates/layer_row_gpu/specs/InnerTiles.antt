@@ -1,5 +1,6 @@
 -- What the functions below a range ask and give. Once the first tile is judged, only the row's end, the planes and number 9 are judged of the others.
-use Rattle.laws.specs.Prelude.{◌≡◌, Bool, true, not, List, ℕ, suc, ◌≤◌, ◌<◌, leb}
+use Rattle.std.specs.Prelude.{◌≡◌, ◌≤◌, ◌<◌}
+use Rattle.laws.specs.Prelude.{Bool, true, not, List, ℕ, suc, leb}
 use Rattle.refusals.specs.Refusal.{pass, unless}
 use Rattle.pixel_segment.specs.Field.{gpu}
 use Rattle.segment_rows.specs.Rows.{is_row}

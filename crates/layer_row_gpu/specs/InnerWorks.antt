@@ -1,5 +1,6 @@
 -- What the functions below openings and works ask: that their judges passed.
-use Rattle.laws.specs.Prelude.{◌≡◌, true, List, ℕ, suc, ◌≤◌, ◌<◌, Float, length, plus, minus}
+use Rattle.std.specs.Prelude.{◌≡◌, ◌≤◌, ◌<◌}
+use Rattle.laws.specs.Prelude.{true, List, ℕ, suc, Float, length, plus, minus}
 use Rattle.pixel_segment.specs.Field.{gpu}
 use Rattle.segment_rows.specs.Rows.{is_row}
 use Rattle.cover_statements.specs.Carry.{is_light}

@@ -2,7 +2,8 @@
 -- many tiles were due to be worked so far, and by the caller's own choices. No answer and no state that a call gave back is looked at. Stands for
 -- W-213, 'carry and coverage are held to the same working from the whole row as at 16', and for 'what it compares with is worked by this document
 -- from the opening on'.
-use Rattle.laws.specs.Prelude.{Bool, not, cond, ◌||◌, List, [], ◌++◌, ℕ, zero, suc, ◌+◌, ◌/◌, ltb, leb, eqb, Float, ℤ, pos, length, lt_z, plus, over}
+use Rattle.std.specs.Prelude.{◌||◌, ◌++◌, ◌+◌, ◌/◌}
+use Rattle.laws.specs.Prelude.{Bool, not, cond, List, [], ℕ, zero, suc, ltb, leb, eqb, Float, ℤ, pos, length, lt_z, plus, over}
 use Rattle.refusals.specs.Refusal.{Judgement, pass, refuse, unless}
 use Rattle.pixel_segment.specs.Field.{gpu}
 use Rattle.segment_rows.specs.Rows.{is_row}

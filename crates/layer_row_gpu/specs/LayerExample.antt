@@ -1,6 +1,7 @@
 -- The claim of LayerRun is not empty: an accepted opening and a run after it that meet its premises, in which an EvenOdd carry is dropped, a range works
 -- a tile and ends before one that number 9 refuses, and calls are refused by 1, 2, 3 and 9 before and after accepted ones. proofs/LayerExample has it.
-use Rattle.laws.specs.Prelude.{◌≡◌, List, [], ◌∷◌, map, ℕ, ◌+◌, binary32, of_bits, ℤ, pos, negsuc, replicate}
+use Rattle.std.specs.Prelude.{◌≡◌, ◌∷◌, ◌+◌}
+use Rattle.laws.specs.Prelude.{List, [], map, ℕ, binary32, of_bits, ℤ, pos, negsuc, replicate}
 use Rattle.refusals.specs.Refusal.{Judgement, pass, refuse}
 use Rattle.pixel_segment.specs.Field.{gpu}
 use Rattle.pixel_segment.specs.Pack.{word_of}

@@ -1,7 +1,8 @@
 -- A run of one layer's row: an accepted opening, and any list of works and ranges after it, refused ones included, as the calls went; and the claim about it:
 -- every call gives what is due of it (specs/LayerDue), which is worked from the whole row, never from a returned answer or state. Beside it, what the
 -- row alone says of every tile. proofs/Runs proves it; specs/LayerExample has a run that meets its premises.
-use Rattle.laws.specs.Prelude.{◌≡◌, List, [], ◌∷◌, ℕ, suc, ◌+◌, Float, pos, length}
+use Rattle.std.specs.Prelude.{◌≡◌, ◌∷◌, ◌+◌}
+use Rattle.laws.specs.Prelude.{List, [], ℕ, suc, Float, pos, length}
 use Rattle.refusals.specs.Refusal.{pass, refuse}
 use Rattle.pixel_segment.specs.Field.{gpu}
 use Rattle.cover_statements.specs.WholeRow.{FromRow}

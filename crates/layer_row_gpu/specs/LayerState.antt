@@ -1,6 +1,7 @@
 -- Where a caller stands in one layer's row of tiles four pixels high, and refusal 2 by the sizes of this profile: rows 0 to 8,190, tiles to 4,095.
 -- Stands for W-213, 'numbers 1, 2 and 11 go by these sizes', and for condition 2 of 'Turned down'.
-use Rattle.laws.specs.Prelude.{Bool, cond, not, ◌||◌, List, ℕ, suc, ◌+◌, ltb, leb, eqb, ℤ, pos, lt_z, plus}
+use Rattle.std.specs.Prelude.{◌||◌, ◌+◌}
+use Rattle.laws.specs.Prelude.{Bool, cond, not, List, ℕ, suc, ltb, leb, eqb, ℤ, pos, lt_z, plus}
 use Rattle.pixel_segment.specs.Field.{gpu}
 use Rattle.styling.specs.declared.FillRule.{FillRule}
 use Rattle.cover_statements.specs.Carry.{carry_of}

@@ -1,7 +1,8 @@
 -- The opening of one layer's row: judged by 2, 3, 4 and 9, lowest first; the state before the first tile, whose cover is the exact sum of the layer's
 -- covers left of `from`, tile -1 included. The layer and the number of its rule are what a layer record has of them, and are judged as one is. Stands
 -- for W-213 and for the clauses on opening a row, 'an opening .. judges the layer table by .. 4'.
-use Rattle.laws.specs.Prelude.{◌≡◌, Bool, not, ◌||◌, List, ℕ, suc, ltb, ℤ, plus}
+use Rattle.std.specs.Prelude.{◌≡◌, ◌||◌}
+use Rattle.laws.specs.Prelude.{Bool, not, List, ℕ, suc, ltb, ℤ, plus}
 use Rattle.refusals.specs.Refusal.{Judgement, pass, refuse, unless, judgement_in}
 use Rattle.pixel_segment.specs.Field.{gpu}
 use Rattle.segment_rows.specs.Rows.{is_row}

@@ -1,6 +1,7 @@
 -- The work on the next tile of one layer's row: judged by 1, 2, 3 and 9, lowest first; the tile's 64 coverages written, and the carry handed on.
 -- A refusal leaves the plane as it was and returns the equal state. Stands for W-213: 'planes have 64 numbers, carries 4 bytes'.
-use Rattle.laws.specs.Prelude.{◌≡◌, not, ◌||◌, List, ℕ, suc, ltb, Float, ℤ, length, over}
+use Rattle.std.specs.Prelude.{◌≡◌, ◌||◌}
+use Rattle.laws.specs.Prelude.{not, List, ℕ, suc, ltb, Float, ℤ, length, over}
 use Rattle.refusals.specs.Refusal.{Judgement, pass, refuse, unless, judgement_in}
 use Rattle.pixel_segment.specs.Field.{gpu}
 use Rattle.segment_rows.specs.Rows.{is_row}

@@ -2,7 +2,8 @@
 -- numbers. It is refused only where the first tile's own call would be, by that number, and all is then as it was. Else it is accepted, and tells how
 -- many tiles were worked, and why it ended: all that were asked for are worked; the row has no further tile; no plane is left; or the next tile's own
 -- call would be refused, with the number. To ask for more tiles than the row has is no fault; a range that asks for none is accepted.
-use Rattle.laws.specs.Prelude.{◌≡◌, Bool, cond, List, ℕ, zero, suc, ◌*◌, ◌/◌, leb, eqb, Float, ℤ, pos, length, take, drop, sets}
+use Rattle.std.specs.Prelude.{◌≡◌, ◌*◌, ◌/◌}
+use Rattle.laws.specs.Prelude.{Bool, cond, List, ℕ, zero, suc, leb, eqb, Float, ℤ, pos, length, take, drop, sets}
 use Rattle.refusals.specs.Refusal.{Judgement, pass, refuse, judgement_in, number_of}
 use Rattle.layer_row_gpu.specs.LayerState.{LayerState, layer_state_in}
 use Rattle.layer_row_gpu.specs.WorkLayer.{work_layer_verdict, layer_choice, LayerGiven, work_layer_of}

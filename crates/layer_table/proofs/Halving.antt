@@ -1,6 +1,7 @@
 -- Halving an ascending table: what holds of the `len` places from `start` on that are left. No place outside them has the id.
 -- Assumes nothing.
-use Rattle.laws.proofs.Prelude.{◌≡◌, sym, ap, ◌∙◌, Bool, true, ◌&&◌, ⊎_elim, List, ℕ, ◌+◌, ◌-◌, ◌/◌, ◌≤◌, ◌<◌, eq-or-lt_of_le, zero-add, arith}
+use Rattle.std.specs.Prelude.{◌≡◌, ◌&&◌, ◌+◌, ◌-◌, ◌/◌, ◌≤◌, ◌<◌}
+use Rattle.laws.proofs.Prelude.{sym, ap, ◌∙◌, Bool, true, ⊎_elim, List, ℕ, eq-or-lt_of_le, zero-add, arith}
 use Rattle.laws.proofs.Prelude.{ltb-true, eqb-true, ltb, eqb, refused, given, left, right, le_or_lt}
 use Rattle.styling.specs.Ascending.{strictly_ascends}
 use Rattle.layer_table.specs.Table.{id_at, table_ids}

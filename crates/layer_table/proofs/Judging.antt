@@ -1,5 +1,6 @@
 -- Judging a table: what holds while its records are passed in one pass, and what holds of a table that passes. Assumes nothing.
-use Rattle.laws.proofs.Prelude.{◌≡◌, refl, sym, ap, ◌∙◌, Bool, true, false, not, ◌&&◌, ◌||◌, and-true, List, map, ℕ, ◌+◌, ◌*◌, ◌/◌, ◌≤◌, ◌<◌, min}
+use Rattle.std.specs.Prelude.{◌≡◌, ◌&&◌, ◌||◌, ◌+◌, ◌*◌, ◌/◌, ◌≤◌, ◌<◌}
+use Rattle.laws.proofs.Prelude.{refl, sym, ap, ◌∙◌, Bool, true, false, not, and-true, List, map, ℕ, min}
 use Rattle.laws.proofs.Prelude.{add-one, arith, ltb-true, ltb-false, lt-ltb, le-ltb, not-true, leb, ltb, Float, length, drop, drop_of_length-le}
 use Rattle.laws.proofs.Prelude.{tabulate, all, left, right, all_at, length_tabulate, get_d_tabulate}
 use Rattle.layer_table.specs.declared.Words.{Words}

@@ -1,5 +1,6 @@
 -- The lists that a table is: their lengths and elements. Assumes nothing.
-use Rattle.laws.proofs.Prelude.{◌≡◌, refl, ap, ◌∙◌, true, List, ◌∷◌, map, ℕ, zero, suc, ◌<◌, arith, length, get_or, drop, drop-cons, Float, tabulate}
+use Rattle.std.specs.Prelude.{◌≡◌, ◌∷◌, ◌<◌}
+use Rattle.laws.proofs.Prelude.{refl, ap, ◌∙◌, true, List, map, ℕ, zero, suc, arith, length, get_or, drop, drop-cons, Float, tabulate}
 use Rattle.laws.proofs.Prelude.{length_tabulate, get_d_tabulate}
 use Rattle.styling.specs.declared.Layer.{Layer}
 use Rattle.styling.specs.Ascending.{strictly_ascends}

@@ -1,7 +1,8 @@
 -- What is looked up in a table, by its records: a layer is given where its id stands, and refused only where no record has the id.
 -- `at_place` and `at_none` are for whoever calls `find`; `Walk` is for whoever goes through the table in step with ascending ids.
 -- Assumes nothing.
-use Rattle.laws.proofs.Prelude.{◌≡◌, refl, sym, ap, ◌∙◌, true, ⊎_elim, List, [], ◌∷◌, map, ℕ, zero, suc, ◌+◌, ◌≤◌, ◌<◌, not-suc-le-zero}
+use Rattle.std.specs.Prelude.{◌≡◌, ◌∷◌, ◌+◌, ◌≤◌, ◌<◌}
+use Rattle.laws.proofs.Prelude.{refl, sym, ap, ◌∙◌, true, ⊎_elim, List, [], map, ℕ, zero, suc, not-suc-le-zero}
 use Rattle.laws.proofs.Prelude.{le_of_suc-le-suc, eq-or-lt_of_le, zero-add, arith, eq-eqb, ne_eqb, Float, length, get_or, length-map, refused, given}
 use Rattle.laws.proofs.Prelude.{le_or_lt, eq_or_ne}
 use Rattle.styling.specs.declared.Layer.{Layer}

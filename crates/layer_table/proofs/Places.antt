@@ -1,6 +1,7 @@
 -- Laws of looking up. Over any list: a place that is given holds the id, and where none is given no element has it. Over an ascending
 -- list: the place that holds the id is given. Assumes nothing.
-use Rattle.laws.proofs.Prelude.{◌≡◌, refl, sym, ap, ◌∙◌, true, ⊎_elim, List, [], ◌∷◌, ℕ, zero, suc, ◌+◌, ◌<◌, not-suc-le-zero, le_of_suc-le-suc}
+use Rattle.std.specs.Prelude.{◌≡◌, ◌∷◌, ◌+◌, ◌<◌}
+use Rattle.laws.proofs.Prelude.{refl, sym, ap, ◌∙◌, true, ⊎_elim, List, [], ℕ, zero, suc, not-suc-le-zero, le_of_suc-le-suc}
 use Rattle.laws.proofs.Prelude.{add-zero, add-suc, suc-add, arith, eq-eqb, ne_eqb, length, get_or, refused, given, eq_or_ne}
 use Rattle.styling.specs.Ascending.{strictly_ascends_from}
 use Rattle.layer_table.specs.Lookup.{place_from}

@@ -1,5 +1,6 @@
 -- The bounds that a record in range has, and those of the layer that it says. Assumes nothing.
-use Rattle.laws.proofs.Prelude.{◌≡◌, refl, Bool, true, false, cond, ◌&&◌, List, ℕ, zero, suc, ◌≤◌, ◌<◌, arith, leb-true, leb, eqb, Float, eq, of_bits}
+use Rattle.std.specs.Prelude.{◌≡◌, ◌&&◌, ◌≤◌, ◌<◌}
+use Rattle.laws.proofs.Prelude.{refl, Bool, true, false, cond, List, ℕ, zero, suc, arith, leb-true, leb, eqb, Float, eq, of_bits}
 use Rattle.laws.proofs.Prelude.{binary32, left, right}
 use lib.Dec.{eqb-suc-zero}
 use Rattle.styling.specs.declared.Color.{Color}

@@ -1,6 +1,7 @@
 -- Tables at the edges of refusals 1 and 4: equal ids, blend mode 16 and what is past an edge are refused, and the edges pass. Stands for 1 and 4 of
 -- 'Turned down'.
-use Rattle.laws.specs.Prelude.{◌≡◌, true, false, List, [], ◌∷◌, ◌++◌, ℕ, ◌-◌, ◌^◌, Float, of_bits, binary32}
+use Rattle.std.specs.Prelude.{◌≡◌, ◌∷◌, ◌++◌, ◌-◌, ◌^◌}
+use Rattle.laws.specs.Prelude.{true, false, List, [], ℕ, Float, of_bits, binary32}
 use Rattle.styling.specs.Style.{is_opaque}
 use Rattle.layer_table.specs.Table.{is_table_short, is_table, layer_at}
 

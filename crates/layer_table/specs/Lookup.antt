@@ -1,5 +1,6 @@
 -- Looking a layer up in a table by its id: the first with that id, or refusal 8, 'a listed or painted layer is not in the table'.
-use Rattle.laws.specs.Prelude.{◌≡◌, cond, List, [], ◌∷◌, ℕ, suc, ◌<◌, eqb, Float, Answer, refused, given}
+use Rattle.std.specs.Prelude.{◌≡◌, ◌∷◌, ◌<◌}
+use Rattle.laws.specs.Prelude.{cond, List, [], ℕ, suc, eqb, Float, Answer, refused, given}
 use Rattle.styling.specs.declared.Layer.{Layer}
 use Rattle.layer_table.specs.Table.{id_at, layer_at, table_of}
 use Rattle.layer_table.specs.declared.Found.{Found}

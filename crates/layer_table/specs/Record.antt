@@ -1,7 +1,8 @@
 -- One record of the layer table: its eight words, which of them are in range, and the layer that they say.
 -- Stands for 'layer records say rule, draw or clip, clip span 0 to 2,097,151, clipped, fill, blend mode, colour, and unchanged'. A draw's
 -- span plays no part, nor do a clip's words for clipped, fill and blend mode and its colour, nor the colour of a fill that is not solid.
-use Rattle.laws.specs.Prelude.{Bool, cond, ◌&&◌, ℕ, leb, eqb}
+use Rattle.std.specs.Prelude.{◌&&◌}
+use Rattle.laws.specs.Prelude.{Bool, cond, ℕ, leb, eqb}
 use Rattle.styling.specs.declared.Color.{Color}
 use Rattle.styling.specs.declared.Func.{Func}
 use Rattle.styling.specs.declared.Func.TheVariants.{Draw, Clip}

@@ -1,6 +1,7 @@
 -- The lent layer table: eight words and four floats a record, and how many records there are. This is the only place that knows how a
 -- record lies in memory; all else goes by `table_of`, the list of its layers.
-use Rattle.laws.specs.Prelude.{◌≡◌, Bool, true, not, ◌&&◌, List, map, ℕ, ◌+◌, ◌*◌, ◌/◌, ◌≤◌, ◌<◌, min, ltb, length, get_or, Float, nan, tabulate, all}
+use Rattle.std.specs.Prelude.{◌≡◌, ◌&&◌, ◌+◌, ◌*◌, ◌/◌, ◌≤◌, ◌<◌}
+use Rattle.laws.specs.Prelude.{Bool, true, not, List, map, ℕ, min, ltb, length, get_or, Float, nan, tabulate, all}
 use Rattle.styling.specs.declared.Color.{Color}
 use Rattle.styling.specs.declared.Layer.{Layer}
 use Rattle.layer_table.specs.declared.Words.{Words}

@@ -1,6 +1,7 @@
 -- The carries of a tile do not hang on what the passes make of its layers: over any list, and worked in a tile with a layer that is skipped, one
 -- that is shown, and one that is masked off. Assumes nothing.
-use Rattle.laws.proofs.Prelude.{◌≡◌, refl, Bool, true, false, List, [], ◌∷◌, ℕ, pos, eq, of_bits, binary32, replicate}
+use Rattle.std.specs.Prelude.{◌≡◌, ◌∷◌}
+use Rattle.laws.proofs.Prelude.{refl, Bool, true, false, List, [], ℕ, pos, eq, of_bits, binary32, replicate}
 use Rattle.cover_statements.specs.Carry.{carry_of}
 use Rattle.cover_statements.specs.Cover.{is_empty, is_full}
 use Rattle.styling.specs.declared.Color.{Color}

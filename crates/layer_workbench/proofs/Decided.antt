@@ -1,5 +1,6 @@
 -- What deciding promises, put together. Assumes nothing.
-use Rattle.laws.proofs.Prelude.{◌≡◌, ap, ap₂, ◌∙◌, Bool, true, List, map, ℕ, ◌≤◌, length, ℤ, over}
+use Rattle.std.specs.Prelude.{◌≡◌, ◌≤◌}
+use Rattle.laws.proofs.Prelude.{ap, ap₂, ◌∙◌, Bool, true, List, map, ℕ, length, ℤ, over}
 use Rattle.styling.specs.declared.Color.{Color}
 use Rattle.styling.specs.declared.Layer.{Layer}
 use Rattle.queue_statements.specs.Queue.{ids_in}

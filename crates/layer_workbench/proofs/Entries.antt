@@ -1,5 +1,6 @@
 -- A list written to its columns is what the passes read there. Assumes nothing.
-use Rattle.laws.proofs.Prelude.{◌≡◌, refl, ap, ap₂, sym, ◌∙◌, Bool, true, false, List, [], ◌∷◌, map, ℕ, zero, suc, ◌+◌, ◌*◌, ◌≤◌, ◌<◌}
+use Rattle.std.specs.Prelude.{◌≡◌, ◌∷◌, ◌+◌, ◌*◌, ◌≤◌, ◌<◌}
+use Rattle.laws.proofs.Prelude.{refl, ap, ap₂, sym, ◌∙◌, Bool, true, false, List, [], map, ℕ, zero, suc}
 use Rattle.laws.proofs.Prelude.{le_of_suc-le-suc, not-suc-le-zero, arith, ℤ, length, get_or, drop, length-map, length-append, List·getD-map, over}
 use Rattle.laws.proofs.Prelude.{is_tabulate, get_d_tabulate}
 use Rattle.queue_statements.specs.Queue.{Carry, carry_at, queue_of, ids_in, covers_in}

@@ -1,6 +1,7 @@
 -- The work on one tile (`drive_tile_painting` without painting): its layers are listed, the passes decide, the cached tile is updated, and the
 -- carries are handed on. Stands for 'One tile' up to painting.
-use Rattle.laws.specs.Prelude.{◌≡◌, Bool, false, List, map, Option, some, none, ℕ, ◌≤◌, ℤ, length, over}
+use Rattle.std.specs.Prelude.{◌≡◌, ◌≤◌}
+use Rattle.laws.specs.Prelude.{Bool, false, List, map, Option, some, none, ℕ, ℤ, length, over}
 use Rattle.styling.specs.Color.{same_color}
 use Rattle.styling.specs.declared.Color.{Color}
 use Rattle.styling.specs.declared.Layer.{Layer}

@@ -1,6 +1,7 @@
 -- A line with a number below 0, as it is printed.
 -- Assumes nothing.
-use Rattle.laws.proofs.Prelude.{◌≡◌, refl, [], ◌∷◌, pos, negsuc}
+use Rattle.std.specs.Prelude.{◌≡◌, ◌∷◌}
+use Rattle.laws.proofs.Prelude.{refl, [], pos, negsuc}
 use Rattle.decimal.specs.Decimal.{decimal, decimal_in}
 use Rattle.lines.specs.Bytes.{bytes}
 use Rattle.lines.specs.Text.{line_text}

@@ -1,7 +1,8 @@
 -- Reading is the inverse of printing: `parse_line`, `parse_lines` and `parse_block` read exactly what `line_text`, `lines_text` and `block_text` print.
 -- Assumes nothing.
-use Rattle.laws.proofs.Prelude.{◌≡◌, refl, sym, ap, ap₂, ◌∙◌, true, false, List, [], ◌∷◌, ◌++◌, append_assoc, Option, some, none, ℕ, zero, suc, ◌+◌}
-use Rattle.laws.proofs.Prelude.{◌%◌, ◌≤◌, arith, eq-eqb, eqb-true, eqb-false, eqb, ℤ, pos, negsuc, length}
+use Rattle.std.specs.Prelude.{◌≡◌, ◌∷◌, ◌++◌, ◌+◌, ◌%◌, ◌≤◌}
+use Rattle.laws.proofs.Prelude.{refl, sym, ap, ap₂, ◌∙◌, true, false, List, [], append_assoc, Option, some, none, ℕ, zero, suc}
+use Rattle.laws.proofs.Prelude.{arith, eq-eqb, eqb-true, eqb-false, eqb, ℤ, pos, negsuc, length}
 use Rattle.decimal.specs.Decimal.{decimal, decimalℤ, Stops}
 use Rattle.decimal.specs.Parse.{Parsed, parsed, failed, parseℤ}
 use Rattle.decimal.proofs.Digits.{decimal_one, decimal_more, by_digits}

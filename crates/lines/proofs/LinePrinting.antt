@@ -1,6 +1,7 @@
 -- What holds while a line is printed: with what is left to print the list, and the place after it, are as the whole line leaves them.
 -- Assumes nothing.
-use Rattle.laws.proofs.Prelude.{◌≡◌, refl, sym, ap, ◌∙◌, List, ◌∷◌, ◌++◌, ℕ, suc, ◌+◌, ◌-◌, ◌*◌, ◌<◌, ◌≤◌, add-one, arith, ℤ, pos, length, drop, get_or}
+use Rattle.std.specs.Prelude.{◌≡◌, ◌∷◌, ◌++◌, ◌+◌, ◌-◌, ◌*◌, ◌<◌, ◌≤◌}
+use Rattle.laws.proofs.Prelude.{refl, sym, ap, ◌∙◌, List, ℕ, suc, add-one, arith, ℤ, pos, length, drop, get_or}
 use Rattle.laws.proofs.Prelude.{set, length-set, length-append, length-drop, drop_of_length-le, sets, length-sets, drop-cons}
 use Rattle.decimal.specs.Decimal.{decimalℤ}
 use Rattle.decimal.specs.Print.{Printing}

@@ -1,7 +1,8 @@
 -- What holds while a line is read: what is left of it decides as the whole did, and with what is left to store the list is as the
 -- whole line leaves it.
 -- Assumes nothing.
-use Rattle.laws.proofs.Prelude.{◌≡◌, refl, sym, ap, ◌∙◌, List, ◌∷◌, ℕ, suc, ◌+◌, ◌-◌, ◌<◌, ◌≤◌, add-one, arith, ℤ, length, drop, get_or, set}
+use Rattle.std.specs.Prelude.{◌≡◌, ◌∷◌, ◌+◌, ◌-◌, ◌<◌, ◌≤◌}
+use Rattle.laws.proofs.Prelude.{refl, sym, ap, ◌∙◌, List, ℕ, suc, add-one, arith, ℤ, length, drop, get_or, set}
 use Rattle.laws.proofs.Prelude.{drop_of_length-le, length-set, drop-cons, sets}
 use Rattle.decimal.specs.declared.Signed.TheVariants.{Integer, Malformed}
 use Rattle.decimal.specs.Parse.{parsed, parseℤ}

@@ -1,6 +1,7 @@
 -- What holds while lines are printed one after another: the first k of them stand there, each in at most `wide` bytes.
 -- Assumes nothing.
-use Rattle.laws.proofs.Prelude.{◌≡◌, refl, sym, ap, subst, ◌∙◌, List, [], ◌++◌, append_assoc, append-nil, ℕ, zero, suc, ◌+◌, ◌*◌, ◌<◌, ◌≤◌}
+use Rattle.std.specs.Prelude.{◌≡◌, ◌++◌, ◌+◌, ◌*◌, ◌<◌, ◌≤◌}
+use Rattle.laws.proofs.Prelude.{refl, sym, ap, subst, ◌∙◌, List, [], append_assoc, append-nil, ℕ, zero, suc}
 use Rattle.laws.proofs.Prelude.{mul-le-mul_left, add-one, arith, ℤ, length, tabulate}
 use native.Mathlib.Nat.{mul-zero, mul-suc}
 use Rattle.decimal.specs.Print.{Printing}

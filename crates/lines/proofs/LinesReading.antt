@@ -1,7 +1,8 @@
 -- What holds while lines are read: what is left of them decides as the whole did, and with what is left to store the list is as all
 -- the lines leave it.
 -- Assumes nothing.
-use Rattle.laws.proofs.Prelude.{◌≡◌, refl, sym, ap, ◌∙◌, true, false, List, [], append-nil, flatten, some, ℕ, suc, ◌+◌, ◌-◌, ◌*◌, ◌<◌, ◌≤◌, arith, ℤ}
+use Rattle.std.specs.Prelude.{◌≡◌, ◌+◌, ◌-◌, ◌*◌, ◌<◌, ◌≤◌}
+use Rattle.laws.proofs.Prelude.{refl, sym, ap, ◌∙◌, true, false, List, [], append-nil, flatten, some, ℕ, suc, arith, ℤ}
 use Rattle.laws.proofs.Prelude.{length, drop, sets, length-sets}
 use Rattle.decimal.proofs.Print.{sets_append}
 use Rattle.lines.specs.declared.Place.TheVariants.{At, Broken}

@@ -1,6 +1,7 @@
 -- What holds while a prefix is passed over: what is left of the prefix and of the text decides as the whole did.
 -- Assumes nothing.
-use Rattle.laws.proofs.Prelude.{◌≡◌, refl, List, ℕ, ◌+◌, ◌<◌, ◌≤◌, add-one, arith, eq-eqb, ne_eqb, length, drop, get_or, drop_of_length-le, drop-cons}
+use Rattle.std.specs.Prelude.{◌≡◌, ◌+◌, ◌<◌, ◌≤◌}
+use Rattle.laws.proofs.Prelude.{refl, List, ℕ, add-one, arith, eq-eqb, ne_eqb, length, drop, get_or, drop_of_length-le, drop-cons}
 use Rattle.lines.specs.declared.Place.TheVariants.{At, Broken}
 use Rattle.lines.specs.Parse.{strip_prefix}
 use Rattle.lines.specs.Read.{PrefixRead}

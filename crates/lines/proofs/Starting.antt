@@ -1,6 +1,7 @@
 -- Each answer of `end_at` and of `starts_number`, from the tests that lead to it.
 -- Assumes nothing.
-use Rattle.laws.proofs.Prelude.{◌≡◌, refl, Bool, false, ◌||◌, List, ℕ, zero, suc, ◌<◌, ◌≤◌, eqb, length, drop, get_or, drop_of_length-le, drop-cons}
+use Rattle.std.specs.Prelude.{◌≡◌, ◌||◌, ◌<◌, ◌≤◌}
+use Rattle.laws.proofs.Prelude.{refl, Bool, false, List, ℕ, zero, suc, eqb, length, drop, get_or, drop_of_length-le, drop-cons}
 use Rattle.decimal.specs.Decimal.{is_digit}
 use Rattle.lines.specs.Parse.{end_at, starts_number}
 

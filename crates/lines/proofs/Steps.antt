@@ -1,6 +1,7 @@
 -- What one step does to the reading of a line and of lines.
 -- Assumes nothing.
-use Rattle.laws.proofs.Prelude.{◌≡◌, refl, true, false, List, [], ◌∷◌, some, none, ℕ, zero, suc, eq-eqb, ne_eqb, ℤ}
+use Rattle.std.specs.Prelude.{◌≡◌, ◌∷◌}
+use Rattle.laws.proofs.Prelude.{refl, true, false, List, [], some, none, ℕ, zero, suc, eq-eqb, ne_eqb, ℤ}
 use Rattle.decimal.specs.Parse.{parsed, failed, parseℤ}
 use Rattle.lines.specs.Parse.{broken, after, end_at, parse_line, starts_number, parse_lines}
 

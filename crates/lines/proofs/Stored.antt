@@ -1,6 +1,7 @@
 -- The numbers of lines as they stand in a list, one line after another: field f of line i stands at i * k + f.
 -- Assumes nothing.
-use Rattle.laws.proofs.Prelude.{◌≡◌, ap, ◌∙◌, List, [], ◌∷◌, ◌++◌, flatten, ℕ, zero, suc, ◌+◌, ◌*◌, ◌<◌, ◌≤◌, arith, ℤ, pos, length, drop, get_or}
+use Rattle.std.specs.Prelude.{◌≡◌, ◌∷◌, ◌++◌, ◌+◌, ◌*◌, ◌<◌, ◌≤◌}
+use Rattle.laws.proofs.Prelude.{ap, ◌∙◌, List, [], flatten, ℕ, zero, suc, arith, ℤ, pos, length, drop, get_or}
 use Rattle.laws.proofs.Prelude.{length-append, List·getD-append, sets, sets-eq, get_or-append-add}
 use Rattle.lines.specs.Text.{AllFields}
 

@@ -1,6 +1,7 @@
 -- Reading lines of whole numbers from the front of a text. proofs/Laws says what this is: the inverse of `line_text`, `lines_text` and
 -- `block_text`. What is left of a text is `none` where its form is broken.
-use Rattle.laws.specs.Prelude.{Bool, false, ◌||◌, cond, List, [], ◌∷◌, Option, some, none, ℕ, zero, suc, eqb, ℤ}
+use Rattle.std.specs.Prelude.{◌||◌, ◌∷◌}
+use Rattle.laws.specs.Prelude.{Bool, false, cond, List, [], Option, some, none, ℕ, zero, suc, eqb, ℤ}
 use Rattle.decimal.specs.Decimal.{is_digit}
 use Rattle.decimal.specs.Parse.{Parsed, parsed, failed, parseℤ}
 

@@ -1,5 +1,6 @@
 -- What the readers of lines promise.
-use Rattle.laws.specs.Prelude.{◌≡◌, List, flatten, Option, some, none, ℕ, ◌≤◌, ℤ, length, drop, sets}
+use Rattle.std.specs.Prelude.{◌≡◌, ◌≤◌}
+use Rattle.laws.specs.Prelude.{List, flatten, Option, some, none, ℕ, ℤ, length, drop, sets}
 use Rattle.lines.specs.declared.Place.{Place}
 use Rattle.lines.specs.declared.Place.TheVariants.{At, Broken}
 use Rattle.lines.specs.declared.Block.{Block}

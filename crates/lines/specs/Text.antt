@@ -1,6 +1,7 @@
 -- Lines of whole numbers as text, as a printer writes them. Stands for 'three blocks, each a line of names, then lines of values in that
 -- order, fields parted by one space, lines ended by LF'.
-use Rattle.laws.specs.Prelude.{◌≡◌, List, [], ◌∷◌, ◌++◌, ℕ, ℤ, length}
+use Rattle.std.specs.Prelude.{◌≡◌, ◌∷◌, ◌++◌}
+use Rattle.laws.specs.Prelude.{List, [], ℕ, ℤ, length}
 use Rattle.decimal.specs.Decimal.{decimalℤ, Short}
 
 -- what ends a field, by the fields after it in its line

@@ -1,6 +1,7 @@
 -- The walk that paints a tile's layers: what it holds at the start and after each layer, and that the layer it meets is painted as by itself.
 -- Assumes nothing.
-use Rattle.laws.proofs.Prelude.{◌≡◌, refl, sym, ap, ap₂, subst, ◌∙◌, Bool, true, false, cond, not, ◌&&◌, false≢true, ⊎_elim, List, ℕ, ◌+◌, ◌<◌}
+use Rattle.std.specs.Prelude.{◌≡◌, ◌&&◌, ◌+◌, ◌<◌}
+use Rattle.laws.proofs.Prelude.{refl, sym, ap, ap₂, subst, ◌∙◌, Bool, true, false, cond, not, false≢true, ⊎_elim, List, ℕ}
 use Rattle.laws.proofs.Prelude.{add-one, arith, ltb, Float, ℤ, length, get_or, take, take-suc, refused, given, is_given, cons_lt, le_or_lt}
 use Rattle.laws.proofs.Drops.{cons_at}
 use Rattle.pixel_segment.specs.Field.{cpu}

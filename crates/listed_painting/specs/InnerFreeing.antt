@@ -1,6 +1,7 @@
 -- How the code finds whether a draw needs a clip while it walks over a tile's layers: it keeps one number, the layer id below which the latest clip
 -- so far frees clipped draws. proofs/Freeing has that this is the need of a clip of pass_statements/specs/Rules.
-use Rattle.laws.specs.Prelude.{cond, List, [], ◌∷◌, ℕ, ◌+◌, Answer, refused, given}
+use Rattle.std.specs.Prelude.{◌∷◌, ◌+◌}
+use Rattle.laws.specs.Prelude.{cond, List, [], ℕ, Answer, refused, given}
 use Rattle.layer_table.specs.Lookup.{lookup}
 use Rattle.styling.specs.declared.Layer.{Layer}
 use Rattle.tile_layers.specs.Listing.{Listed}

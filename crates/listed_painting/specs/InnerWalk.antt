@@ -1,5 +1,6 @@
 -- What a walk over a tile's layers holds before each of them, and what passing over the next layer and painting it give.
-use Rattle.laws.specs.Prelude.{◌≡◌, true, List, none, ℕ, ◌+◌, ◌≤◌, ◌<◌, Float, ℤ, length, drop, take, get_or, given, is_given}
+use Rattle.std.specs.Prelude.{◌≡◌, ◌+◌, ◌≤◌, ◌<◌}
+use Rattle.laws.specs.Prelude.{true, List, none, ℕ, Float, ℤ, length, drop, take, get_or, given, is_given}
 use Rattle.layer_table.specs.Lookup.{lookup}
 use Rattle.layer_table.specs.Table.{Table}
 use Rattle.styling.specs.declared.Layer.{Layer}

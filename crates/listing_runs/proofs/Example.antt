@@ -1,5 +1,6 @@
 -- The run of specs/Example. Assumes nothing.
-use Rattle.laws.proofs.Prelude.{◌≡◌, refl, ◌∙◌, [], ◌∷◌, given}
+use Rattle.std.specs.Prelude.{◌≡◌, ◌∷◌}
+use Rattle.laws.proofs.Prelude.{refl, ◌∙◌, [], given}
 use Rattle.refusals.specs.Refusal.{pass, refuse}
 use Rattle.pixel_segment.specs.Field.{cover_of, tile_of}
 use Rattle.segment_rows.specs.Rows.{ascends_from}

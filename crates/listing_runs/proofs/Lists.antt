@@ -1,5 +1,6 @@
 -- The lists that a caller holds: a list that an accepted listing or work left is its tile's, and each of them is found again. Assumes nothing.
-use Rattle.laws.proofs.Prelude.{◌≡◌, refl, ap, sym, subst, ◌∙◌, ◌⊎◌, inl, inr, false, List, [], ◌∷◌, map, ℕ, zero, suc, ◌+◌, ◌<◌, arith, ℤ, pos}
+use Rattle.std.specs.Prelude.{◌≡◌, ◌⊎◌, ◌∷◌, ◌+◌, ◌<◌}
+use Rattle.laws.proofs.Prelude.{refl, ap, sym, subst, ◌∙◌, inl, inr, false, List, [], map, ℕ, zero, suc, arith, ℤ, pos}
 use Rattle.laws.proofs.Prelude.{length, length-map, eq_or_ne}
 use Rattle.refusals.specs.Refusal.{pass}
 use Rattle.segment_rows.specs.Search.{tile_part}

@@ -1,5 +1,6 @@
 -- The claims of specs/Marked; the frames are computed. Assumes nothing.
-use Rattle.laws.proofs.Prelude.{◌≡◌, refl, ap, ap₂, Bool, true, false, cond, List, [], ◌∷◌, map, ℕ, eqb, eq, of_bits, Answer, refused, given}
+use Rattle.std.specs.Prelude.{◌≡◌, ◌∷◌}
+use Rattle.laws.proofs.Prelude.{refl, ap, ap₂, Bool, true, false, cond, List, [], map, ℕ, eqb, eq, of_bits, Answer, refused, given}
 use Rattle.cover_statements.specs.Cover.{is_full}
 use Rattle.styling.specs.declared.Color.{Color}
 use Rattle.styling.specs.declared.Layer.{Layer}

@@ -1,6 +1,7 @@
 -- The claim of specs/Claim: between calls the caller holds the row's carries and the lists of the tiles that are past, each call keeps that, and what is
 -- held makes each call right. Assumes nothing.
-use Rattle.laws.proofs.Prelude.{◌≡◌, subst, ◌∙◌, List, map}
+use Rattle.std.specs.Prelude.{◌≡◌}
+use Rattle.laws.proofs.Prelude.{subst, ◌∙◌, List, map}
 use Rattle.refusals.specs.Refusal.{Judgement, refuse}
 use Rattle.layer_carrying.specs.Carrying.{handed_on}
 use Rattle.row_statements.specs.Lent.{layers_of}

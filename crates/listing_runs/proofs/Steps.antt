@@ -1,5 +1,6 @@
 -- A listing and a deciding in a run: what they give is what is due, and what the caller then holds is again the row's. Assumes nothing.
-use Rattle.laws.proofs.Prelude.{◌≡◌, refl, ap, sym, subst, ◌∙◌, Bool, false, ◌||◌, List, map, ℕ, suc, ◌+◌, ◌<◌, arith, ltb, length, take, drop}
+use Rattle.std.specs.Prelude.{◌≡◌, ◌||◌, ◌+◌, ◌<◌}
+use Rattle.laws.proofs.Prelude.{refl, ap, sym, subst, ◌∙◌, Bool, false, List, map, ℕ, suc, arith, ltb, length, take, drop}
 use Rattle.laws.proofs.Prelude.{take_at, Answer, refused, given, plus, over}
 use Rattle.refusals.specs.Refusal.{Judgement, pass, refuse, unless}
 use Rattle.refusals.proofs.Judging.{passed, or_left, or_right}

@@ -1,7 +1,8 @@
 -- Demand 3 over runs with listings and decidings: every call gives what is due of it, worked from the whole row (specs/Due, and
 -- row_statements/specs/Due of works and paintings), and what the row alone says of every tile holds as before. Stands for 'what holds along a row holds for lists decided as
 -- the listing call left them'. proofs/Run proves it; specs/Example has a run that meets its premises.
-use Rattle.laws.specs.Prelude.{◌≡◌, Bool, List, [], ◌∷◌, map, ℕ, suc, ◌<◌, length, take, refused}
+use Rattle.std.specs.Prelude.{◌≡◌, ◌∷◌, ◌<◌}
+use Rattle.laws.specs.Prelude.{Bool, List, [], map, ℕ, suc, length, take, refused}
 use Rattle.refusals.specs.Refusal.{pass, refuse}
 use Rattle.segment_rows.specs.Rows.{Words}
 use Rattle.layer_workbench.specs.Work.{entry_of}

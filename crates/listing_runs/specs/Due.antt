@@ -1,7 +1,8 @@
 -- What is due of a listing and of a deciding after an accepted opening, worked from the opening on, as row_statements/specs/Due has it of works and
 -- paintings: by the row, the table, the row's tiles, which earlier calls were due to be accepted, and the caller's own choices. No answer, list, queue
 -- or state that a call gave back is looked at.
-use Rattle.laws.specs.Prelude.{Bool, ◌||◌, List, ℕ, suc, ◌-◌, ltb, ℤ, length, plus}
+use Rattle.std.specs.Prelude.{◌||◌, ◌-◌}
+use Rattle.laws.specs.Prelude.{Bool, List, ℕ, suc, ltb, ℤ, length, plus}
 use Rattle.refusals.specs.Refusal.{Judgement, pass, unless}
 use Rattle.styling.specs.declared.Color.{Color}
 use Rattle.cached_tile.specs.Kept.{tag_out_of_range}

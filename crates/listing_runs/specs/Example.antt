@@ -2,7 +2,8 @@
 -- listing, late, twice and out of order, a refused deciding, a work, and a deciding from the list that it left; and between them a work, a painting and a
 -- listing with another row, table and queue, and decidings of another list. proofs/Example has it; proofs/Runs has that every list of choices is that of
 -- some run.
-use Rattle.laws.specs.Prelude.{◌≡◌, Bool, not, cond, ◌&&◌, List, [], ◌∷◌, ◌++◌, ℕ, ◌+◌, ltb, ℤ, pos, lt_z, plus}
+use Rattle.std.specs.Prelude.{◌≡◌, ◌&&◌, ◌∷◌, ◌++◌, ◌+◌}
+use Rattle.laws.specs.Prelude.{Bool, not, cond, List, [], ℕ, ltb, ℤ, pos, lt_z, plus}
 use Rattle.refusals.specs.Refusal.{Judgement, pass, refuse}
 use Rattle.segment_rows.specs.Rows.{Words}
 use Rattle.cached_tile.specs.Kept.{no_tile}

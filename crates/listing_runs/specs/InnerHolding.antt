@@ -1,5 +1,6 @@
 -- The lists that a caller holds between the calls of a run: one for each tile that is past, the last one first, each saying its tile's layers.
-use Rattle.laws.specs.Prelude.{◌≡◌, List, [], ◌∷◌, ℕ, zero, suc, ◌+◌, pos}
+use Rattle.std.specs.Prelude.{◌≡◌, ◌∷◌, ◌+◌}
+use Rattle.laws.specs.Prelude.{List, [], ℕ, zero, suc, pos}
 use Rattle.row_statements.specs.Due.{OpenRow, Past, table_on, layers_on}
 use Rattle.row_statements.specs.InnerHolding.{Holds}
 use Rattle.listing_statements.specs.InnerLists.{Decidable, ListSays}

@@ -1,7 +1,8 @@
 -- W-208 at deciding: what the lent table says of 'unchanged' plays no part, since the list has its own marks; and the smallest frames in which a
 -- changed clip repaints, and one in which a changed draw under the cover does not. Stands for 'every pass goes by that mark' and for 'the full-cover
 -- pass counts a tile as changed when any listed clip layer is changed, masked off or not'.
-use Rattle.laws.specs.Prelude.{◌≡◌, Bool, true, false, List, [], ◌∷◌, map, ℕ, of_bits, binary32, pos, length, replicate}
+use Rattle.std.specs.Prelude.{◌≡◌, ◌∷◌}
+use Rattle.laws.specs.Prelude.{Bool, true, false, List, [], map, ℕ, of_bits, binary32, pos, length, replicate}
 use Rattle.styling.specs.declared.BlendMode.TheVariants.{Over}
 use Rattle.styling.specs.declared.Color.{Color}
 use Rattle.styling.specs.declared.Fill.TheVariants.{Solid}

@@ -1,7 +1,8 @@
 -- A run of listings, decidings, works and paintings, refused ones included, as the calls went. The premise of each step is the operation's own contract, at
 -- what the caller holds, chooses and lends. Beside the state and the queues the caller holds the lists that accepted listings and works left, one a
 -- tile, and a deciding names one of them by its tile: it may come late, twice or out of order.
-use Rattle.laws.specs.Prelude.{◌≡◌, ◌⊎◌, Bool, List, [], ◌∷◌, ℕ, ℤ, take}
+use Rattle.std.specs.Prelude.{◌≡◌, ◌⊎◌, ◌∷◌}
+use Rattle.laws.specs.Prelude.{Bool, List, [], ℕ, ℤ, take}
 use Rattle.refusals.specs.Refusal.{refuse}
 use Rattle.row_statements.specs.Lent.{Columns}
 use Rattle.row_statements.specs.State.{State, state_in}

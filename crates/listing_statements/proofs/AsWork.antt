@@ -1,5 +1,6 @@
 -- A listing is the work on a tile that keeps nothing, without its decision: what is known of works is then known of listings. Assumes nothing.
-use Rattle.laws.proofs.Prelude.{◌≡◌, refl, ap, sym, ◌∙◌, Bool, true, false, ◌||◌, ℕ, binary32, of_bits, replicate, Answer, refused, given}
+use Rattle.std.specs.Prelude.{◌≡◌, ◌||◌}
+use Rattle.laws.proofs.Prelude.{refl, ap, sym, ◌∙◌, Bool, true, false, ℕ, binary32, of_bits, replicate, Answer, refused, given}
 use Rattle.refusals.specs.Refusal.{Judgement, pass, refuse, and_then}
 use Rattle.styling.specs.declared.Color.{Color}
 use Rattle.cached_tile.specs.Kept.{no_tile}

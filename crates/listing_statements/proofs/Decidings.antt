@@ -1,5 +1,6 @@
 -- Deciding: the loop over the ids of a list, what a passed verdict tells, and the operation put together from its parts. Assumes nothing.
-use Rattle.laws.proofs.Prelude.{◌≡◌, refl, ap, sym, ◌∙◌, Bool, true, false, not, ◌&&◌, ◌||◌, and-true, List, ℕ, ◌+◌, ◌/◌, ◌≤◌, ◌<◌, min, arith}
+use Rattle.std.specs.Prelude.{◌≡◌, ◌&&◌, ◌||◌, ◌+◌, ◌/◌, ◌≤◌, ◌<◌}
+use Rattle.laws.proofs.Prelude.{refl, ap, sym, ◌∙◌, Bool, true, false, not, and-true, List, ℕ, min, arith}
 use Rattle.laws.proofs.Prelude.{not-false, ltb-false, ltb, length, get_or, take, drop, drop_of_length-le, length-take, drop-cons, get_or-take, given, all}
 use Rattle.laws.proofs.Prelude.{all_again, all_end}
 use Rattle.refusals.specs.Refusal.{Judgement, pass, refuse, unless, number_of}

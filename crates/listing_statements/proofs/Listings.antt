@@ -1,5 +1,6 @@
 -- Listing: what a passed verdict tells, and the operation put together from its parts. Assumes nothing.
-use Rattle.laws.proofs.Prelude.{◌≡◌, refl, ap, ◌∙◌, Bool, List, ℕ, ℤ, length, given}
+use Rattle.std.specs.Prelude.{◌≡◌}
+use Rattle.laws.proofs.Prelude.{refl, ap, ◌∙◌, Bool, List, ℕ, ℤ, length, given}
 use Rattle.refusals.specs.Refusal.{Judgement, pass, refuse, number_of}
 use Rattle.refusals.specs.declared.Refusal.{Refusal}
 use Rattle.segment_rows.specs.Rows.{Words}

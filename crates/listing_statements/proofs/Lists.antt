@@ -1,5 +1,6 @@
 -- A list that a tile's layers are written to says these layers, and a deciding from a list that says them goes by them. Assumes nothing.
-use Rattle.laws.proofs.Prelude.{◌≡◌, refl, ap, ap₂, sym, ◌∙◌, Bool, true, false, ◌&&◌, ◌||◌, List, [], ◌∷◌, ℕ, ◌/◌, ◌≤◌, arith, le-ltb, ltb-false}
+use Rattle.std.specs.Prelude.{◌≡◌, ◌&&◌, ◌||◌, ◌∷◌, ◌/◌, ◌≤◌}
+use Rattle.laws.proofs.Prelude.{refl, ap, ap₂, sym, ◌∙◌, Bool, true, false, List, [], ℕ, arith, le-ltb, ltb-false}
 use Rattle.laws.proofs.Prelude.{ltb, length, take, length-map, is_given, over, length_over}
 use Rattle.refusals.specs.Refusal.{Judgement, pass, unless}
 use Rattle.refusals.proofs.Judging.{or_left, or_right}

@@ -1,5 +1,6 @@
 -- A work is a listing and then a deciding from what it left: the law of specs/Succession. Assumes nothing.
-use Rattle.laws.proofs.Prelude.{◌≡◌, refl, ap, sym, subst, ◌∙◌, Bool, true, false, not, List, ℕ, suc, arith, ltb, length, Answer, refused, given}
+use Rattle.std.specs.Prelude.{◌≡◌}
+use Rattle.laws.proofs.Prelude.{refl, ap, sym, subst, ◌∙◌, Bool, true, false, not, List, ℕ, suc, arith, ltb, length, Answer, refused, given}
 use Rattle.laws.proofs.Prelude.{clash}
 use Rattle.laws.proofs.Bools.{not-true}
 use Rattle.refusals.specs.Refusal.{Judgement, pass, refuse, unless, and_then}

@@ -2,7 +2,8 @@
 -- 4 to 8, the lowest that applies; a refusal says its number and leaves the cached tile and the mask column as they were. Else the decision, the skips
 -- and the masks are those of the passes, and the cached tile is updated as by a work. There is no state, no row and no queue, and no list is
 -- written. 9 is not judged: a cover is full or not whatever its bytes are. Stands for W-206's deciding call.
-use Rattle.laws.specs.Prelude.{◌≡◌, Bool, not, ◌||◌, List, ℕ, ltb, length, take, Answer, refused, given, is_given, all, over}
+use Rattle.std.specs.Prelude.{◌≡◌, ◌||◌}
+use Rattle.laws.specs.Prelude.{Bool, not, List, ℕ, ltb, length, take, Answer, refused, given, is_given, all, over}
 use Rattle.refusals.specs.Refusal.{Judgement, pass, refuse, unless, number_of}
 use Rattle.styling.specs.Ascending.{strictly_ascends}
 use Rattle.styling.specs.declared.Color.{Color}

@@ -1,5 +1,6 @@
 -- The refusals of a deciding at their edges. Stands for W-206, 'deciding judges 1 and 4 to 8'.
-use Rattle.laws.specs.Prelude.{◌≡◌, Bool, false, List, ◌∷◌, ℕ, pos, replicate, tabulate}
+use Rattle.std.specs.Prelude.{◌≡◌, ◌∷◌}
+use Rattle.laws.specs.Prelude.{Bool, false, List, ℕ, pos, replicate, tabulate}
 use Rattle.refusals.specs.Refusal.{pass, refuse}
 use Rattle.cached_tile.specs.Kept.{no_tile}
 use Rattle.cached_tile.specs.declared.kept.Kept as kept

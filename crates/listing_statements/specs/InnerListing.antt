@@ -1,5 +1,6 @@
 -- What the functions below listing ask and give.
-use Rattle.laws.specs.Prelude.{List, Bool, ◌≡◌, ℕ, ◌*◌, ◌≤◌, ◌+◌, ℤ, length, plus, minus}
+use Rattle.std.specs.Prelude.{◌≡◌, ◌*◌, ◌≤◌, ◌+◌}
+use Rattle.laws.specs.Prelude.{List, Bool, ℕ, ℤ, length, plus, minus}
 use Rattle.refusals.specs.declared.Refusal.{Refusal}
 use Rattle.segment_rows.specs.Search.{tile_part}
 use Rattle.layer_table.specs.Table.{Table}

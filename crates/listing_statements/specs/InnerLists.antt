@@ -1,5 +1,6 @@
 -- What a lent list says once a tile's layers are written to it, or where other memory holds the same entries.
-use Rattle.laws.specs.Prelude.{◌≡◌, true, false, List, map, ℕ, ◌≤◌, length, take}
+use Rattle.std.specs.Prelude.{◌≡◌, ◌≤◌}
+use Rattle.laws.specs.Prelude.{true, false, List, map, ℕ, length, take}
 use Rattle.styling.specs.Ascending.{strictly_ascends}
 use Rattle.styling.specs.declared.Layer.{Layer}
 use Rattle.queue_statements.specs.Queue.{ids_in}

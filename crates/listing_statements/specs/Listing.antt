@@ -2,7 +2,8 @@
 -- leaves the state and every lent list as they were. Else the tile's layers stand in the three columns of the list, the carries past the tile in the
 -- queue handed on, and the state is the next one. No cached tile is touched, nothing is decided, and no mask column is lent. Stands for W-206's
 -- listing call.
-use Rattle.laws.specs.Prelude.{◌≡◌, Bool, ◌||◌, List, ℕ, ℤ, length, Answer, refused, given, over}
+use Rattle.std.specs.Prelude.{◌≡◌, ◌||◌}
+use Rattle.laws.specs.Prelude.{Bool, List, ℕ, ℤ, length, Answer, refused, given, over}
 use Rattle.refusals.specs.Refusal.{Judgement, pass, refuse, and_then, number_of}
 use Rattle.segment_rows.specs.Search.{tile_part}
 use Rattle.queue_statements.specs.Queue.{Carry, ids_in, covers_in}

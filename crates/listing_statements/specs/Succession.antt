@@ -1,6 +1,7 @@
 -- A work is a listing and then a deciding from what it left, with the same lent memory: where 1 to 6 pass they give the same, and no deciding after an
 -- accepted listing is turned down. Stands for 'the old call judges 1 to 6 and is then their succession'. proofs/Succession proves it.
-use Rattle.laws.specs.Prelude.{◌≡◌, Bool, List, ℕ, Answer, refused, given}
+use Rattle.std.specs.Prelude.{◌≡◌}
+use Rattle.laws.specs.Prelude.{Bool, List, ℕ, Answer, refused, given}
 use Rattle.refusals.specs.Refusal.{pass}
 use Rattle.segment_rows.specs.Rows.{Words}
 use Rattle.row_statements.specs.Lent.{list_columns}

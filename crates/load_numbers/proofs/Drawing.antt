@@ -1,6 +1,7 @@
 -- A segment's line by four draws: each number fits its width, and each draw starts from the state that the one before it left.
 -- Assumes nothing.
-use Rattle.laws.proofs.Prelude.{◌≡◌, ap, ◌∙◌, [], ◌∷◌, ℕ, ◌/◌, ◌%◌, ◌<◌, arith, pos, ◌-ℤ◌, to_z-of_z, w32, SFits, to_z, of_z, sfits}
+use Rattle.std.specs.Prelude.{◌≡◌, ◌∷◌, ◌/◌, ◌%◌, ◌<◌, ◌-ℤ◌}
+use Rattle.laws.proofs.Prelude.{ap, ◌∙◌, [], ℕ, arith, pos, to_z-of_z, w32, SFits, to_z, of_z, sfits}
 use mir.ValLaws.{to_z_pos}
 use Rattle.job_text_statements.specs.Job.{segment_values}
 use Rattle.load_statements.specs.Draw.{next, draw_of_state, state_after, draw_at}

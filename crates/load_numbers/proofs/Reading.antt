@@ -1,6 +1,7 @@
 -- Each answer of `read_field` and of `read_input`, from the tests that lead to it.
 -- Assumes nothing.
-use Rattle.laws.proofs.Prelude.{◌≡◌, sym, ap, ◌∙◌, true, false, ◌&&◌, List, [], some, none, ℕ, ◌+◌, ◌^◌, ◌≤◌, ◌<◌, add-one, arith, eq-eqb, ne_eqb}
+use Rattle.std.specs.Prelude.{◌≡◌, ◌&&◌, ◌+◌, ◌^◌, ◌≤◌, ◌<◌}
+use Rattle.laws.proofs.Prelude.{sym, ap, ◌∙◌, true, false, List, [], some, none, ℕ, add-one, arith, eq-eqb, ne_eqb}
 use Rattle.laws.proofs.Prelude.{ltb, length, drop, get_or, drop_of_length-le, drop-cons}
 use Rattle.decimal.specs.declared.Unsigned.TheVariants.{Natural, Missing}
 use Rattle.decimal.specs.Parse.{parsed}

@@ -1,5 +1,6 @@
 -- What the readers of the line promise.
-use Rattle.laws.specs.Prelude.{◌≡◌, List, Option, some, none, ℕ, ◌≤◌, length, drop}
+use Rattle.std.specs.Prelude.{◌≡◌, ◌≤◌}
+use Rattle.laws.specs.Prelude.{List, Option, some, none, ℕ, length, drop}
 use Rattle.decimal.specs.Parse.{Parsed, parsed, failed}
 use Rattle.load_statements.specs.Load.{Asked, asked}
 use Rattle.load_statements.specs.Input.{parse_field}

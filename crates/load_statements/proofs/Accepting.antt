@@ -1,6 +1,7 @@
 -- The job reader accepts every load.
 -- Assumes nothing.
-use Rattle.laws.proofs.Prelude.{◌≡◌, true, List, ℕ, ◌/◌, ◌≤◌, arith, le-leb, Float, length}
+use Rattle.std.specs.Prelude.{◌≡◌, ◌/◌, ◌≤◌}
+use Rattle.laws.proofs.Prelude.{true, List, ℕ, arith, le-leb, Float, length}
 use Rattle.job_text_statements.specs.Job.{render}
 use Rattle.job_lines.specs.Rules.{segment_count}
 use Rattle.job_statements.specs.Read as reading

@@ -1,7 +1,8 @@
 -- The row of a load is in order: a word for each segment, which ascend by their slots.
 -- Assumes nothing.
-use Rattle.laws.proofs.Prelude.{◌≡◌, refl, ap, ap₂, true, ◌++◌, flatten, ℕ, zero, suc, ◌+◌, ◌*◌, ◌/◌, ◌%◌, ◌^◌, ◌≤◌, ◌<◌, arith, eq-eqb, eqb, ℤ, pos}
-use Rattle.laws.proofs.Prelude.{◌-ℤ◌, length, get_or, plus, modℤ, tabulate, all, both, length_tabulate, get_d_tabulate}
+use Rattle.std.specs.Prelude.{◌≡◌, ◌++◌, ◌+◌, ◌*◌, ◌/◌, ◌%◌, ◌^◌, ◌≤◌, ◌<◌, ◌-ℤ◌}
+use Rattle.laws.proofs.Prelude.{refl, ap, ap₂, true, flatten, ℕ, zero, suc, arith, eq-eqb, eqb, ℤ, pos}
+use Rattle.laws.proofs.Prelude.{length, get_or, plus, modℤ, tabulate, all, both, length_tabulate, get_d_tabulate}
 use Rattle.pixel_segment.specs.Field.{cpu, tile_x_of, tile_y_of, layer_id_of}
 use Rattle.pixel_segment.specs.Order.{order_key}
 use Rattle.pixel_segment.specs.Pack.{word_of}

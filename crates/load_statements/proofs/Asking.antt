@@ -1,6 +1,7 @@
 -- Reading the line is the inverse of printing it: `ask` takes exactly the lines of three numbers in range.
 -- Assumes nothing.
-use Rattle.laws.proofs.Prelude.{◌≡◌, refl, sym, ap, ◌∙◌, ◌&&◌, List, [], ◌∷◌, ◌++◌, Option, some, none, ℕ, ◌^◌, ◌≤◌, ◌<◌, arith, eq-eqb, eqb-true}
+use Rattle.std.specs.Prelude.{◌≡◌, ◌&&◌, ◌∷◌, ◌++◌, ◌^◌, ◌≤◌, ◌<◌}
+use Rattle.laws.proofs.Prelude.{refl, sym, ap, ◌∙◌, List, [], Option, some, none, ℕ, arith, eq-eqb, eqb-true}
 use Rattle.laws.proofs.Prelude.{lt-ltb, ltb-true, eqb, ltb, left, right}
 use mathlib.Core.Option.{some-injective}
 use Rattle.decimal.specs.Decimal.{decimal, Stops}

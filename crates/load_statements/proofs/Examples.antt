@@ -1,6 +1,7 @@
 -- Draws, lines and a text, computed: document 02's first draw of seed 0 and those after it, loads of few segments, and lines at the edges.
 -- Assumes nothing.
-use Rattle.laws.proofs.Prelude.{◌≡◌, refl, Bool, true, false, not, List, [], ◌∷◌, some, none, ℕ, suc, tabulate, all}
+use Rattle.std.specs.Prelude.{◌≡◌, ◌∷◌}
+use Rattle.laws.proofs.Prelude.{refl, Bool, true, false, not, List, [], some, none, ℕ, suc, tabulate, all}
 use Rattle.decimal.specs.Decimal.{decimal, decimal_in}
 use Rattle.decimal.specs.Parse.{parseℕ, more_digits}
 use Rattle.lines.specs.Bytes.{bytes}

@@ -1,6 +1,7 @@
 -- The lines of a load: the bounds of their numbers, and how long they are.
 -- Assumes nothing.
-use Rattle.laws.proofs.Prelude.{ℕ, suc, ◌/◌, ◌%◌, ◌≤◌, ◌<◌, arith, ℤ, pos, negsuc, ◌-ℤ◌, length, length-append, plus, minus, taken}
+use Rattle.std.specs.Prelude.{◌/◌, ◌%◌, ◌≤◌, ◌<◌, ◌-ℤ◌}
+use Rattle.laws.proofs.Prelude.{ℕ, suc, arith, ℤ, pos, negsuc, length, length-append, plus, minus, taken}
 use Rattle.decimal.specs.Decimal.{decimal, decimalℤ}
 use Rattle.decimal.proofs.Print.{length_at_most}
 use Rattle.lines.specs.Text.{line_text}

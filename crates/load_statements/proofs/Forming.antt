@@ -1,7 +1,8 @@
 -- The job of a load is well formed: its lines, its counts and its length are those of a job text, and the rules hold.
 -- Assumes nothing.
-use Rattle.laws.proofs.Prelude.{◌≡◌, refl, ap, Bool, true, List, [], ◌∷◌, map, append-nil, some, ℕ, zero, suc, ◌*◌, ◌%◌, ◌≤◌, ◌<◌, arith, le-leb, ℤ}
-use Rattle.laws.proofs.Prelude.{pos, ◌-ℤ◌, length, length-append, length-map, plus, tabulate, all, both, whole, length_tabulate}
+use Rattle.std.specs.Prelude.{◌≡◌, ◌∷◌, ◌*◌, ◌%◌, ◌≤◌, ◌<◌, ◌-ℤ◌}
+use Rattle.laws.proofs.Prelude.{refl, ap, Bool, true, List, [], map, append-nil, some, ℕ, zero, suc, arith, le-leb, ℤ}
+use Rattle.laws.proofs.Prelude.{pos, length, length-append, length-map, plus, tabulate, all, both, whole, length_tabulate}
 use native.Mathlib.Nat.{mul-suc}
 use Rattle.layer_table.proofs.Listed.{map_tabulate}
 use Rattle.lines.specs.Text.{line_text, lines_text, block_text, Fields, AllFields}

@@ -1,6 +1,7 @@
 -- The line that asks for a load has at most 20 bytes, and so the first 21 of an input decide; every answer has at most 11,518.
 -- Assumes nothing.
-use Rattle.laws.proofs.Prelude.{◌≡◌, refl, sym, ap, ◌∙◌, ⊎_elim, List, [], ◌∷◌, Option, some, none, ℕ, ◌≤◌, ◌<◌, arith, pos, length, take}
+use Rattle.std.specs.Prelude.{◌≡◌, ◌∷◌, ◌≤◌, ◌<◌}
+use Rattle.laws.proofs.Prelude.{refl, sym, ap, ◌∙◌, ⊎_elim, List, [], Option, some, none, ℕ, arith, pos, length, take}
 use Rattle.laws.proofs.Prelude.{length-append, length-take-le, take_all, le_or_lt}
 use Rattle.decimal.specs.Decimal.{decimal}
 use Rattle.decimal.proofs.Print.{length_at_most}

@@ -1,6 +1,7 @@
 -- What holds of every load, put together; and what reading a line tells.
 -- Assumes nothing.
-use Rattle.laws.proofs.Prelude.{◌≡◌, refl, List, Option, some, none, ℕ}
+use Rattle.std.specs.Prelude.{◌≡◌}
+use Rattle.laws.proofs.Prelude.{refl, List, Option, some, none, ℕ}
 use Rattle.load_statements.specs.Load.{Asked}
 use Rattle.load_statements.specs.Input.{AskedInRange, ask}
 use Rattle.load_statements.specs.Made.{LoadMade, LoadTells}

@@ -1,6 +1,7 @@
 -- The layers of a load's tiles: each is one of the eight of its table, so that no list has more than eight layers, and none is missing in the table.
 -- Assumes nothing.
-use Rattle.laws.proofs.Prelude.{◌≡◌, refl, Bool, true, false, cond, List, [], ◌∷◌, map, ℕ, suc, ◌-◌, ◌≤◌, ◌<◌, arith, ltb-true, ltb, eqb, ℤ, length}
+use Rattle.std.specs.Prelude.{◌≡◌, ◌∷◌, ◌-◌, ◌≤◌, ◌<◌}
+use Rattle.laws.proofs.Prelude.{refl, Bool, true, false, cond, List, [], map, ℕ, suc, arith, ltb-true, ltb, eqb, ℤ, length}
 use Rattle.laws.proofs.Prelude.{drop, is_given, all, both, left, right, all_kept}
 use Rattle.laws.proofs.Maps.{all_take, all_drop}
 use Rattle.pixel_segment.specs.Field.{cpu, layer_id_of}

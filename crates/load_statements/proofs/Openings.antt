@@ -1,6 +1,7 @@
 -- An opening of a load's job is not refused: its row ascends, its layers are a table, and no segment lies left of tile 0.
 -- Assumes nothing.
-use Rattle.laws.proofs.Prelude.{◌≡◌, refl, ap, ◌∙◌, true, false, not, ⊎_elim, [], flatten, ℕ, ◌^◌, ◌≤◌, ◌<◌, arith, le-ltb, ltb, lit<, pos, get_or}
+use Rattle.std.specs.Prelude.{◌≡◌, ◌^◌, ◌≤◌, ◌<◌}
+use Rattle.laws.proofs.Prelude.{refl, ap, ◌∙◌, true, false, not, ⊎_elim, [], flatten, ℕ, arith, le-ltb, ltb, lit<, pos, get_or}
 use Rattle.laws.proofs.Prelude.{given, tabulate, over, filter_none, le_or_lt, length_tabulate, get_d_tabulate}
 use lib.ListN.{get_or-eq_default}
 use Rattle.refusals.specs.Refusal.{pass}

@@ -1,6 +1,7 @@
 -- The lines of a load keep the rules of document 01 on a job's values.
 -- Assumes nothing.
-use Rattle.laws.proofs.Prelude.{◌≡◌, refl, true, ℕ, ◌+◌, ◌/◌, ◌%◌, ◌≤◌, ◌<◌, arith, pos, ◌-ℤ◌, is_within, both, taken, added, is_within_lem}
+use Rattle.std.specs.Prelude.{◌≡◌, ◌+◌, ◌/◌, ◌%◌, ◌≤◌, ◌<◌, ◌-ℤ◌}
+use Rattle.laws.proofs.Prelude.{refl, true, ℕ, arith, pos, is_within, both, taken, added, is_within_lem}
 use Rattle.pixel_segment.specs.Field.{cpu}
 use Rattle.pixel_segment.specs.Pack.{is_packable}
 use Rattle.pixel_segment.proofs.Ranges.{cpu_layout, packable}

@@ -1,6 +1,7 @@
 -- The slots of a load: they lie within its tiles, and don't descend.
 -- Assumes nothing.
-use Rattle.laws.proofs.Prelude.{ℕ, ◌*◌, ◌/◌, ◌≤◌, ◌<◌, mul-le-mul_left, div-lt_iff_lt-mul, arith}
+use Rattle.std.specs.Prelude.{◌*◌, ◌/◌, ◌≤◌, ◌<◌}
+use Rattle.laws.proofs.Prelude.{ℕ, mul-le-mul_left, div-lt_iff_lt-mul, arith}
 use native.Mathlib.Nat.{mul-lt-mul_of_pos_left, le-div_iff_mul-le, div-mul-le_self}
 use Rattle.load_statements.specs.Load.{slot_of}
 

@@ -1,7 +1,8 @@
 -- After a load's opening a tile is refused by 9 or not at all, and so its row is worked whole or up to the first tile whose covers grow too large.
 -- Assumes nothing.
-use Rattle.laws.proofs.Prelude.{◌≡◌, refl, ap, ◌∙◌, Bool, true, false, not, ◌||◌, ◌⊎◌, inl, inr, ⊎_elim, [], ◌∷◌, flatten, ℕ, zero, suc, ◌+◌, ◌-◌}
-use Rattle.laws.proofs.Prelude.{◌≤◌, ◌<◌, min, add-zero, arith, le-ltb, lt-ltb, ltb, pos, length, is_given, tabulate}
+use Rattle.std.specs.Prelude.{◌≡◌, ◌||◌, ◌⊎◌, ◌∷◌, ◌+◌, ◌-◌, ◌≤◌, ◌<◌}
+use Rattle.laws.proofs.Prelude.{refl, ap, ◌∙◌, Bool, true, false, not, inl, inr, ⊎_elim, [], flatten, ℕ, zero, suc}
+use Rattle.laws.proofs.Prelude.{min, add-zero, arith, le-ltb, lt-ltb, ltb, pos, length, is_given, tabulate}
 use Rattle.refusals.specs.Refusal.{pass, refuse, unless}
 use Rattle.pixel_segment.specs.Field.{cpu, layer_id_of}
 use Rattle.layer_table.specs.Lookup.{lookup}

@@ -1,6 +1,7 @@
 -- The generator of loads. Stands for document 02, W-204: 'the generator's state s starts as the seed (32 bits); each draw sets s to
 -- (1,664,525 × s + 1,013,904,223) mod 4,294,967,296 and gives s divided by 65,536, rounded down'.
-use Rattle.laws.specs.Prelude.{ℕ, zero, suc, ◌+◌, ◌*◌, ◌/◌, ◌%◌, ◌^◌}
+use Rattle.std.specs.Prelude.{◌+◌, ◌*◌, ◌/◌, ◌%◌, ◌^◌}
+use Rattle.laws.specs.Prelude.{ℕ, zero, suc}
 
 unfoldable pub next : ℕ → ℕ
 next s = (1664525 * s + 1013904223) % 2 ^ 32

@@ -1,7 +1,8 @@
 -- The line that asks for a load. Stands for document 02, W-204: 'a seed, a number of tiles 1 to 4,095 and a number of segments n, 1 to 512, on
 -- one line of standard input in that order', 'three whole numbers in these ranges in document 01's text form, the seed having up to ten digits':
 -- what three such numbers print to. `ask` reads it; proofs/Asking says what this is: the inverse of `line_text` on these lines.
-use Rattle.laws.specs.Prelude.{◌≡◌, cond, ◌&&◌, List, [], ◌∷◌, Option, some, none, ℕ, ◌^◌, ◌≤◌, ◌<◌, ltb, eqb, pos}
+use Rattle.std.specs.Prelude.{◌≡◌, ◌&&◌, ◌∷◌, ◌^◌, ◌≤◌, ◌<◌}
+use Rattle.laws.specs.Prelude.{cond, List, [], Option, some, none, ℕ, ltb, eqb, pos}
 use Rattle.decimal.specs.Parse.{Parsed, parsed, failed, parseℕ}
 use Rattle.lines.specs.Text.{line_text}
 use Rattle.load_statements.specs.Load.{Asked, asked}

@@ -1,6 +1,7 @@
 -- How long the line is that asks for a load, and the text that answers it. The load program reads one byte more than the longest line has, which is
 -- enough to tell a longer input, and has room for every answer.
-use Rattle.laws.specs.Prelude.{◌≡◌, List, ℕ, suc, ◌≤◌, length, take}
+use Rattle.std.specs.Prelude.{◌≡◌, ◌≤◌}
+use Rattle.laws.specs.Prelude.{List, ℕ, suc, length, take}
 use Rattle.load_statements.specs.Load.{Asked}
 use Rattle.load_statements.specs.Input.{Asks}
 use Rattle.load_statements.specs.Answer.{load_answer_text}

@@ -2,7 +2,8 @@
 -- k × 8 × tiles divided by n, rounded down; its tile is slot divided by 8, its layer the remainder. Four draws give, in turn, x (the draw mod
 -- 16), y (mod 16), the multiplier (mod 33) and the cover (mod 33, less 16); each segment has one row. The job's row and from are 0, its tiles
 -- and to the number of tiles'. Its text is document 01's (`render`).
-use Rattle.laws.specs.Prelude.{ℕ, ◌*◌, ◌/◌, ◌%◌, pos, ◌-ℤ◌, tabulate}
+use Rattle.std.specs.Prelude.{◌*◌, ◌/◌, ◌%◌, ◌-ℤ◌}
+use Rattle.laws.specs.Prelude.{ℕ, pos, tabulate}
 use Rattle.job_lines.specs.declared.layer.LayerLine.{LayerLine}
 use Rattle.job_lines.specs.declared.segment.SegmentLine.{SegmentLine}
 use Rattle.job_text_statements.specs.declared.Head.{Head}

@@ -1,6 +1,7 @@
 -- What holds of every load. Stands for document 02, W-204: 'the job reader is proved to accept every such text, and its rows ascend'. Beyond
 -- that, its layers are a table, and so an opening of its job, from tile 0 and with a queue that is long enough, is not refused; after it only 9 is.
-use Rattle.laws.specs.Prelude.{◌≡◌, true, false, List, Option, some, none, ℕ, ◌≤◌, Float, pos, length, given}
+use Rattle.std.specs.Prelude.{◌≡◌, ◌≤◌}
+use Rattle.laws.specs.Prelude.{true, false, List, Option, some, none, ℕ, Float, pos, length, given}
 use Rattle.pixel_segment.specs.Field.{cpu}
 use Rattle.segment_rows.specs.Rows.{is_row}
 use Rattle.row_statements.specs.Lent.{Columns, is_queue_short, is_lent_table}

@@ -1,6 +1,7 @@
 -- How the row of a load is worked after its opening. Stands for document 02, W-204: 'rows whose covers grow too large end with 9 in the row program';
 -- and no row of a load ends with another number.
-use Rattle.laws.specs.Prelude.{◌≡◌, Bool, true, false, not, ◌||◌, ◌⊎◌, some, none, ℕ, ◌<◌, pos, length}
+use Rattle.std.specs.Prelude.{◌≡◌, ◌||◌, ◌⊎◌, ◌<◌}
+use Rattle.laws.specs.Prelude.{Bool, true, false, not, some, none, ℕ, pos, length}
 use Rattle.refusals.specs.Refusal.{pass, unless}
 use Rattle.cached_tile.specs.Kept.{tag_out_of_range}
 use Rattle.tile_layers.specs.Listing.{are_light}

@@ -1,6 +1,7 @@
 -- The blocks of a load's text, printed: their lines, the text put together, and the answer to a line and to the front of an input.
 -- Assumes nothing.
-use Rattle.laws.proofs.Prelude.{◌≡◌, refl, sym, ap, ap₂, subst, ◌∙◌, List, [], ◌∷◌, ◌++◌, append-nil, Option, some, ℕ, suc, ◌+◌, ◌*◌, ◌<◌, ◌≤◌, arith}
+use Rattle.std.specs.Prelude.{◌≡◌, ◌∷◌, ◌++◌, ◌+◌, ◌*◌, ◌<◌, ◌≤◌}
+use Rattle.laws.proofs.Prelude.{refl, sym, ap, ap₂, subst, ◌∙◌, List, [], append-nil, Option, some, ℕ, suc, arith}
 use Rattle.laws.proofs.Prelude.{ℤ, length, take, tabulate}
 use Rattle.decimal.specs.Print.{Printing}
 use Rattle.decimal.proofs.Print.{joined}

@@ -1,5 +1,6 @@
 -- What answering a line promises: every byte of the answer, at the front of a buffer that has room for it, and with it what holds of every load.
-use Rattle.laws.specs.Prelude.{List, [], ◌∷◌, ℕ, tabulate}
+use Rattle.std.specs.Prelude.{◌∷◌}
+use Rattle.laws.specs.Prelude.{List, [], ℕ, tabulate}
 use Rattle.lines.specs.Text.{block_text}
 use Rattle.job_text_statements.specs.Text.{head_names, layer_names, segment_names}
 use Rattle.job_text_statements.specs.Job.{head_values, layer_values, segment_values}

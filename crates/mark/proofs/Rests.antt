@@ -1,6 +1,7 @@
 -- Laws of the mark by remainders: an EvenOdd coverage is above 0 exactly where its doubled area is no multiple of 1,024, and a weight, which is at
 -- most 512, is its own EvenOdd weight. Assumes nothing.
-use Rattle.laws.proofs.Prelude.{◌≡◌, refl, sym, ap, ◌∙◌, List, ℕ, zero, suc, ◌+◌, ◌*◌, ◌≤◌, ◌<◌, mod-eq_of_lt, arith, lt-ltb, ltb, lit<, nan, ℤ, pos}
+use Rattle.std.specs.Prelude.{◌≡◌, ◌+◌, ◌*◌, ◌≤◌, ◌<◌}
+use Rattle.laws.proofs.Prelude.{refl, sym, ap, ◌∙◌, List, ℕ, zero, suc, mod-eq_of_lt, arith, lt-ltb, ltb, lit<, nan, ℤ, pos}
 use Rattle.laws.proofs.Prelude.{negsuc, nat_abs, length, get_or, length-map, ext_get_or, remainder, difference, minus, modℤ}
 use Rattle.weight_table.specs.Rest.{rest_weight}
 use Rattle.styling.specs.declared.FillRule.TheVariants.{EvenOdd}

@@ -1,6 +1,7 @@
 -- W-209: what a layer paints is its plane by columns, the order before, with the two places exchanged; so for a draw and for a clip. A draw's mark is
 -- the one that the plane by columns had. Assumes nothing.
-use Rattle.laws.proofs.Prelude.{◌≡◌, ap, ◌∙◌, Bool, cond, List, Option, ℕ, Float, nan, over}
+use Rattle.std.specs.Prelude.{◌≡◌}
+use Rattle.laws.proofs.Prelude.{ap, ◌∙◌, Bool, cond, List, Option, ℕ, Float, nan, over}
 use Rattle.pixel_segment.specs.Field.{cpu}
 use Rattle.segment_rows.specs.Search.{layer_part}
 use Rattle.styling.specs.declared.Func.{Func}

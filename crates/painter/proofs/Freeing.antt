@@ -1,5 +1,6 @@
 -- The walk that finds whether a draw is freed: the latest clip so far and the layers that are left give the latest clip of all. Assumes nothing.
-use Rattle.laws.proofs.Prelude.{◌≡◌, refl, sym, ap, ◌∙◌, Bool, true, false, cond, ◌&&◌, List, [], ◌∷◌, map, Option, some, none, ℕ, ◌+◌, ◌≤◌, ltb, leb}
+use Rattle.std.specs.Prelude.{◌≡◌, ◌&&◌, ◌∷◌, ◌+◌, ◌≤◌}
+use Rattle.laws.proofs.Prelude.{refl, sym, ap, ◌∙◌, Bool, true, false, cond, List, [], map, Option, some, none, ℕ, ltb, leb}
 use Rattle.laws.proofs.Prelude.{ℤ, length, drop, Answer, refused, given, is_given, cons_rest, filter}
 use Rattle.layer_table.specs.Lookup.{lookup}
 use Rattle.styling.specs.declared.Layer.{Layer}

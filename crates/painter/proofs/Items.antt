@@ -1,6 +1,7 @@
 -- After an accepted tile work the table has every listed layer, and the layers that rule over a painted one are all that are listed, as the passes
 -- see them. Assumes nothing.
-use Rattle.laws.proofs.Prelude.{◌≡◌, ap, true, List, map, is_given, filter_all}
+use Rattle.std.specs.Prelude.{◌≡◌}
+use Rattle.laws.proofs.Prelude.{ap, true, List, map, is_given, filter_all}
 use Rattle.layer_table.specs.Lookup.{lookup}
 use Rattle.styling.specs.declared.Layer.{Layer}
 use Rattle.tile_layers.specs.Listing.{Listed, are_known}

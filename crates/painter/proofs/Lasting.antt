@@ -1,5 +1,6 @@
 -- The last layer id that a clip of a judged table reaches fits 32 bits. Assumes nothing.
-use Rattle.laws.proofs.Prelude.{◌≡◌, refl, sym, ap, ◌∙◌, Bool, true, ⊎_elim, List, [], ◌∷◌, ℕ, ◌+◌, ◌≤◌, ◌<◌, arith, leb-true, le-leb, leb, Float}
+use Rattle.std.specs.Prelude.{◌≡◌, ◌∷◌, ◌+◌, ◌≤◌, ◌<◌}
+use Rattle.laws.proofs.Prelude.{refl, sym, ap, ◌∙◌, Bool, true, ⊎_elim, List, [], ℕ, arith, leb-true, le-leb, leb, Float}
 use Rattle.laws.proofs.Prelude.{given, all, left, right, all_intro, eq_or_ne}
 use Rattle.layer_table.specs.Lookup.{lookup}
 use Rattle.layer_table.specs.Table.{layer_at, Table, table_of}

@@ -1,5 +1,6 @@
 -- Number 9 of a painted layer applies to a tile of the opposite row where it does to the row's. Assumes nothing.
-use Rattle.laws.proofs.Prelude.{◌≡◌, ap₂, ◌∙◌, true, List, map, ℕ, ℤ}
+use Rattle.std.specs.Prelude.{◌≡◌}
+use Rattle.laws.proofs.Prelude.{ap₂, ◌∙◌, true, List, map, ℕ, ℤ}
 use Rattle.pixel_segment.specs.Field.{cpu}
 use Rattle.pixel_segment.specs.Opposite.{opposite_of}
 use Rattle.pixel_segment.proofs.Opposite.{are_mild, cpu_wide}

@@ -1,5 +1,6 @@
 -- A layer painted: from what the steps give to what painting promises. Assumes nothing.
-use Rattle.laws.proofs.Prelude.{◌≡◌, Bool, List, Option, ℕ, Float, ℤ, over}
+use Rattle.std.specs.Prelude.{◌≡◌}
+use Rattle.laws.proofs.Prelude.{Bool, List, Option, ℕ, Float, ℤ, over}
 use Rattle.pixel_segment.specs.Field.{cpu}
 use Rattle.segment_rows.specs.Search.{layer_part}
 use Rattle.styling.specs.declared.Layer.{Layer}

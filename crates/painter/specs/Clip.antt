@@ -1,6 +1,7 @@
 -- The painter's clip, as `paint_layer` and `clip_at` of the Rust keep it. Stands for '`clip_at` writes the mask of a second clip but keeps the
 -- last layer id of the first while that one lives', from which P7 comes.
-use Rattle.laws.specs.Prelude.{Bool, true, false, cond, ◌&&◌, Option, some, none, ℕ, ◌+◌, ltb}
+use Rattle.std.specs.Prelude.{◌&&◌, ◌+◌}
+use Rattle.laws.specs.Prelude.{Bool, true, false, cond, Option, some, none, ℕ, ltb}
 use Rattle.styling.specs.declared.Func.{Func}
 use Rattle.styling.specs.declared.Func.TheVariants.{Draw, Clip}
 use Rattle.painter.specs.declared.Clip as painter

@@ -1,5 +1,6 @@
 -- How the code finds whether a draw needs a clip: over the list in one walk, keeping whether the latest clip so far frees the draw.
-use Rattle.laws.specs.Prelude.{Bool, cond, ◌&&◌, ℕ, ltb, leb, Answer, refused, given}
+use Rattle.std.specs.Prelude.{◌&&◌}
+use Rattle.laws.specs.Prelude.{Bool, cond, ℕ, ltb, leb, Answer, refused, given}
 use Rattle.styling.specs.declared.Layer.{Layer}
 use Rattle.pass_statements.specs.Clips.{is_clip}
 use Rattle.pass_statements.specs.Entry.{Entry}

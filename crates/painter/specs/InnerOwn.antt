@@ -1,6 +1,7 @@
 -- A layer painted from its own segments and the cover that comes in for it, whatever row and queue they are of. proofs/Painted has that this is its
 -- painting in a tile where they are that tile's.
-use Rattle.laws.specs.Prelude.{◌≡◌, Bool, List, Option, ℕ, Float, ℤ, over}
+use Rattle.std.specs.Prelude.{◌≡◌}
+use Rattle.laws.specs.Prelude.{Bool, List, Option, ℕ, Float, ℤ, over}
 use Rattle.pixel_segment.specs.Field.{cpu}
 use Rattle.styling.specs.declared.Layer.{Layer}
 use Rattle.cover_statements.specs.Paint.{part_plane}

@@ -1,5 +1,6 @@
 -- What the painting of a layer asks of the functions above it, which judge: the row's operations turn everything else down.
-use Rattle.laws.specs.Prelude.{ℕ, ◌≤◌, List, Float, ℤ, length}
+use Rattle.std.specs.Prelude.{◌≤◌}
+use Rattle.laws.specs.Prelude.{ℕ, List, Float, ℤ, length}
 use Rattle.layer_table.specs.Table.{Table}
 use Rattle.queue_statements.specs.Queue.{Queued}
 use Rattle.tile_layers.specs.InnerWalk.{Walks}

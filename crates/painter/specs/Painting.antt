@@ -1,7 +1,8 @@
 -- One layer painted in one tile: its 256 coverages from the queue that the tile took in and the tile's part of the row, its mark, and the clip
 -- after it. Stands for 'each writes its 256 coverages into a lent plane and gives its mark', for 'bit 2 × column + h of a mark is set when a draw
 -- uses the octet: some coverage is above 0 and no needed clip is lacking', and for 'a clip layer's mark is 0; it writes its whole plane'.
-use Rattle.laws.specs.Prelude.{◌≡◌, Bool, cond, List, map, Option, ℕ, Float, is_given, over, filter}
+use Rattle.std.specs.Prelude.{◌≡◌}
+use Rattle.laws.specs.Prelude.{Bool, cond, List, map, Option, ℕ, Float, is_given, over, filter}
 use Rattle.pixel_segment.specs.Field.{cpu}
 use Rattle.segment_rows.specs.Search.{layer_part}
 use Rattle.layer_table.specs.Lookup.{lookup}

@@ -1,5 +1,6 @@
 -- The second pass as it runs over two lent columns: what is left of it, from place i on, gives what the whole pass gives. Assumes nothing.
-use Rattle.laws.proofs.Prelude.{◌≡◌, refl, sym, ap, ap₂, ◌∙◌, Bool, true, false, not, List, [], ◌∷◌, ℕ, suc, ◌+◌, ◌≤◌, ◌<◌, add-suc, suc-add, add-one}
+use Rattle.std.specs.Prelude.{◌≡◌, ◌∷◌, ◌+◌, ◌≤◌, ◌<◌}
+use Rattle.laws.proofs.Prelude.{refl, sym, ap, ap₂, ◌∙◌, Bool, true, false, not, List, [], ℕ, suc, add-suc, suc-add, add-one}
 use Rattle.laws.proofs.Prelude.{arith, length, set, drop, replicate, length-set, length-replicate, drop_of_length-le, over}
 use lib.Seq.{set-append_left}
 use Rattle.styling.specs.Style.{is_clipped_of}

@@ -1,5 +1,6 @@
 -- A lent column of marks: its front filled with one mark. Assumes nothing.
-use Rattle.laws.proofs.Prelude.{◌≡◌, refl, sym, ap, ◌∙◌, Bool, List, ℕ, ◌+◌, ◌≤◌, ◌<◌, arith, length, get_or, set, replicate, length-replicate}
+use Rattle.std.specs.Prelude.{◌≡◌, ◌+◌, ◌≤◌, ◌<◌}
+use Rattle.laws.proofs.Prelude.{refl, sym, ap, ◌∙◌, Bool, List, ℕ, arith, length, get_or, set, replicate, length-replicate}
 use Rattle.laws.proofs.Prelude.{get_or-replicate, over, filled, length_filled, filled_more, filled_all}
 
 pub record Filling (n : ℕ) (mark : Bool) (old : List Bool) (i : ℕ) (column : List Bool) : Type 0 where

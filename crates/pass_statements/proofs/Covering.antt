@@ -1,5 +1,6 @@
 -- The third pass as it runs: what is left of it, over the i lowest layers, gives what the whole pass gives. Assumes nothing.
-use Rattle.laws.proofs.Prelude.{◌≡◌, refl, sym, ap, ◌∙◌, Bool, true, false, cond, ◌⊎◌, inl, inr, ⊎_map, List, ℕ, zero, suc, ◌-◌, ◌≤◌, ◌<◌}
+use Rattle.std.specs.Prelude.{◌≡◌, ◌⊎◌, ◌-◌, ◌≤◌, ◌<◌}
+use Rattle.laws.proofs.Prelude.{refl, sym, ap, ◌∙◌, Bool, true, false, cond, inl, inr, ⊎_map, List, ℕ, zero, suc}
 use Rattle.laws.proofs.Prelude.{not-suc-le-zero, arith, length, get_or, clash}
 use Rattle.pass_statements.specs.declared.item.Item.{Item}
 use Rattle.pass_statements.specs.declared.covered.Covered.{Covered}

@@ -1,5 +1,6 @@
 -- The decision, put together from the passes. Assumes nothing.
-use Rattle.laws.proofs.Prelude.{◌≡◌, refl, sym, ap, ap₂, ◌∙◌, Bool, true, false, cond, ◌&&◌, List, [], ◌∷◌, ◌++◌, ℕ, zero, suc, ◌≤◌, ◌<◌}
+use Rattle.std.specs.Prelude.{◌≡◌, ◌&&◌, ◌∷◌, ◌++◌, ◌≤◌, ◌<◌}
+use Rattle.laws.proofs.Prelude.{refl, sym, ap, ap₂, ◌∙◌, Bool, true, false, cond, List, [], ℕ, zero, suc}
 use Rattle.laws.proofs.Prelude.{le_of_suc-le-suc, not-suc-le-zero, arith, leb, length, get_or, drop, set, replicate, length-set, length-replicate}
 use Rattle.laws.proofs.Prelude.{List·getD-append, over}
 use Rattle.styling.specs.declared.Color.{Color}

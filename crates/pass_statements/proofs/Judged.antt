@@ -1,7 +1,8 @@
 -- A clip as the second pass comes to it: what it is judged by. It stays where another clip comes before a layer past its end, or a clipped draw
 -- within its span; what is full is masked off at once. Assumes nothing.
-use Rattle.laws.proofs.Prelude.{◌≡◌, refl, sym, ap, ◌∙◌, Bool, true, false, not, ◌&&◌, ◌||◌, false≢true, and-true, and-false, List, [], ◌∷◌, ℕ, zero}
-use Rattle.laws.proofs.Prelude.{suc, ◌+◌, ◌≤◌, ◌<◌, not-suc-le-zero, le_of_suc-le-suc, add-suc, suc-add, arith, le-leb, lt-leb, leb, length, get_or}
+use Rattle.std.specs.Prelude.{◌≡◌, ◌&&◌, ◌||◌, ◌∷◌, ◌+◌, ◌≤◌, ◌<◌}
+use Rattle.laws.proofs.Prelude.{refl, sym, ap, ◌∙◌, Bool, true, false, not, false≢true, and-true, and-false, List, [], ℕ, zero}
+use Rattle.laws.proofs.Prelude.{suc, not-suc-le-zero, le_of_suc-le-suc, add-suc, suc-add, arith, le-leb, lt-leb, leb, length, get_or}
 use Rattle.laws.proofs.Prelude.{set, drop, get_or-set_same}
 use Rattle.styling.specs.Style.{is_clipped_of}
 use Rattle.pass_statements.specs.declared.Index.{Index}

@@ -1,5 +1,6 @@
 -- The first pass: a kept tile, by its two tests. Assumes nothing.
-use Rattle.laws.proofs.Prelude.{◌≡◌, refl, sym, Bool, true, false, ◌&&◌, false≢true, List, ℕ, eqb, length}
+use Rattle.std.specs.Prelude.{◌≡◌, ◌&&◌}
+use Rattle.laws.proofs.Prelude.{refl, sym, Bool, true, false, false≢true, List, ℕ, eqb, length}
 use Rattle.pass_statements.specs.declared.item.Item.{Item}
 use Rattle.pass_statements.specs.declared.unchanged.PreviousCount.{PreviousCount}
 use Rattle.pass_statements.specs.declared.unchanged.PreviousCount.TheVariants.{Kept}

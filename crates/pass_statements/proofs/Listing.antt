@@ -1,5 +1,6 @@
 -- The list that three lent columns and a table are: its length and its items. Assumes nothing.
-use Rattle.laws.proofs.Prelude.{◌≡◌, sym, ap, ◌∙◌, Bool, false, not, List, ◌∷◌, ℕ, suc, ◌+◌, ◌*◌, ◌≤◌, ◌<◌, arith, ℤ, pos, length, get_or, drop}
+use Rattle.std.specs.Prelude.{◌≡◌, ◌∷◌, ◌+◌, ◌*◌, ◌≤◌, ◌<◌}
+use Rattle.laws.proofs.Prelude.{sym, ap, ◌∙◌, Bool, false, not, List, ℕ, suc, arith, ℤ, pos, length, get_or, drop}
 use Rattle.laws.proofs.Prelude.{tabulate, is_tabulate, length_tabulate, get_d_tabulate, given, refused}
 use Rattle.cover_statements.specs.Entry.{cover_entry}
 use Rattle.cover_statements.proofs.Entries.{entry_length, entry_at_lem}

@@ -1,5 +1,6 @@
 -- A look of the third pass at one layer: each answer, from the test that leads to it. Assumes nothing.
-use Rattle.laws.proofs.Prelude.{◌≡◌, Bool, true, false, ◌&&◌, ℕ}
+use Rattle.std.specs.Prelude.{◌≡◌, ◌&&◌}
+use Rattle.laws.proofs.Prelude.{Bool, true, false, ℕ}
 use Rattle.styling.specs.declared.Paint.{Paint}
 use Rattle.styling.specs.Style.{color_in, is_opaque, solid_color}
 use Rattle.pass_statements.specs.declared.Index.{Index}

@@ -1,5 +1,6 @@
 -- What the second pass leaves at a place: a turn marks its own place, and masks off at most the current clip besides. Assumes nothing.
-use Rattle.laws.proofs.Prelude.{◌≡◌, refl, sym, ◌∙◌, Bool, true, false, not, false≢true, List, [], ◌∷◌, ℕ, suc, ◌≤◌, ◌<◌, arith, length, get_or, set}
+use Rattle.std.specs.Prelude.{◌≡◌, ◌∷◌, ◌≤◌, ◌<◌}
+use Rattle.laws.proofs.Prelude.{refl, sym, ◌∙◌, Bool, true, false, not, false≢true, List, [], ℕ, suc, arith, length, get_or, set}
 use Rattle.laws.proofs.Prelude.{get_or-set_same, get_or-set_other}
 use Rattle.styling.specs.Style.{is_clipped_of}
 use Rattle.pass_statements.specs.declared.item.Item.{Item}

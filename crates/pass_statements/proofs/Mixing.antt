@@ -1,7 +1,8 @@
 -- The colours to mix, as the loop over the layers from the first that is not skipped goes: what it has found, with what is left, gives what the whole list gives.
 -- Assumes nothing.
-use Rattle.laws.proofs.Prelude.{◌≡◌, refl, sym, ap, ap₂, ◌∙◌, Bool, true, false, cond, ◌&&◌, and-true, and_assoc, List, [], ◌∷◌, ℕ, zero, suc, ◌+◌}
-use Rattle.laws.proofs.Prelude.{◌-◌, ◌≤◌, ◌<◌, add-zero, zero-add, add-suc, suc-add, add-one, arith, le-leb, lt-leb, leb, length, get_or, drop}
+use Rattle.std.specs.Prelude.{◌≡◌, ◌&&◌, ◌∷◌, ◌+◌, ◌-◌, ◌≤◌, ◌<◌}
+use Rattle.laws.proofs.Prelude.{refl, sym, ap, ap₂, ◌∙◌, Bool, true, false, cond, and-true, and_assoc, List, [], ℕ, zero, suc}
+use Rattle.laws.proofs.Prelude.{add-zero, zero-add, add-suc, suc-add, add-one, arith, le-leb, lt-leb, leb, length, get_or, drop}
 use Rattle.laws.proofs.Prelude.{drop_of_length-le, drop-cons, all}
 use lib.Seq.{drop-nil}
 use Rattle.styling.specs.Style.{solid_color}

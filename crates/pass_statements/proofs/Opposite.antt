@@ -1,5 +1,6 @@
 -- The passes read the same of a list and of its opposite: a cover is full where the negated one is. Assumes nothing.
-use Rattle.laws.proofs.Prelude.{◌≡◌, refl, ap₂, not, ◌&&◌, List, [], ◌∷◌, map, Answer, refused, given}
+use Rattle.std.specs.Prelude.{◌≡◌, ◌&&◌, ◌∷◌}
+use Rattle.laws.proofs.Prelude.{refl, ap₂, not, List, [], map, Answer, refused, given}
 use Rattle.cover_statements.proofs.Opposite.{full_opposite}
 use Rattle.layer_table.specs.Lookup.{lookup}
 use Rattle.styling.specs.declared.Layer.{Layer}

@@ -1,5 +1,6 @@
 -- An outcome by its one test, and what the passes leave of a whole list, for proofs/Words. Assumes nothing.
-use Rattle.laws.proofs.Prelude.{◌≡◌, refl, sym, ap, ◌∙◌, Bool, true, false, not, ◌&&◌, ◌||◌, false≢true, List, map, none, ℕ, suc, ◌<◌, zero-add}
+use Rattle.std.specs.Prelude.{◌≡◌, ◌&&◌, ◌||◌, ◌<◌}
+use Rattle.laws.proofs.Prelude.{refl, sym, ap, ◌∙◌, Bool, true, false, not, false≢true, List, map, none, ℕ, suc, zero-add}
 use Rattle.laws.proofs.Prelude.{arith, length, get_or, drop, replicate, length-replicate, get_or-replicate, length-map, List·getD-map, left, right}
 use Rattle.styling.specs.declared.Color.{Color}
 use Rattle.styling.specs.declared.Func.{Func}

@@ -1,6 +1,7 @@
 -- W-208 in laws: a listed clip that is changed never leaves a tile as it is; the mark of a clip counts, masked off or not, and that of a draw that
 -- is masked off plays no part; marks are the list's own, whatever the table says. Assumes nothing.
-use Rattle.laws.proofs.Prelude.{◌≡◌, refl, sym, ap, ◌∙◌, Bool, true, false, not, ◌&&◌, ◌||◌, and-true, List, [], ◌∷◌, map, ℕ, zero, suc, ◌<◌}
+use Rattle.std.specs.Prelude.{◌≡◌, ◌&&◌, ◌||◌, ◌∷◌, ◌<◌}
+use Rattle.laws.proofs.Prelude.{refl, sym, ap, ◌∙◌, Bool, true, false, not, and-true, List, [], map, ℕ, zero, suc}
 use Rattle.laws.proofs.Prelude.{le_of_suc-le-suc, not-suc-le-zero, arith, eqb, length, get_or, length-set, length-map, get_or-set_same, get_or-set_other}
 use Rattle.laws.proofs.Prelude.{Answer, given, refused, clash, not_left, not_right}
 use Rattle.styling.specs.declared.Color.{Color}

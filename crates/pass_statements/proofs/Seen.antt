@@ -1,5 +1,6 @@
 -- The shown layers, in the words of specs/Shown; what is masked off plays no part in them. Assumes nothing.
-use Rattle.laws.proofs.Prelude.{◌≡◌, refl, sym, ap, ap₂, ◌∙◌, Bool, true, false, cond, not, ◌&&◌, List, [], ◌∷◌, map, ℕ, zero, suc, ◌+◌, add-zero}
+use Rattle.std.specs.Prelude.{◌≡◌, ◌&&◌, ◌∷◌, ◌+◌}
+use Rattle.laws.proofs.Prelude.{refl, sym, ap, ap₂, ◌∙◌, Bool, true, false, cond, not, List, [], map, ℕ, zero, suc, add-zero}
 use Rattle.laws.proofs.Prelude.{zero-add, add-suc, suc-add, arith, ltb-true, ltb-false, le-leb, lt-leb, ltb, leb, length, get_or, tabulate, filter}
 use Rattle.laws.proofs.Prelude.{filter_ext}
 use Rattle.pass_statements.specs.declared.item.Item.{Item}

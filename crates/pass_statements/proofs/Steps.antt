@@ -1,5 +1,6 @@
 -- One turn of the second pass: each answer of its functions, from the variant and the test that lead to it. Assumes nothing.
-use Rattle.laws.proofs.Prelude.{◌≡◌, refl, sym, ap, ◌∙◌, List, Bool, true, false, cond, not, ◌&&◌, ◌||◌, ℕ, ◌+◌, ◌<◌, ◌≤◌, lt-ltb, le-ltb, length}
+use Rattle.std.specs.Prelude.{◌≡◌, ◌&&◌, ◌||◌, ◌+◌, ◌<◌, ◌≤◌}
+use Rattle.laws.proofs.Prelude.{refl, sym, ap, ◌∙◌, List, Bool, true, false, cond, not, ℕ, lt-ltb, le-ltb, length}
 use Rattle.laws.proofs.Prelude.{set}
 use lib.Seq.{set_out}
 use Rattle.styling.specs.declared.Func.{Func}

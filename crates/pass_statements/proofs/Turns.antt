@@ -1,6 +1,7 @@
 -- One turn of the second pass, by its four cases: a clip, and a draw with no clip, past the end of the current one, or within it.
 -- Assumes nothing.
-use Rattle.laws.proofs.Prelude.{◌≡◌, refl, ap, ◌∙◌, Bool, true, false, cond, not, ◌&&◌, ⊎_elim, ℕ, ◌+◌, ◌≤◌, ◌<◌, arith, lt-ltb, le-ltb, le_or_lt}
+use Rattle.std.specs.Prelude.{◌≡◌, ◌&&◌, ◌+◌, ◌≤◌, ◌<◌}
+use Rattle.laws.proofs.Prelude.{refl, ap, ◌∙◌, Bool, true, false, cond, not, ⊎_elim, ℕ, arith, lt-ltb, le-ltb, le_or_lt}
 use Rattle.styling.specs.declared.Func.{Func}
 use Rattle.styling.specs.declared.Func.TheVariants.{Draw, Clip}
 use Rattle.styling.specs.declared.Style.{Style}

@@ -1,7 +1,8 @@
 -- The second pass by the rule: while ascending ids are passed, the current clip is the latest listed one, unless its span has ended.
 -- Assumes nothing.
-use Rattle.laws.proofs.Prelude.{◌≡◌, refl, sym, ap, ◌∙◌, Bool, true, false, cond, not, ◌&&◌, ◌||◌, false≢true, List, [], ◌∷◌, map, Option, some, none}
-use Rattle.laws.proofs.Prelude.{ℕ, zero, suc, ◌+◌, ◌≤◌, ◌<◌, not-suc-le-zero, le_of_suc-le-suc, add-suc, suc-add, arith, lt-ltb, le-ltb, le-leb}
+use Rattle.std.specs.Prelude.{◌≡◌, ◌&&◌, ◌||◌, ◌∷◌, ◌+◌, ◌≤◌, ◌<◌}
+use Rattle.laws.proofs.Prelude.{refl, sym, ap, ◌∙◌, Bool, true, false, cond, not, false≢true, List, [], map, Option, some, none}
+use Rattle.laws.proofs.Prelude.{ℕ, zero, suc, not-suc-le-zero, le_of_suc-le-suc, add-suc, suc-add, arith, lt-ltb, le-ltb, le-leb}
 use Rattle.laws.proofs.Prelude.{lt-leb, leb, length, get_or, set, length-set, length-map, List·getD-map}
 use Rattle.styling.specs.Ascending.{strictly_ascends_from}
 use Rattle.styling.specs.Style.{is_clipped_of}

@@ -1,7 +1,8 @@
 -- A clip that some listed draw uses, by the latest clips of the draws: in an ascending list that is a clipped draw which comes above the clip,
 -- before another clip and before any layer past its end. Assumes nothing.
-use Rattle.laws.proofs.Prelude.{◌≡◌, refl, ap, ap₂, ◌∙◌, Bool, true, false, cond, not, ◌&&◌, ◌||◌, and-false, false≢true, List, [], ◌∷◌, map, Option}
-use Rattle.laws.proofs.Prelude.{some, none, ℕ, zero, suc, ◌≤◌, ◌<◌, not-suc-le-zero, le_of_suc-le-suc, arith, eq-eqb, ne_eqb, lt-leb, leb-false, leb}
+use Rattle.std.specs.Prelude.{◌≡◌, ◌&&◌, ◌||◌, ◌∷◌, ◌≤◌, ◌<◌}
+use Rattle.laws.proofs.Prelude.{refl, ap, ap₂, ◌∙◌, Bool, true, false, cond, not, and-false, false≢true, List, [], map, Option}
+use Rattle.laws.proofs.Prelude.{some, none, ℕ, zero, suc, not-suc-le-zero, le_of_suc-le-suc, arith, eq-eqb, ne_eqb, lt-leb, leb-false, leb}
 use Rattle.laws.proofs.Prelude.{length, drop, any, not_left, not_right}
 use Rattle.styling.specs.Ascending.{strictly_ascends_from}
 use Rattle.styling.specs.declared.Func.{Func}

@@ -1,6 +1,7 @@
 -- What the scope says of the passes in words, proved of the definitions. Assumes nothing.
-use Rattle.laws.proofs.Prelude.{◌≡◌, refl, ap, ◌∙◌, Bool, true, false, not, ◌&&◌, ◌||◌, and-true, and-false, ◌⊎◌, inl, ⊎_elim, ⊎_map, List, [], ℕ}
-use Rattle.laws.proofs.Prelude.{◌≤◌, ◌<◌, not-suc-le-zero, arith, ne_eqb, length, length-replicate, either}
+use Rattle.std.specs.Prelude.{◌≡◌, ◌&&◌, ◌||◌, ◌⊎◌, ◌≤◌, ◌<◌}
+use Rattle.laws.proofs.Prelude.{refl, ap, ◌∙◌, Bool, true, false, not, and-true, and-false, inl, ⊎_elim, ⊎_map, List, [], ℕ}
+use Rattle.laws.proofs.Prelude.{not-suc-le-zero, arith, ne_eqb, length, length-replicate, either}
 use Rattle.styling.specs.declared.Color.{Color}
 use Rattle.styling.specs.Style.{is_clipped_of}
 use Rattle.pass_statements.specs.declared.item.Item.{Item}

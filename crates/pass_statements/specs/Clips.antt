@@ -1,5 +1,6 @@
 -- The second pass (`skip_trivial_clips_pass`), as the Rust goes: from the lowest listed layer up, with the clip that was met last.
-use Rattle.laws.specs.Prelude.{◌≡◌, Bool, true, false, cond, not, ◌||◌, List, [], ◌∷◌, ℕ, suc, ◌+◌, ltb, length, set, replicate, over}
+use Rattle.std.specs.Prelude.{◌≡◌, ◌||◌, ◌∷◌, ◌+◌}
+use Rattle.laws.specs.Prelude.{Bool, true, false, cond, not, List, [], ℕ, suc, ltb, length, set, replicate, over}
 use Rattle.styling.specs.declared.Func.{Func}
 use Rattle.styling.specs.declared.Func.TheVariants.{Draw, Clip}
 use Rattle.styling.specs.Style.{is_clipped_of}

@@ -1,7 +1,8 @@
 -- The third pass (`skip_fully_covered_layers_pass`), as the Rust goes: from the highest layer that is not masked off down to the first that
 -- hides all below it. It finds the first cover that tells whether the tile can be solid, whether the layers looked at are unchanged, and how
 -- many are skipped. Other than in the Rust, the tile also counts as changed where any listed clip is changed (W-208).
-use Rattle.laws.specs.Prelude.{Bool, false, cond, not, ◌&&◌, ◌||◌, List, Option, some, none, ℕ, zero, suc, length, get_or, all}
+use Rattle.std.specs.Prelude.{◌&&◌, ◌||◌}
+use Rattle.laws.specs.Prelude.{Bool, false, cond, not, List, Option, some, none, ℕ, zero, suc, length, get_or, all}
 use Rattle.styling.specs.declared.Color.{Color}
 use Rattle.styling.specs.declared.Func.TheVariants.{Clip}
 use Rattle.styling.specs.Style.{is_clipped_of, is_opaque, solid_color}

@@ -1,7 +1,8 @@
 -- The decision about a tile (`optimization_passes`): none, solid with the bottom colour and how many shown layers (0 or 1) lie before those to
 -- mix above it, or paint; which layers are masked off, and how many are skipped. A layer that is neither is shown; a skipped one, masked off or
 -- not, is passed over as covered.
-use Rattle.laws.specs.Prelude.{◌≡◌, Bool, true, false, cond, ◌&&◌, List, [], ◌∷◌, Option, some, ℕ, suc, leb, length, drop, replicate, all, over}
+use Rattle.std.specs.Prelude.{◌≡◌, ◌&&◌, ◌∷◌}
+use Rattle.laws.specs.Prelude.{Bool, true, false, cond, List, [], Option, some, ℕ, suc, leb, length, drop, replicate, all, over}
 use Rattle.std.proofs.Math.Option as option
 use Rattle.styling.specs.declared.Color.{Color}
 use Rattle.styling.specs.Style.{solid_color}

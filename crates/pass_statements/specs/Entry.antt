@@ -1,6 +1,7 @@
 -- An entry of a tile's list: a layer id, the cover that comes in from the left (zeros where none does), whether the layer has segments in the
 -- tile, and whether it is changed, as the table said at listing (W-208); and a list as it lies in three lent columns.
-use Rattle.laws.specs.Prelude.{Bool, false, List, ℕ, ◌+◌, ◌*◌, ℤ, pos, get_or, tabulate}
+use Rattle.std.specs.Prelude.{◌+◌, ◌*◌}
+use Rattle.laws.specs.Prelude.{Bool, false, List, ℕ, ℤ, pos, get_or, tabulate}
 
 pub record Entry : Type 0 where
   pub id : ℕ

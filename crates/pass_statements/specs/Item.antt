@@ -1,6 +1,7 @@
 -- What the passes read of a listed layer. A layer is full in a tile where it has no segment there and its incoming cover is full by its rule
 -- (`layer_is_full` of the Rust). It is unchanged where its entry says so: the table's own word plays no part here (W-208).
-use Rattle.laws.specs.Prelude.{Bool, false, not, ◌&&◌, List, map, ℕ, ◌+◌, ◌*◌, ◌≤◌, ℤ, length, Answer, refused, given}
+use Rattle.std.specs.Prelude.{◌&&◌, ◌+◌, ◌*◌, ◌≤◌}
+use Rattle.laws.specs.Prelude.{Bool, false, not, List, map, ℕ, ℤ, length, Answer, refused, given}
 use Rattle.cover_statements.specs.Cover.{is_full}
 use Rattle.layer_table.specs.Lookup.{lookup}
 use Rattle.styling.specs.declared.Layer.{Layer}

@@ -3,7 +3,8 @@
 -- 'A clipped draw before any clip, or past the span of the latest one, is masked off.'
 -- 'A clip followed by another clip before a listed draw past its end is never judged for use; it stays shown unless full': shown there is not
 -- masked off. A clip that is judged is masked off where no listed draw uses it.
-use Rattle.laws.specs.Prelude.{◌≡◌, Bool, true, false, cond, not, ◌&&◌, ◌||◌, List, [], ◌∷◌, map, Option, some, none, ℕ, suc, ◌+◌, ◌<◌, ltb, leb, eqb}
+use Rattle.std.specs.Prelude.{◌≡◌, ◌&&◌, ◌||◌, ◌∷◌, ◌+◌, ◌<◌}
+use Rattle.laws.specs.Prelude.{Bool, true, false, cond, not, List, [], map, Option, some, none, ℕ, suc, ltb, leb, eqb}
 use Rattle.laws.specs.Prelude.{length, get_or, set, drop, any}
 use Rattle.styling.specs.Ascending.{strictly_ascends}
 use Rattle.styling.specs.declared.Layer.{Layer}

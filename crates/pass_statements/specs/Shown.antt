@@ -1,6 +1,7 @@
 -- Which listed layers are shown, by a column of marks and how many are skipped. Stands for 'a listed layer that is neither masked off nor skipped
 -- is shown; a skipped one, masked off or not, is passed over as covered'. proofs/Seen has that `shown_of` are the shown layers.
-use Rattle.laws.specs.Prelude.{Bool, false, not, ◌&&◌, List, map, ℕ, ltb, length, get_or, tabulate, filter}
+use Rattle.std.specs.Prelude.{◌&&◌}
+use Rattle.laws.specs.Prelude.{Bool, false, not, List, map, ℕ, ltb, length, get_or, tabulate, filter}
 use Rattle.pass_statements.specs.declared.item.Item.{Item}
 use Rattle.pass_statements.specs.Covered.{item_at}
 

@@ -1,6 +1,7 @@
 -- The first pass (`tile_unchanged_pass`): a tile is kept where the clear colour is unchanged, a count was kept and equals the number of listed
 -- layers, and every listed layer is unchanged. It also says whether layers were removed, for the third pass.
-use Rattle.laws.specs.Prelude.{Bool, true, false, ◌&&◌, List, ℕ, ltb, eqb, length, all}
+use Rattle.std.specs.Prelude.{◌&&◌}
+use Rattle.laws.specs.Prelude.{Bool, true, false, List, ℕ, ltb, eqb, length, all}
 use Rattle.pass_statements.specs.declared.item.Item.{Item}
 use Rattle.pass_statements.specs.declared.unchanged.PreviousCount.{PreviousCount}
 use Rattle.pass_statements.specs.declared.unchanged.PreviousCount.TheVariants.{Kept, Absent}

@@ -1,6 +1,7 @@
 -- A word with another cover, for every table of seven widths: the other six fields, what order compares and the word's range stay, and the cover is
 -- the number that was put there, where the field holds it. Assumes nothing.
-use Rattle.laws.proofs.Prelude.{◌≡◌, ap, ap₂, sym, ◌∙◌, List, [], ◌∷◌, ℕ, ◌+◌, ◌-◌, ◌*◌, ◌/◌, ◌%◌, ◌^◌, ◌≤◌, ◌<◌, div-eq_of_lt, div-lt_iff_lt-mul}
+use Rattle.std.specs.Prelude.{◌≡◌, ◌∷◌, ◌+◌, ◌-◌, ◌*◌, ◌/◌, ◌%◌, ◌^◌, ◌≤◌, ◌<◌}
+use Rattle.laws.proofs.Prelude.{ap, ap₂, sym, ◌∙◌, List, [], ℕ, div-eq_of_lt, div-lt_iff_lt-mul}
 use Rattle.laws.proofs.Prelude.{div-one, mod-lt, mod-eq_of_lt, add-zero, arith, ℤ, length, pow_pos, pow-add, plus, minus, modℤ, remainder}
 use Rattle.std.proofs.Common.{one-mul}
 use native.Mathlib.Nat.{mul-add-div_right, mul-add-mod_self_right, div-div-eq-div-mul}

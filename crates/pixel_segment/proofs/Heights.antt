@@ -1,6 +1,7 @@
 -- Tables of widths over the tile height. What order compares is the same at every height: a key of tile y, tile x and layer id; only the bits
 -- below the key, 16 + k in tiles 2^k high, differ. Laws of order take a table with such keys, and stand for tiles 16 and 4 high. Assumes nothing.
-use Rattle.laws.proofs.Prelude.{◌≡◌, refl, sym, ap, ◌∙◌, ℕ, ◌+◌, ◌-◌, ◌/◌, ◌%◌, ◌^◌, ◌≤◌, ◌<◌, arith, lit≤}
+use Rattle.std.specs.Prelude.{◌≡◌, ◌+◌, ◌-◌, ◌/◌, ◌%◌, ◌^◌, ◌≤◌, ◌<◌}
+use Rattle.laws.proofs.Prelude.{refl, sym, ap, ◌∙◌, ℕ, arith, lit≤}
 use Rattle.std.proofs.Common.{shr-shr, shr_lt}
 use lib.Pow.{shr_mod}
 use Rattle.pixel_segment.specs.Field.{cpu, gpu, widths_at, widths_of, shift_of}

@@ -1,5 +1,6 @@
 -- A word put together field by field, in either layout: the fields that it has leave room for the next, and seven steps are `word_of`. Assumes nothing.
-use Rattle.laws.proofs.Prelude.{◌≡◌, refl, ℕ, ◌+◌, ◌-◌, ◌*◌, ◌%◌, ◌^◌, ◌<◌, lt_of_lt_of_le, mod-lt, arith, digits_lt, ℤ, drop, pow-add}
+use Rattle.std.specs.Prelude.{◌≡◌, ◌+◌, ◌-◌, ◌*◌, ◌%◌, ◌^◌, ◌<◌}
+use Rattle.laws.proofs.Prelude.{refl, ℕ, lt_of_lt_of_le, mod-lt, arith, digits_lt, ℤ, drop, pow-add}
 use Rattle.laws.proofs.Prelude.{pow_mono, pow_pos, modℤ}
 use Rattle.pixel_segment.specs.Field.{sum, cpu, widths_of, width_of}
 use Rattle.pixel_segment.specs.Pack.{stored_of, word_of}

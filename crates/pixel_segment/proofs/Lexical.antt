@@ -1,5 +1,6 @@
 -- The order of packed words is that of tile y, then tile x, then layer id, as fields and as the numbers that were packed, at every tile height. Assumes nothing.
-use Rattle.laws.proofs.Prelude.{◌≡◌, refl, ap, ap₂, sym, ◌∙◌, Bool, cond, List, [], ◌∷◌, ⊎_elim, ℕ, zero, suc, ◌+◌, ◌*◌, ◌/◌, ◌%◌, ◌^◌, ◌≤◌, ◌<◌}
+use Rattle.std.specs.Prelude.{◌≡◌, ◌∷◌, ◌+◌, ◌*◌, ◌/◌, ◌%◌, ◌^◌, ◌≤◌, ◌<◌}
+use Rattle.laws.proofs.Prelude.{refl, ap, ap₂, sym, ◌∙◌, Bool, cond, List, [], ⊎_elim, ℕ, zero, suc}
 use Rattle.laws.proofs.Prelude.{mul-le-mul_right, mod-lt, arith, ltb-true, lt-ltb, le-ltb, digits_lt, ltb, lit<, ℤ, pos, negsuc, given, plus, modℤ}
 use Rattle.laws.proofs.Prelude.{same, le_or_lt, difference, equal}
 use Rattle.std.proofs.Common.{suc-mul}

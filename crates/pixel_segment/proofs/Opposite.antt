@@ -1,7 +1,8 @@
 -- The opposite of a word, for every table of seven widths: its fields but the cover, what order compares and its range are the word's; the cover is
 -- negated where it is not the lowest; twice is the word itself; and the opposite of a packed word is the negated cover packed. Assumes nothing.
-use Rattle.laws.proofs.Prelude.{◌≡◌, ap, ap₂, ◌∙◌, Bool, true, ⊎_elim, List, ℕ, zero, suc, ◌+◌, ◌-◌, ◌*◌, ◌/◌, ◌%◌, ◌^◌, ◌≤◌, ◌<◌, add-zero, mod-lt}
-use Rattle.laws.proofs.Prelude.{mod-eq_of_lt, div-eq_of_lt, div-add-mod', div-one, arith, le-leb, leb-true, leb, lit<, ℤ, pos, neg_ℤ, nat_abs, ◌*ℤ◌}
+use Rattle.std.specs.Prelude.{◌≡◌, ◌+◌, ◌-◌, ◌*◌, ◌/◌, ◌%◌, ◌^◌, ◌≤◌, ◌<◌, ◌*ℤ◌}
+use Rattle.laws.proofs.Prelude.{ap, ap₂, ◌∙◌, Bool, true, ⊎_elim, List, ℕ, zero, suc, add-zero, mod-lt}
+use Rattle.laws.proofs.Prelude.{mod-eq_of_lt, div-eq_of_lt, div-add-mod', div-one, arith, le-leb, leb-true, leb, lit<, ℤ, pos, neg_ℤ, nat_abs}
 use Rattle.laws.proofs.Prelude.{get_or, pow_pos, plus, minus, modℤ, unique, all, all_intro, le_or_lt, whole, difference}
 use native.Mathlib.Nat.{sub-zero, add-mul-mod_self_right, mul-add-mod_self_right, mul-add-div_right, mod_self}
 use Rattle.laws.proofs.Mod.{opposite}

@@ -1,6 +1,7 @@
 -- What packing accepts, as facts: `is_packable` is true exactly where every number is in range, for every table of seven widths whose last is a
 -- signed field's. Assumes nothing.
-use Rattle.laws.proofs.Prelude.{◌≡◌, refl, true, ◌&&◌, List, [], ◌∷◌, ℕ, zero, suc, ◌+◌, ◌-◌, ◌^◌, ◌≤◌, ◌<◌, arith, ℤ, pos, ◌+ℤ◌, le_z, lt_z, pow_pos}
+use Rattle.std.specs.Prelude.{◌≡◌, ◌&&◌, ◌∷◌, ◌+◌, ◌-◌, ◌^◌, ◌≤◌, ◌<◌, ◌+ℤ◌}
+use Rattle.laws.proofs.Prelude.{refl, true, List, [], ℕ, zero, suc, arith, ℤ, pos, le_z, lt_z, pow_pos}
 use Rattle.laws.proofs.Prelude.{plus, minus, both, left, right, whole, added, le_true, true_le, lt_true}
 use native.Mathlib.Nat.{pow-succ'}
 use Rattle.laws.proofs.Parts.{plus_neg, minus_neg, true_lt}

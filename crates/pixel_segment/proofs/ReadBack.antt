@@ -1,7 +1,8 @@
 -- What is packed reads back, for every table of widths: each field has the number that was packed there, modulo its width, and the number
 -- itself where it is in range. So an accepted word tells its seven numbers. Assumes nothing.
-use Rattle.laws.proofs.Prelude.{◌≡◌, refl, ap, sym, subst, ◌∙◌, Bool, true, false, cond, List, [], ◌∷◌, ℕ, zero, suc, ◌+◌, ◌-◌, ◌*◌, ◌/◌, ◌%◌, ◌^◌}
-use Rattle.laws.proofs.Prelude.{◌≤◌, ◌<◌, not-suc-le-zero, le_of_suc-le-suc, zero-add, add-zero, div-eq_of_lt, mod-lt, mod-eq_of_lt, arith, digits_lt}
+use Rattle.std.specs.Prelude.{◌≡◌, ◌∷◌, ◌+◌, ◌-◌, ◌*◌, ◌/◌, ◌%◌, ◌^◌, ◌≤◌, ◌<◌}
+use Rattle.laws.proofs.Prelude.{refl, ap, sym, subst, ◌∙◌, Bool, true, false, cond, List, [], ℕ, zero, suc}
+use Rattle.laws.proofs.Prelude.{not-suc-le-zero, le_of_suc-le-suc, zero-add, add-zero, div-eq_of_lt, mod-lt, mod-eq_of_lt, arith, digits_lt}
 use Rattle.laws.proofs.Prelude.{lit<, ℤ, pos, negsuc, length, get_or, drop, pow_pos, pow-add, Answer, given, refused, plus, minus, modℤ, difference}
 use Rattle.laws.proofs.Prelude.{added, equal}
 use Rattle.std.proofs.Common.{mul_assoc, add-mul, add_comm, mul-one}

@@ -1,5 +1,6 @@
 -- Laws of the tables of widths over the tile height 2^k, and the ranges of the fields; those of `cpu` are their uses at 4. Assumes nothing.
-use Rattle.laws.proofs.Prelude.{◌≡◌, refl, ap, sym, ◌∙◌, List, [], ◌∷◌, ℕ, zero, suc, ◌+◌, ◌-◌, ◌*◌, ◌/◌, ◌^◌, ◌%◌, ◌≤◌, ◌<◌, max, mul-le-mul, mod-lt}
+use Rattle.std.specs.Prelude.{◌≡◌, ◌∷◌, ◌+◌, ◌-◌, ◌*◌, ◌/◌, ◌^◌, ◌%◌, ◌≤◌, ◌<◌}
+use Rattle.laws.proofs.Prelude.{refl, ap, sym, ◌∙◌, List, [], ℕ, zero, suc, max, mul-le-mul, mod-lt}
 use Rattle.laws.proofs.Prelude.{lt_of_lt_of_le, add-one, arith, digits_lt, lit<, lit≤, ℤ, nat_abs, get_or, drop, length, pow-add, pow_mono, pow_pos}
 use Rattle.laws.proofs.Prelude.{drop-cons, w8, w16, SFits, plus, minus, sfits, small, difference, abs_times}
 use Rattle.std.proofs.Common.{one-mul, shl_exact}

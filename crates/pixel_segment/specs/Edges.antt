@@ -1,7 +1,8 @@
 -- Both sides of every edge of what packing accepts, one field after the other beside layer 5, tile x 2, tile y 0, local x 3, local y 4,
 -- multiplier 32 and cover 16 (P1); then every field at its lowest and at its highest. What is refused is refused by 11; the words are those
 -- of the Rust.
-use Rattle.laws.specs.Prelude.{◌≡◌, ℕ, ℤ, pos, negsuc, Answer, refused, given}
+use Rattle.std.specs.Prelude.{◌≡◌}
+use Rattle.laws.specs.Prelude.{ℕ, ℤ, pos, negsuc, Answer, refused, given}
 use Rattle.pixel_segment.specs.Field.{cpu}
 use Rattle.pixel_segment.specs.Pack.{pack_of}
 

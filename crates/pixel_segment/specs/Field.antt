@@ -1,7 +1,8 @@
 -- The fields of a packed word. A table says how many bits each has, highest first: tile y, tile x, layer id, local x, local y, double area
 -- multiplier, cover. Every definition takes the table as a parameter: tiles of another height have another one.
 -- Stands for the clause on the seven field widths, and for 'cover is signed, -32 to 31', 'double area is multiplier × cover'.
-use Rattle.laws.specs.Prelude.{List, [], ◌∷◌, ℕ, ◌+◌, ◌-◌, ◌/◌, ◌%◌, ◌^◌, get_or, drop, ℤ, pos, sub_ℕ, ◌*ℤ◌}
+use Rattle.std.specs.Prelude.{◌∷◌, ◌+◌, ◌-◌, ◌/◌, ◌%◌, ◌^◌, ◌*ℤ◌}
+use Rattle.laws.specs.Prelude.{List, [], ℕ, get_or, drop, ℤ, pos, sub_ℕ}
 use Rattle.pixel_segment.specs.declared.consts.Layout.{Layout}
 use Rattle.pixel_segment.specs.declared.consts.Layout.TheVariants.{Cpu, Gpu}
 use Rattle.pixel_segment.specs.declared.consts.BitField.{BitField}

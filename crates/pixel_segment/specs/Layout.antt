@@ -1,6 +1,7 @@
 -- Tables of widths that the laws take: seven of them, the last a signed field's; and tables in which the fields that order compares are read from its key.
 -- Stands for W-213, 'facts about fields and sums are shown over the tile height'.
-use Rattle.laws.specs.Prelude.{◌≡◌, List, ℕ, ◌/◌, ◌%◌, ◌^◌, ◌≤◌, ◌<◌, ℤ, length, given}
+use Rattle.std.specs.Prelude.{◌≡◌, ◌/◌, ◌%◌, ◌^◌, ◌≤◌, ◌<◌}
+use Rattle.laws.specs.Prelude.{List, ℕ, ℤ, length, given}
 use Rattle.pixel_segment.specs.Field.{width_of, sum, tile_x_of, tile_y_of, layer_id_of}
 use Rattle.pixel_segment.specs.Pack.{pack_of}
 use Rattle.pixel_segment.specs.Order.{order_key, compare_of, compareℤ, then_by}

@@ -1,6 +1,7 @@
 -- The opposite of a segment: the same place, multiplier and layer, run the other way. Stands for W-210: 'negating every segment's cover', of rows
 -- 'whose covers lie in -31 to 31'. The cover -32 has no opposite in its field: it stays as it is.
-use Rattle.laws.specs.Prelude.{List, ℕ, ◌≤◌, ◌<◌, neg_ℤ, nat_abs, length, get_or}
+use Rattle.std.specs.Prelude.{◌≤◌, ◌<◌}
+use Rattle.laws.specs.Prelude.{List, ℕ, neg_ℤ, nat_abs, length, get_or}
 use Rattle.pixel_segment.specs.Field.{cover_of}
 use Rattle.pixel_segment.specs.Pack.{with_cover}
 

@@ -1,7 +1,8 @@
 -- Packing: seven numbers in a word, each in a field that holds it; where one lies outside its field's range, packing is refused by 11.
 -- Stands for W-203: tile numbers are taken from -1 and stored plus 1, layer ids, local places and multipliers from 0, covers are signed, and
 -- each field reads back as the number that was packed. Every definition takes the table of widths as a parameter.
-use Rattle.laws.specs.Prelude.{◌≡◌, Bool, cond, ◌&&◌, List, [], ◌∷◌, ℕ, ◌+◌, ◌-◌, ◌*◌, ◌/◌, ◌%◌, ◌^◌, ◌≤◌, ◌<◌, ℤ, pos, negsuc, neg_ℤ, ◌+ℤ◌, le_z, lt_z}
+use Rattle.std.specs.Prelude.{◌≡◌, ◌&&◌, ◌∷◌, ◌+◌, ◌-◌, ◌*◌, ◌/◌, ◌%◌, ◌^◌, ◌≤◌, ◌<◌, ◌+ℤ◌}
+use Rattle.laws.specs.Prelude.{Bool, cond, List, [], ℕ, ℤ, pos, negsuc, neg_ℤ, le_z, lt_z}
 use Rattle.laws.specs.Prelude.{plus, minus, modℤ, Answer, refused, given}
 use Rattle.pixel_segment.specs.Field.{width_of, tile_of, tile_x_of, tile_y_of, layer_id_of, local_x_of, local_y_of, multiplier_of, cover_of}
 use Rattle.pixel_segment.specs.declared.Packed.{Packed}

@@ -1,5 +1,6 @@
 -- The two lowest fields are those of tiles 16 high. Assumes nothing.
-use Rattle.laws.proofs.Prelude.{◌≡◌, refl, ℕ}
+use Rattle.std.specs.Prelude.{◌≡◌}
+use Rattle.laws.proofs.Prelude.{refl, ℕ}
 use Rattle.pixel_segment.specs.Field.{gpu, cpu, cover_of, double_area_of}
 
 pub cover_same : (w : ℕ) → cover_of cpu w ≡ cover_of gpu w

@@ -1,7 +1,8 @@
 -- Worked packings for tiles four pixels high, beside the edges of what is accepted: layer 5, tile x 2, tile y 0, local x 3, local y 3, multiplier
 -- 32 and cover 16, and what differs from it. The words are those of the Rust at that height; what is refused is refused by 11. Then two words
 -- that compare as equal, and P5's answers.
-use Rattle.laws.specs.Prelude.{◌≡◌, List, [], ◌∷◌, ℕ, ℤ, pos, negsuc, Answer, refused, given}
+use Rattle.std.specs.Prelude.{◌≡◌, ◌∷◌}
+use Rattle.laws.specs.Prelude.{List, [], ℕ, ℤ, pos, negsuc, Answer, refused, given}
 use Rattle.pixel_segment.specs.Field.{gpu, double_area_of}
 use Rattle.pixel_segment.specs.Order.{order_key, compare_of}
 use Rattle.pixel_segment.specs.Pack.{pack_of}

@@ -1,6 +1,7 @@
 -- A row that a search found, and one that it did not: where it stands, inside the segments. Assumes nothing.
-use Rattle.laws.proofs.Prelude.{◌≡◌, refl, ap, ap₂, sym, subst, ◌∙◌, Bool, true, false, cond, List, ℕ, ◌+◌, ◌≤◌, ◌<◌, arith, add-one, ℤ, pos, sub_ℕ}
-use Rattle.laws.proofs.Prelude.{◌-ℤ◌, length, get_or, take, length-take, w16, SFits, difference, taken, sfits}
+use Rattle.std.specs.Prelude.{◌≡◌, ◌+◌, ◌≤◌, ◌<◌, ◌-ℤ◌}
+use Rattle.laws.proofs.Prelude.{refl, ap, ap₂, sym, subst, ◌∙◌, Bool, true, false, cond, List, ℕ, arith, add-one, ℤ, pos, sub_ℕ}
+use Rattle.laws.proofs.Prelude.{length, get_or, take, length-take, w16, SFits, difference, taken, sfits}
 use Rattle.pixel_segment.specs.Field.{cpu, tile_of, tile_y_of}
 use Rattle.pixel_segment.specs.Order.{is_eq}
 use Rattle.segment_rows.specs.Search.{Place, found, absent, search_of, order_at, after_of}

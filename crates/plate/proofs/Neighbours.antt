@@ -1,6 +1,7 @@
 -- Whole numbers compared with a number and with the one before it, and tile numbers as they are stored. Assumes nothing.
-use Rattle.laws.proofs.Prelude.{◌≡◌, refl, ap, Bool, true, false, cond, not, false≢true, ℕ, ◌+◌, ◌%◌, ◌≤◌, ◌<◌, arith, eq-eqb, eqb-true, eqb, ℤ, pos}
-use Rattle.laws.proofs.Prelude.{sub_ℕ, ◌-ℤ◌, lt_z, plus, minus, same, equal, difference, taken, lt_true, lt_false}
+use Rattle.std.specs.Prelude.{◌≡◌, ◌+◌, ◌%◌, ◌≤◌, ◌<◌, ◌-ℤ◌}
+use Rattle.laws.proofs.Prelude.{refl, ap, Bool, true, false, cond, not, false≢true, ℕ, arith, eq-eqb, eqb-true, eqb, ℤ, pos}
+use Rattle.laws.proofs.Prelude.{sub_ℕ, lt_z, plus, minus, same, equal, difference, taken, lt_true, lt_false}
 use Rattle.pixel_segment.specs.Field.{tile_of}
 use Rattle.pixel_segment.specs.Order.{compareℤ, is_lt, is_eq, is_gt}
 use Rattle.plate.specs.Rows.{cast_of}

@@ -1,6 +1,7 @@
 -- The rows of segments in order are the segments of those rows. Assumes nothing.
-use Rattle.laws.proofs.Prelude.{◌≡◌, refl, ap, sym, subst, ◌∙◌, fun_ext, Bool, true, false, not, false≢true, ⊎_elim, List, ℕ, zero, suc, ◌+◌, ◌-◌}
-use Rattle.laws.proofs.Prelude.{◌%◌, ◌≤◌, ◌<◌, arith, leb, eqb, ltb, ℤ, pos, ◌-ℤ◌, length, get_or, take, drop, length-take, get_or-take, le_z, filter}
+use Rattle.std.specs.Prelude.{◌≡◌, ◌+◌, ◌-◌, ◌%◌, ◌≤◌, ◌<◌, ◌-ℤ◌}
+use Rattle.laws.proofs.Prelude.{refl, ap, sym, subst, ◌∙◌, fun_ext, Bool, true, false, not, false≢true, ⊎_elim, List, ℕ, zero, suc}
+use Rattle.laws.proofs.Prelude.{arith, leb, eqb, ltb, ℤ, pos, length, get_or, take, drop, length-take, get_or-take, le_z, filter}
 use Rattle.laws.proofs.Prelude.{count_by, le_or_lt, filter_ext}
 use Rattle.pixel_segment.specs.Field.{cpu, tile_of, tile_y_of}
 use Rattle.pixel_segment.specs.Order.{is_lt, is_eq, is_gt, compare_bool}

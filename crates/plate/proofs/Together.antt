@@ -1,6 +1,7 @@
 -- The rows of a plate one after another, and what holds of every plate. Assumes nothing.
-use Rattle.laws.proofs.Prelude.{◌≡◌, refl, ap, ap₂, sym, ◌∙◌, Bool, true, false, cond, not, ◌&&◌, and-true, ⊎_elim, List, [], ◌∷◌, ◌++◌, ℕ, zero, suc}
-use Rattle.laws.proofs.Prelude.{◌+◌, ◌-◌, ◌%◌, ◌≤◌, ◌<◌, arith, le-leb, lt-leb, leb-true, eq-eqb, ne_eqb, eqb-true, leb, eqb, ℤ, get_or, all, filter}
+use Rattle.std.specs.Prelude.{◌≡◌, ◌&&◌, ◌∷◌, ◌++◌, ◌+◌, ◌-◌, ◌%◌, ◌≤◌, ◌<◌}
+use Rattle.laws.proofs.Prelude.{refl, ap, ap₂, sym, ◌∙◌, Bool, true, false, cond, not, and-true, ⊎_elim, List, [], ℕ, zero, suc}
+use Rattle.laws.proofs.Prelude.{arith, le-leb, lt-leb, leb-true, eq-eqb, ne_eqb, eqb-true, leb, eqb, ℤ, get_or, all, filter}
 use Rattle.laws.proofs.Prelude.{left, right, both, same, le_or_lt, all_at, all_intro, filter_all, filter_none, filter_ext, filter_twice}
 use Rattle.laws.proofs.Filtered.{all_own}
 use Rattle.pixel_segment.specs.Field.{cpu, tile_of, tile_y_of}

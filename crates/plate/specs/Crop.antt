@@ -1,5 +1,6 @@
 -- A vertical crop. Stands for '`print_row` skips rows outside a crop'.
-use Rattle.laws.specs.Prelude.{Bool, true, ◌&&◌, ℕ, leb, ltb}
+use Rattle.std.specs.Prelude.{◌&&◌}
+use Rattle.laws.specs.Prelude.{Bool, true, ℕ, leb, ltb}
 use Rattle.plate.specs.declared.Crop.{Crop}
 use Rattle.plate.specs.declared.Crop.TheVariants.{Absent, Rows}
 

@@ -1,6 +1,7 @@
 -- What `print_row` makes of a row, with a crop or without one. Stands for '`print_row` skips rows outside a crop' and for 'row choice of
 -- `print_row` and `for_each_row`, one after another'.
-use Rattle.laws.specs.Prelude.{cond, List, [], ◌++◌, ℕ, zero, suc}
+use Rattle.std.specs.Prelude.{◌++◌}
+use Rattle.laws.specs.Prelude.{cond, List, [], ℕ, zero, suc}
 use Rattle.segment_rows.specs.Search.{between}
 use Rattle.plate.specs.Crop.{is_in_crop}
 use Rattle.plate.specs.Rows.{cast_of, row_place}

@@ -1,7 +1,8 @@
 -- Which part of all segments of a plate is a row, as the Rust's searches find it, on every slice: `for_each_row` skips what has a negative
 -- tile y, and `print_row` finds row j. On a slice that tile y sorts see proofs/Sorted. Stands for 'row choice of `print_row` and
 -- `for_each_row`, one after another'.
-use Rattle.laws.specs.Prelude.{false, List, ℕ, suc, ℤ, pos, ◌-ℤ◌, take, drop}
+use Rattle.std.specs.Prelude.{◌-ℤ◌}
+use Rattle.laws.specs.Prelude.{false, List, ℕ, suc, ℤ, pos, take, drop}
 use Rattle.pixel_segment.specs.Field.{signed_of}
 use Rattle.segment_rows.specs.Search.{Place, found, absent, search_of, order_at, after_of, between}
 use Rattle.segment_rows.specs.declared.search.Key.TheVariants.{TileY, TileYNotNegative}

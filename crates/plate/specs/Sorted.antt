@@ -1,6 +1,7 @@
 -- The rows of a plate whose segments are in order. Tile numbers stand as they are stored, plus 1: row j is stored as j + 1, and 0 is
 -- tile row -1.
-use Rattle.laws.specs.Prelude.{◌≡◌, Bool, true, false, ◌&&◌, List, [], ℕ, suc, ◌+◌, ◌-◌, ◌≤◌, ◌<◌, leb, eqb, filter}
+use Rattle.std.specs.Prelude.{◌≡◌, ◌&&◌, ◌+◌, ◌-◌, ◌≤◌, ◌<◌}
+use Rattle.laws.specs.Prelude.{Bool, true, false, List, [], ℕ, suc, leb, eqb, filter}
 use Rattle.pixel_segment.specs.Field.{cpu, tile_y_of}
 use Rattle.segment_rows.specs.Rows.{is_row}
 use Rattle.plate.specs.Crop.{is_in_crop}

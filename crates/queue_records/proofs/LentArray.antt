@@ -3,7 +3,8 @@
 --     array_back       [†κ] ∗ the lender's part ∗ finally γ zs  ⊢ ⇛ the local's value is that of zs
 --     lends_shared     the same of a `&[T]`; the lender keeps `Lies`, which is the room of the local again (`shared_back`)
 -- Assumes `Logic`. T has one MIR type, is plain data, and its relation tells its machine values.
-use Rattle.laws.proofs.Prelude.{◌≡◌, sym, subst, List, [], ◌∷◌, ℕ, length, ty_array, Val}
+use Rattle.std.specs.Prelude.{◌≡◌, ◌∷◌}
+use Rattle.laws.proofs.Prelude.{sym, subst, List, [], ℕ, length, ty_array, Val}
 use denote.RattleType.{RattleType}
 use denote.Laws.{Is, shows, Tells, Makes}
 use denote.Array.{Array, array_vals, Array-Tells, Array-Makes}

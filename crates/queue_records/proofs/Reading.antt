@@ -1,5 +1,6 @@
 -- The loop of `read_queue`, over plain lists: where it stands, how a turn moves it on, and what it has come to. Assumes nothing.
-use Rattle.laws.proofs.Prelude.{◌≡◌, refl, sym, ap, ap₂, ◌∙◌, List, [], ◌∷◌, ◌++◌, append_assoc, append-nil, ℕ, suc, ◌+◌, ◌*◌, ◌≤◌, ◌<◌, min, add-one}
+use Rattle.std.specs.Prelude.{◌≡◌, ◌∷◌, ◌++◌, ◌+◌, ◌*◌, ◌≤◌, ◌<◌}
+use Rattle.laws.proofs.Prelude.{refl, sym, ap, ap₂, ◌∙◌, List, [], append_assoc, append-nil, ℕ, suc, min, add-one}
 use Rattle.laws.proofs.Prelude.{arith, ℤ, pos, length, take, drop, get_or, set, replicate, length-append, take-suc, take_at, length-take-le, drop-cons}
 use Rattle.laws.proofs.Prelude.{drop_at, drop-drop, over, is_tabulate}
 use Prim.Native.Nat.{zero-le}

@@ -1,6 +1,7 @@
 -- A queue lent as a slice of carry records (id, 16 covers), and the columns that it stands for. Stands for 'the queue may be lent as a slice of carry
 -- records'.
-use Rattle.laws.specs.Prelude.{List, [], map, ℕ, ◌/◌, min, ℤ, pos, length, take, replicate, tabulate, over}
+use Rattle.std.specs.Prelude.{◌/◌}
+use Rattle.laws.specs.Prelude.{List, [], map, ℕ, min, ℤ, pos, length, take, replicate, tabulate, over}
 use Rattle.cover_statements.specs.Cover.{cover_at}
 use Rattle.queue_statements.specs.Queue.{Carry, ids_in, covers_in}
 use Rattle.queue_records.specs.declared.CarryRecord.{CarryRecord}

@@ -1,6 +1,7 @@
 -- A queue written to two columns reads back, and is in order. For every queue whose covers have 16 numbers. Assumes nothing.
-use Rattle.laws.proofs.Prelude.{◌≡◌, refl, sym, ap, ap₂, ◌∙◌, Bool, true, List, [], ◌∷◌, ◌++◌, append_assoc, append-nil, ℕ, zero, suc, ◌+◌, ◌*◌, ◌≤◌}
-use Rattle.laws.proofs.Prelude.{◌<◌, not-suc-le-zero, le_of_suc-le-suc, arith, eqb-true, le-leb, eqb, leb, ℤ, length, get_or, take, drop, length-append}
+use Rattle.std.specs.Prelude.{◌≡◌, ◌∷◌, ◌++◌, ◌+◌, ◌*◌, ◌≤◌, ◌<◌}
+use Rattle.laws.proofs.Prelude.{refl, sym, ap, ap₂, ◌∙◌, Bool, true, List, [], append_assoc, append-nil, ℕ, zero, suc}
+use Rattle.laws.proofs.Prelude.{not-suc-le-zero, le_of_suc-le-suc, arith, eqb-true, le-leb, eqb, leb, ℤ, length, get_or, take, drop, length-append}
 use Rattle.laws.proofs.Prelude.{List·getD-append, take_at, over, all, left, right, both, is_tabulate}
 use lib.Seq.{drop-append-add}
 use Rattle.styling.specs.Ascending.{strictly_ascends}

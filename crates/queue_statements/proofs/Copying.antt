@@ -1,5 +1,6 @@
 -- The front of one column written over the front of another, an element at a time. Assumes nothing.
-use Rattle.laws.proofs.Prelude.{◌≡◌, refl, ap, ◌∙◌, List, ℕ, ◌+◌, ◌≤◌, ◌<◌, arith, length, get_or, take, set, get_or-take, length-take-le, over, filled}
+use Rattle.std.specs.Prelude.{◌≡◌, ◌+◌, ◌≤◌, ◌<◌}
+use Rattle.laws.proofs.Prelude.{refl, ap, ◌∙◌, List, ℕ, arith, length, get_or, take, set, get_or-take, length-take-le, over, filled}
 use Rattle.laws.proofs.Prelude.{filled_more, filled_all, length_filled}
 
 pub record Copying {A : Type 0} (from : List A) (n : ℕ) (old : List A) (i : ℕ) (to : List A) : Type 0 where

@@ -1,5 +1,6 @@
 -- An opening in columns of its own, and these written to the lent ones: the answers. Assumes nothing.
-use Rattle.laws.proofs.Prelude.{◌≡◌, refl, sym, ap, ◌∙◌, Bool, true, false, List, ℕ, ◌*◌, ◌≤◌, ◌<◌, arith, lt-ltb, le-ltb, ℤ, length, take, Answer}
+use Rattle.std.specs.Prelude.{◌≡◌, ◌*◌, ◌≤◌, ◌<◌}
+use Rattle.laws.proofs.Prelude.{refl, sym, ap, ◌∙◌, Bool, true, false, List, ℕ, arith, lt-ltb, le-ltb, ℤ, length, take, Answer}
 use Rattle.laws.proofs.Prelude.{refused, given, over}
 use Rattle.queue_statements.specs.Queue.{ids_in, covers_in}
 use Rattle.queue_statements.specs.Opening.{open_queue, written_if, Opens}

@@ -1,5 +1,6 @@
 -- Judging a lent queue: what holds while its ids are passed in one pass, and what holds of a queue that passes. Assumes nothing.
-use Rattle.laws.proofs.Prelude.{◌≡◌, refl, sym, ap, ◌∙◌, Bool, true, false, ◌&&◌, and-true, and_assoc, List, ℕ, suc, ◌+◌, ◌/◌, ◌≤◌, ◌<◌, min, add-one}
+use Rattle.std.specs.Prelude.{◌≡◌, ◌&&◌, ◌+◌, ◌/◌, ◌≤◌, ◌<◌}
+use Rattle.laws.proofs.Prelude.{refl, sym, ap, ◌∙◌, Bool, true, false, and-true, and_assoc, List, ℕ, suc, min, add-one}
 use Rattle.laws.proofs.Prelude.{arith, ltb-false, leb-true, le-leb, lt-leb, leb, ℤ, length, get_or, take, drop, drop_of_length-le, length-take}
 use Rattle.laws.proofs.Prelude.{drop-cons, get_or-take, left, right}
 use Rattle.styling.specs.Ascending.{strictly_ascends_from, strictly_ascends}

@@ -1,6 +1,7 @@
 -- The place of a word's sum, once an opening's layers are known: the words that go to a layer's entry and pixel row are those of the layer and
 -- the row, so what is summed there is the layer's. Assumes nothing.
-use Rattle.laws.proofs.Prelude.{◌≡◌, sym, ap, ◌∙◌, true, ◌&&◌, List, map, ℕ, ◌+◌, ◌*◌, ◌<◌, arith, eqb-true, eq-eqb, eqb, length, get_or, length-map}
+use Rattle.std.specs.Prelude.{◌≡◌, ◌&&◌, ◌+◌, ◌*◌, ◌<◌}
+use Rattle.laws.proofs.Prelude.{sym, ap, ◌∙◌, true, List, map, ℕ, arith, eqb-true, eq-eqb, eqb, length, get_or, length-map}
 use Rattle.laws.proofs.Prelude.{List·getD-map, all, sum_by, both, left, right, same, all_at, all_intro, sum_filter}
 use Rattle.laws.proofs.Sums.{sum_ext_on}
 use Rattle.styling.specs.Ascending.{strictly_ascends}

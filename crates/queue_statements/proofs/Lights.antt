@@ -1,6 +1,7 @@
 -- What the sums and loads of an opening say, place by place: number 9, and the covers that are written. Assumes nothing.
-use Rattle.laws.proofs.Prelude.{◌≡◌, refl, sym, ap, ◌∙◌, true, false, List, ℕ, ◌+◌, ◌*◌, ◌/◌, ◌%◌, ◌≤◌, ◌<◌, zero-add, arith, le-leb, ℤ, pos, nat_abs}
-use Rattle.laws.proofs.Prelude.{◌+ℤ◌, +ℤ_idl, length, get_or, take, ext_get_or, get_or-take, length-take-le, every_intro, all_at, all_intro}
+use Rattle.std.specs.Prelude.{◌≡◌, ◌+◌, ◌*◌, ◌/◌, ◌%◌, ◌≤◌, ◌<◌, ◌+ℤ◌}
+use Rattle.laws.proofs.Prelude.{refl, sym, ap, ◌∙◌, true, false, List, ℕ, zero-add, arith, le-leb, ℤ, pos, nat_abs}
+use Rattle.laws.proofs.Prelude.{+ℤ_idl, length, get_or, take, ext_get_or, get_or-take, length-take-le, every_intro, all_at, all_intro}
 use Rattle.laws.proofs.Bools.{not-true}
 use Rattle.pixel_segment.specs.Field.{cpu, layer_id_of, local_y_of, cover_of}
 use Rattle.cover_statements.specs.Carry.{load_in, abs_cover, light_at, is_light}

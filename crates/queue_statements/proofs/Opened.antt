@@ -1,5 +1,6 @@
 -- What an opening leaves with the caller, by its answer: the queue that it counts, in order; or the columns as they were. Assumes nothing.
-use Rattle.laws.proofs.Prelude.{◌≡◌, refl, sym, ap, ◌∙◌, Bool, true, false, cond, List, ℕ, ◌≤◌, arith, ltb-false, ltb, ℤ, length, Answer, refused}
+use Rattle.std.specs.Prelude.{◌≡◌, ◌≤◌}
+use Rattle.laws.proofs.Prelude.{refl, sym, ap, ◌∙◌, Bool, true, false, cond, List, ℕ, arith, ltb-false, ltb, ℤ, length, Answer, refused}
 use Rattle.laws.proofs.Prelude.{given, over}
 use Rattle.queue_statements.specs.Queue.{queue_of, ids_in, covers_in, is_queue}
 use Rattle.queue_statements.specs.Opening.{open_queue, is_light_opening, written_if, Opens}

@@ -1,7 +1,8 @@
 -- Laws of the opening of a row, over any words: its ids ascend, its covers have 16 numbers, a layer has a carry exactly where a word has its
 -- id, and a carry is the exact sum of its layer's covers in each pixel row. Assumes nothing.
-use Rattle.laws.proofs.Prelude.{◌≡◌, refl, sym, ap, ◌∙◌, Bool, true, false, cond, ⊎_elim, List, [], ◌∷◌, map, ℕ, suc, ◌<◌, arith, eq-eqb, ne_eqb}
-use Rattle.laws.proofs.Prelude.{lt-ltb, le-ltb, eqb-true, eqb, ltb, ℤ, pos, ◌+ℤ◌, +ℤ_idl, +ℤ_idr, +ℤ_assoc, length, length-set, tabulate, both, left}
+use Rattle.std.specs.Prelude.{◌≡◌, ◌∷◌, ◌<◌, ◌+ℤ◌}
+use Rattle.laws.proofs.Prelude.{refl, sym, ap, ◌∙◌, Bool, true, false, cond, ⊎_elim, List, [], map, ℕ, suc, arith, eq-eqb, ne_eqb}
+use Rattle.laws.proofs.Prelude.{lt-ltb, le-ltb, eqb-true, eqb, ltb, ℤ, pos, +ℤ_idl, +ℤ_idr, +ℤ_assoc, length, length-set, tabulate, both, left}
 use Rattle.laws.proofs.Prelude.{right, entry_one, eq_or_ne, is_tabulate}
 use Rattle.laws.proofs.Filtered.{filter_append}
 use Rattle.laws.proofs.Sums.{sumℤ_append}

@@ -1,5 +1,6 @@
 -- The opposite of a row opens with the row's carries negated, and its opening is judged alike. Assumes nothing.
-use Rattle.laws.proofs.Prelude.{◌≡◌, refl, ap, ap₂, sym, ◌∙◌, Bool, true, cond, List, [], ◌∷◌, map, ℕ, eqb, ltb, lit<, ℤ, neg_ℤ, ◌+ℤ◌, length, set}
+use Rattle.std.specs.Prelude.{◌≡◌, ◌∷◌, ◌+ℤ◌}
+use Rattle.laws.proofs.Prelude.{refl, ap, ap₂, sym, ◌∙◌, Bool, true, cond, List, [], map, ℕ, eqb, ltb, lit<, ℤ, neg_ℤ, length, set}
 use Rattle.laws.proofs.Prelude.{length-map, refused, given, all, left, right, all_kept, all_map, filter_map}
 use lib.IntN.{neg_ℤ-+ℤ}
 use Rattle.laws.proofs.Maps.{map_set, map_cond}

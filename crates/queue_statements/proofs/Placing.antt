@@ -1,5 +1,6 @@
 -- A word's cover and load added at their place: what is stored fits, and nothing is stored past 127. Assumes nothing.
-use Rattle.laws.proofs.Prelude.{◌≡◌, refl, sym, ap, true, false, List, ℕ, ◌≤◌, ◌<◌, arith, le-leb, lt-leb, ℤ, nat_abs, ◌+ℤ◌, set, abs_add}
+use Rattle.std.specs.Prelude.{◌≡◌, ◌≤◌, ◌<◌, ◌+ℤ◌}
+use Rattle.laws.proofs.Prelude.{refl, sym, ap, true, false, List, ℕ, arith, le-leb, lt-leb, ℤ, nat_abs, set, abs_add}
 use Rattle.pixel_segment.specs.Field.{cpu, cover_of}
 use Rattle.cover_statements.specs.Cover.{cover_at}
 use Rattle.queue_statements.specs.InnerSums.{load_with, Placing, Placed}

@@ -1,5 +1,6 @@
 -- A queue by its carries, and the cover that it holds for a layer: what `incoming` answers. Assumes nothing.
-use Rattle.laws.proofs.Prelude.{◌≡◌, refl, sym, ap, ◌∙◌, true, false, List, [], ◌∷◌, ℕ, zero, suc, ◌≤◌, ◌<◌, not-suc-le-zero, le_of_suc-le-suc, arith}
+use Rattle.std.specs.Prelude.{◌≡◌, ◌∷◌, ◌≤◌, ◌<◌}
+use Rattle.laws.proofs.Prelude.{refl, sym, ap, ◌∙◌, true, false, List, [], ℕ, zero, suc, not-suc-le-zero, le_of_suc-le-suc, arith}
 use Rattle.laws.proofs.Prelude.{eq-eqb, ne_eqb, ℤ, length, get_or, take, length-map, List·getD-map, get_or-take, length-take-le, length_tabulate}
 use Rattle.laws.proofs.Prelude.{get_d_tabulate, is_tabulate}
 use Rattle.styling.specs.Ascending.{strictly_ascends_from}

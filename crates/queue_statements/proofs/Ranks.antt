@@ -1,5 +1,6 @@
 -- Laws of ranks: a rank by the numbers around it, and the halving that finds it in an ascending list. Assumes nothing.
-use Rattle.laws.proofs.Prelude.{◌≡◌, sym, ap, ◌∙◌, true, false, ⊎_elim, List, [], ◌∷◌, ℕ, zero, suc, ◌+◌, ◌≤◌, ◌<◌, not-suc-le-zero, le_of_suc-le-suc}
+use Rattle.std.specs.Prelude.{◌≡◌, ◌∷◌, ◌+◌, ◌≤◌, ◌<◌}
+use Rattle.laws.proofs.Prelude.{sym, ap, ◌∙◌, true, false, ⊎_elim, List, [], ℕ, zero, suc, not-suc-le-zero, le_of_suc-le-suc}
 use Rattle.laws.proofs.Prelude.{eq-or-lt_of_le, arith, lt-ltb, le-ltb, ltb-true, eqb-true, eq-eqb, eqb, ltb, length, get_or, take, get_or-take}
 use Rattle.laws.proofs.Prelude.{length-take-le, left, right, both, clash, le_or_lt}
 use Rattle.styling.specs.Ascending.{strictly_ascends}

@@ -1,5 +1,6 @@
 -- The covers of an opening added: how it starts, and its two ends. Assumes nothing.
-use Rattle.laws.proofs.Prelude.{◌≡◌, sym, ap, ◌∙◌, Bool, true, false, false≢true, List, ℕ, ◌≤◌, ◌<◌, arith, ℤ, length, get_or, take, length-take-le}
+use Rattle.std.specs.Prelude.{◌≡◌, ◌≤◌, ◌<◌}
+use Rattle.laws.proofs.Prelude.{sym, ap, ◌∙◌, Bool, true, false, false≢true, List, ℕ, arith, ℤ, length, get_or, take, length-take-le}
 use Rattle.styling.specs.Ascending.{strictly_ascends}
 use Rattle.queue_statements.specs.Queue.{ids_in}
 use Rattle.queue_statements.specs.Opening.{open_queue}

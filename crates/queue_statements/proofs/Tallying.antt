@@ -1,7 +1,8 @@
 -- Words added at their places, one after the other: at word i, the sums and loads so far. A sum is never larger than its load, and no load is
 -- above 127. Assumes nothing.
-use Rattle.laws.proofs.Prelude.{◌≡◌, refl, sym, ap, ◌∙◌, Bool, true, false, cond, ⊎_elim, List, ℕ, ◌+◌, ◌≤◌, ◌<◌, add_assoc, add-zero, arith, eq-eqb}
-use Rattle.laws.proofs.Prelude.{ne_eqb, leb-true, leb-false, eqb, ℤ, pos, nat_abs, ◌+ℤ◌, +ℤ_idl, +ℤ_idr, +ℤ_assoc, length, get_or, drop, length-set}
+use Rattle.std.specs.Prelude.{◌≡◌, ◌+◌, ◌≤◌, ◌<◌, ◌+ℤ◌}
+use Rattle.laws.proofs.Prelude.{refl, sym, ap, ◌∙◌, Bool, true, false, cond, ⊎_elim, List, ℕ, add_assoc, add-zero, arith, eq-eqb}
+use Rattle.laws.proofs.Prelude.{ne_eqb, leb-true, leb-false, eqb, ℤ, pos, nat_abs, +ℤ_idl, +ℤ_idr, +ℤ_assoc, length, get_or, drop, length-set}
 use Rattle.laws.proofs.Prelude.{sum_by, add_one, entry_one, eq_or_ne, equal, whole, abs_add, abs_cond, sum_step, sum_end}
 use Rattle.pixel_segment.specs.Field.{cpu, cover_of}
 use Rattle.cover_statements.specs.Carry.{abs_cover}

@@ -1,6 +1,7 @@
 -- Both sides of the edges of an opening's refusals 7 and 9, and what it holds, on a few words. A word is a layer times 2^20, a pixel row times 2^12,
 -- and a cover modulo 64, all in tile -1. Stands for 7 and 9 of 'Turned down'.
-use Rattle.laws.specs.Prelude.{◌≡◌, [], ◌∷◌, ◌+◌, ◌*◌, ◌^◌, pos, set, refused, given, tabulate}
+use Rattle.std.specs.Prelude.{◌≡◌, ◌∷◌, ◌+◌, ◌*◌, ◌^◌}
+use Rattle.laws.specs.Prelude.{[], pos, set, refused, given, tabulate}
 use Rattle.queue_statements.specs.Queue.{zeros}
 use Rattle.queue_statements.specs.Opening.{open_queue, open_answer}
 

@@ -1,5 +1,6 @@
 -- How the code opens a row: the queue in columns of its own first, which are then written to the lent ones, all or nothing.
-use Rattle.laws.specs.Prelude.{◌≡◌, List, [], ℕ, ◌*◌, ◌≤◌, ℤ, nat_abs, take, Answer, refused, given}
+use Rattle.std.specs.Prelude.{◌≡◌, ◌*◌, ◌≤◌}
+use Rattle.laws.specs.Prelude.{List, [], ℕ, ℤ, nat_abs, take, Answer, refused, given}
 use Rattle.cover_statements.specs.Cover.{cover_at}
 use Rattle.queue_statements.specs.Queue.{ids_in, covers_in}
 use Rattle.queue_statements.specs.Opening.{open_queue, open_answer}

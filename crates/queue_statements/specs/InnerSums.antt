@@ -1,6 +1,7 @@
 -- How the code adds the covers of an opening, once its layers are known: a column of sums and one of loads (absolute covers), 16 numbers a
 -- layer. Each word goes to one place of both.
-use Rattle.laws.specs.Prelude.{◌≡◌, Bool, true, cond, List, ℕ, ◌+◌, ◌*◌, ◌≤◌, ◌<◌, leb, ℤ, nat_abs, ◌+ℤ◌, length, get_or, set, take}
+use Rattle.std.specs.Prelude.{◌≡◌, ◌+◌, ◌*◌, ◌≤◌, ◌<◌, ◌+ℤ◌}
+use Rattle.laws.specs.Prelude.{Bool, true, cond, List, ℕ, leb, ℤ, nat_abs, length, get_or, set, take}
 use Rattle.pixel_segment.specs.Field.{cpu, layer_id_of, local_y_of, cover_of}
 use Rattle.cover_statements.specs.Carry.{abs_cover}
 use Rattle.cover_statements.specs.Cover.{cover_at}

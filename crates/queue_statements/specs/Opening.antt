@@ -1,6 +1,7 @@
 -- The opening of a row (`paint_tile_row`): one carry for each layer that has segments left of the first tile, tile -1 included, whatever its sum:
 -- carries of zero are kept. The segments are added one after the other, as the Rust adds them to its map by layer id.
-use Rattle.laws.specs.Prelude.{◌≡◌, Bool, cond, List, [], ◌∷◌, ℕ, eqb, ltb, ℤ, ◌+ℤ◌, length, set, Answer, refused, given, all, over, filter}
+use Rattle.std.specs.Prelude.{◌≡◌, ◌∷◌, ◌+ℤ◌}
+use Rattle.laws.specs.Prelude.{Bool, cond, List, [], ℕ, eqb, ltb, ℤ, length, set, Answer, refused, given, all, over, filter}
 use Rattle.pixel_segment.specs.Field.{cpu, layer_id_of, local_y_of, cover_of}
 use Rattle.cover_statements.specs.Carry.{is_light}
 use Rattle.cover_statements.specs.Cover.{cover_at}

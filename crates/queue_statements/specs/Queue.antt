@@ -1,6 +1,7 @@
 -- A queue of carries: the covers that layers hand from tile to tile, ascending by layer id; and how it lies in two lent columns, of which the
 -- first n entries count: layer ids, and 16 signed bytes each. Stands for 'carries' and for refusals 1 and 5 of a queue.
-use Rattle.laws.specs.Prelude.{◌≡◌, Bool, true, false, cond, ◌&&◌, ◌||◌, List, [], ◌∷◌, ◌++◌, map, ℕ, ◌*◌, ◌/◌, ◌≤◌, min, eqb, leb, ltb, ℤ, pos}
+use Rattle.std.specs.Prelude.{◌≡◌, ◌&&◌, ◌||◌, ◌∷◌, ◌++◌, ◌*◌, ◌/◌, ◌≤◌}
+use Rattle.laws.specs.Prelude.{Bool, true, false, cond, List, [], map, ℕ, min, eqb, leb, ltb, ℤ, pos}
 use Rattle.laws.specs.Prelude.{length, get_or, take, replicate, tabulate}
 use Rattle.cover_statements.specs.Entry.{cover_entry}
 use Rattle.styling.specs.Ascending.{strictly_ascends}

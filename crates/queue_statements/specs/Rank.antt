@@ -1,5 +1,6 @@
 -- Where an id stands in an ascending list of ids, or would stand.
-use Rattle.laws.specs.Prelude.{Bool, cond, ◌&&◌, List, [], ◌∷◌, ℕ, suc, eqb, ltb, length, get_or}
+use Rattle.std.specs.Prelude.{◌&&◌, ◌∷◌}
+use Rattle.laws.specs.Prelude.{Bool, cond, List, [], ℕ, suc, eqb, ltb, length, get_or}
 
 -- how many numbers at the front of a list are below x: in an ascending list, how many are
 unfoldable pub rank_of : ℕ → List ℕ → ℕ

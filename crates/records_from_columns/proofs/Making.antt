@@ -1,5 +1,6 @@
 -- The loop that makes records of two columns, over plain lists: where it stands, how a turn moves it on, and what it has come to. Assumes nothing.
-use Rattle.laws.proofs.Prelude.{◌≡◌, refl, sym, ap, ap₂, ◌∙◌, List, [], ◌∷◌, ◌++◌, append-nil, ℕ, ◌+◌, ◌*◌, ◌≤◌, ◌<◌, add-one, arith, ℤ, length, take}
+use Rattle.std.specs.Prelude.{◌≡◌, ◌∷◌, ◌++◌, ◌+◌, ◌*◌, ◌≤◌, ◌<◌}
+use Rattle.laws.proofs.Prelude.{refl, sym, ap, ap₂, ◌∙◌, List, [], append-nil, ℕ, add-one, arith, ℤ, length, take}
 use Rattle.laws.proofs.Prelude.{get_or, set, length-set, take-suc, take_all, take-add}
 use lib.Seq.{take-suc-set}
 use Rattle.cover_statements.specs.Entry.{cover_entry}

@@ -1,5 +1,6 @@
 -- What a judgement that passes tells of the conditions in its lines. Assumes nothing.
-use Rattle.laws.proofs.Prelude.{◌≡◌, refl, Bool, true, false, ◌||◌, ℕ, arith}
+use Rattle.std.specs.Prelude.{◌≡◌, ◌||◌}
+use Rattle.laws.proofs.Prelude.{refl, Bool, true, false, ℕ, arith}
 use Rattle.refusals.specs.Refusal.{Judgement, pass, refuse, unless, and_then}
 
 -- a line that passes: its condition does not apply, and the lines below it pass

@@ -1,5 +1,6 @@
 -- The refusal that has a number of the table, and judgements whose numbers are all of it: a caller's answer can name them. Assumes nothing.
-use Rattle.laws.proofs.Prelude.{◌≡◌, Bool, true, false, cond, ℕ, eqb}
+use Rattle.std.specs.Prelude.{◌≡◌}
+use Rattle.laws.proofs.Prelude.{Bool, true, false, cond, ℕ, eqb}
 use Rattle.refusals.specs.Refusal.{number_of, Judgement, pass, refuse, unless}
 use Rattle.refusals.specs.declared.Refusal.{Refusal}
 use Rattle.refusals.specs.declared.Refusal.TheVariants.{Room, Tile, Row, Table, Queue, Tag, Layers, Missing, Covers, Fields, NotHeld, Slots, Bounds, Revisions}

@@ -1,6 +1,7 @@
 -- What holds while bytes are printed: with what is left to store the list is as all the bytes leave it.
 -- Assumes nothing.
-use Rattle.laws.proofs.Prelude.{◌≡◌, refl, sym, ap, ◌∙◌, List, ℕ, suc, ◌+◌, ◌<◌, ◌≤◌, add-zero, add-one, arith, length, drop, get_or, set, length-set}
+use Rattle.std.specs.Prelude.{◌≡◌, ◌+◌, ◌<◌, ◌≤◌}
+use Rattle.laws.proofs.Prelude.{refl, sym, ap, ◌∙◌, List, ℕ, suc, add-zero, add-one, arith, length, drop, get_or, set, length-set}
 use Rattle.laws.proofs.Prelude.{drop_of_length-le, sets, drop-cons}
 use Rattle.decimal.specs.Print.{Printing}
 

@@ -1,6 +1,7 @@
 -- Document 01's printed lines.
 -- Assumes nothing.
-use Rattle.laws.proofs.Prelude.{◌≡◌, refl, List, ◌++◌, ℕ}
+use Rattle.std.specs.Prelude.{◌≡◌, ◌++◌}
+use Rattle.laws.proofs.Prelude.{refl, List, ℕ}
 use Rattle.decimal.specs.Decimal.{decimal, decimal_in}
 use Rattle.lines.specs.Bytes.{bytes}
 use Rattle.report.specs.declared.Op.{Op}

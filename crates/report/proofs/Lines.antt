@@ -1,6 +1,7 @@
 -- The parts of a line, with the bounds that their room rests on, and the lines put together.
 -- Assumes nothing.
-use Rattle.laws.proofs.Prelude.{◌≡◌, sym, subst, List, ℕ, ◌+◌, ◌≤◌, arith, length, set, w32, Fits}
+use Rattle.std.specs.Prelude.{◌≡◌, ◌+◌, ◌≤◌}
+use Rattle.laws.proofs.Prelude.{sym, subst, List, ℕ, arith, length, set, w32, Fits}
 use Rattle.decimal.specs.Decimal.{decimal}
 use Rattle.decimal.specs.Print.{Printing}
 use Rattle.decimal.proofs.Print.{joined, byte, ten}

@@ -1,6 +1,7 @@
 -- Each answer of `put`, and the part of a buffer that holds a line.
 -- Assumes nothing.
-use Rattle.laws.proofs.Prelude.{◌≡◌, sym, ap, subst, ◌∙◌, List, some, ℕ, ◌+◌, ◌<◌, ◌≤◌, arith, le-leb, lt-leb, leb-true, length, take, drop, sets-eq}
+use Rattle.std.specs.Prelude.{◌≡◌, ◌+◌, ◌<◌, ◌≤◌}
+use Rattle.laws.proofs.Prelude.{sym, ap, subst, ◌∙◌, List, some, ℕ, arith, le-leb, lt-leb, leb-true, length, take, drop, sets-eq}
 use Rattle.laws.proofs.Prelude.{take_at}
 use Rattle.decimal.specs.Print.{Printing}
 use Rattle.decimal.proofs.Steps.{cases}

@@ -1,6 +1,7 @@
 -- What printing into a lent buffer promises: the line stands from place `at` on and the other entries are as they were, where it has room, and
 -- else the buffer is as it was.
-use Rattle.laws.specs.Prelude.{◌≡◌, Bool, cond, List, Option, some, none, ℕ, ◌+◌, ◌≤◌, leb, length, sets}
+use Rattle.std.specs.Prelude.{◌≡◌, ◌+◌, ◌≤◌}
+use Rattle.laws.specs.Prelude.{Bool, cond, List, Option, some, none, ℕ, leb, length, sets}
 use Rattle.report.specs.declared.Printed.{Printed}
 use Rattle.report.specs.declared.Printed.TheVariants.{Next, Full}
 

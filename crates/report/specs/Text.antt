@@ -1,6 +1,7 @@
 -- The lines that the row program prints. Stands for the fields 'tile, decision, layers listed, layers neither masked nor skipped, used octets
 -- summed over the draws, carries handed on', and for 'a refusal prints `refused` and its number'. Every line ends with LF.
-use Rattle.laws.specs.Prelude.{List, [], ◌∷◌, ◌++◌, ℕ}
+use Rattle.std.specs.Prelude.{◌∷◌, ◌++◌}
+use Rattle.laws.specs.Prelude.{List, [], ℕ}
 use Rattle.decimal.specs.Decimal.{decimal}
 use Rattle.lines.specs.Bytes.{bytes}
 use Rattle.report.specs.declared.Op.{Op}

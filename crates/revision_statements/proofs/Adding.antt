@@ -1,5 +1,6 @@
 -- Laws of a record added to an ascending list. Assumes nothing.
-use Rattle.laws.proofs.Prelude.{◌≡◌, refl, sym, Bool, true, false, ◌&&◌, ⊎_elim, List, [], ◌∷◌, ℕ, suc, ◌≤◌, ◌<◌, arith, lt-ltb, le-ltb, eq-eqb}
+use Rattle.std.specs.Prelude.{◌≡◌, ◌&&◌, ◌∷◌, ◌≤◌, ◌<◌}
+use Rattle.laws.proofs.Prelude.{refl, sym, Bool, true, false, ⊎_elim, List, [], ℕ, suc, arith, lt-ltb, le-ltb, eq-eqb}
 use Rattle.laws.proofs.Prelude.{ne_eqb, le-leb, ltb-true, ltb-false, ltb, leb, both, le_or_lt, eq_or_ne}
 use Rattle.styling.specs.Ascending.{strictly_ascends_from, strictly_ascends}
 use Rattle.styling.proofs.Ascents.{ascends_head, ascends_tail}

@@ -1,5 +1,6 @@
 -- Worked cases of standing records, as theorems over the definitions. Assumes nothing.
-use Rattle.laws.proofs.Prelude.{◌≡◌, refl, true, false, List, [], ◌∷◌, ℕ, Float, nan}
+use Rattle.std.specs.Prelude.{◌≡◌, ◌∷◌}
+use Rattle.laws.proofs.Prelude.{refl, true, false, List, [], ℕ, Float, nan}
 use Rattle.refusals.specs.Refusal.{pass, refuse}
 use Rattle.layer_table.specs.Table.{is_table_short}
 use Rattle.revision_statements.specs.Sent.{Sent, is_good, sent_at, sent_room, first_sent}

@@ -1,6 +1,7 @@
 -- The laws of standing records. Together `ascending`, `given_one`, `highest`, `nothing_lost` and `withdrawn` determine the table (`only_one`).
 -- Assumes nothing.
-use Rattle.laws.proofs.Prelude.{◌≡◌, refl, sym, ap, ◌∙◌, Bool, true, false, cond, inr, ⊎_elim, List, [], ◌∷◌, ◌++◌, ℕ, suc, ◌≤◌, ◌<◌, arith, le-leb}
+use Rattle.std.specs.Prelude.{◌≡◌, ◌∷◌, ◌++◌, ◌≤◌, ◌<◌}
+use Rattle.laws.proofs.Prelude.{refl, sym, ap, ◌∙◌, Bool, true, false, cond, inr, ⊎_elim, List, [], ℕ, suc, arith, le-leb}
 use Rattle.laws.proofs.Prelude.{leb, Float, any, filter, both, clash, length_tabulate, get_d_tabulate}
 use Rattle.refusals.proofs.Judging.{or_right}
 use Rattle.styling.specs.Ascending.{strictly_ascends_from, strictly_ascends}

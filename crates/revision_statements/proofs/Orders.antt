@@ -1,5 +1,6 @@
 -- Records in another order, and lists with the same records. Assumes nothing.
-use Rattle.laws.proofs.Prelude.{◌≡◌, refl, sym, ap, ap₂, ◌∙◌, Bool, true, false, ◌&&◌, ◌||◌, ◌⊎◌, inl, inr, ⊎_elim, List, [], ◌∷◌, ◌++◌, ℕ, suc}
+use Rattle.std.specs.Prelude.{◌≡◌, ◌&&◌, ◌||◌, ◌⊎◌, ◌∷◌, ◌++◌}
+use Rattle.laws.proofs.Prelude.{refl, sym, ap, ap₂, ◌∙◌, Bool, true, false, inl, inr, ⊎_elim, List, [], ℕ, suc}
 use Rattle.laws.proofs.Prelude.{arith, eqb-true, eq-eqb, eqb, any, same}
 use Rattle.styling.specs.Ascending.{strictly_ascends_from}
 use Rattle.styling.proofs.Ascents.{ascends_tail}

@@ -1,6 +1,7 @@
 -- Which records stand, said without the steps of adding: each is one of those given, the highest of its layer and no withdrawal (`stood`), and where
 -- no two records of a layer have equal revisions every such record stands (`stands`). Assumes nothing.
-use Rattle.laws.proofs.Prelude.{◌≡◌, refl, sym, ap, ◌∙◌, Bool, true, false, cond, ◌⊎◌, inl, inr, ⊎_elim, ⊎_map, List, [], ◌∷◌, ℕ, suc, ◌≤◌, ◌<◌}
+use Rattle.std.specs.Prelude.{◌≡◌, ◌⊎◌, ◌∷◌, ◌≤◌, ◌<◌}
+use Rattle.laws.proofs.Prelude.{refl, sym, ap, ◌∙◌, Bool, true, false, cond, inl, inr, ⊎_elim, ⊎_map, List, [], ℕ, suc}
 use Rattle.laws.proofs.Prelude.{arith, eq-eqb, eqb, length, get_or, any, filter, both, clash}
 use native.Mathlib.Nat.{le_antisymm}
 use Rattle.refusals.proofs.Judging.{or_left, or_right}

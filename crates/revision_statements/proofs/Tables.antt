@@ -1,7 +1,8 @@
 -- The written table passes 1 and 4 at its count, and its layers are those of the standing records: 'demands on rows begin from that table'.
 -- Assumes nothing.
-use Rattle.laws.proofs.Prelude.{◌≡◌, refl, sym, ap, ap₂, ◌∙◌, Bool, true, false, ◌&&◌, inl, inr, List, [], ◌∷◌, ◌++◌, map, ℕ, zero, suc, ◌+◌, ◌*◌}
-use Rattle.laws.proofs.Prelude.{◌<◌, add-zero, le_of_suc-le-suc, not-suc-le-zero, arith, le-ltb, Float, nan, length, get_or, drop, length-map}
+use Rattle.std.specs.Prelude.{◌≡◌, ◌&&◌, ◌∷◌, ◌++◌, ◌+◌, ◌*◌, ◌<◌}
+use Rattle.laws.proofs.Prelude.{refl, sym, ap, ap₂, ◌∙◌, Bool, true, false, inl, inr, List, [], map, ℕ, zero, suc}
+use Rattle.laws.proofs.Prelude.{add-zero, le_of_suc-le-suc, not-suc-le-zero, arith, le-ltb, Float, nan, length, get_or, drop, length-map}
 use Rattle.laws.proofs.Prelude.{List·getD-map, get_or-drop, drop-cons, given, tabulate, all, over, both, left, right, is_tabulate, length_over}
 use Rattle.refusals.specs.Refusal.{Judgement, pass, refuse}
 use Rattle.styling.specs.Ascending.{strictly_ascends}

@@ -1,5 +1,6 @@
 -- The judge's answers, one after the other, and what holds where it passes. Assumes nothing.
-use Rattle.laws.proofs.Prelude.{◌≡◌, refl, ap, true, false, not, List, ℕ, ◌<◌, arith, not-false, Float, length, get_or, refused, given, tabulate, all}
+use Rattle.std.specs.Prelude.{◌≡◌, ◌<◌}
+use Rattle.laws.proofs.Prelude.{refl, ap, true, false, not, List, ℕ, arith, not-false, Float, length, get_or, refused, given, tabulate, all}
 use Rattle.laws.proofs.Prelude.{all_intro, length_tabulate, get_d_tabulate}
 use Rattle.refusals.specs.Refusal.{Judgement, pass, refuse}
 use Rattle.refusals.proofs.Judging.{passed}

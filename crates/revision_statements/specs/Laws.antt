@@ -1,5 +1,6 @@
 -- What the laws of standing records say (proofs/Laws, Tables), without the steps of `add_sent`.
-use Rattle.laws.specs.Prelude.{◌≡◌, true, ◌⊎◌, List, [], ◌∷◌, map, ℕ, ◌≤◌, ◌<◌, Float}
+use Rattle.std.specs.Prelude.{◌≡◌, ◌⊎◌, ◌∷◌, ◌≤◌, ◌<◌}
+use Rattle.laws.specs.Prelude.{true, List, [], map, ℕ, Float}
 use Rattle.styling.specs.declared.Layer.{Layer}
 use Rattle.layer_table.specs.Record.{layer_of}
 use Rattle.layer_table.specs.Table.{table_of, is_table}

@@ -1,7 +1,8 @@
 -- One record as it is sent, and how records lie in lent memory. Stands for 'a record carries a layer id, a revision number of 32 bits, and
 -- either properties or a withdrawal' (document 02, W-212). The properties are the words and the colour of a record of the layer table; the
 -- layer id is the first of these words. Of a withdrawal the other words and the colour play no part.
-use Rattle.laws.specs.Prelude.{Bool, cond, ◌&&◌, List, ℕ, ◌+◌, ◌*◌, ◌/◌, min, leb, eqb, Float, length, get_or, tabulate}
+use Rattle.std.specs.Prelude.{◌&&◌, ◌+◌, ◌*◌, ◌/◌}
+use Rattle.laws.specs.Prelude.{Bool, cond, List, ℕ, min, leb, eqb, Float, length, get_or, tabulate}
 use Rattle.styling.specs.declared.Color.{Color}
 use Rattle.layer_table.specs.declared.Words.{Words}
 use Rattle.layer_table.specs.Record.{layer_limit, in_range}

@@ -1,7 +1,8 @@
 -- What the operation answers and leaves: 'it refuses two records of one layer with equal revisions with 15, an out-of-range id, code or span with
 -- 4, and a lent table too short for the standing layers with 1; 4 is judged first, then 15, then 1' (document 02, W-212). So this judge does
 -- not answer the lowest number that applies.
-use Rattle.laws.specs.Prelude.{◌≡◌, Bool, false, not, ◌&&◌, ◌||◌, List, [], ◌∷◌, ℕ, eqb, Float, length, Answer, refused, given, over, all, any}
+use Rattle.std.specs.Prelude.{◌≡◌, ◌&&◌, ◌||◌, ◌∷◌}
+use Rattle.laws.specs.Prelude.{Bool, false, not, List, [], ℕ, eqb, Float, length, Answer, refused, given, over, all, any}
 use Rattle.refusals.specs.Refusal.{Judgement, pass, refuse, unless, number_of}
 use Rattle.layer_table.specs.Table.{is_table_short}
 use Rattle.revision_statements.specs.declared.Standing.{Standing}

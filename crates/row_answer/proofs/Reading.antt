@@ -1,7 +1,8 @@
 -- What a text is answered by, from what reading it leaves: the fronts of the arrays are the job's, arrays of these lengths hold every job, and a
 -- malformed text is refused by 10.
 -- Assumes nothing.
-use Rattle.laws.proofs.Prelude.{◌≡◌, refl, ap, sym, subst, ◌∙◌, ◌&&◌, List, Option, some, none, ℕ, ◌*◌, ◌/◌, ◌≤◌, arith, leb-true, leb, Float, length}
+use Rattle.std.specs.Prelude.{◌≡◌, ◌&&◌, ◌*◌, ◌/◌, ◌≤◌}
+use Rattle.laws.proofs.Prelude.{refl, ap, sym, subst, ◌∙◌, List, Option, some, none, ℕ, arith, leb-true, leb, Float, length}
 use Rattle.laws.proofs.Prelude.{take, drop, take_at, Answer, refused, given, plus, over, left, right}
 use Rattle.job_text_statements.specs.Job.{Job, render, WellFormed}
 use Rattle.job_text_statements.specs.Parse.{parse}

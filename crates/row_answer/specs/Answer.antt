@@ -1,6 +1,7 @@
 -- The whole text that the row program prints for a job text. Stands for 'A refusal prints `refused` and its number as the last line, after the
 -- names and the tiles already worked; number 10 prints only that.'
-use Rattle.laws.specs.Prelude.{cond, List, [], ◌∷◌, ◌++◌, Option, some, none, ℕ, suc, eqb, Float, length, plus}
+use Rattle.std.specs.Prelude.{◌∷◌, ◌++◌}
+use Rattle.laws.specs.Prelude.{cond, List, [], Option, some, none, ℕ, suc, eqb, Float, length, plus}
 use Rattle.row_statements.specs.Lent.{lent_table}
 use Rattle.row_statements.specs.Opening.{open_call}
 use Rattle.row_lines.specs.Driven.{Driving, row_driving}

@@ -1,6 +1,7 @@
 -- The carries of a row that is worked from its opening on are what the whole row says: 'after each tile a layer's NonZero carry is the exact sum
 -- of its covers so far in each row; an EvenOdd one agrees with that sum modulo 32; a dropped carry counts as zeros'. Assumes nothing.
-use Rattle.laws.proofs.Prelude.{◌≡◌, refl, sym, ap, ap₂, ◌∙◌, Bool, true, false, cond, List, ℕ, zero, suc, ◌+◌, ◌<◌, add-zero, arith, ℤ, pos, length}
+use Rattle.std.specs.Prelude.{◌≡◌, ◌+◌, ◌<◌}
+use Rattle.laws.proofs.Prelude.{refl, sym, ap, ap₂, ◌∙◌, Bool, true, false, cond, List, ℕ, zero, suc, add-zero, arith, ℤ, pos, length}
 use Rattle.laws.proofs.Prelude.{get_or, modℤ}
 use Rattle.pixel_segment.specs.Field.{cpu}
 use Rattle.segment_rows.specs.Search.{left_part, tile_part, layer_part}

@@ -1,5 +1,6 @@
 -- A layer that is passed over as covered lies under one that hides it, by the whole row. Assumes nothing.
-use Rattle.laws.proofs.Prelude.{◌≡◌, refl, sym, ap, ap₂, ◌∙◌, true, false, false≢true, List, [], ◌∷◌, map, ℕ, ◌<◌, arith, length, get_or, length-map}
+use Rattle.std.specs.Prelude.{◌≡◌, ◌∷◌, ◌<◌}
+use Rattle.laws.proofs.Prelude.{refl, sym, ap, ap₂, ◌∙◌, true, false, false≢true, List, [], map, ℕ, arith, length, get_or, length-map}
 use Rattle.laws.proofs.Prelude.{Answer, refused, given}
 use Rattle.layer_table.specs.Lookup.{lookup}
 use Rattle.styling.specs.Style.{is_opaque}

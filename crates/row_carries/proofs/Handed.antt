@@ -1,6 +1,7 @@
 -- The carries that a tile hands on, by the layers of its list: they ascend as the list does, and hold of each layer its carry, or zeros where
 -- that is empty by the layer's rule. Assumes nothing.
-use Rattle.laws.proofs.Prelude.{◌≡◌, refl, sym, ap, ap₂, ◌∙◌, Bool, true, false, cond, not, ⊎_elim, List, [], ◌∷◌, map, ℕ, suc, ◌≤◌, arith, le-leb}
+use Rattle.std.specs.Prelude.{◌≡◌, ◌∷◌, ◌≤◌}
+use Rattle.laws.proofs.Prelude.{refl, sym, ap, ap₂, ◌∙◌, Bool, true, false, cond, not, ⊎_elim, List, [], map, ℕ, suc, arith, le-leb}
 use Rattle.laws.proofs.Prelude.{leb, ℤ, filter, both, eq_or_ne}
 use Rattle.laws.proofs.Bools.{either_way}
 use Rattle.pixel_segment.specs.Field.{cpu}

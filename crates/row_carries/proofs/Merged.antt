@@ -1,7 +1,8 @@
 -- What a tile's list holds of a layer is what the queue and the part hold of it, over any ascending queue; and a list that ascends holds of a
 -- layer what stands at its place. Assumes nothing.
-use Rattle.laws.proofs.Prelude.{◌≡◌, refl, sym, ap, ap₂, ◌∙◌, Bool, true, false, cond, not, ⊎_elim, List, [], ◌∷◌, ◌++◌, map, append-nil, ℕ, zero}
-use Rattle.laws.proofs.Prelude.{suc, ◌≤◌, ◌<◌, not-suc-le-zero, le_of_suc-le-suc, arith, eq-eqb, ne_eqb, eqb-true, eqb-false, not-true, ltb-true}
+use Rattle.std.specs.Prelude.{◌≡◌, ◌∷◌, ◌++◌, ◌≤◌, ◌<◌}
+use Rattle.laws.proofs.Prelude.{refl, sym, ap, ap₂, ◌∙◌, Bool, true, false, cond, not, ⊎_elim, List, [], map, append-nil, ℕ, zero}
+use Rattle.laws.proofs.Prelude.{suc, not-suc-le-zero, le_of_suc-le-suc, arith, eq-eqb, ne_eqb, eqb-true, eqb-false, not-true, ltb-true}
 use Rattle.laws.proofs.Prelude.{ltb-false, eqb, ltb, ℤ, length, get_or, length-map, List·getD-map, both, left, right, eq_or_ne}
 use Rattle.laws.proofs.Bools.{either_way}
 use Rattle.pixel_segment.specs.Field.{cpu, layer_id_of}

@@ -1,6 +1,7 @@
 -- The carries of the opposite row, worked from its opening on: those of the row, negated exactly, by either rule; and what follows of its tiles'
 -- layers and of what the passes make of them. Assumes nothing.
-use Rattle.laws.proofs.Prelude.{◌≡◌, refl, ap, ap₂, ◌∙◌, true, not, List, [], ◌∷◌, map, ℕ, zero, suc, ◌+◌, pos, filter, left, right, filter_map}
+use Rattle.std.specs.Prelude.{◌≡◌, ◌∷◌, ◌+◌}
+use Rattle.laws.proofs.Prelude.{refl, ap, ap₂, ◌∙◌, true, not, List, [], map, ℕ, zero, suc, pos, filter, left, right, filter_map}
 use Rattle.pixel_segment.specs.Field.{cpu}
 use Rattle.pixel_segment.specs.Opposite.{opposite_of}
 use Rattle.pixel_segment.proofs.Opposite.{are_mild, cpu_wide}

@@ -1,6 +1,7 @@
 -- The parts of a row in order, found by search, are the parts that the whole row has of a layer: what lies in a tile, and what lies left of it.
 -- The stored number of tile t is t + 1. Assumes nothing.
-use Rattle.laws.proofs.Prelude.{◌≡◌, sym, ap, ◌∙◌, List, ℕ, suc, eqb, ltb, ℤ, pos, filter, filter_twice}
+use Rattle.std.specs.Prelude.{◌≡◌}
+use Rattle.laws.proofs.Prelude.{sym, ap, ◌∙◌, List, ℕ, suc, eqb, ltb, ℤ, pos, filter, filter_twice}
 use Rattle.pixel_segment.specs.Field.{cpu, tile_x_of, layer_id_of}
 use Rattle.segment_rows.specs.Rows.{Ordered}
 use Rattle.segment_rows.specs.Search.{left_part, tile_part, layer_part}

@@ -1,6 +1,7 @@
 -- Planes that the whole row gives in a tile: coverage 0 of a layer that is not listed there, coverage 1 of one that is full there. Assumes
 -- nothing.
-use Rattle.laws.proofs.Prelude.{◌≡◌, refl, sym, ap, ap₂, ◌∙◌, true, false, not, false≢true, List, [], ◌∷◌, map, ℕ, suc, ◌+◌, ◌<◌, arith, not-true}
+use Rattle.std.specs.Prelude.{◌≡◌, ◌∷◌, ◌+◌, ◌<◌}
+use Rattle.laws.proofs.Prelude.{refl, sym, ap, ap₂, ◌∙◌, true, false, not, false≢true, List, [], map, ℕ, suc, arith, not-true}
 use Rattle.laws.proofs.Prelude.{Float, binary32, of_bits, ℤ, pos, length, get_or, replicate, length-replicate, get_or-replicate, length-map, drop-cons}
 use Rattle.laws.proofs.Prelude.{every, Answer, refused, given, map_at, every_at, is_tabulate}
 use Rattle.laws.proofs.Bools as Bools

@@ -1,7 +1,8 @@
 -- The carries of a row that is worked from its opening on: the queue before each tile, and the layers of each tile, by the row, the table and
 -- the first tile alone. Stands for 'worked by this document from the opening on, never from a returned queue or state'; proofs/Carried has that
 -- the carries are what the whole row says.
-use Rattle.laws.specs.Prelude.{◌≡◌, Bool, true, not, List, ℕ, zero, suc, ◌+◌, eqb, pos, all}
+use Rattle.std.specs.Prelude.{◌≡◌, ◌+◌}
+use Rattle.laws.specs.Prelude.{Bool, true, not, List, ℕ, zero, suc, eqb, pos, all}
 use Rattle.pixel_segment.specs.Field.{cpu}
 use Rattle.segment_rows.specs.Rows.{is_row, Words}
 use Rattle.segment_rows.specs.Search.{left_part, tile_part}

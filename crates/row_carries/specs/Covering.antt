@@ -1,6 +1,7 @@
 -- What lies over a layer that is passed over as covered, by the whole row. Stands for 'a skipped one, masked off or not, is passed over as
 -- covered' of demand 3: such a layer can't be seen.
-use Rattle.laws.specs.Prelude.{◌≡◌, true, false, List, map, ℕ, suc, ◌+◌, ◌≤◌, ◌<◌, length, get_or, replicate}
+use Rattle.std.specs.Prelude.{◌≡◌, ◌+◌, ◌≤◌, ◌<◌}
+use Rattle.laws.specs.Prelude.{true, false, List, map, ℕ, suc, length, get_or, replicate}
 use Rattle.pixel_segment.specs.Field.{cpu}
 use Rattle.styling.specs.Style.{is_opaque}
 use Rattle.styling.specs.declared.Layer.{Layer}

@@ -1,5 +1,6 @@
 -- What the list of tile from + n says of a layer, by the queue that comes in and the whole row. The stored number of a tile is its own plus 1.
-use Rattle.laws.specs.Prelude.{◌≡◌, List, [], ℕ, suc, ◌+◌}
+use Rattle.std.specs.Prelude.{◌≡◌, ◌+◌}
+use Rattle.laws.specs.Prelude.{List, [], ℕ, suc}
 use Rattle.pixel_segment.specs.Field.{cpu}
 use Rattle.styling.specs.declared.Layer.{Layer}
 use Rattle.cover_statements.specs.WholeRow.{part_of}

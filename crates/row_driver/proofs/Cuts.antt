@@ -1,5 +1,6 @@
 -- Where a loop over the tiles of a row cuts it: it holds how many words are left of the next tile. Assumes nothing.
-use Rattle.laws.proofs.Prelude.{◌≡◌, ap, ap₂, ◌∙◌, true, List, ℕ, ◌+◌, ◌-◌, ◌^◌, ◌≤◌, ◌<◌, arith, pos, length, take, drop, length-drop, take_all, w64}
+use Rattle.std.specs.Prelude.{◌≡◌, ◌+◌, ◌-◌, ◌^◌, ◌≤◌, ◌<◌}
+use Rattle.laws.proofs.Prelude.{ap, ap₂, ◌∙◌, true, List, ℕ, arith, pos, length, take, drop, length-drop, take_all, w64}
 use Rattle.laws.proofs.Prelude.{Fits}
 use Rattle.pixel_segment.specs.Field.{cpu}
 use Rattle.segment_rows.specs.Rows.{is_row, Words}

@@ -1,5 +1,6 @@
 -- The line of a tile, by what its work is called with, is the one that the whole row gives. Assumes nothing.
-use Rattle.laws.proofs.Prelude.{◌≡◌, refl, ap, sym, ◌∙◌, Bool, true, false, cond, List, [], ◌∷◌, none, ℕ, suc, ◌+◌, arith, ones, pos, length}
+use Rattle.std.specs.Prelude.{◌≡◌, ◌∷◌, ◌+◌}
+use Rattle.laws.proofs.Prelude.{refl, ap, sym, ◌∙◌, Bool, true, false, cond, List, [], none, ℕ, suc, arith, ones, pos, length}
 use Rattle.segment_rows.specs.Search.{tile_part}
 use Rattle.styling.specs.declared.Layer.{Layer}
 use Rattle.queue_statements.specs.Queue.{Carry, ids_in}

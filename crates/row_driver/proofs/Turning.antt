@@ -1,6 +1,7 @@
 -- A tile of a driven row: what the driver holds lets the work pass without judging the row and the table again, and the theorem of demand 3 says
 -- what the work gives and what the driver then holds. Assumes nothing.
-use Rattle.laws.proofs.Prelude.{◌≡◌, refl, ap, sym, subst, ◌∙◌, Bool, true, false, not, List, some, none, ℕ, suc, ◌+◌, ◌^◌, ◌<◌, arith, le-ltb}
+use Rattle.std.specs.Prelude.{◌≡◌, ◌+◌, ◌^◌, ◌<◌}
+use Rattle.laws.proofs.Prelude.{refl, ap, sym, subst, ◌∙◌, Bool, true, false, not, List, some, none, ℕ, suc, arith, le-ltb}
 use Rattle.laws.proofs.Prelude.{lt-leb, eq-eqb, pos, length, refused, given}
 use Rattle.refusals.specs.Refusal.{Judgement, pass, refuse, number_of, and_then}
 use Rattle.refusals.specs.declared.Refusal.{Refusal}

@@ -1,6 +1,7 @@
 -- What the inner functions of a driver ask and give: a tile's line from what a work is called with, and two queues that take turns. proofs/ has
 -- that these are the lines of row_lines/specs/Lines.
-use Rattle.laws.specs.Prelude.{◌≡◌, Bool, true, false, not, List, ℕ, ◌+◌, ◌*◌, ◌≤◌, Float, pos, length}
+use Rattle.std.specs.Prelude.{◌≡◌, ◌+◌, ◌*◌, ◌≤◌}
+use Rattle.laws.specs.Prelude.{Bool, true, false, not, List, ℕ, Float, pos, length}
 use Rattle.segment_rows.specs.Search.{tile_part}
 use Rattle.queue_statements.specs.Queue.{ids_in, is_queue}
 use Rattle.cached_tile.specs.Kept.{no_tile}

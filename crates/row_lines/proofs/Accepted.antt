@@ -1,6 +1,7 @@
 -- An accepted work's list: each of its layers can be painted, since the table has it and number 9 does not apply; so can the shown ones. Assumes
 -- nothing.
-use Rattle.laws.proofs.Prelude.{◌≡◌, ap₂, sym, ◌∙◌, Bool, true, false, List, [], ◌∷◌, ℕ, zero, suc, ◌<◌, arith, length, drop, get_or, is_given, all_at}
+use Rattle.std.specs.Prelude.{◌≡◌, ◌∷◌, ◌<◌}
+use Rattle.laws.proofs.Prelude.{ap₂, sym, ◌∙◌, Bool, true, false, List, [], ℕ, zero, suc, arith, length, drop, get_or, is_given, all_at}
 use Rattle.refusals.specs.Refusal.{pass}
 use Rattle.pixel_segment.specs.Field.{cpu, layer_id_of}
 use Rattle.segment_rows.specs.Rows.{Ordered}

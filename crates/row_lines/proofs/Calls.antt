@@ -1,5 +1,6 @@
 -- The calls of a driven row, wherever they give what is due of them, tell the lines of the whole row. Assumes nothing.
-use Rattle.laws.proofs.Prelude.{◌≡◌, refl, ap, ap₂, sym, subst, ◌∙◌, Bool, true, false, cond, List, [], ◌∷◌, ◌++◌, Option, ℕ, suc, ◌+◌, ◌-◌, ◌≤◌, ◌<◌}
+use Rattle.std.specs.Prelude.{◌≡◌, ◌∷◌, ◌++◌, ◌+◌, ◌-◌, ◌≤◌, ◌<◌}
+use Rattle.laws.proofs.Prelude.{refl, ap, ap₂, sym, subst, ◌∙◌, Bool, true, false, cond, List, [], Option, ℕ, suc}
 use Rattle.laws.proofs.Prelude.{arith, le-ltb, lt-leb, eq-eqb, ones, Float, pos, length, take, length-map, refused, given}
 use mathlib.Core.Option as option
 use Rattle.refusals.specs.Refusal.{Judgement, pass, refuse}

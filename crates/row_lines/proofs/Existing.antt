@@ -1,6 +1,7 @@
 -- After every accepted opening there is a run of the public calls that a driven row stands for. Assumes nothing.
-use Rattle.laws.proofs.Prelude.{◌≡◌, refl, ap, sym, subst, ◌∙◌, Bool, true, false, cond, List, [], ◌∷◌, ◌++◌, Option, ℕ, zero, suc, ◌+◌, ◌-◌, ◌≤◌}
-use Rattle.laws.proofs.Prelude.{◌<◌, arith, eq-eqb, ne_eqb, le-ltb, ones, binary32, of_bits, pos, replicate, refused, given, plus}
+use Rattle.std.specs.Prelude.{◌≡◌, ◌∷◌, ◌++◌, ◌+◌, ◌-◌, ◌≤◌, ◌<◌}
+use Rattle.laws.proofs.Prelude.{refl, ap, sym, subst, ◌∙◌, Bool, true, false, cond, List, [], Option, ℕ, zero, suc}
+use Rattle.laws.proofs.Prelude.{arith, eq-eqb, ne_eqb, le-ltb, ones, binary32, of_bits, pos, replicate, refused, given, plus}
 use mathlib.Core.Option as option
 use Rattle.refusals.specs.Refusal.{Judgement, pass, refuse}
 use Rattle.segment_rows.specs.Rows.{Words}

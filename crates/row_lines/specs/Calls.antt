@@ -1,7 +1,8 @@
 -- The public calls that the lines of a driven row stand for: the work on each tile, and where it is painted the painting of each shown layer,
 -- ascending. What is shown and counted is read from what the calls answered and left in lent memory, as a caller reads it. proofs/Calls has that
 -- these are the lines of specs/Lines wherever the calls are a run, and that there is such a run.
-use Rattle.laws.specs.Prelude.{◌≡◌, false, cond, List, [], ◌∷◌, ◌++◌, ℕ, zero, suc, ◌+◌, ◌≤◌, ones, ltb, Float, pos, length, take, refused, given}
+use Rattle.std.specs.Prelude.{◌≡◌, ◌∷◌, ◌++◌, ◌+◌, ◌≤◌}
+use Rattle.laws.specs.Prelude.{false, cond, List, [], ℕ, zero, suc, ones, ltb, Float, pos, length, take, refused, given}
 use Rattle.laws.specs.Prelude.{plus}
 use Rattle.refusals.specs.Refusal.{pass, refuse}
 use Rattle.segment_rows.specs.Rows.{Words}

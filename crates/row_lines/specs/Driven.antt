@@ -1,7 +1,8 @@
 -- What driving a row promises: how many lines are written, the refusal that ended it, and every entry of the lent array, which has a line for each
 -- tile that a row can have. The opening is judged first, then the tiles one after the other. Stands for 'a refusal [..] after the names and the
 -- tiles already worked' of the row program.
-use Rattle.laws.specs.Prelude.{◌≡◌, List, [], Option, some, none, ℕ, ◌-◌, min, ℤ, pos, length, replicate, Answer, refused, given, plus, over}
+use Rattle.std.specs.Prelude.{◌≡◌, ◌-◌}
+use Rattle.laws.specs.Prelude.{List, [], Option, some, none, ℕ, min, ℤ, pos, length, replicate, Answer, refused, given, plus, over}
 use Rattle.refusals.specs.Refusal.{Judgement, pass, refuse, number_of}
 use Rattle.row_statements.specs.Lent.{Columns}
 use Rattle.row_statements.specs.State.{State}

@@ -1,7 +1,8 @@
 -- The lines of a driven row: for each tile its decision, layers listed, layers shown, used octets and carries, worked from the whole row by the
 -- definitions that the theorem of demand 3 compares with (`row_statements`, specs/Due). No queue and no state that a call gave back is looked at.
 -- Stands for 'Fields: tile, decision, layers listed, layers neither masked nor skipped, used octets summed over the draws, carries handed on'.
-use Rattle.laws.specs.Prelude.{Bool, true, false, cond, Option, List, [], ◌∷◌, map, flatten, ℕ, zero, suc, ◌+◌, ones, binary32, of_bits, length}
+use Rattle.std.specs.Prelude.{◌∷◌, ◌+◌}
+use Rattle.laws.specs.Prelude.{Bool, true, false, cond, Option, List, [], map, flatten, ℕ, zero, suc, ones, binary32, of_bits, length}
 use Rattle.std.proofs.Math.Option as option
 use Rattle.styling.specs.declared.Color.{Color}
 use Rattle.queue_statements.specs.Queue.{ids_in}

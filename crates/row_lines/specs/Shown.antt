@@ -1,6 +1,7 @@
 -- The shown layers of a tile: a listed layer that is neither masked off nor skipped is shown. Stands for 'layers neither masked nor skipped' of
 -- the row program.
-use Rattle.laws.specs.Prelude.{Bool, cond, List, [], ◌∷◌, ℕ, drop}
+use Rattle.std.specs.Prelude.{◌∷◌}
+use Rattle.laws.specs.Prelude.{Bool, cond, List, [], ℕ, drop}
 
 -- the ids whose flag is set
 unfoldable pub flagged : List Bool → List ℕ → List ℕ

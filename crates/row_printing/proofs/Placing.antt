@@ -1,6 +1,7 @@
 -- A line of the report, printed where there is room for the longest: its bytes, and the place after it.
 -- Assumes nothing.
-use Rattle.laws.proofs.Prelude.{◌≡◌, subst, ◌∙◌, List, some, ℕ, ◌+◌, ◌*◌, ◌≤◌, arith, le-leb, length, get_or, length-append, w32, Fits}
+use Rattle.std.specs.Prelude.{◌≡◌, ◌+◌, ◌*◌, ◌≤◌}
+use Rattle.laws.proofs.Prelude.{subst, ◌∙◌, List, some, ℕ, arith, le-leb, length, get_or, length-append, w32, Fits}
 use Rattle.decimal.specs.Print.{Printing}
 use Rattle.decimal.proofs.Print.{ten}
 use Rattle.report.specs.Text.{op_field, tile_text, refusal_text}

@@ -1,6 +1,7 @@
 -- What the inner printers promise: a line as its five words say it, and the text of the lines that a driver told. row_text/proofs/Telling has
 -- that this is the text of row_answer/specs/Answer.
-use Rattle.laws.specs.Prelude.{List, [], ◌++◌, ℕ, zero, suc, ◌+◌, ◌*◌, ◌≤◌, length, get_or}
+use Rattle.std.specs.Prelude.{◌++◌, ◌+◌, ◌*◌, ◌≤◌}
+use Rattle.laws.specs.Prelude.{List, [], ℕ, zero, suc, length, get_or}
 use Rattle.row_lines.specs.Driven.{LinesWritten}
 use Rattle.row_lines.specs.declared.Line.{Line}
 use Rattle.report.specs.Text.{tile_names}

@@ -1,5 +1,6 @@
 -- The run of specs/Example. Assumes nothing.
-use Rattle.laws.proofs.Prelude.{◌≡◌, refl, ◌∙◌, true, List, [], ◌∷◌, ℕ, zero, suc, ◌^◌, ◌<◌, arith, ltb-true, ltb, eq, odd, of_bits, get_or, given, all}
+use Rattle.std.specs.Prelude.{◌≡◌, ◌∷◌, ◌^◌, ◌<◌}
+use Rattle.laws.proofs.Prelude.{refl, ◌∙◌, true, List, [], ℕ, zero, suc, arith, ltb-true, ltb, eq, odd, of_bits, get_or, given, all}
 use Rattle.laws.proofs.Prelude.{left, right}
 use Rattle.refusals.specs.Refusal.{pass, refuse}
 use Rattle.pixel_segment.specs.Field.{cover_of, tile_of}

@@ -1,5 +1,6 @@
 -- The lists that a caller holds a queue in: once it is written to them, and in other memory that holds the same carries. Assumes nothing.
-use Rattle.laws.proofs.Prelude.{◌≡◌, ap, ap₂, sym, ◌∙◌, true, false, List, ℕ, ◌/◌, ◌≤◌, min, arith, ltb, length, length-map, over, length_over}
+use Rattle.std.specs.Prelude.{◌≡◌, ◌/◌, ◌≤◌}
+use Rattle.laws.proofs.Prelude.{ap, ap₂, sym, ◌∙◌, true, false, List, ℕ, min, arith, ltb, length, length-map, over, length_over}
 use Rattle.styling.specs.Ascending.{strictly_ascends}
 use Rattle.queue_statements.specs.Queue.{Carry, ids_in, covers_in, is_queue}
 use Rattle.queue_statements.proofs.Columns.{are_wide, length_covers, reads_back, in_order}

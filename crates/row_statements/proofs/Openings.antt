@@ -1,5 +1,6 @@
 -- What a passed opening's verdict tells, and the operation put together from its parts. Assumes nothing.
-use Rattle.laws.proofs.Prelude.{◌≡◌, refl, ap, ◌∙◌, true, false, ◌||◌, List, ℕ, suc, ◌≤◌, arith, not-false, ℤ, pos, lt_z, Answer, refused, given, plus}
+use Rattle.std.specs.Prelude.{◌≡◌, ◌||◌, ◌≤◌}
+use Rattle.laws.proofs.Prelude.{refl, ap, ◌∙◌, true, false, List, ℕ, suc, arith, not-false, ℤ, pos, lt_z, Answer, refused, given, plus}
 use Rattle.laws.proofs.Prelude.{minus, whole, lt_false}
 use Rattle.refusals.specs.Refusal.{pass, refuse, number_of}
 use Rattle.refusals.specs.declared.Refusal.{Refusal}

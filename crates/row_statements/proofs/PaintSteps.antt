@@ -1,5 +1,6 @@
 -- A painting in a run: what it gives is what is due, and what the caller then holds is again the row's. Assumes nothing.
-use Rattle.laws.proofs.Prelude.{◌≡◌, refl, ap, ap₂, sym, subst, ◌∙◌, Bool, true, false, not, ◌||◌, false≢true, List, Option, ℕ, zero, suc, ◌+◌, ◌-◌}
+use Rattle.std.specs.Prelude.{◌≡◌, ◌||◌, ◌+◌, ◌-◌}
+use Rattle.laws.proofs.Prelude.{refl, ap, ap₂, sym, subst, ◌∙◌, Bool, true, false, not, false≢true, List, Option, ℕ, zero, suc}
 use Rattle.laws.proofs.Prelude.{arith, le-leb, lt-leb, ne_eqb, eqb-true, not-false, ltb, leb, eqb, Float, ℤ, pos, length, lt_z, Answer, refused, given}
 use Rattle.laws.proofs.Prelude.{plus, whole, equal, lt_false}
 use Rattle.refusals.specs.Refusal.{Judgement, pass, refuse, unless, and_then}

@@ -1,5 +1,6 @@
 -- What a painting's verdict tells, and the whole operation from it. Assumes nothing.
-use Rattle.laws.proofs.Prelude.{◌≡◌, refl, ap, subst, ◌∙◌, true, false, not, ◌||◌, false≢true, List, ℕ, suc, ◌+◌, ◌≤◌, arith, ltb-false, eqb-true}
+use Rattle.std.specs.Prelude.{◌≡◌, ◌||◌, ◌+◌, ◌≤◌}
+use Rattle.laws.proofs.Prelude.{refl, ap, subst, ◌∙◌, true, false, not, false≢true, List, ℕ, suc, arith, ltb-false, eqb-true}
 use Rattle.laws.proofs.Prelude.{not-false, ltb, leb, eqb, Float, ℤ, pos, length, lt_z, Answer, refused, given, is_given, plus, minus, whole, equal}
 use Rattle.laws.proofs.Prelude.{lt_false}
 use Rattle.refusals.specs.Refusal.{Judgement, pass, refuse, number_of}

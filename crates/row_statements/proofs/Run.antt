@@ -1,6 +1,7 @@
 -- The claim of specs/Claim: between calls the caller holds the row's carries, each call keeps that, and what is held makes each call right.
 -- Assumes nothing.
-use Rattle.laws.proofs.Prelude.{◌≡◌, refl, ap, ap₂, sym, subst, ◌∙◌, Bool, true, false, cond, List, none, ℕ, ◌+◌, ◌≤◌, arith, ltb-false, ltb, Float}
+use Rattle.std.specs.Prelude.{◌≡◌, ◌+◌, ◌≤◌}
+use Rattle.laws.proofs.Prelude.{refl, ap, ap₂, sym, subst, ◌∙◌, Bool, true, false, cond, List, none, ℕ, arith, ltb-false, ltb, Float}
 use Rattle.laws.proofs.Prelude.{ℤ, pos, length, Answer, refused, given, plus, clash, whole, equal}
 use Rattle.laws.proofs.Bools.{not-true}
 use Rattle.refusals.specs.Refusal.{Judgement, pass, refuse}

@@ -1,5 +1,6 @@
 -- The claim is not empty: after every accepted opening, every list of choices is the list of some run's calls. Assumes nothing.
-use Rattle.laws.proofs.Prelude.{◌≡◌, refl, ap, sym, subst, ◌∙◌, Bool, not, ◌||◌, List, [], ◌∷◌, Option, some, none, ℕ, suc, ◌+◌, ◌-◌, ltb, Float, pos}
+use Rattle.std.specs.Prelude.{◌≡◌, ◌||◌, ◌∷◌, ◌+◌, ◌-◌}
+use Rattle.laws.proofs.Prelude.{refl, ap, sym, subst, ◌∙◌, Bool, not, List, [], Option, some, none, ℕ, suc, ltb, Float, pos}
 use Rattle.laws.proofs.Prelude.{length, Answer, refused, given, is_given}
 use Rattle.refusals.specs.Refusal.{Judgement, pass, refuse, unless, and_then}
 use Rattle.refusals.proofs.Naming.{refusal_of, Named, named}

@@ -1,5 +1,6 @@
 -- A tile work in a run: what it gives is what is due, and what the caller then holds is again the row's. Assumes nothing.
-use Rattle.laws.proofs.Prelude.{◌≡◌, refl, ap, ap₂, sym, subst, ◌∙◌, Bool, true, false, not, ◌||◌, List, map, none, ℕ, suc, ◌+◌, ◌≤◌, arith, le-ltb}
+use Rattle.std.specs.Prelude.{◌≡◌, ◌||◌, ◌+◌, ◌≤◌}
+use Rattle.laws.proofs.Prelude.{refl, ap, ap₂, sym, subst, ◌∙◌, Bool, true, false, not, List, map, none, ℕ, suc, arith, le-ltb}
 use Rattle.laws.proofs.Prelude.{leb-false, leb, eqb, ℤ, pos, length, take, drop, length-map, take_at, lt_z, refused, plus, over}
 use Rattle.refusals.specs.Refusal.{Judgement, pass, refuse, unless, and_then}
 use Rattle.refusals.proofs.Judging.{passed, or_left, or_right}

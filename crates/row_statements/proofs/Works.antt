@@ -1,5 +1,6 @@
 -- The work on a tile: what a passed verdict tells, and the operation put together from its parts. Assumes nothing.
-use Rattle.laws.proofs.Prelude.{◌≡◌, refl, ap, sym, subst, ◌∙◌, Bool, true, false, not, ◌||◌, List, ℕ, suc, ◌/◌, ◌≤◌, ◌<◌, arith, not-false}
+use Rattle.std.specs.Prelude.{◌≡◌, ◌||◌, ◌/◌, ◌≤◌, ◌<◌}
+use Rattle.laws.proofs.Prelude.{refl, ap, sym, subst, ◌∙◌, Bool, true, false, not, List, ℕ, suc, arith, not-false}
 use Rattle.laws.proofs.Prelude.{ltb-false, leb-false, eqb-true, ltb, leb, eqb, ℤ, pos, length, lt_z, given, plus, minus, whole, equal, lt_false}
 use Rattle.refusals.specs.Refusal.{Judgement, pass, refuse, unless, and_then, number_of}
 use Rattle.refusals.specs.declared.Refusal.{Refusal}

@@ -1,7 +1,8 @@
 -- Demand 3, one claim about an accepted opening and any list of tile works and paintings after it, refused ones included: every call gives what is
 -- due of it (specs/Due), which is worked from the whole row. Beside it, what the row alone says of every tile. proofs/Run proves it; specs/Example
 -- has a run that meets its premises.
-use Rattle.laws.specs.Prelude.{◌≡◌, true, List, [], ◌∷◌, map, ℕ, suc, ◌+◌, ◌<◌, Float, length, get_or, take, replicate, refused}
+use Rattle.std.specs.Prelude.{◌≡◌, ◌∷◌, ◌+◌, ◌<◌}
+use Rattle.laws.specs.Prelude.{true, List, [], map, ℕ, suc, Float, length, get_or, take, replicate, refused}
 use Rattle.refusals.specs.Refusal.{pass, refuse}
 use Rattle.pixel_segment.specs.Field.{cpu}
 use Rattle.segment_rows.specs.Rows.{Words}

@@ -1,7 +1,8 @@
 -- What is due of each call after an accepted opening, worked from the opening on: by the row, the table, the row's tiles, which earlier calls were
 -- due to be accepted, and the caller's own choices. No answer, no queue and no state that a call gave back is looked at. The claim of specs/Claim
 -- compares every call with these definitions. Stands for 'what it compares with is worked by this document from the opening on'.
-use Rattle.laws.specs.Prelude.{Bool, not, ◌||◌, List, Option, none, ℕ, zero, suc, ◌+◌, ◌-◌, ltb, leb, eqb, Float, ℤ, pos, length, lt_z, plus}
+use Rattle.std.specs.Prelude.{◌||◌, ◌+◌, ◌-◌}
+use Rattle.laws.specs.Prelude.{Bool, not, List, Option, none, ℕ, zero, suc, ltb, leb, eqb, Float, ℤ, pos, length, lt_z, plus}
 use Rattle.refusals.specs.Refusal.{Judgement, pass, refuse, unless}
 use Rattle.pixel_segment.specs.Field.{cpu}
 use Rattle.segment_rows.specs.Search.{tile_part}

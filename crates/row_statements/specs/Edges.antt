@@ -1,6 +1,7 @@
 -- Both sides of the edges of an opening's refusals 1 to 4 and of a tile work's; those of 7 and 9 at an opening stand in queue_statements/specs/Edges.
 -- Stands for 'Turned down'.
-use Rattle.laws.specs.Prelude.{◌≡◌, Bool, true, false, List, [], ◌∷◌, none, ℕ, nan, ℤ, pos, negsuc, replicate, tabulate}
+use Rattle.std.specs.Prelude.{◌≡◌, ◌∷◌}
+use Rattle.laws.specs.Prelude.{Bool, true, false, List, [], none, ℕ, nan, ℤ, pos, negsuc, replicate, tabulate}
 use Rattle.pixel_segment.specs.Field.{cpu}
 use Rattle.pixel_segment.specs.Pack.{word_of}
 use Rattle.layer_table.specs.Record.{layer_of}

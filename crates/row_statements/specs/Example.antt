@@ -1,7 +1,8 @@
 -- The claim is not empty: an accepted opening and a run after it that meet the claim's premises, in which an EvenOdd carry is dropped, a clip is
 -- painted, a layer is passed over as covered, and calls are refused by 1, 2, 6 and 8 between accepted ones, and by 3, 4 and 5 for another row, table and
 -- queue. proofs/Example has it.
-use Rattle.laws.specs.Prelude.{◌≡◌, true, false, List, [], ◌∷◌, ◌++◌, ℕ, binary32, of_bits, ℤ, pos, negsuc, replicate, tabulate}
+use Rattle.std.specs.Prelude.{◌≡◌, ◌∷◌, ◌++◌}
+use Rattle.laws.specs.Prelude.{true, false, List, [], ℕ, binary32, of_bits, ℤ, pos, negsuc, replicate, tabulate}
 use Rattle.refusals.specs.Refusal.{Judgement, pass, refuse}
 use Rattle.pixel_segment.specs.Field.{cpu}
 use Rattle.segment_rows.specs.Rows.{Words}

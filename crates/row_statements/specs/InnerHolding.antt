@@ -1,6 +1,7 @@
 -- What a caller holds between the calls of a run: the carries of the row, in lists that no refusal turns down. The inner functions of a driver ask
 -- this where the public operations judge.
-use Rattle.laws.specs.Prelude.{◌≡◌, true, false, List, ℕ, zero, suc, ◌+◌, ◌≤◌, length}
+use Rattle.std.specs.Prelude.{◌≡◌, ◌+◌, ◌≤◌}
+use Rattle.laws.specs.Prelude.{true, false, List, ℕ, zero, suc, length}
 use Rattle.queue_statements.specs.Queue.{Carry, is_queue}
 use Rattle.tile_layers.specs.Listing.{are_known}
 use Rattle.row_carries.specs.Carries.{InOrder}

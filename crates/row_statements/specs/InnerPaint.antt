@@ -1,5 +1,6 @@
 -- What the functions below the painting of a layer give.
-use Rattle.laws.specs.Prelude.{Bool, ◌||◌, List, ℕ, ltb, Float, length}
+use Rattle.std.specs.Prelude.{◌||◌}
+use Rattle.laws.specs.Prelude.{Bool, List, ℕ, ltb, Float, length}
 use Rattle.painter.specs.declared.Clip as painter
 use Rattle.row_statements.specs.Lent.{Columns, LentTable, is_queue_short, is_lent_short}
 use Rattle.row_statements.specs.declared.PaintAnswer.TheVariants.{Mark}

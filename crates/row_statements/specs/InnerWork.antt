@@ -1,5 +1,6 @@
 -- What the functions below the work on a tile ask and give.
-use Rattle.laws.specs.Prelude.{◌≡◌, Bool, List, ℕ, ◌*◌, ◌≤◌, ◌+◌, ℤ, length, plus, minus}
+use Rattle.std.specs.Prelude.{◌≡◌, ◌*◌, ◌≤◌, ◌+◌}
+use Rattle.laws.specs.Prelude.{Bool, List, ℕ, ℤ, length, plus, minus}
 use Rattle.refusals.specs.Refusal.{Judgement, pass, unless, and_then, judgement_in}
 use Rattle.refusals.specs.declared.Refusal.{Refusal}
 use Rattle.segment_rows.specs.Search.{tile_part}

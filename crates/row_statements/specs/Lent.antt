@@ -1,6 +1,7 @@
 -- The memory that a caller lends to a row's operations: a queue's two columns, the four of a tile's list, a layer table. How carries and a list lie
 -- in it, what is written over it, and refusal 1 of each. Stands for 'lent arrays with counts' and for condition 1 of 'Turned down'.
-use Rattle.laws.specs.Prelude.{Bool, ◌||◌, List, ℕ, ◌/◌, ltb, Float, ℤ, length, over}
+use Rattle.std.specs.Prelude.{◌||◌, ◌/◌}
+use Rattle.laws.specs.Prelude.{Bool, List, ℕ, ltb, Float, ℤ, length, over}
 use Rattle.layer_table.specs.Table as table
 use Rattle.styling.specs.declared.Layer.{Layer}
 use Rattle.queue_statements.specs.Queue as queue

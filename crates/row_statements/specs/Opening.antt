@@ -1,7 +1,8 @@
 -- The opening of a tile row as a public operation (`paint_tile_row` up to its first tile): judged by 1 to 4, then by 7 and 9; the queue of carries
 -- from the segments left of `from`, and the state before the first tile. Stands for the clause on opening and for 'Turned down' at an opening; an
 -- empty row and from = to pass.
-use Rattle.laws.specs.Prelude.{◌≡◌, Bool, not, ◌||◌, List, none, ℕ, suc, ℤ, pos, lt_z, Answer, refused, given, plus}
+use Rattle.std.specs.Prelude.{◌≡◌, ◌||◌}
+use Rattle.laws.specs.Prelude.{Bool, not, List, none, ℕ, suc, ℤ, pos, lt_z, Answer, refused, given, plus}
 use Rattle.refusals.specs.Refusal.{Judgement, pass, refuse, unless, number_of}
 use Rattle.pixel_segment.specs.Field.{cpu}
 use Rattle.segment_rows.specs.Rows.{is_row}

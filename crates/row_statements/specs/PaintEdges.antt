@@ -1,5 +1,6 @@
 -- Both sides of the edges of a painting's refusals. Stands for 'Turned down'.
-use Rattle.laws.specs.Prelude.{◌≡◌, List, [], ◌∷◌, none, ℕ, nan, ℤ, pos, negsuc, replicate}
+use Rattle.std.specs.Prelude.{◌≡◌, ◌∷◌}
+use Rattle.laws.specs.Prelude.{List, [], none, ℕ, nan, ℤ, pos, negsuc, replicate}
 use Rattle.pixel_segment.specs.Field.{cpu}
 use Rattle.pixel_segment.specs.Pack.{word_of}
 use Rattle.refusals.specs.Refusal.{Judgement, pass, refuse}

@@ -1,7 +1,8 @@
 -- Painting a layer as a public operation (`paint_layer` of the Rust): judged by 1 to 5, then by 8 and 9 for the painted layer; then the painting of
 -- `painter` in the tile's part of the row, from the queue that the tile took in, and the state with the clip after it. Stands for 'One tile' from
 -- painting on, and for 'Turned down' at painting.
-use Rattle.laws.specs.Prelude.{◌≡◌, Bool, false, not, ◌||◌, List, Option, ℕ, ltb, Float, ℤ, length, Answer, refused, given, is_given, over}
+use Rattle.std.specs.Prelude.{◌≡◌, ◌||◌}
+use Rattle.laws.specs.Prelude.{Bool, false, not, List, Option, ℕ, ltb, Float, ℤ, length, Answer, refused, given, is_given, over}
 use Rattle.refusals.specs.Refusal.{Judgement, pass, refuse, unless, and_then, number_of}
 use Rattle.segment_rows.specs.Search.{tile_part}
 use Rattle.layer_table.specs.Lookup.{lookup}

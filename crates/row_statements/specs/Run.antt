@@ -1,6 +1,7 @@
 -- A run: an accepted opening's row, and any list of tile works and paintings after it, refused ones included, as the calls went. The premise of each
 -- step is the operation's own contract, at what the caller holds, chooses and lends.
-use Rattle.laws.specs.Prelude.{◌≡◌, List, [], ◌∷◌, ℕ, Float, plus}
+use Rattle.std.specs.Prelude.{◌≡◌, ◌∷◌}
+use Rattle.laws.specs.Prelude.{List, [], ℕ, Float, plus}
 use Rattle.refusals.specs.Refusal.{refuse}
 use Rattle.queue_statements.specs.Queue.{is_queue}
 use Rattle.row_statements.specs.Lent.{Columns, carries_in, is_queue_short}

@@ -1,6 +1,7 @@
 -- Where a caller stands in a row, and refusal 2 of a tile. The clip is none, or the last layer id that it lives up to. Stands for 'a state passed by
 -- value' and for condition 2: 'tile not the next (in painting: not the one just worked) or outside from..to'.
-use Rattle.laws.specs.Prelude.{Bool, not, ◌||◌, Option, none, ℕ, ◌+◌, ltb, leb, eqb, ℤ, pos, lt_z, plus}
+use Rattle.std.specs.Prelude.{◌||◌, ◌+◌}
+use Rattle.laws.specs.Prelude.{Bool, not, Option, none, ℕ, ltb, leb, eqb, ℤ, pos, lt_z, plus}
 use Rattle.painter.specs.Clip.{clip_in}
 use Rattle.row_statements.specs.declared.RowState.{RowState}
 

@@ -1,7 +1,8 @@
 -- The work on a tile as a public operation: judged by 1 to 9, the lowest that applies; a refusal says its number and leaves the state, the cached
 -- tile and every lent list as they were. Else the list, masks, skips, decision, cached tile and carries are those of `layer_workbench` for the
 -- tile's part of the row, and the state is the next one. Stands for 'One tile' up to painting and for 'Turned down' at tile work.
-use Rattle.laws.specs.Prelude.{◌≡◌, Bool, not, ◌||◌, List, ℕ, ℤ, length, Answer, refused, given}
+use Rattle.std.specs.Prelude.{◌≡◌, ◌||◌}
+use Rattle.laws.specs.Prelude.{Bool, not, List, ℕ, ℤ, length, Answer, refused, given}
 use Rattle.refusals.specs.Refusal.{Judgement, pass, refuse, unless, and_then, number_of}
 use Rattle.segment_rows.specs.Search.{tile_part}
 use Rattle.styling.specs.declared.Color.{Color}

@@ -1,5 +1,6 @@
 -- The first 65,537 bytes of an input decide its answer. Assumes nothing.
-use Rattle.laws.proofs.Prelude.{◌≡◌, sym, ap, ◌∙◌, List, ℕ, take}
+use Rattle.std.specs.Prelude.{◌≡◌}
+use Rattle.laws.proofs.Prelude.{sym, ap, ◌∙◌, List, ℕ, take}
 use Rattle.job_text_statements.specs.Parse.{parse}
 use Rattle.job_front.specs.Front.{input_room}
 use Rattle.job_front.proofs.Fronts.{front_decides}

@@ -1,7 +1,8 @@
 -- The text of the lines that a driver told is that of the driven row.
 -- Assumes nothing.
-use Rattle.laws.proofs.Prelude.{◌≡◌, refl, ap, ap₂, sym, subst, ◌∙◌, List, [], ◌∷◌, ◌++◌, append-nil, append_assoc, flatten, ℕ, zero, suc, ◌+◌, ◌*◌}
-use Rattle.laws.proofs.Prelude.{◌≤◌, add-zero, arith, Float, length, drop, get_or, length-append, plus, over}
+use Rattle.std.specs.Prelude.{◌≡◌, ◌∷◌, ◌++◌, ◌+◌, ◌*◌, ◌≤◌}
+use Rattle.laws.proofs.Prelude.{refl, ap, ap₂, sym, subst, ◌∙◌, List, [], append-nil, append_assoc, flatten, ℕ, zero, suc}
+use Rattle.laws.proofs.Prelude.{add-zero, arith, Float, length, drop, get_or, length-append, plus, over}
 use Rattle.row_lines.specs.Lines.{line_words, lines_words}
 use Rattle.row_lines.specs.Driven.{Driving, LinesWritten, lines_written, Drives}
 use Rattle.row_lines.specs.declared.Driven.{Driven}

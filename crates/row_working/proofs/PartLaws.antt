@@ -1,5 +1,6 @@
 -- The part of a tile of a row that 1 to 6 were judged of. Assumes nothing.
-use Rattle.laws.proofs.Prelude.{◌≡◌, List, ℕ, ℤ}
+use Rattle.std.specs.Prelude.{◌≡◌}
+use Rattle.laws.proofs.Prelude.{List, ℕ, ℤ}
 use Rattle.segment_rows.specs.Search.{tile_part}
 use Rattle.styling.specs.declared.Color.{Color}
 use Rattle.cached_tile.specs.declared.kept.Kept as kept

@@ -1,5 +1,6 @@
 -- What the work on a tile's part asks and gives, whichever tile of whichever row the part is.
-use Rattle.laws.specs.Prelude.{◌≡◌, List, ℕ, ◌*◌, ◌≤◌, ℤ, length}
+use Rattle.std.specs.Prelude.{◌≡◌, ◌*◌, ◌≤◌}
+use Rattle.laws.specs.Prelude.{List, ℕ, ℤ, length}
 use Rattle.segment_rows.specs.Search.{tile_part}
 use Rattle.layer_table.specs.Table.{Table}
 use Rattle.styling.specs.declared.Color.{Color}

@@ -1,6 +1,7 @@
 -- Which numbers of a field are above a key: those from the least one on, which the searches halve by. Assumes nothing.
-use Rattle.laws.proofs.Prelude.{◌≡◌, refl, ap, sym, ◌∙◌, Bool, true, false, ⊎_elim, ℕ, zero, suc, ◌+◌, ◌≤◌, ◌<◌, min, add-one, arith, lt-ltb}
-use Rattle.laws.proofs.Prelude.{le-ltb, le-leb, lt-leb, leb, ℤ, pos, negsuc, ◌+ℤ◌, le_z, w16, w32, SFits, within, sfits, le_or_lt, added}
+use Rattle.std.specs.Prelude.{◌≡◌, ◌+◌, ◌≤◌, ◌<◌, ◌+ℤ◌}
+use Rattle.laws.proofs.Prelude.{refl, ap, sym, ◌∙◌, Bool, true, false, ⊎_elim, ℕ, zero, suc, min, add-one, arith, lt-ltb}
+use Rattle.laws.proofs.Prelude.{le-ltb, le-leb, lt-leb, leb, ℤ, pos, negsuc, le_z, w16, w32, SFits, within, sfits, le_or_lt, added}
 use Rattle.pixel_segment.specs.Field.{tile_of}
 use Rattle.pixel_segment.specs.Order.{is_gt, compare_of, compareℤ, compare_bool}
 use Rattle.pixel_segment.specs.Pack.{stored_of}

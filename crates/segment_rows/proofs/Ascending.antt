@@ -1,6 +1,7 @@
 -- Laws of ascending lists: how a loop over one goes, and what it says of any two elements. Assumes nothing.
-use Rattle.laws.proofs.Prelude.{◌≡◌, refl, ap, sym, ◌∙◌, Bool, true, false, ◌&&◌, and_assoc, and-true, List, [], ◌∷◌, ⊎_elim, ℕ, zero, suc, ◌+◌, ◌-◌}
-use Rattle.laws.proofs.Prelude.{◌/◌, ◌≤◌, ◌<◌, not-suc-le-zero, le_of_suc-le-suc, div-eq_of_lt, add-one, arith, leb-true, le-leb, lt-leb, ne_eqb, leb}
+use Rattle.std.specs.Prelude.{◌≡◌, ◌&&◌, ◌∷◌, ◌+◌, ◌-◌, ◌/◌, ◌≤◌, ◌<◌}
+use Rattle.laws.proofs.Prelude.{refl, ap, sym, ◌∙◌, Bool, true, false, and_assoc, and-true, List, [], ⊎_elim, ℕ, zero, suc}
+use Rattle.laws.proofs.Prelude.{not-suc-le-zero, le_of_suc-le-suc, div-eq_of_lt, add-one, arith, leb-true, le-leb, lt-leb, ne_eqb, leb}
 use Rattle.laws.proofs.Prelude.{eqb, length, get_or, drop, drop_of_length-le, drop-cons, left, right, both, not_right, le_or_lt}
 use native.Mathlib.Nat.{div-eq_of_lt-le}
 use Rattle.segment_rows.specs.Rows.{ascends_from, ascends}

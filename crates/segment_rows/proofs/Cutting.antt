@@ -1,6 +1,7 @@
 -- A row in order, cut tile by tile: what is left from the end of the tiles before on begins at this tile or later, so that its last word is
 -- where the tile ends. Assumes nothing.
-use Rattle.laws.proofs.Prelude.{◌≡◌, refl, ap, ap₂, sym, ◌∙◌, fun_ext, Bool, true, false, cond, ◌&&◌, ⊎_elim, List, [], ◌∷◌, ℕ, suc, ◌+◌, ◌≤◌, ◌<◌}
+use Rattle.std.specs.Prelude.{◌≡◌, ◌&&◌, ◌∷◌, ◌+◌, ◌≤◌, ◌<◌}
+use Rattle.laws.proofs.Prelude.{refl, ap, ap₂, sym, ◌∙◌, fun_ext, Bool, true, false, cond, ⊎_elim, List, [], ℕ, suc}
 use Rattle.laws.proofs.Prelude.{add-one, arith, lt-ltb, le-ltb, le-leb, lt-leb, eq-eqb, ne_eqb, ltb, leb, eqb, pos, length, drop, length-drop}
 use Rattle.laws.proofs.Prelude.{get_or-drop, filter, count_by, filter_ext, filter_twice, le_or_lt}
 use Rattle.laws.proofs.Filtered.{length_filter}

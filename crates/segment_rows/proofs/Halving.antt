@@ -1,6 +1,7 @@
 -- Laws of the halving: how a turn of a search's loop goes, by a test whether an element is above the key. Assumes nothing.
-use Rattle.laws.proofs.Prelude.{◌≡◌, refl, sym, ap, ap₂, ◌∙◌, fun_ext, Bool, true, false, cond, List, [], ◌∷◌, ⊎_elim, ℕ, zero, suc, ◌+◌, ◌-◌, ◌/◌}
-use Rattle.laws.proofs.Prelude.{◌≤◌, ◌<◌, not-suc-le-zero, arith, lt-ltb, le-ltb, length, get_or, le_or_lt, either}
+use Rattle.std.specs.Prelude.{◌≡◌, ◌∷◌, ◌+◌, ◌-◌, ◌/◌, ◌≤◌, ◌<◌}
+use Rattle.laws.proofs.Prelude.{refl, sym, ap, ap₂, ◌∙◌, fun_ext, Bool, true, false, cond, List, [], ⊎_elim, ℕ, zero, suc}
+use Rattle.laws.proofs.Prelude.{not-suc-le-zero, arith, lt-ltb, le-ltb, length, get_or, le_or_lt, either}
 use Rattle.pixel_segment.specs.Order.{is_gt}
 use Rattle.segment_rows.specs.Search.{Place, found, absent, halved, end_of, ended, search_of, after_of}
 use Rattle.segment_rows.specs.InnerHalving.{HalfOf}

@@ -1,5 +1,6 @@
 -- The keys of the painter on rows in order: how they compare by stored numbers, and that a row is sorted by each. Assumes nothing.
-use Rattle.laws.proofs.Prelude.{◌≡◌, refl, ap, ap₂, sym, ◌∙◌, Bool, true, false, cond, ⊎_elim, List, ℕ, zero, suc, ◌/◌, ◌%◌, ◌^◌, ◌≤◌, ◌<◌, arith}
+use Rattle.std.specs.Prelude.{◌≡◌, ◌/◌, ◌%◌, ◌^◌, ◌≤◌, ◌<◌}
+use Rattle.laws.proofs.Prelude.{refl, ap, ap₂, sym, ◌∙◌, Bool, true, false, cond, ⊎_elim, List, ℕ, zero, suc, arith}
 use Rattle.laws.proofs.Prelude.{lt-ltb, le-ltb, le-leb, lt-leb, eq-eqb, ne_eqb, eqb-true, ltb, leb, eqb, pos, negsuc, length, get_or, lt_z, le_z, all}
 use Rattle.laws.proofs.Prelude.{left, right, all_at, le_or_lt, equal, difference}
 use lib.Dec.{leb-suc-suc}

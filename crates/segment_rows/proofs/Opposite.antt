@@ -1,6 +1,7 @@
 -- The opposite of a row, each of whose words is its opposite: it is a row where the row is, and its parts are the opposites of the row's. Order, tile
 -- and layer play no part in it, so no cover need be mild. Assumes nothing.
-use Rattle.laws.proofs.Prelude.{◌≡◌, refl, ap, ap₂, ◌∙◌, Bool, true, false, cond, ◌&&◌, List, [], ◌∷◌, map, ℕ, zero, suc, ◌+◌, ◌-◌, ◌/◌, ◌^◌, ◌<◌}
+use Rattle.std.specs.Prelude.{◌≡◌, ◌&&◌, ◌∷◌, ◌+◌, ◌-◌, ◌/◌, ◌^◌, ◌<◌}
+use Rattle.laws.proofs.Prelude.{refl, ap, ap₂, ◌∙◌, Bool, true, false, cond, List, [], map, ℕ, zero, suc}
 use Rattle.laws.proofs.Prelude.{arith, leb, eqb, ltb, lit<, ℤ, pos, length, get_or, take, drop, length-map, le_z, map_drop, all_map}
 use Rattle.laws.proofs.Maps.{map_take, key_at_lem, all_take, all_drop}
 use Rattle.pixel_segment.specs.Field.{cpu, tile_y_of, tile_of}

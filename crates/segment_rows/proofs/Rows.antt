@@ -1,5 +1,6 @@
 -- Laws of a row in order, at every tile height: its first and last word tell the tile y of all. Assumes nothing.
-use Rattle.laws.proofs.Prelude.{◌≡◌, refl, sym, Bool, true, false, ◌&&◌, List, [], ◌∷◌, ℕ, ◌-◌, ◌^◌, ◌≤◌, ◌<◌, arith, eqb-true, eq-eqb, eqb, length}
+use Rattle.std.specs.Prelude.{◌≡◌, ◌&&◌, ◌∷◌, ◌-◌, ◌^◌, ◌≤◌, ◌<◌}
+use Rattle.laws.proofs.Prelude.{refl, sym, Bool, true, false, List, [], ℕ, arith, eqb-true, eq-eqb, eqb, length}
 use Rattle.laws.proofs.Prelude.{get_or, all, left, right, both, same, not_left, all_at, all_intro}
 use lib.Pow.{shr_mono}
 use Rattle.pixel_segment.specs.Field.{tile_y_of}

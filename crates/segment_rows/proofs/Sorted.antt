@@ -1,7 +1,8 @@
 -- The search in a slice that the key sorts: found exactly where an element has the key, at the last one; else absent, with the number of
 -- elements below it. One law over the key serves every search. Assumes nothing.
-use Rattle.laws.proofs.Prelude.{◌≡◌, refl, sym, ap, ap₂, ◌∙◌, Bool, true, false, cond, false≢true, ⊎_elim, List, [], ◌∷◌, ℕ, zero, suc, ◌+◌, ◌-◌, ◌/◌}
-use Rattle.laws.proofs.Prelude.{◌≤◌, ◌<◌, arith, length, get_or, count_by, le_or_lt, either}
+use Rattle.std.specs.Prelude.{◌≡◌, ◌∷◌, ◌+◌, ◌-◌, ◌/◌, ◌≤◌, ◌<◌}
+use Rattle.laws.proofs.Prelude.{refl, sym, ap, ap₂, ◌∙◌, Bool, true, false, cond, false≢true, ⊎_elim, List, [], ℕ, zero, suc}
+use Rattle.laws.proofs.Prelude.{arith, length, get_or, count_by, le_or_lt, either}
 use Rattle.pixel_segment.specs.Order.{is_lt, is_eq, is_gt}
 use Rattle.segment_rows.specs.Rows.{Ordered}
 use Rattle.segment_rows.specs.Search.{found, absent, halved, ended, search_of, last_place}

@@ -1,5 +1,6 @@
 -- A tile's part of a row in order ascends by layer. Assumes nothing.
-use Rattle.laws.proofs.Prelude.{◌≡◌, refl, sym, subst₂, ◌∙◌, Bool, true, false, cond, ⊎_elim, List, [], ◌∷◌, ℕ, ◌+◌, ◌*◌, ◌^◌, ◌≤◌, ◌<◌, arith}
+use Rattle.std.specs.Prelude.{◌≡◌, ◌∷◌, ◌+◌, ◌*◌, ◌^◌, ◌≤◌, ◌<◌}
+use Rattle.laws.proofs.Prelude.{refl, sym, subst₂, ◌∙◌, Bool, true, false, cond, ⊎_elim, List, [], ℕ, arith}
 use Rattle.laws.proofs.Prelude.{leb-true, le-leb, eqb-true, lt-ltb, ltb-true, ltb, leb, eqb, lit<, length, get_or, all, filter, left, right, both}
 use Rattle.laws.proofs.Prelude.{all_at, all_intro, le_or_lt, all_kept}
 use lib.ListN.{get_or-eq_default}

@@ -1,6 +1,7 @@
 -- The parts that searches find in a row in order are what they are called: the segments that pass the test, in their order. Assumes nothing.
-use Rattle.laws.proofs.Prelude.{◌≡◌, refl, ap, ap₂, sym, subst₂, ◌∙◌, fun_ext, Bool, true, false, cond, not, ⊎_elim, List, [], ◌∷◌, ◌++◌, ℕ, zero}
-use Rattle.laws.proofs.Prelude.{suc, ◌+◌, ◌-◌, ◌≤◌, ◌<◌, zero-add, arith, lt-ltb, le-ltb, le-leb, lt-leb, ltb, leb, eqb, length, get_or, take, drop}
+use Rattle.std.specs.Prelude.{◌≡◌, ◌∷◌, ◌++◌, ◌+◌, ◌-◌, ◌≤◌, ◌<◌}
+use Rattle.laws.proofs.Prelude.{refl, ap, ap₂, sym, subst₂, ◌∙◌, fun_ext, Bool, true, false, cond, not, ⊎_elim, List, [], ℕ, zero}
+use Rattle.laws.proofs.Prelude.{suc, zero-add, arith, lt-ltb, le-ltb, le-leb, lt-leb, ltb, leb, eqb, length, get_or, take, drop}
 use Rattle.laws.proofs.Prelude.{take-append-drop, length-take, length-drop, get_or-take, get_or-drop, filter, count_by, all_intro, le_or_lt}
 use Rattle.laws.proofs.Prelude.{filter_all, filter_none, filter_ext}
 use Rattle.laws.proofs.Filtered.{filter_append, filter_middle}

@@ -1,5 +1,6 @@
 -- What the inner function of the searches gives.
-use Rattle.laws.specs.Prelude.{◌≡◌, Bool, cond, List, ℕ, ◌+◌, ◌-◌, ◌/◌, get_or}
+use Rattle.std.specs.Prelude.{◌≡◌, ◌+◌, ◌-◌, ◌/◌}
+use Rattle.laws.specs.Prelude.{Bool, cond, List, ℕ, get_or}
 use Rattle.segment_rows.specs.declared.search.Rest.{Rest}
 
 -- what is left after a halving of the `len` elements from `start` on

@@ -1,5 +1,6 @@
 -- A row in order. Stands for what refusal 3 asks of a row: its segments don't descend, and none has another tile y.
-use Rattle.laws.specs.Prelude.{Bool, true, ◌&&◌, List, [], ◌∷◌, ℕ, ◌^◌, ◌≤◌, ◌<◌, leb, eqb, length, get_or, all}
+use Rattle.std.specs.Prelude.{◌&&◌, ◌∷◌, ◌^◌, ◌≤◌, ◌<◌}
+use Rattle.laws.specs.Prelude.{Bool, true, List, [], ℕ, leb, eqb, length, get_or, all}
 use Rattle.pixel_segment.specs.Field.{tile_y_of}
 use Rattle.pixel_segment.specs.Order.{order_key}
 

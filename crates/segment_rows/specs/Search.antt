@@ -1,7 +1,8 @@
 -- `search_last_by_key`: the Rust's halving. `at w` is the rank of the element w: how its key compares with the key that is looked for, so
 -- one definition serves every key. Keys and parts take the table of widths as a parameter. On a slice that the key does not sort, the halving decides; on a sorted one see proofs/Sorted. Stands for
 -- the clause on `search_last_by_key`, P5.
-use Rattle.laws.specs.Prelude.{Bool, false, cond, List, [], ◌∷◌, ℕ, zero, suc, ◌+◌, ◌-◌, ◌/◌, ltb, leb, ℤ, pos, length, get_or, take, drop}
+use Rattle.std.specs.Prelude.{◌∷◌, ◌+◌, ◌-◌, ◌/◌}
+use Rattle.laws.specs.Prelude.{Bool, false, cond, List, [], ℕ, zero, suc, ltb, leb, ℤ, pos, length, get_or, take, drop}
 use Rattle.laws.specs.Prelude.{le_z}
 use Rattle.pixel_segment.specs.Field.{cpu, tile_x_of, tile_y_of, layer_id_of, tile_of}
 use Rattle.pixel_segment.specs.Order.{is_gt, compare_of, compareℤ, compare_bool}

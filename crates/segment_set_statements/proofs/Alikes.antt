@@ -1,5 +1,6 @@
 -- Taking in is judged as a beginning with one word more is; so sets with the same words are answered alike. Assumes nothing.
-use Rattle.laws.proofs.Prelude.{◌≡◌, refl, sym, ap, ◌∙◌, Bool, true, false, not, ◌&&◌, List, ◌∷◌, ⊎_elim, ℕ, suc, ◌+◌, ◌≤◌, ◌<◌, arith, lt-ltb}
+use Rattle.std.specs.Prelude.{◌≡◌, ◌&&◌, ◌∷◌, ◌+◌, ◌≤◌, ◌<◌}
+use Rattle.laws.proofs.Prelude.{refl, sym, ap, ◌∙◌, Bool, true, false, not, List, ⊎_elim, ℕ, suc, arith, lt-ltb}
 use Rattle.laws.proofs.Prelude.{le-ltb, ltb-true, leb-true, le-leb, leb, ltb, ℤ, length, get_or, length-set, all, same, le_or_lt}
 use Rattle.laws.proofs.Bools.{not-true}
 use Rattle.refusals.specs.Refusal.{Judgement, pass, refuse, unless}

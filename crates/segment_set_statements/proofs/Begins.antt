@@ -1,6 +1,7 @@
 -- A set begun with nothing and then word by word is the fresh working of the part. Assumes nothing.
-use Rattle.laws.proofs.Prelude.{◌≡◌, refl, sym, ap, ap₂, ◌∙◌, Bool, true, false, cond, List, [], ◌∷◌, ◌++◌, map, ℕ, suc, ◌+◌, ◌*◌, ◌/◌, ◌%◌, ◌≤◌, ◌<◌}
-use Rattle.laws.proofs.Prelude.{add-one, arith, ltb-false, not-false, eqb, ltb, ℤ, pos, nat_abs, ◌+ℤ◌, ◌*ℤ◌, +ℤ_idr, length, get_or, take, drop, set}
+use Rattle.std.specs.Prelude.{◌≡◌, ◌∷◌, ◌++◌, ◌+◌, ◌*◌, ◌/◌, ◌%◌, ◌≤◌, ◌<◌, ◌+ℤ◌, ◌*ℤ◌}
+use Rattle.laws.proofs.Prelude.{refl, sym, ap, ap₂, ◌∙◌, Bool, true, false, cond, List, [], map, ℕ, suc}
+use Rattle.laws.proofs.Prelude.{add-one, arith, ltb-false, not-false, eqb, ltb, ℤ, pos, nat_abs, +ℤ_idr, length, get_or, take, drop, set}
 use Rattle.laws.proofs.Prelude.{length-set, length-append, length-map, take-append-drop, List·getD-map, take_at, drop_at, take-suc, take_all}
 use Rattle.laws.proofs.Prelude.{length-take-le, over, all, count_by, filled, filled_more, filled_all, is_tabulate, length_over, sum_append}
 use Rattle.refusals.specs.Refusal.{Judgement, pass, unless}

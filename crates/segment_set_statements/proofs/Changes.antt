@@ -1,5 +1,6 @@
 -- A set whose carry and loads are written anew is the changed set. Assumes nothing.
-use Rattle.laws.proofs.Prelude.{◌≡◌, ap₂, List, ℕ, ℤ}
+use Rattle.std.specs.Prelude.{◌≡◌}
+use Rattle.laws.proofs.Prelude.{ap₂, List, ℕ, ℤ}
 use Rattle.pixel_segment.specs.Field.{cpu}
 use Rattle.cover.specs.declared.Cover.{Cover}
 use Rattle.segment_set_statements.specs.Effect.{carry_after, loads_after}

@@ -1,5 +1,6 @@
 -- Beginning with a part is beginning with none and taking its words in, one after the other. Assumes nothing.
-use Rattle.laws.proofs.Prelude.{◌≡◌, refl, sym, ap, ◌∙◌, true, List, [], ◌∷◌, ℕ, zero, suc, ◌+◌, ◌≤◌, ◌<◌, add-one, arith, le-ltb, lt-leb, ℤ, length}
+use Rattle.std.specs.Prelude.{◌≡◌, ◌∷◌, ◌+◌, ◌≤◌, ◌<◌}
+use Rattle.laws.proofs.Prelude.{refl, sym, ap, ◌∙◌, true, List, [], ℕ, zero, suc, add-one, arith, le-ltb, lt-leb, ℤ, length}
 use Rattle.laws.proofs.Prelude.{get_or, drop, drop_of_length-le, drop-cons, all_at}
 use Rattle.refusals.specs.Refusal.{Judgement, pass}
 use Rattle.pixel_segment.specs.Field.{cpu, local_y_of}

@@ -1,6 +1,7 @@
 -- Laws of what one segment adds, over any widths: to d of a pixel, to the covers and to the load of a pixel row. Assumes nothing.
-use Rattle.laws.proofs.Prelude.{◌≡◌, refl, Bool, true, false, cond, ◌&&◌, List, ◌∷◌, ⊎_elim, ℕ, ◌+◌, ◌≤◌, ◌<◌, arith, ltb-true, eqb-true, leb-true}
-use Rattle.laws.proofs.Prelude.{leb-false, lt-ltb, le-ltb, eq-eqb, ne_eqb, eqb, leb, ltb, ℤ, pos, ◌+ℤ◌, ◌*ℤ◌, right, eq_or_ne, le_or_lt, equal, added}
+use Rattle.std.specs.Prelude.{◌≡◌, ◌&&◌, ◌∷◌, ◌+◌, ◌≤◌, ◌<◌, ◌+ℤ◌, ◌*ℤ◌}
+use Rattle.laws.proofs.Prelude.{refl, Bool, true, false, cond, List, ⊎_elim, ℕ, arith, ltb-true, eqb-true, leb-true}
+use Rattle.laws.proofs.Prelude.{leb-false, lt-ltb, le-ltb, eq-eqb, ne_eqb, eqb, leb, ltb, ℤ, pos, right, eq_or_ne, le_or_lt, equal, added}
 use Rattle.laws.proofs.Prelude.{times}
 use lib.IntN.{+ℤ_comm}
 use Rattle.pixel_segment.specs.Field.{local_x_of, cover_of, double_area_of}

@@ -1,6 +1,7 @@
 -- The sets that were begun and edited are kept. Assumes nothing.
-use Rattle.laws.proofs.Prelude.{◌≡◌, refl, sym, ap, ◌∙◌, Bool, true, false, cond, not, List, [], ◌∷◌, ◌++◌, ⊎_elim, ℕ, zero, suc, ◌+◌, ◌-◌, ◌≤◌, ◌<◌}
-use Rattle.laws.proofs.Prelude.{min, add-one, arith, ltb-true, ltb-false, leb-false, not-false, eqb, leb, ltb, ℤ, ◌+ℤ◌, ◌-ℤ◌, length, get_or, take, set}
+use Rattle.std.specs.Prelude.{◌≡◌, ◌∷◌, ◌++◌, ◌+◌, ◌-◌, ◌≤◌, ◌<◌, ◌+ℤ◌, ◌-ℤ◌}
+use Rattle.laws.proofs.Prelude.{refl, sym, ap, ◌∙◌, Bool, true, false, cond, not, List, [], ⊎_elim, ℕ, zero, suc}
+use Rattle.laws.proofs.Prelude.{min, add-one, arith, ltb-true, ltb-false, leb-false, not-false, eqb, leb, ltb, ℤ, length, get_or, take, set}
 use Rattle.laws.proofs.Prelude.{length-set, length-take, take-suc, take_all, get_or-take, length-take-le, over, all, count_by, both, right, eq_or_ne}
 use Rattle.laws.proofs.Prelude.{le_or_lt, length_over, sum_append}
 use lib.Seq.{take-suc-set, take-set-le, take-set-lt, take-take}

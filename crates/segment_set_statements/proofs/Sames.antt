@@ -1,7 +1,8 @@
 -- Two lists with the same words, each as often, are worked alike: order within a set carries no meaning. Over any widths and height.
 -- Assumes nothing.
-use Rattle.laws.proofs.Prelude.{◌≡◌, refl, sym, ap, ap₂, ◌∙◌, Bool, true, false, cond, not, ◌&&◌, ◌||◌, List, [], ◌∷◌, ℕ, ◌+◌, ◌*◌, ◌/◌, ◌%◌, arith}
-use Rattle.laws.proofs.Prelude.{lt-ltb, le-ltb, ℤ, pos, nat_abs, ◌+ℤ◌, ◌*ℤ◌, eqb, leb, ltb, length, tabulate, all, every, count_by, both, left, right}
+use Rattle.std.specs.Prelude.{◌≡◌, ◌&&◌, ◌||◌, ◌∷◌, ◌+◌, ◌*◌, ◌/◌, ◌%◌, ◌+ℤ◌, ◌*ℤ◌}
+use Rattle.laws.proofs.Prelude.{refl, sym, ap, ap₂, ◌∙◌, Bool, true, false, cond, not, List, [], ℕ, arith}
+use Rattle.laws.proofs.Prelude.{lt-ltb, le-ltb, ℤ, pos, nat_abs, eqb, leb, ltb, length, tabulate, all, every, count_by, both, left, right}
 use Rattle.laws.proofs.Prelude.{sumℤ_same, sumℕ_same}
 use Rattle.pixel_segment.specs.Field.{cover_of, double_area_of}
 use Rattle.cover_statements.specs.Area.{is_before, is_own, cover_before, own_area, doubled_area, areas_of}

@@ -1,6 +1,7 @@
 -- The loop that changes d in one pixel row, one column after another: the columns passed are changed, all else is as it was. Assumes nothing.
-use Rattle.laws.proofs.Prelude.{◌≡◌, refl, sym, ap, ap₂, ◌∙◌, Bool, true, false, cond, ◌&&◌, List, ⊎_elim, ℕ, ◌+◌, ◌*◌, ◌/◌, ◌%◌, ◌≤◌, ◌<◌, arith}
-use Rattle.laws.proofs.Prelude.{le-leb, lt-leb, lt-ltb, le-ltb, eq-eqb, ne_eqb, eqb, leb, ltb, ℤ, pos, ◌+ℤ◌, ◌*ℤ◌, length, set, length-set, ext_get_or}
+use Rattle.std.specs.Prelude.{◌≡◌, ◌&&◌, ◌+◌, ◌*◌, ◌/◌, ◌%◌, ◌≤◌, ◌<◌, ◌+ℤ◌, ◌*ℤ◌}
+use Rattle.laws.proofs.Prelude.{refl, sym, ap, ap₂, ◌∙◌, Bool, true, false, cond, List, ⊎_elim, ℕ, arith}
+use Rattle.laws.proofs.Prelude.{le-leb, lt-leb, lt-ltb, le-ltb, eq-eqb, ne_eqb, eqb, leb, ltb, ℤ, pos, length, set, length-set, ext_get_or}
 use Rattle.laws.proofs.Prelude.{get_or-set_same, get_or-set_other, eq_or_ne, le_or_lt, length_tabulate, get_d_tabulate, length_over, tabulate, over}
 use Rattle.pixel_segment.specs.Field.{local_x_of, local_y_of, cover_of, double_area_of}
 use Rattle.cover_statements.specs.Cover.{cover_at}

@@ -1,5 +1,6 @@
 -- The loop that adds a part to a set of nothing: how it starts over d of the incoming cover, and what it leaves. Assumes nothing.
-use Rattle.laws.proofs.Prelude.{◌≡◌, refl, sym, ap, ap₂, ◌∙◌, List, [], ℕ, ◌≤◌, arith, ℤ, length, take, length-take-le, over, length_over}
+use Rattle.std.specs.Prelude.{◌≡◌, ◌≤◌}
+use Rattle.laws.proofs.Prelude.{refl, sym, ap, ap₂, ◌∙◌, List, [], ℕ, arith, ℤ, length, take, length-take-le, over, length_over}
 use Rattle.pixel_segment.specs.Field.{cpu}
 use Rattle.cover_statements.specs.Area.{areas_of}
 use Rattle.cover_statements.specs.Carry.{carry_of}

@@ -1,5 +1,6 @@
 -- What an edit leaves alone, and an edit undone. Assumes nothing.
-use Rattle.laws.proofs.Prelude.{◌≡◌, refl, sym, ap, ◌∙◌, Bool, true, false, ◌||◌, List, [], ◌∷◌, ◌++◌, ⊎_elim, ℕ, ◌*◌, ◌/◌, ◌%◌, ◌≤◌, ◌<◌, arith}
+use Rattle.std.specs.Prelude.{◌≡◌, ◌||◌, ◌∷◌, ◌++◌, ◌*◌, ◌/◌, ◌%◌, ◌≤◌, ◌<◌}
+use Rattle.laws.proofs.Prelude.{refl, sym, ap, ◌∙◌, Bool, true, false, List, [], ⊎_elim, ℕ, arith}
 use Rattle.laws.proofs.Prelude.{eq-eqb, eqb, ℤ, pos, length, take, drop, take-append-drop, get_or-set_other, length-take-le, tabulate, over, le_or_lt}
 use Rattle.laws.proofs.Prelude.{length_tabulate, get_d_tabulate}
 use Rattle.refusals.specs.Refusal.{pass}

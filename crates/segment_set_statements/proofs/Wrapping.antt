@@ -1,5 +1,6 @@
 -- Laws of wrapped numbers, over half the number of values that a width has. Assumes nothing.
-use Rattle.laws.proofs.Prelude.{◌≡◌, refl, sym, ap, ◌∙◌, ℕ, ◌+◌, ◌*◌, ◌^◌, ◌≤◌, ◌<◌, ◌/◌, ◌%◌, arith, ℤ, pos, negsuc, nat_abs, sub_ℕ, ◌+ℤ◌, ◌-ℤ◌, SFits}
+use Rattle.std.specs.Prelude.{◌≡◌, ◌+◌, ◌*◌, ◌^◌, ◌≤◌, ◌<◌, ◌/◌, ◌%◌, ◌+ℤ◌, ◌-ℤ◌}
+use Rattle.laws.proofs.Prelude.{refl, sym, ap, ◌∙◌, ℕ, arith, ℤ, pos, negsuc, nat_abs, sub_ℕ, SFits}
 use Rattle.laws.proofs.Prelude.{plus, minus, modℤ, Within, within, sfits, small, unique, lifted, remainder, whole, equal, added, taken, difference}
 use native.Mathlib.Nat.{div-le_self}
 use lib.Signed.{rem_z, quot_z}

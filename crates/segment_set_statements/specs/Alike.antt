@@ -1,6 +1,7 @@
 -- Order within a set carries no meaning for its verdicts either. Stands for W-207: of two kept sets with the same words, each as often, and as many
 -- slots, each edit is answered alike, and both are alike again after it. proofs/Alikes proves it.
-use Rattle.laws.specs.Prelude.{◌≡◌, List, ℕ, ℤ, length}
+use Rattle.std.specs.Prelude.{◌≡◌}
+use Rattle.laws.specs.Prelude.{List, ℕ, ℤ, length}
 use Rattle.segment_set_statements.specs.Set.{SetState, held_of, take_verdict, take_of, let_verdict, let_of}
 use Rattle.segment_set_statements.specs.Kept.{Kept, SameWords}
 

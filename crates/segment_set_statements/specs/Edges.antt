@@ -1,5 +1,6 @@
 -- Worked cases of a kept set: layer 5 in tile 2 of row 0, each row of the incoming cover the same. Stands for W-207.
-use Rattle.laws.specs.Prelude.{◌≡◌, List, [], ◌∷◌, ◌++◌, ℕ, ℤ, pos, negsuc, ◌+ℤ◌, replicate}
+use Rattle.std.specs.Prelude.{◌≡◌, ◌∷◌, ◌++◌, ◌+ℤ◌}
+use Rattle.laws.specs.Prelude.{List, [], ℕ, ℤ, pos, negsuc, replicate}
 use Rattle.refusals.specs.Refusal.{Judgement, pass, refuse}
 use Rattle.pixel_segment.specs.Field.{cpu}
 use Rattle.cover_statements.specs.Cover.{cover_at}

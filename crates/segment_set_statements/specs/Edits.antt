@@ -1,7 +1,8 @@
 -- Any list of edits after an accepted beginning, refused ones included. The premise of each edit is the operation's own contract, at what the caller
 -- holds; between edits the caller may lend other slots, longer ones say, or another d. `ins` are the words of the part and those taken in since,
 -- `outs` those let out, each as often as it was accepted.
-use Rattle.laws.specs.Prelude.{◌≡◌, List, [], ◌∷◌, ℕ, ℤ, take}
+use Rattle.std.specs.Prelude.{◌≡◌, ◌∷◌}
+use Rattle.laws.specs.Prelude.{List, [], ℕ, ℤ, take}
 use Rattle.refusals.specs.Refusal.{Judgement, pass, refuse}
 use Rattle.segment_set_statements.specs.Set.{SetState, state, held_of, Beginning, Gives, begin_verdict, begin_of, take_verdict, take_of, let_verdict, let_of}
 use Rattle.segment_set_statements.specs.Kept.{SameWords}

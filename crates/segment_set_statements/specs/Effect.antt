@@ -1,7 +1,8 @@
 -- What one segment changes: d of the pixels of its row, from its column rightward, and its row's carry and load. Stands for W-207, 'only the
 -- segment's pixel row, from its column rightward, and that row's carry may differ'. Each change is written with the operation that makes it:
 -- a sum where the segment is taken in, a difference where it is let out. The field widths `ws` and the tile's height n are parameters.
-use Rattle.laws.specs.Prelude.{Bool, cond, ◌&&◌, List, ℕ, ◌-◌, ◌*◌, ◌/◌, ◌%◌, ◌^◌, leb, ℤ, pos, sub_ℕ, ◌+ℤ◌, ◌*ℤ◌, get_or, set, modℤ, tabulate, over}
+use Rattle.std.specs.Prelude.{◌&&◌, ◌-◌, ◌*◌, ◌/◌, ◌%◌, ◌^◌, ◌+ℤ◌, ◌*ℤ◌}
+use Rattle.laws.specs.Prelude.{Bool, cond, List, ℕ, leb, ℤ, pos, sub_ℕ, get_or, set, modℤ, tabulate, over}
 use Rattle.pixel_segment.specs.Field.{local_x_of, local_y_of, cover_of, double_area_of}
 use Rattle.cover_statements.specs.Area.{is_own, is_before}
 use Rattle.cover_statements.specs.Carry.{in_row, abs_cover}

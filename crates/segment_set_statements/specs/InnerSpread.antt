@@ -1,5 +1,6 @@
 -- How the code changes d: an amount added in one column of a row, another right of it.
-use Rattle.laws.specs.Prelude.{Bool, cond, not, ◌&&◌, List, ◌≡◌, ℕ, ◌+◌, ◌*◌, ◌/◌, ◌%◌, ◌≤◌, ◌<◌, eqb, leb, ltb, ℤ, ◌+ℤ◌, length, get_or, tabulate}
+use Rattle.std.specs.Prelude.{◌&&◌, ◌≡◌, ◌+◌, ◌*◌, ◌/◌, ◌%◌, ◌≤◌, ◌<◌, ◌+ℤ◌}
+use Rattle.laws.specs.Prelude.{Bool, cond, not, List, ℕ, eqb, leb, ltb, ℤ, length, get_or, tabulate}
 use Rattle.laws.specs.Prelude.{over}
 use Rattle.refusals.specs.Refusal.{Judgement, pass, unless}
 use Rattle.pixel_segment.specs.Field.{cpu, local_y_of}

@@ -1,6 +1,7 @@
 -- When a set is kept: all that it holds equals a fresh working of its held words from the incoming cover it was begun with. Stands for W-207,
 -- 'after each edit all of it equals what a fresh working of the set gives'; and words that are the same, each as often, in any order.
-use Rattle.laws.specs.Prelude.{◌≡◌, true, List, ℕ, ◌+◌, ◌≤◌, eqb, ℤ, length, take, all, count_by}
+use Rattle.std.specs.Prelude.{◌≡◌, ◌+◌, ◌≤◌}
+use Rattle.laws.specs.Prelude.{true, List, ℕ, eqb, ℤ, length, take, all, count_by}
 use Rattle.pixel_segment.specs.Field.{cpu}
 use Rattle.cover_statements.specs.Area.{areas_of}
 use Rattle.cover_statements.specs.Carry.{is_light, carry_of}

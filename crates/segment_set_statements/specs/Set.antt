@@ -1,7 +1,8 @@
 -- A kept set of segments and its three operations: begun from a part and an incoming cover, a segment taken in, one equal segment let out. Stands
 -- for W-207 and for its refusals: 1 where the lent d has fewer than 256 numbers, 3 for a segment of another layer or tile, 9 for absolute covers
 -- above 127 in a pixel row, 12 for a segment that is not held, 13 where all lent slots are held. A refusal leaves set and lists as they were.
-use Rattle.laws.specs.Prelude.{◌≡◌, Bool, cond, not, ◌&&◌, List, [], ◌∷◌, ℕ, suc, ◌+◌, ◌-◌, eqb, leb, ltb, ℤ, pos, nat_abs, ◌+ℤ◌, ◌-ℤ◌, length, get_or}
+use Rattle.std.specs.Prelude.{◌≡◌, ◌&&◌, ◌∷◌, ◌+◌, ◌-◌, ◌+ℤ◌, ◌-ℤ◌}
+use Rattle.laws.specs.Prelude.{Bool, cond, not, List, [], ℕ, suc, eqb, leb, ltb, ℤ, pos, nat_abs, length, get_or}
 use Rattle.laws.specs.Prelude.{take, set, replicate, tabulate, over, all, any}
 use Rattle.refusals.specs.Refusal.{Judgement, pass, refuse, judgement_in, unless}
 use Rattle.pixel_segment.specs.Field.{cpu, layer_id_of, tile_x_of, tile_y_of, tile_of, local_y_of}

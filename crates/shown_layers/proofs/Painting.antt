@@ -1,5 +1,6 @@
 -- The shown layers of a painted tile, painted in one walk: each step goes by `Tallying`, with the layer that the walk meets. Assumes nothing.
-use Rattle.laws.proofs.Prelude.{◌≡◌, refl, ap, sym, subst, ◌∙◌, Bool, true, false, cond, false≢true, List, Option, ℕ, ◌+◌, ◌≤◌, ◌<◌, arith, ones}
+use Rattle.std.specs.Prelude.{◌≡◌, ◌+◌, ◌≤◌, ◌<◌}
+use Rattle.laws.proofs.Prelude.{refl, ap, sym, subst, ◌∙◌, Bool, true, false, cond, false≢true, List, Option, ℕ, arith, ones}
 use Rattle.laws.proofs.Prelude.{Float, ℤ, length, take, get_or, Answer, refused, given, is_given}
 use Rattle.layer_table.specs.Lookup.{lookup}
 use Rattle.styling.specs.declared.Layer.{Layer}

@@ -1,5 +1,6 @@
 -- The shown layers of a list from a place on, and any walk over them, step by step. Assumes nothing.
-use Rattle.laws.proofs.Prelude.{◌≡◌, refl, ap, ap₂, sym, ◌∙◌, Bool, true, false, cond, List, [], ◌∷◌, ℕ, suc, ◌+◌, ◌≤◌, ◌<◌, add-one, arith, length}
+use Rattle.std.specs.Prelude.{◌≡◌, ◌∷◌, ◌+◌, ◌≤◌, ◌<◌}
+use Rattle.laws.proofs.Prelude.{refl, ap, ap₂, sym, ◌∙◌, Bool, true, false, cond, List, [], ℕ, suc, add-one, arith, length}
 use Rattle.laws.proofs.Prelude.{drop, take, get_or, drop_of_length-le, drop-cons, get_or-take, length-take-le}
 use Rattle.row_lines.specs.Shown.{flagged, shown_in}
 

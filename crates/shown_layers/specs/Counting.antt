@@ -1,5 +1,6 @@
 -- What the walk over a tile's shown layers asks and gives.
-use Rattle.laws.specs.Prelude.{Bool, true, false, List, [], ◌∷◌, Option, none, ℕ, ◌+◌, ones}
+use Rattle.std.specs.Prelude.{◌∷◌, ◌+◌}
+use Rattle.laws.specs.Prelude.{Bool, true, false, List, [], Option, none, ℕ, ones}
 use Rattle.styling.specs.declared.Layer.{Layer}
 use Rattle.queue_statements.specs.Queue.{Carry, ids_in}
 use Rattle.tile_layers.specs.Listing.{layers_in, incoming_of}

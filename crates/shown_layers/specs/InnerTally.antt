@@ -1,5 +1,6 @@
 -- What the inner functions of the walk over a tile's shown layers ask and give.
-use Rattle.laws.specs.Prelude.{◌≡◌, Bool, true, cond, List, ℕ, ◌+◌, ◌≤◌, ◌<◌, ℤ, length}
+use Rattle.std.specs.Prelude.{◌≡◌, ◌+◌, ◌≤◌, ◌<◌}
+use Rattle.laws.specs.Prelude.{Bool, true, cond, List, ℕ, ℤ, length}
 use Rattle.styling.specs.declared.Layer.{Layer}
 use Rattle.queue_statements.specs.Queue.{Carry, queue_of}
 use Rattle.tile_layers.specs.Listing.{layers_in}

@@ -1,5 +1,6 @@
 -- Laws of lists that ascend strictly. Assumes nothing.
-use Rattle.laws.proofs.Prelude.{◌≡◌, refl, true, List, [], ◌∷◌, ℕ, zero, suc, ◌≤◌, ◌<◌, not-suc-le-zero, le_of_suc-le-suc, arith, leb-true, le-leb}
+use Rattle.std.specs.Prelude.{◌≡◌, ◌∷◌, ◌≤◌, ◌<◌}
+use Rattle.laws.proofs.Prelude.{refl, true, List, [], ℕ, zero, suc, not-suc-le-zero, le_of_suc-le-suc, arith, leb-true, le-leb}
 use Rattle.laws.proofs.Prelude.{leb, length, get_or, both, left, right}
 use Rattle.styling.specs.Ascending.{strictly_ascends_from}
 

@@ -1,6 +1,7 @@
 -- Cases of the scope on colours, as theorems over the definitions: NaN equals nothing, both zeros agree, and how 1 is stored. Assumes
 -- nothing.
-use Rattle.laws.proofs.Prelude.{◌≡◌, refl, true, false, ◌&&◌, ◌⊎◌, ⊎_elim, Float, nan, inf, fin, eq, of_bits, of_int, binary32, pos, not_left}
+use Rattle.std.specs.Prelude.{◌≡◌, ◌&&◌, ◌⊎◌}
+use Rattle.laws.proofs.Prelude.{refl, true, false, ⊎_elim, Float, nan, inf, fin, eq, of_bits, of_int, binary32, pos, not_left}
 use Rattle.laws.proofs.Prelude.{not_right}
 use Rattle.styling.specs.declared.Color.{Color}
 use Rattle.styling.specs.Color.{same_color}

@@ -1,5 +1,6 @@
 -- The case of a number has that number, and the number of a case is in range and gives the case again. Assumes nothing.
-use Rattle.laws.proofs.Prelude.{◌≡◌, refl, List, [], ◌∷◌, ◌++◌, ℕ, zero, suc, ◌≤◌, ◌<◌, not-suc-le-zero, le_of_suc-le-suc, arith, eqb-true, length}
+use Rattle.std.specs.Prelude.{◌≡◌, ◌∷◌, ◌++◌, ◌≤◌, ◌<◌}
+use Rattle.laws.proofs.Prelude.{refl, List, [], ℕ, zero, suc, not-suc-le-zero, le_of_suc-le-suc, arith, eqb-true, length}
 use Rattle.laws.proofs.Prelude.{get_or, eqb, every_at}
 use Rattle.styling.specs.Codes.{rule_code, rule_of, fill_code, fill_of, mode_code, mode_of}
 use Rattle.styling.specs.declared.Color.{Color}

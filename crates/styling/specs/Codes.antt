@@ -1,7 +1,8 @@
 -- The number of each case of an enum, as a layer record has it, and the case of each number. Stands for 'rule (0 NonZero, 1 EvenOdd),
 -- draw or clip (0 draw, 1 clip), .. fill (0 solid, 1 gradient, 2 texture), blend mode 0 to 15 in the order of `BlendMode`'.
 -- proofs/Coded has that the two directions agree.
-use Rattle.laws.specs.Prelude.{List, [], ◌∷◌, ℕ, get_or}
+use Rattle.std.specs.Prelude.{◌∷◌}
+use Rattle.laws.specs.Prelude.{List, [], ℕ, get_or}
 use Rattle.styling.specs.declared.Color.{Color}
 use Rattle.styling.specs.declared.FillRule.{FillRule}
 use Rattle.styling.specs.declared.FillRule.TheVariants.{NonZero, EvenOdd}

@@ -1,6 +1,7 @@
 -- When two colours are the same. Stands for 'a colour is four binary32 numbers, red, green, blue and alpha, compared by ==, so NaN equals
 -- nothing and both zeros agree': `eq` is the == of IEEE 754.
-use Rattle.laws.specs.Prelude.{Bool, ◌&&◌, eq}
+use Rattle.std.specs.Prelude.{◌&&◌}
+use Rattle.laws.specs.Prelude.{Bool, eq}
 use Rattle.styling.specs.declared.Color.{Color}
 
 abbrev pub same_color : Color → Color → Bool

@@ -1,6 +1,7 @@
 -- What the passes ask of a layer. Stands for 'opaque is fill 0, blend mode 0, alpha 1', for the clipped draw, and for the colour that a
 -- solid tile is mixed from. A clip is no draw, whatever else its record says.
-use Rattle.laws.specs.Prelude.{Bool, false, ◌&&◌, Option, some, none, eqb, eq, of_bits, binary32}
+use Rattle.std.specs.Prelude.{◌&&◌}
+use Rattle.laws.specs.Prelude.{Bool, false, Option, some, none, eqb, eq, of_bits, binary32}
 use Rattle.styling.specs.declared.Color.{Color}
 use Rattle.styling.specs.declared.Fill.{Fill}
 use Rattle.styling.specs.declared.Fill.TheVariants.{Solid, Gradient, Texture}

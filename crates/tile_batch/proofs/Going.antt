@@ -1,5 +1,6 @@
 -- A batch as the loop over its tiles goes: what is left, from where it stands, gives what the whole batch gives. Assumes nothing.
-use Rattle.laws.proofs.Prelude.{◌≡◌, refl, ap, ap₂, sym, subst, ◌∙◌, Bool, true, false, cond, ◌&&◌, List, ℕ, suc, ◌+◌, ◌-◌, ◌^◌, ◌≤◌, ◌<◌, arith}
+use Rattle.std.specs.Prelude.{◌≡◌, ◌&&◌, ◌+◌, ◌-◌, ◌^◌, ◌≤◌, ◌<◌}
+use Rattle.laws.proofs.Prelude.{refl, ap, ap₂, sym, subst, ◌∙◌, Bool, true, false, cond, List, ℕ, suc, arith}
 use Rattle.laws.proofs.Prelude.{le-leb, lt-leb, ltb-false, ltb-true, leb-true, ltb, leb, pos, left, right}
 use Rattle.refusals.specs.Refusal.{Judgement, pass, refuse, judgement_in}
 use Rattle.segment_rows.specs.Search.{tile_part}

@@ -1,5 +1,6 @@
 -- A tile that is not painted has the room for the layers that it mixes. Assumes nothing.
-use Rattle.laws.proofs.Prelude.{◌≡◌, refl, ap, ◌∙◌, Bool, true, false, List, ℕ, ◌≤◌, arith, Float, length}
+use Rattle.std.specs.Prelude.{◌≡◌, ◌≤◌}
+use Rattle.laws.proofs.Prelude.{refl, ap, ◌∙◌, Bool, true, false, List, ℕ, arith, Float, length}
 use Rattle.styling.specs.declared.Layer.{Layer}
 use Rattle.queue_statements.specs.Queue.{Carry}
 use Rattle.pass_statements.specs.Decision.{TileDecision, none, solid, paint}

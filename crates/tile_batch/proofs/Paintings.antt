@@ -1,6 +1,7 @@
 -- The shown layers of a tile that is accepted: none of their paintings is refused, and the walk over them is the succession of the paintings. Assumes
 -- nothing.
-use Rattle.laws.proofs.Prelude.{◌≡◌, refl, ap, sym, ◌∙◌, Bool, true, false, cond, List, [], ◌∷◌, Option, ℕ, ◌+◌, ◌*◌, ◌≤◌, ◌<◌, arith, le-ltb, lt-leb}
+use Rattle.std.specs.Prelude.{◌≡◌, ◌∷◌, ◌+◌, ◌*◌, ◌≤◌, ◌<◌}
+use Rattle.laws.proofs.Prelude.{refl, ap, sym, ◌∙◌, Bool, true, false, cond, List, [], Option, ℕ, arith, le-ltb, lt-leb}
 use Rattle.laws.proofs.Prelude.{eq-eqb, Float, length, drop, length-drop, sets, length-sets, length-take-le, over}
 use Rattle.refusals.specs.Refusal.{Judgement, pass, and_then}
 use Rattle.segment_rows.specs.Search.{tile_part}

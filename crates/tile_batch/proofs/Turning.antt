@@ -1,7 +1,8 @@
 -- A tile of a batch: what stands after 1 to 5 lets its work pass without judging the row, the table and the carries again, none of its paintings is
 -- refused, and the same stands after it. Assumes nothing.
-use Rattle.laws.proofs.Prelude.{◌≡◌, refl, ap, ap₂, sym, subst, ◌∙◌, Bool, true, false, cond, not, ◌||◌, List, [], ◌∷◌, none, ℕ, suc, ◌+◌, ◌*◌, ◌≤◌}
-use Rattle.laws.proofs.Prelude.{◌<◌, min, arith, le-ltb, lt-leb, eq-eqb, leb-false, leb, Float, ℤ, pos, length, take, sets, length-sets, refused}
+use Rattle.std.specs.Prelude.{◌≡◌, ◌||◌, ◌∷◌, ◌+◌, ◌*◌, ◌≤◌, ◌<◌}
+use Rattle.laws.proofs.Prelude.{refl, ap, ap₂, sym, subst, ◌∙◌, Bool, true, false, cond, not, List, [], none, ℕ, suc}
+use Rattle.laws.proofs.Prelude.{min, arith, le-ltb, lt-leb, eq-eqb, leb-false, leb, Float, ℤ, pos, length, take, sets, length-sets, refused}
 use Rattle.laws.proofs.Prelude.{plus}
 use Rattle.refusals.specs.Refusal.{Judgement, pass, refuse, unless, and_then, number_of}
 use Rattle.refusals.specs.declared.Refusal.{Refusal}

@@ -1,5 +1,6 @@
 -- What the inner functions of a batch ask and give: a tile from where the batch stands, and the tiles one after the other.
-use Rattle.laws.specs.Prelude.{◌≡◌, Bool, true, false, not, ◌||◌, List, ℕ, suc, ◌+◌, ◌*◌, ◌≤◌, ◌<◌, min, Float, pos, length, take, sets}
+use Rattle.std.specs.Prelude.{◌≡◌, ◌||◌, ◌+◌, ◌*◌, ◌≤◌, ◌<◌}
+use Rattle.laws.specs.Prelude.{Bool, true, false, not, List, ℕ, suc, min, Float, pos, length, take, sets}
 use Rattle.refusals.specs.Refusal.{pass, judgement_in}
 use Rattle.pixel_segment.specs.Field.{cpu}
 use Rattle.segment_rows.specs.Rows.{Words, is_row}

@@ -1,6 +1,7 @@
 -- Which of ascending ids a table has, by going through its records once: each record is held against the first id that no record before it had.
 -- Assumes nothing.
-use Rattle.laws.proofs.Prelude.{◌≡◌, refl, sym, ap, subst, ◌∙◌, Bool, true, false, cond, ◌&&◌, List, ⊎_elim, ℕ, ◌+◌, ◌≤◌, ◌<◌, eq-or-lt_of_le, arith}
+use Rattle.std.specs.Prelude.{◌≡◌, ◌&&◌, ◌+◌, ◌≤◌, ◌<◌}
+use Rattle.laws.proofs.Prelude.{refl, sym, ap, subst, ◌∙◌, Bool, true, false, cond, List, ⊎_elim, ℕ, eq-or-lt_of_le, arith}
 use Rattle.laws.proofs.Prelude.{ltb-true, lt-ltb, eqb-true, eq-eqb, ne_eqb, eqb, ltb, Float, length, get_or, take, length-take, get_or-take, Answer}
 use Rattle.laws.proofs.Prelude.{is_given, all, both, left, right, clash, all_at, all_intro}
 use Rattle.laws.proofs.Bools.{not-true}

@@ -1,5 +1,6 @@
 -- The columns of a list or a queue, filled from the front, one entry after the other. Assumes nothing.
-use Rattle.laws.proofs.Prelude.{◌≡◌, ap, ap₂, sym, ◌∙◌, true, ⊎_elim, List, [], ◌∷◌, ◌++◌, append_assoc, ℕ, zero, suc, ◌+◌, ◌-◌, ◌*◌, ◌≤◌, ◌<◌}
+use Rattle.std.specs.Prelude.{◌≡◌, ◌∷◌, ◌++◌, ◌+◌, ◌-◌, ◌*◌, ◌≤◌, ◌<◌}
+use Rattle.laws.proofs.Prelude.{ap, ap₂, sym, ◌∙◌, true, ⊎_elim, List, [], append_assoc, ℕ, zero, suc}
 use Rattle.laws.proofs.Prelude.{not-suc-le-zero, arith, lt-ltb, le-ltb, eqb-true, ltb, ℤ, length, get_or, take, drop, length-drop, take_at, drop_at}
 use Rattle.laws.proofs.Prelude.{take-add, drop-drop, length-take-le, drop-cons, over, left, right, cons_lt, le_or_lt, filled}
 use lib.Seq.{drop-append-add}

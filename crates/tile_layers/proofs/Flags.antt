@@ -1,5 +1,6 @@
 -- The column of flags: written from a place on, and read back. Assumes nothing.
-use Rattle.laws.proofs.Prelude.{◌≡◌, sym, ap, ◌∙◌, Bool, false, List, [], ◌∷◌, ◌++◌, ℕ, ◌+◌, ◌≤◌, ◌<◌, zero-add, suc-add, arith, length, get_or, set}
+use Rattle.std.specs.Prelude.{◌≡◌, ◌∷◌, ◌++◌, ◌+◌, ◌≤◌, ◌<◌}
+use Rattle.laws.proofs.Prelude.{sym, ap, ◌∙◌, Bool, false, List, [], ℕ, zero-add, suc-add, arith, length, get_or, set}
 use Rattle.laws.proofs.Prelude.{take, drop, length-append, length-drop, length-map, List·getD-append, get_or-append-add, get_or-take, length-take-le}
 use Rattle.laws.proofs.Prelude.{over, length_over}
 use Rattle.styling.specs.declared.Layer.{Layer}

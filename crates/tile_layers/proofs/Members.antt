@@ -1,5 +1,6 @@
 -- A layer is listed exactly where it has a carry or a segment. Assumes nothing.
-use Rattle.laws.proofs.Prelude.{◌≡◌, refl, sym, ap, ◌∙◌, Bool, true, false, cond, ◌||◌, List, [], ◌∷◌, map, ℕ, zero, suc, ◌<◌, not-suc-le-zero}
+use Rattle.std.specs.Prelude.{◌≡◌, ◌||◌, ◌∷◌, ◌<◌}
+use Rattle.laws.proofs.Prelude.{refl, sym, ap, ◌∙◌, Bool, true, false, cond, List, [], map, ℕ, zero, suc, not-suc-le-zero}
 use Rattle.laws.proofs.Prelude.{le_of_suc-le-suc, arith, ltb-false, eqb-true, eq-eqb, ltb, eqb, length, get_or, any}
 use mathlib.Core.Bool.{or-true, or-false, or_assoc, or_self_left}
 use Rattle.pixel_segment.specs.Field.{cpu, layer_id_of}

@@ -1,6 +1,7 @@
 -- The layers of a tile of the opposite row: the row's, each with its incoming cover negated and its own segments opposite; they are judged alike.
 -- Assumes nothing.
-use Rattle.laws.proofs.Prelude.{◌≡◌, refl, ap, ap₂, sym, ◌∙◌, Bool, true, false, cond, ◌&&◌, List, [], ◌∷◌, map, ℕ, eqb, ltb, lit<, length-map}
+use Rattle.std.specs.Prelude.{◌≡◌, ◌&&◌, ◌∷◌}
+use Rattle.laws.proofs.Prelude.{refl, ap, ap₂, sym, ◌∙◌, Bool, true, false, cond, List, [], map, ℕ, eqb, ltb, lit<, length-map}
 use Rattle.laws.proofs.Prelude.{is_given, all, both, left, right, all_map}
 use mathlib.Core.List.{map-map}
 use Rattle.laws.proofs.Maps.{map_cond}

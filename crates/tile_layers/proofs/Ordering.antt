@@ -1,5 +1,6 @@
 -- The list of a tile strictly ascends by layer id, where the queue does and the part ascends: each layer is listed once. Assumes nothing.
-use Rattle.laws.proofs.Prelude.{◌≡◌, refl, ap, Bool, true, false, cond, List, [], ◌∷◌, map, ℕ, suc, ◌≤◌, ◌<◌, arith, le-leb, ltb-true, ltb-false}
+use Rattle.std.specs.Prelude.{◌≡◌, ◌∷◌, ◌≤◌, ◌<◌}
+use Rattle.laws.proofs.Prelude.{refl, ap, Bool, true, false, cond, List, [], map, ℕ, suc, arith, le-leb, ltb-true, ltb-false}
 use Rattle.laws.proofs.Prelude.{eqb-true, eqb-false, leb, ltb, eqb, length, get_or, both}
 use Rattle.pixel_segment.specs.Field.{cpu, layer_id_of}
 use Rattle.segment_rows.specs.Rows.{Ordered}

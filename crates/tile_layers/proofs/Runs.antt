@@ -1,5 +1,6 @@
 -- The groups of a part: a run of segments of one layer, with another layer or nothing after it, is a group. Assumes nothing.
-use Rattle.laws.proofs.Prelude.{◌≡◌, refl, ap, ap₂, sym, subst₂, ◌∙◌, Bool, true, false, cond, List, [], ◌∷◌, ℕ, zero, suc, ◌+◌, ◌-◌, ◌≤◌, ◌<◌}
+use Rattle.std.specs.Prelude.{◌≡◌, ◌∷◌, ◌+◌, ◌-◌, ◌≤◌, ◌<◌}
+use Rattle.laws.proofs.Prelude.{refl, ap, ap₂, sym, subst₂, ◌∙◌, Bool, true, false, cond, List, [], ℕ, zero, suc}
 use Rattle.laws.proofs.Prelude.{not-suc-le-zero, le_of_suc-le-suc, zero-add, add-zero, arith, eq-eqb, ne_eqb, eqb-true, eqb, length, get_or, take, drop}
 use Rattle.laws.proofs.Prelude.{length-drop, get_or-drop, drop-drop, count_by}
 use Rattle.pixel_segment.specs.Field.{cpu, layer_id_of}

@@ -1,6 +1,7 @@
 -- Laws of the walk's steps: which layer comes next. Assumes nothing.
-use Rattle.laws.proofs.Prelude.{◌≡◌, refl, ap, ap₂, sym, subst, ◌∙◌, Bool, true, false, ◌&&◌, false≢true, List, [], ◌∷◌, ⊎_elim, ℕ, suc, ◌+◌, ◌≤◌}
-use Rattle.laws.proofs.Prelude.{◌<◌, arith, add-one, add-zero, lt-ltb, le-ltb, ltb-true, leb-true, leb-false, ltb, leb, length, get_or, drop, take}
+use Rattle.std.specs.Prelude.{◌≡◌, ◌&&◌, ◌∷◌, ◌+◌, ◌≤◌, ◌<◌}
+use Rattle.laws.proofs.Prelude.{refl, ap, ap₂, sym, subst, ◌∙◌, Bool, true, false, false≢true, List, [], ⊎_elim, ℕ, suc}
+use Rattle.laws.proofs.Prelude.{arith, add-one, add-zero, lt-ltb, le-ltb, ltb-true, leb-true, leb-false, ltb, leb, length, get_or, drop, take}
 use Rattle.laws.proofs.Prelude.{drop_of_length-le, drop-cons, ℤ, bool_byte, left, right, le_or_lt, length_tabulate, get_d_tabulate}
 use native.Mathlib.Nat.{sub_self}
 use Rattle.pixel_segment.specs.Field.{cpu, layer_id_of}

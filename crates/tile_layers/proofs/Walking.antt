@@ -1,5 +1,6 @@
 -- A loop over the layers of a tile: the k-th layer comes next, and what is left is the list from there on. Assumes nothing.
-use Rattle.laws.proofs.Prelude.{◌≡◌, refl, ap, ap₂, ◌∙◌, List, [], ◌∷◌, ℕ, ◌+◌, ◌≤◌, arith, ℤ, length, drop, drop_of_length-le, nil_le, cons_lt}
+use Rattle.std.specs.Prelude.{◌≡◌, ◌∷◌, ◌+◌, ◌≤◌}
+use Rattle.laws.proofs.Prelude.{refl, ap, ap₂, ◌∙◌, List, [], ℕ, arith, ℤ, length, drop, drop_of_length-le, nil_le, cons_lt}
 use Rattle.laws.proofs.Prelude.{cons_rest}
 use Rattle.queue_statements.specs.Queue.{queue_of}
 use Rattle.tile_layers.specs.Groups.{groups_of}

@@ -1,5 +1,6 @@
 -- Every cover of a tile's layers has a number for each of 16 pixel rows. Assumes nothing.
-use Rattle.laws.proofs.Prelude.{◌≡◌, refl, ap, ◌∙◌, Bool, true, false, cond, List, [], ◌∷◌, map, ℕ, ◌*◌, ◌≤◌, ◌<◌, arith, eq-eqb, ltb, ℤ, length}
+use Rattle.std.specs.Prelude.{◌≡◌, ◌∷◌, ◌*◌, ◌≤◌, ◌<◌}
+use Rattle.laws.proofs.Prelude.{refl, ap, ◌∙◌, Bool, true, false, cond, List, [], map, ℕ, arith, eq-eqb, ltb, ℤ, length}
 use Rattle.laws.proofs.Prelude.{left, right, both, all_intro, length_tabulate, get_d_tabulate}
 use Rattle.cover_statements.specs.Entry.{cover_entry}
 use Rattle.cover_statements.proofs.Entries.{entry_length}

@@ -1,5 +1,6 @@
 -- A tile's part of a row, grouped by layer: the segments of one layer stand together, since the part ascends.
-use Rattle.laws.specs.Prelude.{cond, List, [], ◌∷◌, ℕ, eqb}
+use Rattle.std.specs.Prelude.{◌∷◌}
+use Rattle.laws.specs.Prelude.{cond, List, [], ℕ, eqb}
 use Rattle.pixel_segment.specs.Field.{cpu, layer_id_of}
 
 -- a layer and its segments

@@ -1,5 +1,6 @@
 -- How the code walks over a queue and a tile's part in step: what the next layer is. `i` counts the carries that are passed, `j` the segments.
-use Rattle.laws.specs.Prelude.{◌≡◌, true, cond, List, ◌∷◌, ℕ, ◌+◌, ◌≤◌, ◌<◌, ℤ, length, drop, get_or}
+use Rattle.std.specs.Prelude.{◌≡◌, ◌∷◌, ◌+◌, ◌≤◌, ◌<◌}
+use Rattle.laws.specs.Prelude.{true, cond, List, ℕ, ℤ, length, drop, get_or}
 use Rattle.pixel_segment.specs.Field.{cpu, layer_id_of}
 use Rattle.segment_rows.specs.Rows.{Ordered}
 use Rattle.segment_rows.specs.Search.{between}

@@ -1,6 +1,7 @@
 -- The layers of a tile: each layer with a segment in the tile or a carry in the incoming queue, once, ascending (`populate_layers`). Stands for
 -- 'the list has each layer with a segment or carry, once, ascending' and for refusals 7, 8 and 9 of a list.
-use Rattle.laws.specs.Prelude.{◌≡◌, Bool, true, false, cond, not, List, [], ◌∷◌, ◌++◌, map, ℕ, ◌+◌, ◌*◌, ◌≤◌, ltb, eqb, ℤ, length, take, drop, Answer}
+use Rattle.std.specs.Prelude.{◌≡◌, ◌∷◌, ◌++◌, ◌+◌, ◌*◌, ◌≤◌}
+use Rattle.laws.specs.Prelude.{Bool, true, false, cond, not, List, [], map, ℕ, ltb, eqb, ℤ, length, take, drop, Answer}
 use Rattle.laws.specs.Prelude.{refused, given, is_given, all, any, over}
 use Rattle.pixel_segment.specs.Field.{cpu, layer_id_of}
 use Rattle.cover_statements.specs.Carry.{is_light}

@@ -1,5 +1,6 @@
 -- What was read is lent as far as it counts: n entries, where n is that number. Assumes nothing.
-use Rattle.laws.proofs.Prelude.{◌≡◌, subst, List, ℕ, min, Float}
+use Rattle.std.specs.Prelude.{◌≡◌}
+use Rattle.laws.proofs.Prelude.{subst, List, ℕ, min, Float}
 use Rattle.queue_records.specs.declared.Columns as read
 use Rattle.row_statements.specs.Lent.{Columns}
 use Rattle.row_statements.specs.TileWork.{WorkCall, WorkLent, work_of, GivesWork}

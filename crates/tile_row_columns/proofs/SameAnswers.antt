@@ -1,6 +1,7 @@
 -- Tile work and painting answer and leave the same with the columns that were read as with the records' own: all that they ask of a queue is whether it is short,
 -- whether it is in order, and where neither refuses, its carries. Assumes nothing.
-use Rattle.laws.proofs.Prelude.{◌≡◌, refl, ap, subst, ◌∙◌, Bool, true, false, not, ◌||◌, List, ℕ, suc, ltb, Float, length}
+use Rattle.std.specs.Prelude.{◌≡◌, ◌||◌}
+use Rattle.laws.proofs.Prelude.{refl, ap, subst, ◌∙◌, Bool, true, false, not, List, ℕ, suc, ltb, Float, length}
 use Rattle.refusals.specs.Refusal.{Judgement, pass, refuse, unless, and_then}
 use Rattle.pixel_segment.specs.Field.{cpu}
 use Rattle.segment_rows.specs.Rows.{is_row}

@@ -1,6 +1,7 @@
 -- What is lent of a queue's columns says what the records say: whether the queue is short, and where it is not, whether it is in order, and its carries.
 -- Assumes nothing.
-use Rattle.laws.proofs.Prelude.{◌≡◌, refl, sym, ap, ap₂, ◌∙◌, Bool, true, false, ◌&&◌, List, [], ◌∷◌, ◌++◌, ℕ, ◌*◌, ◌/◌, ◌≤◌, ◌<◌, min, arith}
+use Rattle.std.specs.Prelude.{◌≡◌, ◌&&◌, ◌∷◌, ◌++◌, ◌*◌, ◌/◌, ◌≤◌, ◌<◌}
+use Rattle.laws.proofs.Prelude.{refl, sym, ap, ap₂, ◌∙◌, Bool, true, false, List, [], ℕ, min, arith}
 use Rattle.laws.proofs.Prelude.{ltb-true, ltb-false, lt-ltb, le-ltb, leb-true, ltb, leb, pos, length, take, drop, replicate, length-map}
 use Rattle.laws.proofs.Prelude.{take-append-drop, take_all, length-take-le, over, left, length_over}
 use lib.Seq.{drop-append_seam}

@@ -1,5 +1,6 @@
 -- What whoever holds columns knows of them: how long they are. (A struct's relation has an array as `map (λ v. v)` of it.)
-use Rattle.laws.proofs.Prelude.{◌≡◌, sym, ◌∙◌, List, length, length-map, Val}
+use Rattle.std.specs.Prelude.{◌≡◌}
+use Rattle.laws.proofs.Prelude.{sym, ◌∙◌, List, length, length-map, Val}
 use denote.Laws.{Is}
 use denote.Struct.Laws as LL
 use Rattle.queue_records.specs.declared.Columns.{Columns}

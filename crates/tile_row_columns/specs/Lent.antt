@@ -1,6 +1,7 @@
 -- A queue of carry records as columns, and how the code lends what it read of the records: as many entries of the columns as the slice has records, 256
 -- at most, so that refusal 1 is told from the columns as from the records.
-use Rattle.laws.specs.Prelude.{List, ℕ, ◌*◌, min, take}
+use Rattle.std.specs.Prelude.{◌*◌}
+use Rattle.laws.specs.Prelude.{List, ℕ, min, take}
 use Rattle.queue_records.specs.Records.{record_ids, record_covers}
 use Rattle.queue_records.specs.declared.CarryRecord.{CarryRecord}
 use Rattle.queue_records.specs.declared.Columns as read

@@ -1,5 +1,6 @@
 -- The claims of specs/Steps: records that hold the caller's carries are memory that holds the same carries. Assumes nothing.
-use Rattle.laws.proofs.Prelude.{◌≡◌, sym, ap, ◌∙◌, false, ◌&&◌, List, ℕ, ◌≤◌, arith, leb, length, take}
+use Rattle.std.specs.Prelude.{◌≡◌, ◌&&◌, ◌≤◌}
+use Rattle.laws.proofs.Prelude.{sym, ap, ◌∙◌, false, List, ℕ, arith, leb, length, take}
 use Rattle.styling.specs.Ascending.{strictly_ascends}
 use Rattle.queue_statements.specs.Queue.{is_queue, ids_in}
 use Rattle.queue_statements.proofs.Judging.{room}

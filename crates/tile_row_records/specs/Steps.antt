@@ -1,6 +1,7 @@
 -- A caller that keeps its carries as records: what is asked of them so that its calls are steps of a
 -- run (row_statements/specs/Run), and the claim that they are, after every opening and any calls.
-use Rattle.laws.specs.Prelude.{◌≡◌, List, ℕ, ◌≤◌, Float, length, take}
+use Rattle.std.specs.Prelude.{◌≡◌, ◌≤◌}
+use Rattle.laws.specs.Prelude.{List, ℕ, Float, length, take}
 use Rattle.segment_rows.specs.Rows.{Words}
 use Rattle.queue_records.specs.Records.{carries_of}
 use Rattle.queue_records.specs.declared.CarryRecord.{CarryRecord}

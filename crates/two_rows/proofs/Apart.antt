@@ -1,5 +1,6 @@
 -- Two runs over rows that agree on a layer: what their calls say of the layer is the same. Assumes nothing.
-use Rattle.laws.proofs.Prelude.{◌≡◌, refl, ap, ap₂, sym, ◌∙◌, List, ◌∷◌, map, ℕ, suc, ◌+◌, ◌-◌, arith, Float, length, take, take_at, given, over}
+use Rattle.std.specs.Prelude.{◌≡◌, ◌∷◌, ◌+◌, ◌-◌}
+use Rattle.laws.proofs.Prelude.{refl, ap, ap₂, sym, ◌∙◌, List, map, ℕ, suc, arith, Float, length, take, take_at, given, over}
 use Rattle.refusals.specs.Refusal.{Judgement, pass, refuse}
 use Rattle.pixel_segment.specs.Field.{cpu}
 use Rattle.cover_statements.specs.Plane.{pixel_of}

@@ -1,6 +1,7 @@
 -- Two runs over a row of mild covers and over its opposite, by the same calls: the claims of specs/Backwards. Each call of a run gives what is due of it
 -- (listing_runs), and what is due of it on the two rows is alike (proofs/Turned). Assumes nothing.
-use Rattle.laws.proofs.Prelude.{◌≡◌, refl, ap, ap₂, sym, subst, ◌∙◌, Bool, true, not, ◌||◌, List, map, ℕ, suc, ◌-◌, Float, length, take, take_at}
+use Rattle.std.specs.Prelude.{◌≡◌, ◌||◌, ◌-◌}
+use Rattle.laws.proofs.Prelude.{refl, ap, ap₂, sym, subst, ◌∙◌, Bool, true, not, List, map, ℕ, suc, Float, length, take, take_at}
 use Rattle.laws.proofs.Prelude.{Answer, given, plus, over}
 use Rattle.refusals.specs.Refusal.{Judgement, pass, refuse, unless}
 use Rattle.pixel_segment.specs.Field.{cpu}

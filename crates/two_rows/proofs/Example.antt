@@ -1,5 +1,6 @@
 -- The example of specs/Example, computed. Assumes nothing.
-use Rattle.laws.proofs.Prelude.{◌≡◌, refl, ap, ◌∙◌, arith, eq, of_bits, replicate}
+use Rattle.std.specs.Prelude.{◌≡◌}
+use Rattle.laws.proofs.Prelude.{refl, ap, ◌∙◌, arith, eq, of_bits, replicate}
 use Rattle.pixel_segment.specs.Field.{cover_of, double_area_of, tile_of}
 use Rattle.segment_rows.specs.Rows.{ascends_from}
 use Rattle.segment_rows.specs.Search.{halved, search_of, left_part, tile_part, layer_part}

@@ -1,6 +1,7 @@
 -- What a queue and a list say of one layer: whether they have it, its cover, its segments. Assumes nothing.
-use Rattle.laws.proofs.Prelude.{◌≡◌, refl, ap, ap₂, sym, ◌∙◌, Bool, true, false, cond, not, ◌&&◌, ◌||◌, and-false, ⊎_elim, List, [], ◌∷◌, map, Option}
-use Rattle.laws.proofs.Prelude.{some, none, ℕ, suc, ◌+◌, ◌≤◌, ◌<◌, arith, eq-eqb, ne_eqb, eqb-true, lt-ltb, eqb, ltb, ℤ, any, filter, sumℕ, eq_or_ne}
+use Rattle.std.specs.Prelude.{◌≡◌, ◌&&◌, ◌||◌, ◌∷◌, ◌+◌, ◌≤◌, ◌<◌}
+use Rattle.laws.proofs.Prelude.{refl, ap, ap₂, sym, ◌∙◌, Bool, true, false, cond, not, and-false, ⊎_elim, List, [], map, Option}
+use Rattle.laws.proofs.Prelude.{some, none, ℕ, suc, arith, eq-eqb, ne_eqb, eqb-true, lt-ltb, eqb, ltb, ℤ, any, filter, sumℕ, eq_or_ne}
 use Rattle.pixel_segment.specs.Field.{cpu}
 use Rattle.styling.specs.Ascending.{strictly_ascends_from}
 use Rattle.styling.specs.declared.Layer.{Layer}

@@ -1,5 +1,6 @@
 -- The example of specs/Lowest, computed. Assumes nothing.
-use Rattle.laws.proofs.Prelude.{◌≡◌, refl, ap, sym, ◌∙◌, true, false, false≢true, List, map, ℕ, arith, Float, nan, odd, nat_abs, get_or, given, over}
+use Rattle.std.specs.Prelude.{◌≡◌}
+use Rattle.laws.proofs.Prelude.{refl, ap, sym, ◌∙◌, true, false, false≢true, List, map, ℕ, arith, Float, nan, odd, nat_abs, get_or, given, over}
 use Rattle.pixel_segment.specs.Field.{cover_of, double_area_of, tile_of}
 use Rattle.pixel_segment.specs.Opposite.{opposite_of}
 use Rattle.pixel_segment.specs.Pack.{with_cover}

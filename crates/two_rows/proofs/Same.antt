@@ -1,6 +1,7 @@
 -- Two rows that agree on a layer: its sums, its carries, its entries and its coverages are the same in each tile. Assumes nothing.
-use Rattle.laws.proofs.Prelude.{◌≡◌, refl, ap, ap₂, sym, ◌∙◌, Bool, true, cond, not, ◌&&◌, ◌||◌, List, [], ◌∷◌, map, some, none, ℕ, zero, suc, ◌+◌}
-use Rattle.laws.proofs.Prelude.{arith, eqb, ltb, ℤ, pos, ◌+ℤ◌, ◌*ℤ◌, +ℤ_idl, tabulate, filter, sumℤ, count_by, sumℤ_same, sumℕ_same}
+use Rattle.std.specs.Prelude.{◌≡◌, ◌&&◌, ◌||◌, ◌∷◌, ◌+◌, ◌+ℤ◌, ◌*ℤ◌}
+use Rattle.laws.proofs.Prelude.{refl, ap, ap₂, sym, ◌∙◌, Bool, true, cond, not, List, [], map, some, none, ℕ, zero, suc}
+use Rattle.laws.proofs.Prelude.{arith, eqb, ltb, ℤ, pos, +ℤ_idl, tabulate, filter, sumℤ, count_by, sumℤ_same, sumℕ_same}
 use Rattle.pixel_segment.specs.Field.{cpu, tile_x_of, layer_id_of, cover_of, double_area_of}
 use Rattle.segment_rows.specs.Search as search
 use Rattle.segment_rows.specs.Search.{tile_part}

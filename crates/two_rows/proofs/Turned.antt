@@ -1,6 +1,7 @@
 -- What is due of each call on the opposite row, by what is due of it on the row: the same verdicts, states, decisions, marks and planes, the same
 -- lists and carries with their covers negated. Assumes nothing.
-use Rattle.laws.proofs.Prelude.{◌≡◌, refl, ap, ap₂, sym, ◌∙◌, true, not, List, map, Option, ℕ, zero, suc, ◌+◌, ◌-◌, ltb, Float, pos, length}
+use Rattle.std.specs.Prelude.{◌≡◌, ◌+◌, ◌-◌}
+use Rattle.laws.proofs.Prelude.{refl, ap, ap₂, sym, ◌∙◌, true, not, List, map, Option, ℕ, zero, suc, ltb, Float, pos, length}
 use Rattle.laws.proofs.Prelude.{length-map, is_given, plus}
 use Rattle.refusals.specs.Refusal.{pass, unless}
 use Rattle.pixel_segment.specs.Field.{cpu}

@@ -1,5 +1,6 @@
 -- Where only another layer's segments change, a layer's planes stay. Assumes nothing.
-use Rattle.laws.proofs.Prelude.{◌≡◌, refl, ap, ap₂, sym, ◌∙◌, Bool, true, false, cond, not, List, [], ◌∷◌, map, ℕ, suc, ◌+◌, arith, eqb-true, ne_eqb}
+use Rattle.std.specs.Prelude.{◌≡◌, ◌∷◌, ◌+◌}
+use Rattle.laws.proofs.Prelude.{refl, ap, ap₂, sym, ◌∙◌, Bool, true, false, cond, not, List, [], map, ℕ, suc, arith, eqb-true, ne_eqb}
 use Rattle.laws.proofs.Prelude.{eqb, filter, count_by}
 use Rattle.pixel_segment.specs.Field.{cpu, layer_id_of}
 use Rattle.styling.specs.declared.FillRule.{FillRule}

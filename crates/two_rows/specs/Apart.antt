@@ -1,5 +1,6 @@
 -- W-214: two rows that agree on one layer's segments and its fill rule, and may differ in all else, say the same of that layer.
-use Rattle.laws.specs.Prelude.{◌≡◌, Bool, cond, List, [], ◌∷◌, map, Option, some, none, ℕ, ◌%◌, ◌^◌, eqb, Float, ℤ, take, given, filter, count_by}
+use Rattle.std.specs.Prelude.{◌≡◌, ◌∷◌, ◌%◌, ◌^◌}
+use Rattle.laws.specs.Prelude.{Bool, cond, List, [], map, Option, some, none, ℕ, eqb, Float, ℤ, take, given, filter, count_by}
 use Rattle.pixel_segment.specs.Field.{cpu, shift_of, layer_id_of}
 use Rattle.segment_rows.specs.Rows.{Words}
 use Rattle.queue_statements.specs.Queue.{Carry}

@@ -1,7 +1,8 @@
 -- W-210: outlines run backwards. A row whose covers lie in -31 to 31 and the row with every cover negated are worked by the same calls, refused ones
 -- included: listings, decidings, works and paintings. Then every call answers the same, and every carry is negated, exactly. Mildness is asked of the
 -- whole row, right of its last tile too. What the two runs' memory held before is free; what is lent has room for both or for neither.
-use Rattle.laws.specs.Prelude.{◌≡◌, Bool, List, [], ◌∷◌, map, ℕ, Float, length, take, Answer, refused, given}
+use Rattle.std.specs.Prelude.{◌≡◌, ◌∷◌}
+use Rattle.laws.specs.Prelude.{Bool, List, [], map, ℕ, Float, length, take, Answer, refused, given}
 use Rattle.refusals.specs.Refusal.{refuse}
 use Rattle.pixel_segment.specs.Field.{cpu}
 use Rattle.pixel_segment.specs.Opposite.{opposite_of, Mild}

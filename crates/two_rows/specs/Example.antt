@@ -1,6 +1,7 @@
 -- Two rows that agree on layer 5, a clipped draw, and differ in its table's word and in what rests on other layers: whether it is changed, which layers
 -- are masked off, how many are skipped, the decision, and the layer's mark. In the first it stands alone; in the second a clip lies below it and an opaque draw over it. proofs/Example has it.
-use Rattle.laws.specs.Prelude.{◌≡◌, Bool, true, false, List, [], ◌∷◌, ◌++◌, map, some, none, ℕ, Float, binary32, of_bits, pos, negsuc, length}
+use Rattle.std.specs.Prelude.{◌≡◌, ◌∷◌, ◌++◌}
+use Rattle.laws.specs.Prelude.{Bool, true, false, List, [], map, some, none, ℕ, Float, binary32, of_bits, pos, negsuc, length}
 use Rattle.laws.specs.Prelude.{replicate, tabulate}
 use Rattle.pixel_segment.specs.Field.{cpu}
 use Rattle.pixel_segment.specs.Pack.{word_of}

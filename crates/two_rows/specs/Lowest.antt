@@ -1,7 +1,8 @@
 -- Where W-210 ends: -32 is a cover that the field of a segment holds, and 32 is not. A row with one cover of -32 and its opposite are both opened, and
 -- the carries are not opposite, nor are the coverages the same. So the claim of specs/Backwards is false of rows whose covers lie in -32 to 31.
 -- proofs/Lowest has it.
-use Rattle.laws.specs.Prelude.{◌≡◌, [], ◌∷◌, map, ℕ, binary32, of_bits, ℤ, pos, negsuc, replicate}
+use Rattle.std.specs.Prelude.{◌≡◌, ◌∷◌}
+use Rattle.laws.specs.Prelude.{[], map, ℕ, binary32, of_bits, ℤ, pos, negsuc, replicate}
 use Rattle.pixel_segment.specs.Field.{cpu, cover_of}
 use Rattle.pixel_segment.specs.Pack.{word_of}
 use Rattle.segment_rows.specs.Rows.{Words}

@@ -1,7 +1,8 @@
 -- Calls of two runs that are the same but for the memory that is lent: kind by kind, the same tile, layer, cached tile and clear colours, and room for
 -- both or for neither. Refused calls are included. Stands for W-210's 'by the same calls, with the same layer table, cached tiles and clear colours, and
 -- each list decided as listed'.
-use Rattle.laws.specs.Prelude.{◌≡◌, Bool, ◌||◌, List, [], ◌∷◌, ltb, Float, length}
+use Rattle.std.specs.Prelude.{◌≡◌, ◌||◌, ◌∷◌}
+use Rattle.laws.specs.Prelude.{Bool, List, [], ltb, Float, length}
 use Rattle.row_statements.specs.Lent.{is_queue_short, is_list_short}
 use Rattle.row_statements.specs.TileWork.{WorkCall, WorkLent}
 use Rattle.row_statements.specs.Painting.{PaintCall}

@@ -1,6 +1,7 @@
 -- W-214, for the reviewer who approves a layer: where only another layer's segments change, every plane of the approved layer stays, in every tile of
 -- the row. It needs no run: the whole row says it.
-use Rattle.laws.specs.Prelude.{◌≡◌, not, List, ℕ, eqb, filter}
+use Rattle.std.specs.Prelude.{◌≡◌}
+use Rattle.laws.specs.Prelude.{not, List, ℕ, eqb, filter}
 use Rattle.pixel_segment.specs.Field.{cpu, layer_id_of}
 use Rattle.row_statements.specs.Due.{OpenRow, plane_on}
 use Rattle.two_rows.specs.Apart.{AgreeOn}

@@ -1,5 +1,6 @@
 -- A row of weights that stand by columns of a tile n high: its numbers, that they are weights, and its coverages. Assumes nothing.
-use Rattle.laws.proofs.Prelude.{◌≡◌, sym, ap, ◌∙◌, List, ℕ, ◌+◌, ◌*◌, ◌≤◌, ◌<◌, arith, digits_lt, nan, ℤ, pos, length, get_or, length-map}
+use Rattle.std.specs.Prelude.{◌≡◌, ◌+◌, ◌*◌, ◌≤◌, ◌<◌}
+use Rattle.laws.proofs.Prelude.{sym, ap, ◌∙◌, List, ℕ, arith, digits_lt, nan, ℤ, pos, length, get_or, length-map}
 use Rattle.laws.proofs.Prelude.{length_tabulate, get_d_tabulate, is_tabulate, tabulate}
 use Rattle.cover_statements.specs.Cover.{cover_at}
 use Rattle.cover_statements.specs.InnerWeighed.{Weighed, coverage_in, coverages_in, weights_row}

@@ -1,5 +1,6 @@
 -- A list that passes the test of every entry is the curve: the rule of the table, at each entry. Assumes nothing.
-use Rattle.laws.proofs.Prelude.{◌≡◌, Bool, List, ℕ, ◌<◌, arith, T, eqb, length, get_or, is_tabulate, get_d_tabulate}
+use Rattle.std.specs.Prelude.{◌≡◌, ◌<◌}
+use Rattle.laws.proofs.Prelude.{Bool, List, ℕ, arith, T, eqb, length, get_or, is_tabulate, get_d_tabulate}
 use lib.Dec.{eqb→eq}
 use Rattle.laws.proofs.Table.{every, at}
 use Rattle.weight_table.specs.Rest.{rest_weight, curve}

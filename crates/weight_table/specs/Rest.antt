@@ -1,5 +1,6 @@
 -- The EvenOdd weight of a remainder by 1,024, by the formula; and the weights of all remainders.
-use Rattle.laws.specs.Prelude.{List, ℕ, ◌-◌, nat_abs, sub_ℕ, tabulate}
+use Rattle.std.specs.Prelude.{◌-◌}
+use Rattle.laws.specs.Prelude.{List, ℕ, nat_abs, sub_ℕ, tabulate}
 
 -- the EvenOdd weight of a remainder by 1,024: 512 - |rest - 512|
 abbrev pub rest_weight : ℕ → ℕ

@@ -1,5 +1,6 @@
 -- `mix_listed` meets its contract: the invariant and its steps are those of `Walking`. Assumes nothing.
-use Rattle.laws.proofs.Prelude.{◌≡◌, refl, ◌∙◌, ◌-◌, arith, rules, length}
+use Rattle.std.specs.Prelude.{◌≡◌, ◌-◌}
+use Rattle.laws.proofs.Prelude.{refl, ◌∙◌, arith, rules, length}
 use Rattle.batch_mixing.specs.InnerMixing.{MixAt, mix_at}
 use Rattle.batch_mixing.proofs.Mixed.{Walking, start, next, end}
 use Rattle.batch_mixing.proofs.mix_listed.Goals as goal

@@ -1,4 +1,5 @@
-use Rattle.laws.proofs.Prelude.{◌≡◌, refl, ◌∙◌, ◌-◌, arith, rules, length}
+use Rattle.std.specs.Prelude.{◌≡◌, ◌-◌}
+use Rattle.laws.proofs.Prelude.{refl, ◌∙◌, arith, rules, length}
 use Rattle.batch_mixing.specs.InnerMixing.{MixAt, mix_at}
 use Rattle.batch_mixing.proofs.Mixed.{Walking, start, next, end}
 use Rattle.batch_mixing.proofs.mix_listed.Given as goal

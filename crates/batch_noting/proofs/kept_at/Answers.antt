@@ -1,5 +1,6 @@
 -- `kept_at` meets its contract. Assumes nothing.
-use Rattle.laws.proofs.Prelude.{◌≡◌, ap, ◌∙◌, true, ℕ, ◌+◌, ◌*◌, ◌-◌, arith, rules, take, drop}
+use Rattle.std.specs.Prelude.{◌≡◌, ◌+◌, ◌*◌, ◌-◌}
+use Rattle.laws.proofs.Prelude.{ap, ◌∙◌, true, ℕ, arith, rules, take, drop}
 use Rattle.ffi_numbers.specs.Cached.{kept_of}
 use Rattle.batch_noting.proofs.kept_at.Goals as goal
 

@@ -1,5 +1,6 @@
 -- `put_bytes` meets its contract. Assumes nothing.
-use Rattle.laws.proofs.Prelude.{◌≡◌, ◌∙◌, suc, ◌+◌, ◌<◌, arith, rules, length, set, length-set, get_or}
+use Rattle.std.specs.Prelude.{◌≡◌, ◌+◌, ◌<◌}
+use Rattle.laws.proofs.Prelude.{◌∙◌, suc, arith, rules, length, set, length-set, get_or}
 use Rattle.batch_noting.proofs.Stores.{below}
 use Rattle.batch_noting.proofs.put_bytes.Goals as goal
 

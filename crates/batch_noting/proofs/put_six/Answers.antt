@@ -1,5 +1,6 @@
 -- `put_six` meets its contract. Assumes nothing.
-use Rattle.laws.proofs.Prelude.{◌≡◌, ◌∙◌, suc, ◌+◌, ◌<◌, arith, rules, length, set, length-set}
+use Rattle.std.specs.Prelude.{◌≡◌, ◌+◌, ◌<◌}
+use Rattle.laws.proofs.Prelude.{◌∙◌, suc, arith, rules, length, set, length-set}
 use Rattle.batch_noting.proofs.Stores.{below}
 use Rattle.batch_noting.proofs.put_six.Goals as goal
 

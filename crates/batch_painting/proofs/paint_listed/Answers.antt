@@ -1,5 +1,6 @@
 -- `paint_listed` meets its contract: the invariant and its steps are those of `Walking`. Assumes nothing.
-use Rattle.laws.proofs.Prelude.{◌≡◌, refl, ◌∙◌, ◌-◌, arith, rules, length}
+use Rattle.std.specs.Prelude.{◌≡◌, ◌-◌}
+use Rattle.laws.proofs.Prelude.{refl, ◌∙◌, arith, rules, length}
 use Rattle.layer_table.specs.Table.{table_of}
 use Rattle.batch_painting.proofs.Walking.{Walked, walked_start, walked_next, walked_end}
 use Rattle.batch_painting.proofs.paint_listed.Goals as goal

@@ -1,4 +1,5 @@
-use Rattle.laws.proofs.Prelude.{◌≡◌, refl, ◌∙◌, ◌-◌, arith, rules, length}
+use Rattle.std.specs.Prelude.{◌≡◌, ◌-◌}
+use Rattle.laws.proofs.Prelude.{refl, ◌∙◌, arith, rules, length}
 use Rattle.layer_table.specs.Table.{table_of}
 use Rattle.batch_painting.proofs.Walking.{Walked, walked_start, walked_next, walked_end}
 use Rattle.batch_painting.proofs.paint_listed.Given as goal

@@ -1,5 +1,6 @@
 -- `has_room_lem` meets its contract. Assumes nothing.
-use Rattle.laws.proofs.Prelude.{ap, ltb, Bool, ◌&&◌}
+use Rattle.std.specs.Prelude.{◌&&◌}
+use Rattle.laws.proofs.Prelude.{ap, ltb, Bool}
 use Rattle.batch_steps.proofs.Rooms.{no_planes, shifted}
 use Rattle.batch_steps.proofs.has_room_lem.Statement.{statement}
 use Rattle.batch_steps.proofs.has_room_lem.Tie as tie

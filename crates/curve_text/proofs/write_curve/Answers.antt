@@ -1,6 +1,7 @@
 -- `write_curve` meets its contract. The invariant is that of lines printed one after another; the measure is the lines left.
 -- Assumes nothing.
-use Rattle.laws.proofs.Prelude.{◌∙◌, ◌-◌, arith, rules}
+use Rattle.std.specs.Prelude.{◌-◌}
+use Rattle.laws.proofs.Prelude.{◌∙◌, arith, rules}
 use Rattle.lines.proofs.LinesPrinting.{LinesPrinting, start, line_room, next}
 use Rattle.curve_text.specs.Curve.{curve_line}
 use Rattle.curve_text.proofs.CurvePrinting.{line_long, two, written}

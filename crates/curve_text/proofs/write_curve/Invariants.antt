@@ -1,4 +1,5 @@
-use Rattle.laws.proofs.Prelude.{◌∙◌, ◌-◌, arith, rules}
+use Rattle.std.specs.Prelude.{◌-◌}
+use Rattle.laws.proofs.Prelude.{◌∙◌, arith, rules}
 use Rattle.lines.proofs.LinesPrinting.{LinesPrinting, start, line_room, next}
 use Rattle.curve_text.specs.Curve.{curve_line}
 use Rattle.curve_text.proofs.CurvePrinting.{line_long, two, written}

@@ -1,4 +1,5 @@
-use Rattle.laws.proofs.Prelude.{◌-◌, length}
+use Rattle.std.specs.Prelude.{◌-◌}
+use Rattle.laws.proofs.Prelude.{length}
 use Rattle.decimal.proofs.Reading.{Reading}
 use Rattle.decimal.proofs.read_unsigned.Given as goal
 

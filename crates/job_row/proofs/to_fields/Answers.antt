@@ -1,5 +1,6 @@
 -- `to_fields` meets its contract: the rule on a line keeps each number within its field's type. Assumes nothing.
-use Rattle.laws.proofs.Prelude.{◌≡◌, arith, ℤ, nat_abs, w8, w16, w32, SFits, to_z-of_z, plus, minus, kept, sfits, unsigned, whole}
+use Rattle.std.specs.Prelude.{◌≡◌}
+use Rattle.laws.proofs.Prelude.{arith, ℤ, nat_abs, w8, w16, w32, SFits, to_z-of_z, plus, minus, kept, sfits, unsigned, whole}
 use Rattle.job_lines.specs.declared.segment.SegmentLine.{SegmentLine}
 use Rattle.job_lines.proofs.Ranges.{InTile, in_tile}
 use Rattle.job_row.proofs.to_fields.Goals as goal

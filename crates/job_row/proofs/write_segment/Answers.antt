@@ -1,5 +1,6 @@
 -- `write_segment` meets its contract: the invariant and its steps are those of `Rows`. Assumes nothing.
-use Rattle.laws.proofs.Prelude.{◌-◌, arith, w16, to_z, to_z-of_z}
+use Rattle.std.specs.Prelude.{◌-◌}
+use Rattle.laws.proofs.Prelude.{arith, w16, to_z, to_z-of_z}
 use Rattle.job_statements.proofs.Rows.{Repeating, first, few_rows, packs_at, long, repeat, last}
 use Rattle.job_row.proofs.write_segment.Goals as goal
 

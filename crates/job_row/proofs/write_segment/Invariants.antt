@@ -1,4 +1,5 @@
-use Rattle.laws.proofs.Prelude.{◌-◌, arith, w16, to_z, to_z-of_z}
+use Rattle.std.specs.Prelude.{◌-◌}
+use Rattle.laws.proofs.Prelude.{arith, w16, to_z, to_z-of_z}
 use Rattle.job_statements.proofs.Rows.{Repeating, first, few_rows, packs_at, long, repeat, last}
 use Rattle.job_row.proofs.write_segment.Given as goal
 

@@ -1,4 +1,5 @@
-use Rattle.laws.proofs.Prelude.{ap, ◌∙◌, List, ◌*◌, ◌-◌, arith, Float, over}
+use Rattle.std.specs.Prelude.{◌*◌, ◌-◌}
+use Rattle.laws.proofs.Prelude.{ap, ◌∙◌, List, arith, Float, over}
 use Rattle.job_statements.specs.Entries.{job_color_at}
 use Rattle.job_statements.proofs.Filling.{Filling, start, long, next, end}
 use Rattle.job_statements.proofs.Tables.{colors_are, alpha_at}

@@ -1,4 +1,5 @@
-use Rattle.laws.proofs.Prelude.{ap, ◌∙◌, List, ℕ, ◌*◌, ◌-◌, arith, over}
+use Rattle.std.specs.Prelude.{◌*◌, ◌-◌}
+use Rattle.laws.proofs.Prelude.{ap, ◌∙◌, List, ℕ, arith, over}
 use Rattle.job_statements.specs.Entries.{word_at}
 use Rattle.job_statements.proofs.Filling.{Filling, start, long, next, end}
 use Rattle.job_statements.proofs.Tables.{words_are}

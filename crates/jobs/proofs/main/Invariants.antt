@@ -1,4 +1,5 @@
-use Rattle.laws.proofs.Prelude.{◌-◌, arith}
+use Rattle.std.specs.Prelude.{◌-◌}
+use Rattle.laws.proofs.Prelude.{arith}
 use Rattle.jobs.proofs.main.Given as goal
 
 abbrev pub invariant-loop-i : goal.invariant-loop-i

@@ -1,5 +1,6 @@
 -- `keep_count` meets its contract. Assumes nothing.
-use Rattle.laws.proofs.Prelude.{◌≡◌, sym, ap, ◌∙◌, rules}
+use Rattle.std.specs.Prelude.{◌≡◌}
+use Rattle.laws.proofs.Prelude.{sym, ap, ◌∙◌, rules}
 use Rattle.refusals.specs.Refusal.{pass, judgement_in}
 use Rattle.kept_count.specs.Keeping.{LentMembers, lent_members, keep_verdict}
 use Rattle.kept_count.proofs.Verdicts.{keep_passed, refused_by, done_by}

@@ -1,5 +1,6 @@
 -- `hand_on` meets its contract. Assumes nothing.
-use Rattle.laws.proofs.Prelude.{List, ◌≡◌, ap, ap₂, sym, ◌∙◌, true, not, ◌-◌, arith, rules, length}
+use Rattle.std.specs.Prelude.{◌≡◌, ◌-◌}
+use Rattle.laws.proofs.Prelude.{List, ap, ap₂, sym, ◌∙◌, true, not, arith, rules, length}
 use Rattle.styling.specs.declared.Layer.{Layer}
 use Rattle.cover_statements.specs.Cover.{is_empty}
 use Rattle.layer_table.specs.Table.{table_of}

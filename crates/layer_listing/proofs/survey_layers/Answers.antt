@@ -1,5 +1,6 @@
 -- `listing::survey_layers` meets its contract. Assumes nothing.
-use Rattle.laws.proofs.Prelude.{◌+◌, ◌-◌, arith, rules, length}
+use Rattle.std.specs.Prelude.{◌+◌, ◌-◌}
+use Rattle.laws.proofs.Prelude.{arith, rules, length}
 use Rattle.layer_table.specs.Table.{table_of}
 use Rattle.layer_listing.proofs.Surveying.{Surveying, survey_start, survey_next, survey_end}
 use Rattle.layer_listing.proofs.survey_layers.Goals as goal

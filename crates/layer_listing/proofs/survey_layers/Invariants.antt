@@ -1,4 +1,5 @@
-use Rattle.laws.proofs.Prelude.{◌+◌, ◌-◌, arith, rules, length}
+use Rattle.std.specs.Prelude.{◌+◌, ◌-◌}
+use Rattle.laws.proofs.Prelude.{arith, rules, length}
 use Rattle.layer_table.specs.Table.{table_of}
 use Rattle.layer_listing.proofs.Surveying.{Surveying, survey_start, survey_next, survey_end}
 use Rattle.layer_listing.proofs.survey_layers.Given as goal

@@ -1,4 +1,5 @@
-use Rattle.laws.proofs.Prelude.{◌+◌, ◌-◌, arith, length}
+use Rattle.std.specs.Prelude.{◌+◌, ◌-◌}
+use Rattle.laws.proofs.Prelude.{arith, length}
 use Rattle.layer_listing.proofs.Writing.{Writing, write_start, write_lengths, write_room, write_next, write_end}
 use Rattle.layer_listing.proofs.write_layers.Goals as goal
 

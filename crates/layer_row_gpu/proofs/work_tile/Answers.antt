@@ -1,5 +1,6 @@
 -- `work_tile` meets its contract. Assumes nothing.
-use Rattle.laws.proofs.Prelude.{◌≡◌, sym, ap, ◌∙◌, rules, ℤ, to_z-of_z, over}
+use Rattle.std.specs.Prelude.{◌≡◌}
+use Rattle.laws.proofs.Prelude.{sym, ap, ◌∙◌, rules, ℤ, to_z-of_z, over}
 use Rattle.refusals.specs.Refusal.{Judgement, judgement_in, pass}
 use Rattle.pixel_segment.specs.Field.{gpu}
 use Rattle.cover_statements.specs.Cover.{cover_at}

@@ -1,4 +1,5 @@
-use Rattle.laws.proofs.Prelude.{◌+◌, ◌-◌, rules}
+use Rattle.std.specs.Prelude.{◌+◌, ◌-◌}
+use Rattle.laws.proofs.Prelude.{rules}
 use Rattle.layer_table.proofs.Halving.{tried}
 use Rattle.layer_table.proofs.find_from.Given as goal
 

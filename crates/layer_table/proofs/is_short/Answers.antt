@@ -1,6 +1,7 @@
 -- `layer_table::is_short` meets its contract.
 -- Assumes nothing.
-use Rattle.laws.proofs.Prelude.{◌/◌, length}
+use Rattle.std.specs.Prelude.{◌/◌}
+use Rattle.laws.proofs.Prelude.{length}
 use Rattle.layer_table.specs.Table.{is_table_short}
 use Rattle.layer_table.proofs.Judging.{ltb_min}
 use Rattle.layer_table.proofs.is_short.Goals as goal

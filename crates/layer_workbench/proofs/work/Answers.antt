@@ -1,5 +1,6 @@
 -- `work` meets its contract. Assumes nothing.
-use Rattle.laws.proofs.Prelude.{◌≤◌, arith, rules, length}
+use Rattle.std.specs.Prelude.{◌≤◌}
+use Rattle.laws.proofs.Prelude.{arith, rules, length}
 use Rattle.layer_table.specs.Table.{table_of}
 use Rattle.queue_statements.specs.Queue.{queue_of}
 use Rattle.tile_layers.specs.Groups.{groups_of}

@@ -1,4 +1,5 @@
-use Rattle.laws.proofs.Prelude.{◌-◌, arith, rules, length, w32, kept}
+use Rattle.std.specs.Prelude.{◌-◌}
+use Rattle.laws.proofs.Prelude.{arith, rules, length, w32, kept}
 use Rattle.lines.proofs.LinePrinting.{LinePrinting, start, next_field, end}
 use Rattle.lines.proofs.print_line.Given as goal
 

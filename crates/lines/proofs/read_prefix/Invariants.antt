@@ -1,4 +1,5 @@
-use Rattle.laws.proofs.Prelude.{◌-◌, arith, length}
+use Rattle.std.specs.Prelude.{◌-◌}
+use Rattle.laws.proofs.Prelude.{arith, length}
 use Rattle.lines.proofs.PrefixReading.{PrefixReading, start, short, other, next, end}
 use Rattle.lines.proofs.read_prefix.Given as goal
 

@@ -2,7 +2,8 @@
 -- (`queue_records/proofs/LentArray.antt`). Slices that are only read are had twice, once for the call and once for the exit; those that are written go to the callee at their own lifetimes (`gave_slice`).
 -- All that the proof knows of `paint_layer` is that it meets its contract.
 -- Assumes nothing.
-use Rattle.laws.proofs.Prelude.{◌≡◌, refl, List, [], ◌∷◌, ℕ, lit<, Float, ℤ, length, named, w32, w64, ty_array, Val, vint, of_z}
+use Rattle.std.specs.Prelude.{◌≡◌, ◌∷◌}
+use Rattle.laws.proofs.Prelude.{refl, List, [], ℕ, lit<, Float, ℤ, length, named, w32, w64, ty_array, Val, vint, of_z}
 use contract.Monad.{Fun, fact}
 use contract.Running.{tables, tables_of}
 use denote.Laws.{Is, shows, Tells}

@@ -2,7 +2,8 @@
 -- Slices that are only read are had twice, once for the call and once for the exit; those that are written go to the callee at their own lifetimes (`gave_slice`). What joins columns and records is `painted_records`.
 -- All that the proof knows of the two functions is that each meets its contract.
 -- Assumes nothing.
-use Rattle.laws.proofs.Prelude.{◌≡◌, refl, List, [], ◌∷◌, ℕ, Float, ℤ, length, named, w32, w64, Val, vint, of_z}
+use Rattle.std.specs.Prelude.{◌≡◌, ◌∷◌}
+use Rattle.laws.proofs.Prelude.{refl, List, [], ℕ, Float, ℤ, length, named, w32, w64, Val, vint, of_z}
 use contract.Monad.{Fun, fact}
 use contract.Running.{tables, tables_of}
 use denote.RattleType.{owns}

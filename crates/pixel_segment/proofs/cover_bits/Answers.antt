@@ -1,6 +1,7 @@
 -- `cover_bits` meets its contract. 256 is a multiple of 64, and with it no cover is negative. Assumes nothing.
 -- the cover's range, and the sum's parts
-use Rattle.laws.proofs.Prelude.{ap, ℕ, ◌%◌, arith, lit<, pos, ◌+ℤ◌, w8, w16, w64, SFits, to_z-of_z, sfits_widen, Sum, added, lifted, Within}
+use Rattle.std.specs.Prelude.{◌%◌, ◌+ℤ◌}
+use Rattle.laws.proofs.Prelude.{ap, ℕ, arith, lit<, pos, w8, w16, w64, SFits, to_z-of_z, sfits_widen, Sum, added, lifted, Within}
 use Rattle.laws.proofs.Prelude.{within, sfits, unsigned}
 use Rattle.pixel_segment.proofs.cover_bits.Goals as goal
 use Rattle.pixel_segment.proofs.cover_bits.Goals.{Start}

@@ -1,5 +1,6 @@
 -- `pack_in` meets its contract: where every field holds its number, the number fits the type that `join` takes. Assumes nothing.
-use Rattle.laws.proofs.Prelude.{◌≡◌, sym, ◌∙◌, true, ◌≤◌, ◌<◌, arith, ℤ, pos, nat_abs, w8, w16, w32, SFits, to_z-of_z, plus}
+use Rattle.std.specs.Prelude.{◌≡◌, ◌≤◌, ◌<◌}
+use Rattle.laws.proofs.Prelude.{sym, ◌∙◌, true, arith, ℤ, pos, nat_abs, w8, w16, w32, SFits, to_z-of_z, plus}
 use Rattle.laws.proofs.Prelude.{minus, sfits, unsigned, whole, added}
 use Rattle.pixel_segment.specs.Field.{widths_of}
 use Rattle.pixel_segment.specs.Pack.{stored_of, is_packable, FieldsInRange}

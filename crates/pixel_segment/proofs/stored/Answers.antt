@@ -1,5 +1,6 @@
 -- `stored` meets its contract. Assumes nothing.
-use Rattle.laws.proofs.Prelude.{◌≡◌, arith, pos, w16, w64, to_z-of_z, minus, added, whole, lt_true, lt_false, within, unsigned}
+use Rattle.std.specs.Prelude.{◌≡◌}
+use Rattle.laws.proofs.Prelude.{arith, pos, w16, w64, to_z-of_z, minus, added, whole, lt_true, lt_false, within, unsigned}
 use Rattle.pixel_segment.proofs.stored.Goals as goal
 use Rattle.pixel_segment.proofs.stored.Goals.{Else-tile-lt0}
 

@@ -1,5 +1,6 @@
 -- `cast` meets its contract: the remainder is a small number, so the machine's difference is the definition's. Assumes nothing.
-use Rattle.laws.proofs.Prelude.{◌≡◌, ap, ℕ, ◌+◌, ◌%◌, ◌<◌, arith, sub_ℕ, w16, w32, SFits, to_z_pos, to_z-of_z, difference, sfits}
+use Rattle.std.specs.Prelude.{◌≡◌, ◌+◌, ◌%◌, ◌<◌}
+use Rattle.laws.proofs.Prelude.{ap, ℕ, arith, sub_ℕ, w16, w32, SFits, to_z_pos, to_z-of_z, difference, sfits}
 use Rattle.plate.specs.Rows.{cast_of}
 use Rattle.plate.proofs.cast.Goals as goal
 

@@ -1,5 +1,6 @@
 -- `find_not_negative` meets its contract. Assumes nothing.
-use Rattle.laws.proofs.Prelude.{◌≡◌, ap, sym, ◌∙◌, false, arith, add-one}
+use Rattle.std.specs.Prelude.{◌≡◌}
+use Rattle.laws.proofs.Prelude.{ap, sym, ◌∙◌, false, arith, add-one}
 use Rattle.segment_rows.specs.Search.{found, place_in, search_of, order_at}
 use Rattle.segment_rows.specs.declared.search.Key.TheVariants.{TileYNotNegative}
 use Rattle.segment_rows.proofs.Halving.{found_lt}

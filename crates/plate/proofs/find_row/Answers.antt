@@ -1,5 +1,6 @@
 -- `find_row` meets its contract: what is found has the tile y that is looked for, so the row above it has a number. Assumes nothing.
-use Rattle.laws.proofs.Prelude.{◌≡◌, ℕ, ℤ, ap, sym, ◌∙◌, arith, pos, ◌-ℤ◌, length-take, w16, SFits, to_z, of_z, to_z-of_z}
+use Rattle.std.specs.Prelude.{◌≡◌, ◌-ℤ◌}
+use Rattle.laws.proofs.Prelude.{ℕ, ℤ, ap, sym, ◌∙◌, arith, pos, length-take, w16, SFits, to_z, of_z, to_z-of_z}
 use Rattle.segment_rows.specs.Search.{found, place_in, search_of, order_at, after_of}
 use Rattle.segment_rows.specs.declared.search.Key.TheVariants.{TileY}
 use Rattle.segment_rows.proofs.Halving.{told_le, found_lt}

@@ -1,5 +1,6 @@
 -- `skip_negative` meets its contract. Assumes nothing.
-use Rattle.laws.proofs.Prelude.{ap, ◌∙◌, ℕ, ◌-◌, ◌≤◌, arith, length, drop, length-drop, take_all}
+use Rattle.std.specs.Prelude.{◌-◌, ◌≤◌}
+use Rattle.laws.proofs.Prelude.{ap, ◌∙◌, ℕ, arith, length, drop, length-drop, take_all}
 use Rattle.plate.specs.Rows.{not_negative}
 use Rattle.plate.proofs.Finding.{start_le}
 use Rattle.plate.proofs.skip_negative.Goals as goal

@@ -1,5 +1,6 @@
 -- `to_print` meets its contract. Assumes nothing.
-use Rattle.laws.proofs.Prelude.{◌≡◌, ap, sym, ◌∙◌}
+use Rattle.std.specs.Prelude.{◌≡◌}
+use Rattle.laws.proofs.Prelude.{ap, sym, ◌∙◌}
 use Rattle.plate.specs.Print.{RowPrinting, row, printing_in, print_row, part_in}
 use Rattle.plate.proofs.Finding.{printed_inside}
 use Rattle.plate.proofs.to_print.Goals as goal

@@ -1,5 +1,6 @@
 -- `queue::is_queue` meets its contract. What holds while the ids are passed is `Judging`. Assumes nothing.
-use Rattle.laws.proofs.Prelude.{◌-◌, arith, rules}
+use Rattle.std.specs.Prelude.{◌-◌}
+use Rattle.laws.proofs.Prelude.{arith, rules}
 use Rattle.queue_statements.proofs.Judging.{Judging, begin, next, end, many}
 use Rattle.queue.proofs.is_queue.Goals as goal
 

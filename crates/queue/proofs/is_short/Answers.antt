@@ -1,5 +1,6 @@
 -- `queue::is_short` meets its contract. Assumes nothing.
-use Rattle.laws.proofs.Prelude.{◌/◌, length}
+use Rattle.std.specs.Prelude.{◌/◌}
+use Rattle.laws.proofs.Prelude.{length}
 use Rattle.layer_table.proofs.Judging.{ltb_min}
 use Rattle.queue.proofs.is_short.Goals as goal
 

@@ -1,4 +1,5 @@
-use Rattle.laws.proofs.Prelude.{◌-◌, arith, pos, w8, kept}
+use Rattle.std.specs.Prelude.{◌-◌}
+use Rattle.laws.proofs.Prelude.{arith, pos, w8, kept}
 use Rattle.queue_statements.proofs.Copying.{Copying, copy_start, copy_next, copy_end}
 use Rattle.queue_opening.proofs.copy_covers.Given as goal
 

@@ -1,7 +1,8 @@
 -- `queue_records::read_columns` meets its contract: a walk of its MIR, by hand. Two arrays of this function's own are lent to `read_queue`, each for a lifetime that is made for the call (`proofs/LentArray.antt`), come back as it left them, and go by value to `columns_with`.
 -- What the queue owns is had twice, once for the call and once for the exit. All that the proof knows of the functions that it calls is that each meets its contract.
 -- Assumes nothing.
-use Rattle.laws.proofs.Prelude.{◌≡◌, refl, List, [], ◌∷◌, ℕ, ◌<◌, ◌^◌, min, T, lit<, ℤ, pos, length, take, replicate, named, w8, w32, w64, Val, vint}
+use Rattle.std.specs.Prelude.{◌≡◌, ◌∷◌, ◌<◌, ◌^◌}
+use Rattle.laws.proofs.Prelude.{refl, List, [], ℕ, min, T, lit<, ℤ, pos, length, take, replicate, named, w8, w32, w64, Val, vint}
 use Rattle.laws.proofs.Prelude.{over}
 use contract.Monad.{Fun, fact}
 use contract.Running.{tables, tables_of}

@@ -2,7 +2,8 @@
 -- A turn reads a carry by `record_at`, for which what the queue owns is had twice, and lends the two lists again to `put_record`, each for a lifetime that is made for the call (`proofs/Again.antt`).
 -- All that the proof knows of the functions that it calls is that each meets its contract.
 -- Assumes nothing.
-use Rattle.laws.proofs.Prelude.{◌≡◌, refl, sym, ◌∙◌, ap, Bool, true, false, List, [], ◌∷◌, ℕ, ◌+◌, ◌*◌, ◌-◌, ◌≤◌, ◌<◌, ◌^◌, arith, ltb-true}
+use Rattle.std.specs.Prelude.{◌≡◌, ◌∷◌, ◌+◌, ◌*◌, ◌-◌, ◌≤◌, ◌<◌, ◌^◌}
+use Rattle.laws.proofs.Prelude.{refl, sym, ◌∙◌, ap, Bool, true, false, List, [], ℕ, arith, ltb-true}
 use Rattle.laws.proofs.Prelude.{ltb-false, ltb, lit<, ℤ, length, get_or, set, length-map, named, w8, w32, w64, Val, vint}
 use mathlib.Core.WellFounded.InvImage
 use mathlib.Core.WellFounded.{WellFounded}

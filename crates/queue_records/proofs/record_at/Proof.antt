@@ -1,7 +1,8 @@
 -- `queue_records::record_at` meets its contract: a walk of its MIR, by hand. The place of `queue[i]` is twenty times i past the slice's pointer, and the whole record is read there.
 -- The slice is looked into, for some share of its elements, of which element i is taken out and put back. The code has no check of the bound: it is the contract's to ask.
 -- Assumes nothing.
-use Rattle.laws.proofs.Prelude.{refl, sym, List, [], ◌∷◌, ℕ, ◌<◌, ◌^◌, ◌*◌, arith, length, get_or, named, w64, Val, vint, vptr}
+use Rattle.std.specs.Prelude.{◌∷◌, ◌<◌, ◌^◌, ◌*◌}
+use Rattle.laws.proofs.Prelude.{refl, sym, List, [], ℕ, arith, length, get_or, named, w64, Val, vint, vptr}
 use contract.Monad.{Fun}
 use contract.Running.{tables, tables_of}
 use denote.RattleType.{owns}

@@ -1,5 +1,6 @@
 -- `drive_row` meets its contract: the opening and what it leaves are laws of `Opening`. Assumes nothing.
-use Rattle.laws.proofs.Prelude.{◌≡◌, rules, to_z-of_z}
+use Rattle.std.specs.Prelude.{◌≡◌}
+use Rattle.laws.proofs.Prelude.{rules, to_z-of_z}
 use Rattle.row_statements.specs.Lent.{lent_table}
 use Rattle.row_statements.specs.Opening.{OpenCall, open_call}
 use Rattle.row_lines.specs.Driven.{due_tiles}

@@ -1,5 +1,6 @@
 -- `drive_tiles` meets its contract: each turn is a tile of `Turning`, and the lines that are written go by `Driving`. Assumes nothing.
-use Rattle.laws.proofs.Prelude.{◌≡◌, refl, ap, ◌∙◌, none, ◌+◌, ◌*◌, ◌-◌, ◌≤◌, ◌<◌, add-one, arith, rules, pos, length, sets, w16, to_z_pos, small}
+use Rattle.std.specs.Prelude.{◌≡◌, ◌+◌, ◌*◌, ◌-◌, ◌≤◌, ◌<◌}
+use Rattle.laws.proofs.Prelude.{refl, ap, ◌∙◌, none, add-one, arith, rules, pos, length, sets, w16, to_z_pos, small}
 use Rattle.segment_rows.specs.Search.{left_part, tile_part}
 use Rattle.row_statements.specs.InnerHolding.{Holds}
 use Rattle.row_statements.specs.Lent.{Columns, ListColumns}

@@ -1,4 +1,5 @@
-use Rattle.laws.proofs.Prelude.{◌≡◌, refl, ap, ◌∙◌, none, ◌+◌, ◌*◌, ◌-◌, ◌≤◌, ◌<◌, add-one, arith, rules, pos, length, sets, w16, to_z_pos, small}
+use Rattle.std.specs.Prelude.{◌≡◌, ◌+◌, ◌*◌, ◌-◌, ◌≤◌, ◌<◌}
+use Rattle.laws.proofs.Prelude.{refl, ap, ◌∙◌, none, add-one, arith, rules, pos, length, sets, w16, to_z_pos, small}
 use Rattle.segment_rows.specs.Search.{left_part, tile_part}
 use Rattle.row_statements.specs.InnerHolding.{Holds}
 use Rattle.row_statements.specs.Lent.{Columns, ListColumns}

@@ -1,5 +1,6 @@
 -- `open_tile_row` meets its contract. Assumes nothing.
-use Rattle.laws.proofs.Prelude.{◌≡◌, sym, ap, ◌∙◌, arith, rules, w16, SFits, to_z-of_z, sfits, whole}
+use Rattle.std.specs.Prelude.{◌≡◌}
+use Rattle.laws.proofs.Prelude.{sym, ap, ◌∙◌, arith, rules, w16, SFits, to_z-of_z, sfits, whole}
 use Rattle.refusals.specs.Refusal.{judgement_in, pass}
 use Rattle.queue_statements.proofs.Judging.{room}
 use Rattle.row_statements.specs.Lent.{Columns, columns, lent_table}

@@ -1,5 +1,6 @@
 -- `judge_painting` meets its contract. Assumes nothing.
-use Rattle.laws.proofs.Prelude.{◌≡◌, sym, ap, ◌∙◌, arith, rules, w16, SFits, to_z-of_z, sfits, whole}
+use Rattle.std.specs.Prelude.{◌≡◌}
+use Rattle.laws.proofs.Prelude.{sym, ap, ◌∙◌, arith, rules, w16, SFits, to_z-of_z, sfits, whole}
 use Rattle.refusals.specs.Refusal.{Judgement, pass, judgement_in, and_then}
 use Rattle.layer_table.proofs.Judging as judged
 use Rattle.queue_statements.proofs.Judging.{queued}

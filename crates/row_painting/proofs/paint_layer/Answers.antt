@@ -1,5 +1,6 @@
 -- `paint_layer` meets its contract. Assumes nothing.
-use Rattle.laws.proofs.Prelude.{◌≡◌, refl, sym, ap, ◌∙◌, arith, rules, w16, SFits, to_z-of_z, sfits, whole}
+use Rattle.std.specs.Prelude.{◌≡◌}
+use Rattle.laws.proofs.Prelude.{refl, sym, ap, ◌∙◌, arith, rules, w16, SFits, to_z-of_z, sfits, whole}
 use Rattle.refusals.specs.Refusal.{pass, judgement_in}
 use Rattle.refusals.proofs.Judging.{both_passed}
 use Rattle.layer_table.proofs.Judging as judged

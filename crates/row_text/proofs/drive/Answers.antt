@@ -1,5 +1,6 @@
 -- `drive` meets its contract: what the driver told, with room for every row. Assumes nothing.
-use Rattle.laws.proofs.Prelude.{◌≡◌, sym, arith, rules, replicate, w32, plus, kept}
+use Rattle.std.specs.Prelude.{◌≡◌}
+use Rattle.laws.proofs.Prelude.{sym, arith, rules, replicate, w32, plus, kept}
 use Rattle.laws.proofs.Machine as machine
 use Rattle.row_lines.specs.Driven.{Drives}
 use Rattle.row_answer.specs.Answer.{head_driving}

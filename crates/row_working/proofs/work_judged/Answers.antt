@@ -1,5 +1,6 @@
 -- `work_judged` meets its contract. Assumes nothing.
-use Rattle.laws.proofs.Prelude.{◌≡◌, arith, rules, w16, SFits, to_z-of_z, sfits, whole}
+use Rattle.std.specs.Prelude.{◌≡◌}
+use Rattle.laws.proofs.Prelude.{arith, rules, w16, SFits, to_z-of_z, sfits, whole}
 use Rattle.segment_rows.specs.Search.{tile_part}
 use Rattle.row_working.proofs.PartLaws.{part_judged}
 use Rattle.row_working.proofs.work_judged.Goals as goal

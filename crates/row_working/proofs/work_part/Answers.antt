@@ -1,5 +1,6 @@
 -- `work_part` meets its contract. Assumes nothing.
-use Rattle.laws.proofs.Prelude.{◌≡◌, refl, sym, ap, ◌∙◌, List, ℕ, arith, rules, ℤ}
+use Rattle.std.specs.Prelude.{◌≡◌}
+use Rattle.laws.proofs.Prelude.{refl, sym, ap, ◌∙◌, List, ℕ, arith, rules, ℤ}
 use Rattle.refusals.specs.Refusal.{judgement_in}
 use Rattle.row_statements.specs.Lent.{columns, list_columns, lent_table}
 use Rattle.row_statements.specs.State.{state_in}

@@ -1,5 +1,6 @@
 -- `work_tile` meets its contract. Assumes nothing.
-use Rattle.laws.proofs.Prelude.{◌≡◌, refl, sym, ap, ◌∙◌, rules, to_z-of_z}
+use Rattle.std.specs.Prelude.{◌≡◌}
+use Rattle.laws.proofs.Prelude.{refl, sym, ap, ◌∙◌, rules, to_z-of_z}
 use Rattle.refusals.specs.Refusal.{Judgement, pass, judgement_in, and_then}
 use Rattle.row_statements.specs.Lent.{columns, list_columns, lent_table}
 use Rattle.row_statements.specs.State.{state_in}

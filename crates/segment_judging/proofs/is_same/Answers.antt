@@ -1,5 +1,6 @@
 -- `is_same` meets its contract. Assumes nothing.
-use Rattle.laws.proofs.Prelude.{◌≡◌, refl, Bool, true, false, cond, not, ◌||◌, lt_z, to_z-of_z}
+use Rattle.std.specs.Prelude.{◌≡◌, ◌||◌}
+use Rattle.laws.proofs.Prelude.{refl, Bool, true, false, cond, not, lt_z, to_z-of_z}
 use Rattle.pixel_segment.specs.Order.{is_eq}
 use Rattle.segment_judging.proofs.is_same.Goals as goal
 

@@ -1,5 +1,6 @@
 -- `paint_shown` meets its contract: the invariant and its steps are those of `Painting`. Assumes nothing.
-use Rattle.laws.proofs.Prelude.{◌≡◌, refl, ◌∙◌, ◌-◌, arith, rules, length}
+use Rattle.std.specs.Prelude.{◌≡◌, ◌-◌}
+use Rattle.laws.proofs.Prelude.{refl, ◌∙◌, arith, rules, length}
 use Rattle.layer_table.specs.Table.{table_of}
 use Rattle.shown_layers.proofs.Painting.{Shown, shown_start, shown_next, shown_end}
 use Rattle.shown_layers.proofs.paint_shown.Goals as goal

@@ -1,4 +1,5 @@
-use Rattle.laws.proofs.Prelude.{◌≡◌, refl, ◌∙◌, ◌-◌, arith, rules, length}
+use Rattle.std.specs.Prelude.{◌≡◌, ◌-◌}
+use Rattle.laws.proofs.Prelude.{refl, ◌∙◌, arith, rules, length}
 use Rattle.layer_table.specs.Table.{table_of}
 use Rattle.shown_layers.proofs.Painting.{Shown, shown_start, shown_next, shown_end}
 use Rattle.shown_layers.proofs.paint_shown.Given as goal

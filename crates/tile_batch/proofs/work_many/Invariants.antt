@@ -1,4 +1,5 @@
-use Rattle.laws.proofs.Prelude.{◌≡◌, refl, ap, ap₂, sym, subst, ◌∙◌, false, ℕ, ◌+◌, ◌-◌, ◌≤◌, arith, rules, pos, length, w16, to_z_pos, small}
+use Rattle.std.specs.Prelude.{◌≡◌, ◌+◌, ◌-◌, ◌≤◌}
+use Rattle.laws.proofs.Prelude.{refl, ap, ap₂, sym, subst, ◌∙◌, false, ℕ, arith, rules, pos, length, w16, to_z_pos, small}
 use Rattle.refusals.specs.Refusal.{Judgement, pass, judgement_in}
 use Rattle.segment_rows.specs.Search.{left_part, tile_part}
 use Rattle.row_statements.specs.State.{State}

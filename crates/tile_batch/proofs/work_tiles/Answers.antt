@@ -1,5 +1,6 @@
 -- `work_tiles` meets its contract. Assumes nothing.
-use Rattle.laws.proofs.Prelude.{◌≡◌, ap, sym, ◌∙◌, rules, to_z-of_z}
+use Rattle.std.specs.Prelude.{◌≡◌}
+use Rattle.laws.proofs.Prelude.{ap, sym, ◌∙◌, rules, to_z-of_z}
 use Rattle.refusals.specs.Refusal.{pass, judgement_in}
 use Rattle.row_statements.specs.Lent.{columns, lent_table}
 use Rattle.batch_statements.specs.BatchLent.{BatchLent, batch_lent}

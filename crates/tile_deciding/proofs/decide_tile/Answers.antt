@@ -1,5 +1,6 @@
 -- `decide_tile` meets its contract. Assumes nothing.
-use Rattle.laws.proofs.Prelude.{◌≡◌, sym, ap, ◌∙◌, Bool, List, rules}
+use Rattle.std.specs.Prelude.{◌≡◌}
+use Rattle.laws.proofs.Prelude.{sym, ap, ◌∙◌, Bool, List, rules}
 use Rattle.refusals.specs.Refusal.{pass, judgement_in}
 use Rattle.row_statements.specs.Lent.{lent_table}
 use Rattle.listing_statements.specs.Listing.{tile_list}

@@ -1,5 +1,6 @@
 -- `list_judged` meets its contract. Assumes nothing.
-use Rattle.laws.proofs.Prelude.{◌≡◌, refl, sym, ap, ◌∙◌, arith, rules, w16, SFits, to_z-of_z, sfits, whole}
+use Rattle.std.specs.Prelude.{◌≡◌}
+use Rattle.laws.proofs.Prelude.{refl, sym, ap, ◌∙◌, arith, rules, w16, SFits, to_z-of_z, sfits, whole}
 use Rattle.segment_rows.specs.Search.{tile_part}
 use Rattle.refusals.specs.Refusal.{judgement_in}
 use Rattle.row_statements.specs.Lent.{columns, lent_table, layers_of}

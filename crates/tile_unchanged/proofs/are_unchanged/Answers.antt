@@ -1,5 +1,6 @@
 -- `tile_unchanged::are_unchanged` meets its contract. Assumes nothing.
-use Rattle.laws.proofs.Prelude.{ap, Bool, ◌-◌, arith}
+use Rattle.std.specs.Prelude.{◌-◌}
+use Rattle.laws.proofs.Prelude.{ap, Bool, arith}
 use Rattle.layer_table.specs.Table.{table_of}
 use Rattle.cover_statements.proofs.Testing.{Testing, test_start, test_next, test_end}
 use Rattle.pass_statements.specs.declared.item.Item.{Item}

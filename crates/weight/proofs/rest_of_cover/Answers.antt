@@ -1,6 +1,7 @@
 -- `weight::rest_of_cover` meets its contract. With 128, a multiple of 32, no cover is negative, and its remainder is the machine's.
 -- Assumes nothing.
-use Rattle.laws.proofs.Prelude.{ap, ℕ, ◌%◌, arith, lit<, pos, ◌+ℤ◌, to_z-of_z, sfits_widen, w8, w16, SFits, Within, sfits, within, unsigned, lifted}
+use Rattle.std.specs.Prelude.{◌%◌, ◌+ℤ◌}
+use Rattle.laws.proofs.Prelude.{ap, ℕ, arith, lit<, pos, to_z-of_z, sfits_widen, w8, w16, SFits, Within, sfits, within, unsigned, lifted}
 use Rattle.laws.proofs.Prelude.{Sum, added}
 use Rattle.weight.proofs.rest_of_cover.Goals as goal
 use Rattle.weight.proofs.rest_of_cover.Goals.{Start}

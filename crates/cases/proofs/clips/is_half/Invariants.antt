@@ -1,4 +1,5 @@
-use Rattle.laws.proofs.Prelude.{refl, ◌-◌, arith, nan, length}
+use Rattle.std.specs.Prelude.{◌-◌}
+use Rattle.laws.proofs.Prelude.{refl, arith, nan, length}
 use Rattle.cover_statements.proofs.Testing.{Testing, test_start, test_next, test_end}
 use Rattle.cases.specs.Answers.{is_a_half}
 use Rattle.cases.proofs.clips.is_half.Given as goal

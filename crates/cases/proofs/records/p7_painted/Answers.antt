@@ -1,5 +1,6 @@
 -- P7's draw by its painting, from the contracts: the call is that of specs/RecordCalls. Assumes nothing.
-use Rattle.laws.proofs.Prelude.{ap₂, ◌∙◌, ◌&&◌, rules}
+use Rattle.std.specs.Prelude.{◌&&◌}
+use Rattle.laws.proofs.Prelude.{ap₂, ◌∙◌, rules}
 use Rattle.cases.proofs.RecordCalls.{p7_mark, p7_half}
 use Rattle.cases.proofs.records.p7_painted.Goals as goal
 

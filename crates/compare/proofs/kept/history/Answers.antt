@@ -1,5 +1,6 @@
 -- `kept::history` is safe and ends. Assumes nothing.
-use Rattle.laws.proofs.Prelude.{◌≡◌, refl, ◌∙◌, ◌-◌, arith, rules, length}
+use Rattle.std.specs.Prelude.{◌≡◌, ◌-◌}
+use Rattle.laws.proofs.Prelude.{refl, ◌∙◌, arith, rules, length}
 use Rattle.compare.proofs.kept.history.Goals as goal
 
 pub loop-i-init : goal.loop-i-init

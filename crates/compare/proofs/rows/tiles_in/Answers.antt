@@ -1,5 +1,6 @@
 -- `rows::tiles_in` is safe and ends. Assumes nothing.
-use Rattle.laws.proofs.Prelude.{◌≡◌, refl, ◌∙◌, ◌-◌, arith, rules, length}
+use Rattle.std.specs.Prelude.{◌≡◌, ◌-◌}
+use Rattle.laws.proofs.Prelude.{refl, ◌∙◌, arith, rules, length}
 use Rattle.compare.proofs.rows.tiles_in.Goals as goal
 
 pub loop-i-init : goal.loop-i-init

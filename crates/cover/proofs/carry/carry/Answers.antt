@@ -1,5 +1,6 @@
 -- `cover::carry::carry` meets its contract. Assumes nothing.
-use Rattle.laws.proofs.Prelude.{◌≡◌, sym, ap, ◌∙◌, rules, not-true, not-false, length}
+use Rattle.std.specs.Prelude.{◌≡◌}
+use Rattle.laws.proofs.Prelude.{sym, ap, ◌∙◌, rules, not-true, not-false, length}
 use Rattle.pixel_segment.specs.Field.{cpu}
 use Rattle.cover_statements.specs.InnerLoad.{all_light}
 use Rattle.cover_statements.proofs.Loads.{incoming_heavy}

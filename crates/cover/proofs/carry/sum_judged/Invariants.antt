@@ -1,4 +1,5 @@
-use Rattle.laws.proofs.Prelude.{◌≡◌, ap, ◌∙◌, sym, List, ℕ, ◌+◌, ◌-◌, arith, rules, pos, length, get_or, to_z-of_z, w8, small, kept}
+use Rattle.std.specs.Prelude.{◌≡◌, ◌+◌, ◌-◌}
+use Rattle.laws.proofs.Prelude.{ap, ◌∙◌, sym, List, ℕ, arith, rules, pos, length, get_or, to_z-of_z, w8, small, kept}
 use Rattle.pixel_segment.specs.Field.{cpu}
 use Rattle.cover_statements.specs.Carry.{abs_cover, is_light}
 use Rattle.cover_statements.specs.InnerLoad.{loads_of, all_light}

@@ -1,5 +1,6 @@
 -- `cover::entry::read_cover` meets its contract. Assumes nothing.
-use Rattle.laws.proofs.Prelude.{refl, ◌+◌, ◌*◌, ◌-◌, arith, pos, get_or, w8, kept}
+use Rattle.std.specs.Prelude.{◌+◌, ◌*◌, ◌-◌}
+use Rattle.laws.proofs.Prelude.{refl, arith, pos, get_or, w8, kept}
 use Rattle.cover_statements.proofs.Entries.{Reading, read_start, read_next, read_end}
 use Rattle.cover.proofs.entry.read_cover.Goals as goal
 

@@ -1,4 +1,5 @@
-use Rattle.laws.proofs.Prelude.{◌≡◌, refl, sym, ap, ◌∙◌, Bool, true, false, cond, ◌&&◌, ℕ, ◌+◌, ◌-◌, ◌≤◌, arith, rules, sfits_of, ne_eqb, eqb, pos}
+use Rattle.std.specs.Prelude.{◌≡◌, ◌&&◌, ◌+◌, ◌-◌, ◌≤◌}
+use Rattle.laws.proofs.Prelude.{refl, sym, ap, ◌∙◌, Bool, true, false, cond, ℕ, arith, rules, sfits_of, ne_eqb, eqb, pos}
 use Rattle.laws.proofs.Prelude.{length, to_z-of_z, w8}
 use Rattle.cover_statements.specs.Cover.{empty_at, is_empty}
 use Rattle.cover_statements.proofs.Areas.{and-false}

@@ -1,4 +1,5 @@
-use Rattle.laws.proofs.Prelude.{◌≡◌, refl, sym, ◌∙◌, Bool, true, false, ◌&&◌, ℕ, ◌+◌, ◌-◌, ◌≤◌, add-one, arith, rules, ne_eqb, leb, eqb, length, get_or}
+use Rattle.std.specs.Prelude.{◌≡◌, ◌&&◌, ◌+◌, ◌-◌, ◌≤◌}
+use Rattle.laws.proofs.Prelude.{refl, sym, ◌∙◌, Bool, true, false, ℕ, add-one, arith, rules, ne_eqb, leb, eqb, length, get_or}
 use Rattle.laws.proofs.Prelude.{bool_byte}
 use Prim.Native.Nat.compare
 use Rattle.cover_statements.specs.InnerLoad.{all_light}

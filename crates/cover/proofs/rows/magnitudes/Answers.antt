@@ -1,5 +1,6 @@
 -- `cover::rows::magnitudes` meets its contract. Assumes nothing.
-use Rattle.laws.proofs.Prelude.{refl, sym, ap, ◌∙◌, ◌-◌, arith, rules, sfits_of, length, length-replicate, to_z-of_z, w8}
+use Rattle.std.specs.Prelude.{◌-◌}
+use Rattle.laws.proofs.Prelude.{refl, sym, ap, ◌∙◌, arith, rules, sfits_of, length, length-replicate, to_z-of_z, w8}
 use Rattle.cover_statements.proofs.Loads.{Measuring, measure_start, measure_next, measure_end}
 use Rattle.cover.proofs.rows.magnitudes.Goals as goal
 

@@ -1,4 +1,5 @@
-use Rattle.laws.proofs.Prelude.{◌≡◌, sym, ◌∙◌, ◌-◌, ◌≤◌, ◌<◌, arith, pos, length, get_or, to_z-of_z, w8, w16, small, kept}
+use Rattle.std.specs.Prelude.{◌≡◌, ◌-◌, ◌≤◌, ◌<◌}
+use Rattle.laws.proofs.Prelude.{sym, ◌∙◌, arith, pos, length, get_or, to_z-of_z, w8, w16, small, kept}
 use Rattle.pixel_segment.specs.Field.{cpu, cover_of, double_area_of}
 use Rattle.pixel_segment.proofs.Ranges.{cpu_layout}
 use Rattle.cover_statements.specs.InnerCell.{cell_of}

@@ -1,5 +1,6 @@
 -- `interval::distance` meets its contract. Assumes nothing.
-use Rattle.laws.proofs.Prelude.{◌≡◌, ◌≤◌, arith, ◌-ℤ◌, to_z-of_z, sfits_widen, w16, w32, SFits, plus, minus, sfits, within, unsigned, whole, taken}
+use Rattle.std.specs.Prelude.{◌≡◌, ◌≤◌, ◌-ℤ◌}
+use Rattle.laws.proofs.Prelude.{arith, to_z-of_z, sfits_widen, w16, w32, SFits, plus, minus, sfits, within, unsigned, whole, taken}
 use Rattle.laws.proofs.Prelude.{le_true}
 use Rattle.cover_bounds.proofs.interval.distance.Goals as goal
 use Rattle.cover_bounds.proofs.interval.distance.Goals.{Start}

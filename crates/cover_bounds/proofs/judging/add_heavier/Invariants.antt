@@ -1,4 +1,5 @@
-use Rattle.laws.proofs.Prelude.{◌≡◌, sym, ◌∙◌, ℕ, ◌-◌, ◌<◌, arith, rules, ℤ, length, w8, kept}
+use Rattle.std.specs.Prelude.{◌≡◌, ◌-◌, ◌<◌}
+use Rattle.laws.proofs.Prelude.{sym, ◌∙◌, ℕ, arith, rules, ℤ, length, w8, kept}
 use Rattle.pixel_segment.specs.Field.{cpu}
 use Rattle.pixel_segment.proofs.Ranges.{cpu_layout}
 use Rattle.cover_statements.proofs.Loads.{Loading, load_start, load_next, load_end}

@@ -1,4 +1,5 @@
-use Rattle.laws.proofs.Prelude.{◌-◌, arith, w8, kept}
+use Rattle.std.specs.Prelude.{◌-◌}
+use Rattle.laws.proofs.Prelude.{arith, w8, kept}
 use Rattle.cover_bounds_statements.specs.Within.{bound_at, is_bounded}
 use Rattle.cover_bounds_statements.proofs.Loops.{Passing, pass_start, pass_next, pass_end}
 use Rattle.cover_bounds.proofs.judging.are_bounded.Given as goal

@@ -1,5 +1,6 @@
 -- `judging::judge_bounds` meets its contract. Assumes nothing.
-use Rattle.laws.proofs.Prelude.{◌≡◌, sym, ◌∙◌, rules, not-false, to_z-of_z, all, left}
+use Rattle.std.specs.Prelude.{◌≡◌}
+use Rattle.laws.proofs.Prelude.{sym, ◌∙◌, rules, not-false, to_z-of_z, all, left}
 use Rattle.segment_set_statements.specs.Set.{is_of}
 use Rattle.cover_bounds_statements.specs.Within.{bounds_call, bound_planes, lacks_room, bounds_verdict}
 use Rattle.cover_bounds_statements.proofs.Calls.{pairs_there}

@@ -1,5 +1,6 @@
 -- `planes::write_areas` meets its contract. Assumes nothing.
-use Rattle.laws.proofs.Prelude.{ap, ◌∙◌, ◌-◌, arith, w16, kept}
+use Rattle.std.specs.Prelude.{◌-◌}
+use Rattle.laws.proofs.Prelude.{ap, ◌∙◌, arith, w16, kept}
 use Rattle.cover_statements.specs.Cover.{cover_at}
 use Rattle.cover_statements.specs.Plane.{column_of, row_of, in_places}
 use Rattle.cover_bounds_statements.specs.InnerPlanes.{area_in}

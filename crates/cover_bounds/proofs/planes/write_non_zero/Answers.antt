@@ -1,5 +1,6 @@
 -- `planes::write_non_zero` meets its contract. Assumes nothing.
-use Rattle.laws.proofs.Prelude.{ap, ◌∙◌, ℕ, ◌-◌, arith, w16, kept}
+use Rattle.std.specs.Prelude.{◌-◌}
+use Rattle.laws.proofs.Prelude.{ap, ◌∙◌, ℕ, arith, w16, kept}
 use Rattle.styling.specs.declared.FillRule.TheVariants.{NonZero}
 use Rattle.cover_statements.specs.Cover.{cover_at}
 use Rattle.cover_statements.specs.Plane.{column_of, row_of, in_places}

@@ -1,4 +1,5 @@
-use Rattle.laws.proofs.Prelude.{ap, ◌∙◌, ℕ, ◌-◌, arith, w16, kept}
+use Rattle.std.specs.Prelude.{◌-◌}
+use Rattle.laws.proofs.Prelude.{ap, ◌∙◌, ℕ, arith, w16, kept}
 use Rattle.styling.specs.declared.FillRule.TheVariants.{NonZero}
 use Rattle.cover_statements.specs.Cover.{cover_at}
 use Rattle.cover_statements.specs.Plane.{column_of, row_of, in_places}

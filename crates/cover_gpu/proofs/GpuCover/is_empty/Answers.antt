@@ -1,5 +1,6 @@
 -- `cover_gpu::GpuCover::is_empty` meets its contract. Assumes nothing.
-use Rattle.laws.proofs.Prelude.{◌≡◌, arith, rules, length}
+use Rattle.std.specs.Prelude.{◌≡◌}
+use Rattle.laws.proofs.Prelude.{arith, rules, length}
 use Rattle.cover_gpu.proofs.GpuCover.is_empty.Goals as goal
 
 pub are_empty-requires : goal.are_empty-requires

@@ -1,4 +1,5 @@
-use Rattle.laws.proofs.Prelude.{◌≡◌, refl, sym, ◌∙◌, List, ℕ, ◌+◌, ◌-◌, ◌*◌, ◌≤◌, ◌<◌, arith, ℤ, pos, ◌+ℤ◌, ◌*ℤ◌, to_z-of_z, w8, w16, SFits, to_z, of_z}
+use Rattle.std.specs.Prelude.{◌≡◌, ◌+◌, ◌-◌, ◌*◌, ◌≤◌, ◌<◌, ◌+ℤ◌, ◌*ℤ◌}
+use Rattle.laws.proofs.Prelude.{refl, sym, ◌∙◌, List, ℕ, arith, ℤ, pos, to_z-of_z, w8, w16, SFits, to_z, of_z}
 use Rattle.laws.proofs.Prelude.{sfits, small, kept, times, whole}
 use Rattle.pixel_segment.specs.Field.{gpu, local_y_of}
 use Rattle.cover_statements.specs.Area.{cover_before}

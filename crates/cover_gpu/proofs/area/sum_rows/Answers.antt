@@ -1,5 +1,6 @@
 -- `area::sum_rows` meets its contract. Assumes nothing.
-use Rattle.laws.proofs.Prelude.{◌≡◌, sym, List, ℕ, ◌-◌, ◌≤◌, arith, w8, kept}
+use Rattle.std.specs.Prelude.{◌≡◌, ◌-◌, ◌≤◌}
+use Rattle.laws.proofs.Prelude.{sym, List, ℕ, arith, w8, kept}
 use Rattle.pixel_segment.specs.Field.{gpu}
 use Rattle.cover_statements.specs.Cover.{cover_at}
 use Rattle.cover_statements.specs.InnerCell.{Accumulated}

@@ -1,4 +1,5 @@
-use Rattle.laws.proofs.Prelude.{◌-◌, arith, rules, length, w8, kept}
+use Rattle.std.specs.Prelude.{◌-◌}
+use Rattle.laws.proofs.Prelude.{arith, rules, length, w8, kept}
 use Rattle.pixel_segment.specs.Field.{gpu}
 use Rattle.cover_statements.proofs.Loads.{Loading, load_start, load_next, load_end}
 use Rattle.cover_gpu.proofs.carry.add_loads.Given as goal

@@ -1,4 +1,5 @@
-use Rattle.laws.proofs.Prelude.{◌-◌, arith, rules, pos, length, get_or, to_z-of_z, w8, small, kept}
+use Rattle.std.specs.Prelude.{◌-◌}
+use Rattle.laws.proofs.Prelude.{arith, rules, pos, length, get_or, to_z-of_z, w8, small, kept}
 use Rattle.pixel_segment.specs.Field.{gpu, local_y_of, cover_of}
 use Rattle.cover_statements.specs.Carry.{carry_of}
 use Rattle.cover_statements.proofs.Carries.{light}

@@ -1,5 +1,6 @@
 -- `cover_gpu::carry::magnitudes` meets its contract. Assumes nothing.
-use Rattle.laws.proofs.Prelude.{◌≡◌, refl, sym, rules, length}
+use Rattle.std.specs.Prelude.{◌≡◌}
+use Rattle.laws.proofs.Prelude.{refl, sym, rules, length}
 use Rattle.cover_gpu.proofs.carry.magnitudes.Goals as goal
 
 pub magnitudes-requires : goal.magnitudes-requires

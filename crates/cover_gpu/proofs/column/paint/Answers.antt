@@ -1,5 +1,6 @@
 -- `cover_gpu::column::paint` meets its contract. Assumes nothing.
-use Rattle.laws.proofs.Prelude.{◌≡◌, refl, sym, ap, ◌∙◌, ℕ, arith, rules, length, length-map, over}
+use Rattle.std.specs.Prelude.{◌≡◌}
+use Rattle.laws.proofs.Prelude.{refl, sym, ap, ◌∙◌, ℕ, arith, rules, length, length-map, over}
 use Rattle.pixel_segment.specs.Field.{gpu}
 use Rattle.cover_statements.specs.InnerWeighed.{Weighed, coverage_in, coverages_in, repeated}
 use Rattle.cover_statements.proofs.Filled.{over_whole}

@@ -1,5 +1,6 @@
 -- `painting::paint_judged` meets its contract. Assumes nothing.
-use Rattle.laws.proofs.Prelude.{◌≡◌, refl, sym, ap, ◌∙◌, true, List, [], ◌∷◌, ℕ, arith, not-true, not-false, rules, Float, nan, length, length-map}
+use Rattle.std.specs.Prelude.{◌≡◌, ◌∷◌}
+use Rattle.laws.proofs.Prelude.{refl, sym, ap, ◌∙◌, true, List, [], ℕ, arith, not-true, not-false, rules, Float, nan, length, length-map}
 use Rattle.laws.proofs.Prelude.{over}
 use Rattle.pixel_segment.specs.Field.{gpu}
 use Rattle.cover_statements.specs.Area.{areas_of}

@@ -1,5 +1,6 @@
 -- `bounds::ffi_bound_part` meets its contract. It tells what `bound_part` answers. Assumes nothing.
-use Rattle.laws.proofs.Prelude.{◌≡◌, ap, ◌∙◌, rules, to_z-of_z}
+use Rattle.std.specs.Prelude.{◌≡◌}
+use Rattle.laws.proofs.Prelude.{ap, ◌∙◌, rules, to_z-of_z}
 use Rattle.ffi.specs.Bounds.{bounds_number}
 use Rattle.ffi.proofs.bounds.ffi_bound_part.Goals as goal
 

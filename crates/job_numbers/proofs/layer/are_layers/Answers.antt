@@ -1,5 +1,6 @@
 -- `are_layers` meets its contract: the invariant and its steps are those of `Judging`. Assumes nothing.
-use Rattle.laws.proofs.Prelude.{ap, ◌∙◌, ◌-◌, arith, rules}
+use Rattle.std.specs.Prelude.{◌-◌}
+use Rattle.laws.proofs.Prelude.{ap, ◌∙◌, arith, rules}
 use Rattle.job_lines.specs.Rules.{layer_rule}
 use Rattle.job_text_statements.specs.Numbers.{layer_line_at}
 use Rattle.job_numbers.proofs.Judging.{Judging, start, next, end}

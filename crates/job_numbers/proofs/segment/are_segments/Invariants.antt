@@ -1,4 +1,5 @@
-use Rattle.laws.proofs.Prelude.{ap, ◌∙◌, ◌-◌, arith, rules}
+use Rattle.std.specs.Prelude.{◌-◌}
+use Rattle.laws.proofs.Prelude.{ap, ◌∙◌, arith, rules}
 use Rattle.job_lines.specs.Rules.{segment_rule}
 use Rattle.job_text_statements.specs.Numbers.{segment_at}
 use Rattle.job_numbers.proofs.Judging.{Judging, start, next, end}

@@ -1,4 +1,5 @@
-use Rattle.laws.proofs.Prelude.{sym, ap, ◌∙◌, ◌-◌, ◌≤◌, arith, eqb}
+use Rattle.std.specs.Prelude.{◌-◌, ◌≤◌}
+use Rattle.laws.proofs.Prelude.{sym, ap, ◌∙◌, arith, eqb}
 use Rattle.kept_count.specs.Keeping.{member_at, members_of}
 use Rattle.kept_count.proofs.Walks.{Walking, start, next, end}
 use Rattle.kept_count.proofs.Members.{members_long, members_next, members_ascend}

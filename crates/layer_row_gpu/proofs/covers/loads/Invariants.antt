@@ -1,4 +1,5 @@
-use Rattle.laws.proofs.Prelude.{◌∙◌, ℕ, ◌-◌, arith, rules, nat_abs, length, replicate, length-replicate, w8, kept}
+use Rattle.std.specs.Prelude.{◌-◌}
+use Rattle.laws.proofs.Prelude.{◌∙◌, ℕ, arith, rules, nat_abs, length, replicate, length-replicate, w8, kept}
 use Rattle.pixel_segment.specs.Field.{gpu, local_y_of}
 use Rattle.cover_statements.proofs.Loads.{LoadingBy, load_start, load_next, load_end_by}
 use Rattle.cover_statements.proofs.Filled.{get_d_default}

@@ -1,5 +1,6 @@
 -- `covers::sum` meets its contract. Assumes nothing.
-use Rattle.laws.proofs.Prelude.{◌∙◌, ◌-◌, arith, rules, pos, length, get_or, replicate, length-replicate, to_z-of_z, w8, small, kept}
+use Rattle.std.specs.Prelude.{◌-◌}
+use Rattle.laws.proofs.Prelude.{◌∙◌, arith, rules, pos, length, get_or, replicate, length-replicate, to_z-of_z, w8, small, kept}
 use Rattle.pixel_segment.specs.Field.{gpu, local_y_of}
 use Rattle.cover_statements.proofs.Tables.{Filling, fill_start, fill_next, fill_fits, fill_end}
 use Rattle.layer_row_gpu.specs.InnerCovers.{cover_within}

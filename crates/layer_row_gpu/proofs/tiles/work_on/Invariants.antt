@@ -1,4 +1,5 @@
-use Rattle.laws.proofs.Prelude.{◌≡◌, refl, sym, ap, ◌∙◌, ℕ, ◌-◌, ◌/◌, arith, rules, leb, length}
+use Rattle.std.specs.Prelude.{◌≡◌, ◌-◌, ◌/◌}
+use Rattle.laws.proofs.Prelude.{refl, sym, ap, ◌∙◌, ℕ, arith, rules, leb, length}
 use Rattle.layer_row_gpu.specs.LayerState.{layer_state_in}
 use Rattle.layer_row_gpu.specs.InnerTiles.{next_in, next_judged}
 use Rattle.layer_row_gpu.proofs.Going.{Going, start, all_worked, stops, tile_ready, next, told_so}

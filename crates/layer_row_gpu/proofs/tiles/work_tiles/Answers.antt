@@ -1,5 +1,6 @@
 -- `tiles::work_tiles` meets its contract. Assumes nothing.
-use Rattle.laws.proofs.Prelude.{◌≡◌, refl, sym, ap, ◌∙◌, rules, to_z-of_z}
+use Rattle.std.specs.Prelude.{◌≡◌}
+use Rattle.laws.proofs.Prelude.{refl, sym, ap, ◌∙◌, rules, to_z-of_z}
 use Rattle.refusals.specs.Refusal.{judgement_in, pass}
 use Rattle.layer_row_gpu.specs.LayerState.{layer_state_in}
 use Rattle.layer_row_gpu.specs.WorkLayer.{work_layer_verdict}

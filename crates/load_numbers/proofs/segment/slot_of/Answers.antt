@@ -1,5 +1,6 @@
 -- `slot_of` meets its contract: the product fits its width. Assumes nothing.
-use Rattle.laws.proofs.Prelude.{◌*◌, mul-le-mul, arith, rules}
+use Rattle.std.specs.Prelude.{◌*◌}
+use Rattle.laws.proofs.Prelude.{mul-le-mul, arith, rules}
 use Rattle.load_statements.specs.Load.{slot_of}
 use Rattle.load_numbers.proofs.segment.slot_of.Goals as goal
 

@@ -1,4 +1,5 @@
-use Rattle.laws.proofs.Prelude.{◌∙◌, ◌-◌, arith, rules}
+use Rattle.std.specs.Prelude.{◌-◌}
+use Rattle.laws.proofs.Prelude.{◌∙◌, arith, rules}
 use Rattle.lines.proofs.LinesPrinting.{LinesPrinting, start, line_room, next}
 use Rattle.job_text_statements.specs.Job.{layer_values}
 use Rattle.load_statements.specs.Load.{load_layer}

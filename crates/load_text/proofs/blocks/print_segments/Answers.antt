@@ -1,7 +1,8 @@
 -- `print_segments` meets its contract. The invariant is `Making`: the lines so far, and the generator after their draws; the measure is the
 -- lines left.
 -- Assumes nothing.
-use Rattle.laws.proofs.Prelude.{◌∙◌, ◌-◌, arith, rules}
+use Rattle.std.specs.Prelude.{◌-◌}
+use Rattle.laws.proofs.Prelude.{◌∙◌, arith, rules}
 use Rattle.lines.proofs.LinesPrinting.{line_room}
 use Rattle.load_statements.specs.Load.{asked}
 use Rattle.load_statements.proofs.Fields.{slot_small}

@@ -1,4 +1,5 @@
-use Rattle.laws.proofs.Prelude.{◌∙◌, ◌-◌, arith, rules}
+use Rattle.std.specs.Prelude.{◌-◌}
+use Rattle.laws.proofs.Prelude.{◌∙◌, arith, rules}
 use Rattle.lines.proofs.LinesPrinting.{line_room}
 use Rattle.load_statements.specs.Load.{asked}
 use Rattle.load_statements.proofs.Fields.{slot_small}

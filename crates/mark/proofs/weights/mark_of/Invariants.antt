@@ -1,4 +1,5 @@
-use Rattle.laws.proofs.Prelude.{◌∙◌, ◌-◌, arith, rules}
+use Rattle.std.specs.Prelude.{◌-◌}
+use Rattle.laws.proofs.Prelude.{◌∙◌, arith, rules}
 use Rattle.styling.specs.declared.FillRule.TheVariants.{EvenOdd}
 use Rattle.cover_statements.specs.InnerWeighed.{weights_of, coverages_in, weights_plane}
 use Rattle.cover_statements.proofs.Marks.{Marking, mark_start, mark_small, mark_next, mark_end, bit_lt, octet_used}

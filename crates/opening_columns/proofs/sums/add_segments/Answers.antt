@@ -1,5 +1,6 @@
 -- `opening_columns::sums::add_segments` meets its contract. What holds at a word is `Tallying`. Assumes nothing.
-use Rattle.laws.proofs.Prelude.{◌≡◌, refl, sym, ◌∙◌, ◌-◌, arith, not-true, not-false, length, get_or}
+use Rattle.std.specs.Prelude.{◌≡◌, ◌-◌}
+use Rattle.laws.proofs.Prelude.{refl, sym, ◌∙◌, arith, not-true, not-false, length, get_or}
 use Rattle.cover_statements.proofs.Filled.{get_d_default}
 use Rattle.queue_statements.proofs.Summing.{key_of, ascending, start, end, refuse}
 use Rattle.queue_statements.proofs.Tallying.{Tallying, tally_placing, tally_next}

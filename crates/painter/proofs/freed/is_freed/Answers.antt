@@ -1,5 +1,6 @@
 -- `freed::is_freed` meets its contract. Assumes nothing.
-use Rattle.laws.proofs.Prelude.{◌+◌, ◌-◌, arith, length}
+use Rattle.std.specs.Prelude.{◌+◌, ◌-◌}
+use Rattle.laws.proofs.Prelude.{arith, length}
 use Rattle.layer_table.specs.Table.{table_of}
 use Rattle.painter.proofs.Freeing.{Freeing, free_start, free_next, free_end}
 use Rattle.painter.proofs.freed.is_freed.Goals as goal

@@ -1,4 +1,5 @@
-use Rattle.laws.proofs.Prelude.{◌+◌, ◌-◌, arith, length}
+use Rattle.std.specs.Prelude.{◌+◌, ◌-◌}
+use Rattle.laws.proofs.Prelude.{arith, length}
 use Rattle.layer_table.specs.Table.{table_of}
 use Rattle.painter.proofs.Freeing.{Freeing, free_start, free_next, free_end}
 use Rattle.painter.proofs.freed.is_freed.Given as goal

@@ -1,5 +1,6 @@
 -- `passes::clips::skip_trivial_clips_pass` meets its contract. Assumes nothing.
-use Rattle.laws.proofs.Prelude.{◌∙◌, ◌-◌, arith}
+use Rattle.std.specs.Prelude.{◌-◌}
+use Rattle.laws.proofs.Prelude.{◌∙◌, arith}
 use Rattle.layer_table.specs.Table.{table_of}
 use Rattle.pass_statements.specs.Entry.{entries_of}
 use Rattle.pass_statements.specs.Item.{items_of}

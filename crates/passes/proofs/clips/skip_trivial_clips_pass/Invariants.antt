@@ -1,4 +1,5 @@
-use Rattle.laws.proofs.Prelude.{◌∙◌, ◌-◌, arith}
+use Rattle.std.specs.Prelude.{◌-◌}
+use Rattle.laws.proofs.Prelude.{◌∙◌, arith}
 use Rattle.layer_table.specs.Table.{table_of}
 use Rattle.pass_statements.specs.Entry.{entries_of}
 use Rattle.pass_statements.specs.Item.{items_of}

@@ -1,5 +1,6 @@
 -- `passes::covered::are_clips_unchanged` meets its contract. Assumes nothing.
-use Rattle.laws.proofs.Prelude.{refl, ap, ◌∙◌, ◌-◌, arith}
+use Rattle.std.specs.Prelude.{◌-◌}
+use Rattle.laws.proofs.Prelude.{refl, ap, ◌∙◌, arith}
 use Rattle.layer_table.specs.Table.{table_of}
 use Rattle.cover_statements.proofs.Testing.{Testing, test_start, test_next, test_end}
 use Rattle.pass_statements.specs.Covered.{is_clip_unchanged}

@@ -1,4 +1,5 @@
-use Rattle.laws.proofs.Prelude.{refl, ap, ◌∙◌, ◌-◌, arith}
+use Rattle.std.specs.Prelude.{◌-◌}
+use Rattle.laws.proofs.Prelude.{refl, ap, ◌∙◌, arith}
 use Rattle.layer_table.specs.Table.{table_of}
 use Rattle.cover_statements.proofs.Testing.{Testing, test_start, test_next, test_end}
 use Rattle.pass_statements.specs.Covered.{is_clip_unchanged}

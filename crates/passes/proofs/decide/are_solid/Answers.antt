@@ -1,5 +1,6 @@
 -- `passes::decide::are_solid` meets its contract. Assumes nothing.
-use Rattle.laws.proofs.Prelude.{ap, ◌∙◌, ◌-◌, arith}
+use Rattle.std.specs.Prelude.{◌-◌}
+use Rattle.laws.proofs.Prelude.{ap, ◌∙◌, arith}
 use Rattle.styling.specs.Style.{solid_color}
 use Rattle.layer_table.specs.Table.{table_of}
 use Rattle.pass_statements.specs.declared.item.Item.{Item}

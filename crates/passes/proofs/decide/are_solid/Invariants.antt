@@ -1,4 +1,5 @@
-use Rattle.laws.proofs.Prelude.{ap, ◌∙◌, ◌-◌, arith}
+use Rattle.std.specs.Prelude.{◌-◌}
+use Rattle.laws.proofs.Prelude.{ap, ◌∙◌, arith}
 use Rattle.styling.specs.Style.{solid_color}
 use Rattle.layer_table.specs.Table.{table_of}
 use Rattle.pass_statements.specs.declared.item.Item.{Item}

@@ -1,6 +1,7 @@
 -- `PixelSegment::cover` meets its contract. The word plus half the field's size, modulo its size, is a small number, so the machine's
 -- difference is the definition's. Assumes nothing.
-use Rattle.laws.proofs.Prelude.{◌≡◌, ◌∙◌, ◌+◌, ◌%◌, arith, sub_ℕ, w8, to_z_pos, to_z-of_z, difference, sfits}
+use Rattle.std.specs.Prelude.{◌≡◌, ◌+◌, ◌%◌}
+use Rattle.laws.proofs.Prelude.{◌∙◌, arith, sub_ℕ, w8, to_z_pos, to_z-of_z, difference, sfits}
 use Rattle.pixel_segment.specs.Field.{cpu, field_of, cover_of}
 use Rattle.pixel_segment.proofs.PixelSegment.cover.Goals as goal
 use Rattle.pixel_segment.proofs.PixelSegment.cover.Goals.{After-wrapping_add_u64}

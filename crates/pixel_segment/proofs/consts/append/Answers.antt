@@ -1,6 +1,7 @@
 -- `consts::append` meets its contract. Assumes nothing.
 -- the word with the field below it is within 64 bits
-use Rattle.laws.proofs.Prelude.{ℕ, ◌<◌, ◌+◌, ◌*◌, ◌^◌, ◌%◌, mod-lt, arith, pow_pos}
+use Rattle.std.specs.Prelude.{◌<◌, ◌+◌, ◌*◌, ◌^◌, ◌%◌}
+use Rattle.laws.proofs.Prelude.{ℕ, mod-lt, arith, pow_pos}
 use Rattle.pixel_segment.specs.Field.{widths_of, index_of, width_of}
 use Rattle.pixel_segment.proofs.Widths.{width_le_of, joined_lt}
 use Rattle.pixel_segment.proofs.consts.append.Goals as goal

@@ -1,5 +1,6 @@
 -- `consts::cover_of` meets its contract: the field plus half its size, modulo its size, is a small number. Assumes nothing.
-use Rattle.laws.proofs.Prelude.{sym, ap, ◌∙◌, ℕ, ◌+◌, ◌%◌, div-one, arith, sub_ℕ, w16, to_z_pos, to_z-of_z, difference, sfits}
+use Rattle.std.specs.Prelude.{◌+◌, ◌%◌}
+use Rattle.laws.proofs.Prelude.{sym, ap, ◌∙◌, ℕ, div-one, arith, sub_ℕ, w16, to_z_pos, to_z-of_z, difference, sfits}
 use Rattle.pixel_segment.specs.Field.{cover_of}
 use Rattle.pixel_segment.proofs.consts.cover_of.Goals as goal
 

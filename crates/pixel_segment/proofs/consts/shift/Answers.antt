@@ -1,5 +1,6 @@
 -- `consts::shift` meets its contract. The invariant: what is summed and the widths still to come make the shift. Assumes nothing.
-use Rattle.laws.proofs.Prelude.{◌≡◌, ◌+◌, ◌<◌, arith, drop, length}
+use Rattle.std.specs.Prelude.{◌≡◌, ◌+◌, ◌<◌}
+use Rattle.laws.proofs.Prelude.{arith, drop, length}
 use Rattle.pixel_segment.specs.declared.consts.Layout.{Layout}
 use Rattle.pixel_segment.specs.Field.{sum, widths_of}
 use Rattle.pixel_segment.proofs.Widths.{sum_step, sum_past, index_lt, length_of, sum_le_of}

@@ -1,4 +1,5 @@
-use Rattle.laws.proofs.Prelude.{◌≡◌, ◌+◌, ◌-◌, ◌≤◌, drop}
+use Rattle.std.specs.Prelude.{◌≡◌, ◌+◌, ◌-◌, ◌≤◌}
+use Rattle.laws.proofs.Prelude.{drop}
 use Rattle.pixel_segment.specs.Field.{sum, widths_of}
 use Rattle.pixel_segment.proofs.consts.shift.Given as goal
 

@@ -1,5 +1,6 @@
 -- `consts::tile` meets its contract. Assumes nothing.
-use Rattle.laws.proofs.Prelude.{◌∙◌, ◌^◌, ◌<◌, arith, w16, to_z_pos, to_z-of_z}
+use Rattle.std.specs.Prelude.{◌^◌, ◌<◌}
+use Rattle.laws.proofs.Prelude.{◌∙◌, arith, w16, to_z_pos, to_z-of_z}
 use Rattle.pixel_segment.specs.Field.{widths_of, index_of, tile_of}
 use Rattle.pixel_segment.proofs.Widths.{tile_fits, field_lt}
 use Rattle.pixel_segment.proofs.consts.tile.Goals as goal

@@ -1,5 +1,6 @@
 -- `order::compare_words` meets its contract. Assumes nothing.
-use Rattle.laws.proofs.Prelude.{◌<◌, arith}
+use Rattle.std.specs.Prelude.{◌<◌}
+use Rattle.laws.proofs.Prelude.{arith}
 use Rattle.pixel_segment.proofs.Widths.{shift_lt_of}
 use Rattle.pixel_segment.proofs.order.compare_words.Goals as goal
 use Rattle.pixel_segment.proofs.order.compare_words.Goals.{After-shift-offset}

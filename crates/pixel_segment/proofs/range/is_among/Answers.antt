@@ -1,5 +1,6 @@
 -- `range::is_among` meets its contract: the number after the last is within 64 bits. Assumes nothing.
-use Rattle.laws.proofs.Prelude.{◌≡◌, arith, pos, ◌+ℤ◌, w64, SFits, to_z, to_z-of_z, to_z_pos, added, within, sfits}
+use Rattle.std.specs.Prelude.{◌≡◌, ◌+ℤ◌}
+use Rattle.laws.proofs.Prelude.{arith, pos, w64, SFits, to_z, to_z-of_z, to_z_pos, added, within, sfits}
 use Rattle.pixel_segment.proofs.range.is_among.Goals as goal
 use Rattle.pixel_segment.proofs.range.is_among.Goals.{Start}
 

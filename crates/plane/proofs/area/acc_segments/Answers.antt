@@ -1,5 +1,6 @@
 -- `plane::area::acc_segments` meets its contract: two tables are filled, of double areas and of covers, while loads are judged. Assumes nothing.
-use Rattle.laws.proofs.Prelude.{◌≡◌, refl, sym, ap, false≢true, ℕ, ◌+◌, ◌-◌, ◌*◌, ◌%◌, ◌≤◌, arith, rules, pos, nat_abs, length, get_or, to_z-of_z, w8, w16}
+use Rattle.std.specs.Prelude.{◌≡◌, ◌+◌, ◌-◌, ◌*◌, ◌%◌, ◌≤◌}
+use Rattle.laws.proofs.Prelude.{refl, sym, ap, false≢true, ℕ, arith, rules, pos, nat_abs, length, get_or, to_z-of_z, w8, w16}
 use Rattle.laws.proofs.Prelude.{SFits, to_z, of_z, small, kept}
 use Rattle.pixel_segment.specs.Field.{cpu, local_y_of, cover_of, double_area_of}
 use Rattle.pixel_segment.proofs.Widths.{cover_fits, in_cover}

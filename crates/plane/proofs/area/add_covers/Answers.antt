@@ -1,5 +1,6 @@
 -- `plane::area::add_covers` meets its contract: it is the half of shading a column that leaves the areas alone. Assumes nothing.
-use Rattle.laws.proofs.Prelude.{◌≡◌, refl, List, ℕ, ◌+◌, ◌-◌, ◌*◌, ◌≤◌, arith, rules, lt-ltb, ℤ, pos, ◌+ℤ◌, ◌*ℤ◌, replicate, set, length-replicate}
+use Rattle.std.specs.Prelude.{◌≡◌, ◌+◌, ◌-◌, ◌*◌, ◌≤◌, ◌+ℤ◌, ◌*ℤ◌}
+use Rattle.laws.proofs.Prelude.{refl, List, ℕ, arith, rules, lt-ltb, ℤ, pos, replicate, set, length-replicate}
 use Rattle.laws.proofs.Prelude.{to_z-of_z, w8, small, kept, is_tabulate}
 use Rattle.cover_statements.specs.InnerCell.{Shaded}
 use Rattle.cover_statements.specs.Cover.{cover_at}

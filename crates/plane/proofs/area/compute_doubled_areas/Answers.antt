@@ -1,5 +1,6 @@
 -- `plane::area::compute_doubled_areas` meets its contract. Assumes nothing.
-use Rattle.laws.proofs.Prelude.{◌≡◌, refl, List, ℕ, ◌+◌, ◌-◌, ◌*◌, ◌^◌, ◌≤◌, ◌<◌, arith, rules, sfits_of, lt-ltb, ℤ, pos, ◌+ℤ◌, ◌*ℤ◌, set, mag}
+use Rattle.std.specs.Prelude.{◌≡◌, ◌+◌, ◌-◌, ◌*◌, ◌^◌, ◌≤◌, ◌<◌, ◌+ℤ◌, ◌*ℤ◌}
+use Rattle.laws.proofs.Prelude.{refl, List, ℕ, arith, rules, sfits_of, lt-ltb, ℤ, pos, set, mag}
 use Rattle.laws.proofs.Prelude.{to_z-of_z, sfits_widen, w8, w16, SFits, sfits, within, small, kept, times, length_tabulate, get_d_tabulate}
 use Rattle.cover_statements.specs.InnerCell.{Shaded}
 use Rattle.cover_statements.specs.Cover.{cover_at}

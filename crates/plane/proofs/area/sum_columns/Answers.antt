@@ -1,5 +1,6 @@
 -- `plane::area::sum_columns` meets its contract. Assumes nothing.
-use Rattle.laws.proofs.Prelude.{refl, List, ℕ, ◌-◌, arith}
+use Rattle.std.specs.Prelude.{◌-◌}
+use Rattle.laws.proofs.Prelude.{refl, List, ℕ, arith}
 use Rattle.pixel_segment.specs.Field.{cpu}
 use Rattle.cover_statements.specs.InnerCell.{Accumulated}
 use Rattle.cover_statements.proofs.Carries.{light}

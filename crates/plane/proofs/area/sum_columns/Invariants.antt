@@ -1,4 +1,5 @@
-use Rattle.laws.proofs.Prelude.{refl, List, ℕ, ◌-◌, arith}
+use Rattle.std.specs.Prelude.{◌-◌}
+use Rattle.laws.proofs.Prelude.{refl, List, ℕ, arith}
 use Rattle.pixel_segment.specs.Field.{cpu}
 use Rattle.cover_statements.specs.InnerCell.{Accumulated}
 use Rattle.cover_statements.proofs.Carries.{light}

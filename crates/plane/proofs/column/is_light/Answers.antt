@@ -1,5 +1,6 @@
 -- `plane::column::is_light` meets its contract. Assumes nothing.
-use Rattle.laws.proofs.Prelude.{◌≡◌, ap, ◌∙◌, List, [], ℕ, arith, rules, length}
+use Rattle.std.specs.Prelude.{◌≡◌}
+use Rattle.laws.proofs.Prelude.{ap, ◌∙◌, List, [], ℕ, arith, rules, length}
 use Rattle.pixel_segment.specs.Field.{cpu}
 use Rattle.cover_statements.specs.InnerLoad.{loads_of, all_light}
 use Rattle.cover_statements.proofs.Loads.{load_start, load_end, loads_judge}

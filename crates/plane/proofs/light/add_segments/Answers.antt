@@ -1,5 +1,6 @@
 -- `plane::light::add_segments` meets its contract: two tables are filled, of double areas and of covers. Assumes nothing.
-use Rattle.laws.proofs.Prelude.{◌≡◌, ◌-◌, arith, rules, pos, length, get_or, to_z-of_z, w8, w16, SFits, to_z, of_z, small, kept}
+use Rattle.std.specs.Prelude.{◌≡◌, ◌-◌}
+use Rattle.laws.proofs.Prelude.{arith, rules, pos, length, get_or, to_z-of_z, w8, w16, SFits, to_z, of_z, small, kept}
 use Rattle.pixel_segment.proofs.Widths.{cover_fits}
 use Rattle.plane.proofs.LightCells.{LightCells, cells_start, area_within, cover_within_lem, cells_next, cells_end}
 use Rattle.plane.proofs.light.add_segments.Goals as goal

@@ -1,5 +1,6 @@
 -- `queue::search::rank` meets its contract. What holds of the places that are left is `Halving`. Assumes nothing.
-use Rattle.laws.proofs.Prelude.{◌-◌, arith}
+use Rattle.std.specs.Prelude.{◌-◌}
+use Rattle.laws.proofs.Prelude.{arith}
 use Rattle.queue_statements.proofs.Ranks.{Halving, begin, upper, lower, end}
 use Rattle.queue.proofs.search.rank.Goals as goal
 

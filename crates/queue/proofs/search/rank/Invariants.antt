@@ -1,4 +1,5 @@
-use Rattle.laws.proofs.Prelude.{◌-◌, arith}
+use Rattle.std.specs.Prelude.{◌-◌}
+use Rattle.laws.proofs.Prelude.{arith}
 use Rattle.queue_statements.proofs.Ranks.{Halving, begin, upper, lower, end}
 use Rattle.queue.proofs.search.rank.Given as goal
 

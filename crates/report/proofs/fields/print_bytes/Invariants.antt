@@ -1,4 +1,5 @@
-use Rattle.laws.proofs.Prelude.{◌-◌, arith, length}
+use Rattle.std.specs.Prelude.{◌-◌}
+use Rattle.laws.proofs.Prelude.{arith, length}
 use Rattle.report.proofs.Copying.{Copying, start, next, end}
 use Rattle.report.proofs.fields.print_bytes.Given as goal
 

@@ -1,4 +1,5 @@
-use Rattle.laws.proofs.Prelude.{List, ◌≤◌, ◌-◌, arith, Float}
+use Rattle.std.specs.Prelude.{◌≤◌, ◌-◌}
+use Rattle.laws.proofs.Prelude.{List, arith, Float}
 use Rattle.revision_statements.proofs.Judging.{Passing, pass_first, pass_next, pass_last}
 use Rattle.revisions.proofs.judging.are_good.Given as goal
 

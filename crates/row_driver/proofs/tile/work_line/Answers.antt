@@ -1,5 +1,6 @@
 -- `tile::work_line` meets its contract. Assumes nothing.
-use Rattle.laws.proofs.Prelude.{◌≡◌, List, ℕ, rules, pos}
+use Rattle.std.specs.Prelude.{◌≡◌}
+use Rattle.laws.proofs.Prelude.{List, ℕ, rules, pos}
 use Rattle.segment_rows.specs.Search.{tile_part}
 use Rattle.cached_tile.specs.Kept.{no_tile}
 use Rattle.layer_workbench.specs.declared.PreviousClear.TheVariants.{Absent}

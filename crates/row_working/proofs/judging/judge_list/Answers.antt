@@ -1,5 +1,6 @@
 -- `judging::judge_list` meets its contract: where a number refuses, nothing is said of the carries. Assumes nothing.
-use Rattle.laws.proofs.Prelude.{◌≡◌, sym, true, false≢true, ℕ, arith, lt-ltb, le-ltb, not-false, rules}
+use Rattle.std.specs.Prelude.{◌≡◌}
+use Rattle.laws.proofs.Prelude.{sym, true, false≢true, ℕ, arith, lt-ltb, le-ltb, not-false, rules}
 use Rattle.refusals.specs.Refusal.{pass, refuse}
 use Rattle.refusals.proofs.Judging.{passed}
 use Rattle.row_statements.specs.TileWork.{list_verdict}

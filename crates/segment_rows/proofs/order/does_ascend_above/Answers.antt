@@ -1,5 +1,6 @@
 -- `order::does_ascend_above` meets its contract. What holds after so many words is `Counted`. Assumes nothing.
-use Rattle.laws.proofs.Prelude.{◌≡◌, refl, ℕ, ◌+◌, ◌-◌, ◌*◌, ◌/◌, ◌%◌, ◌^◌, ◌≤◌, ◌<◌, arith, get_or, pow_pos, pow_mono}
+use Rattle.std.specs.Prelude.{◌≡◌, ◌+◌, ◌-◌, ◌*◌, ◌/◌, ◌%◌, ◌^◌, ◌≤◌, ◌<◌}
+use Rattle.laws.proofs.Prelude.{refl, ℕ, arith, get_or, pow_pos, pow_mono}
 use native.Mathlib.Nat.{lt_of_le_of_lt}
 use lib.Pow.{shr_lt}
 use Rattle.pixel_segment.proofs.Widths.{shifted}

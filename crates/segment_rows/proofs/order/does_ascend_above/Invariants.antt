@@ -1,4 +1,5 @@
-use Rattle.laws.proofs.Prelude.{ℕ, ◌-◌, ◌/◌, ◌^◌, length}
+use Rattle.std.specs.Prelude.{◌-◌, ◌/◌, ◌^◌}
+use Rattle.laws.proofs.Prelude.{ℕ, length}
 use Rattle.segment_rows.proofs.Ascending.{Counted}
 use Rattle.segment_rows.proofs.order.does_ascend_above.Given as goal
 

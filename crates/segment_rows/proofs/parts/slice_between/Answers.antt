@@ -1,5 +1,6 @@
 -- `parts::slice_between` meets its contract. Assumes nothing.
-use Rattle.laws.proofs.Prelude.{◌≡◌, ap, ℕ, ◌-◌, arith, take, drop}
+use Rattle.std.specs.Prelude.{◌≡◌, ◌-◌}
+use Rattle.laws.proofs.Prelude.{ap, ℕ, arith, take, drop}
 use Rattle.segment_rows.proofs.parts.slice_between.Goals as goal
 
 pub returns-else-start-end : goal.returns-else-start-end

@@ -1,5 +1,6 @@
 -- `search::above_tile` meets its contract. Assumes nothing.
-use Rattle.laws.proofs.Prelude.{arith, pos, ◌+ℤ◌, w16, w32, to_z-of_z, SFits, added, within, sfits}
+use Rattle.std.specs.Prelude.{◌+ℤ◌}
+use Rattle.laws.proofs.Prelude.{arith, pos, w16, w32, to_z-of_z, SFits, added, within, sfits}
 use Rattle.segment_rows.proofs.Above.{wider}
 use Rattle.segment_rows.proofs.search.above_tile.Goals as goal
 use Rattle.segment_rows.proofs.search.above_tile.Goals.{Start}

@@ -1,5 +1,6 @@
 -- `search::field_at` meets its contract. Assumes nothing.
-use Rattle.laws.proofs.Prelude.{◌/◌, ◌^◌, mod-lt, arith, get_or}
+use Rattle.std.specs.Prelude.{◌/◌, ◌^◌}
+use Rattle.laws.proofs.Prelude.{mod-lt, arith, get_or}
 use Rattle.segment_rows.proofs.search.field_at.Goals as goal
 
 pub overflow_cast-result-2 : goal.overflow_cast-result-2

@@ -1,4 +1,5 @@
-use Rattle.laws.proofs.Prelude.{◌/◌, ◌%◌, ◌^◌, leb}
+use Rattle.std.specs.Prelude.{◌/◌, ◌%◌, ◌^◌}
+use Rattle.laws.proofs.Prelude.{leb}
 use Rattle.segment_rows.proofs.Halving.{Left}
 use Rattle.segment_rows.proofs.search.halve.Given as goal
 

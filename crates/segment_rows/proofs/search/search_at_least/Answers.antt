@@ -1,5 +1,6 @@
 -- `search::search_at_least` meets its contract. Assumes nothing.
-use Rattle.laws.proofs.Prelude.{◌≡◌, ap, sym, Bool, true, false, ℕ, ◌-◌, ◌/◌, ◌%◌, ◌^◌, ◌<◌, arith, le-leb, lt-leb, leb, length}
+use Rattle.std.specs.Prelude.{◌≡◌, ◌-◌, ◌/◌, ◌%◌, ◌^◌, ◌<◌}
+use Rattle.laws.proofs.Prelude.{ap, sym, Bool, true, false, ℕ, arith, le-leb, lt-leb, leb, length}
 use Rattle.pixel_segment.specs.Order.{compare_bool}
 use Rattle.segment_rows.specs.Search.{ended, search_of}
 use Rattle.segment_rows.proofs.Halving.{same_end, end_lt, end_last, search_told, search_empty}

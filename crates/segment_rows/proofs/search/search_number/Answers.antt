@@ -1,5 +1,6 @@
 -- `search::search_number` meets its contract. Assumes nothing.
-use Rattle.laws.proofs.Prelude.{◌≡◌, sym, ℕ, ◌+◌, ◌/◌, ◌%◌, ◌^◌, ◌<◌, mod-lt, arith, length, get_or}
+use Rattle.std.specs.Prelude.{◌≡◌, ◌+◌, ◌/◌, ◌%◌, ◌^◌, ◌<◌}
+use Rattle.laws.proofs.Prelude.{sym, ℕ, mod-lt, arith, length, get_or}
 use Rattle.pixel_segment.specs.Order.{compare_of}
 use Rattle.pixel_segment.proofs.Lexical.{compare_less, compare_equal, compare_greater}
 use Rattle.segment_rows.specs.Search.{ended, search_of}

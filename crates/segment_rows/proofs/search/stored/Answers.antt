@@ -1,5 +1,6 @@
 -- `search::stored` meets its contract. Assumes nothing.
-use Rattle.laws.proofs.Prelude.{◌≡◌, arith, pos, w32, to_z-of_z, minus, added, whole, lt_true, lt_false, within, unsigned}
+use Rattle.std.specs.Prelude.{◌≡◌}
+use Rattle.laws.proofs.Prelude.{arith, pos, w32, to_z-of_z, minus, added, whole, lt_true, lt_false, within, unsigned}
 use Rattle.segment_rows.proofs.search.stored.Goals as goal
 use Rattle.segment_rows.proofs.search.stored.Goals.{Else-tile-lt0}
 

@@ -1,5 +1,6 @@
 -- `editing::area_of` meets its contract. Assumes nothing.
-use Rattle.laws.proofs.Prelude.{arith, pos, ◌*ℤ◌, to_z-of_z, sfits_widen, w8, w16, SFits, within, sfits, times}
+use Rattle.std.specs.Prelude.{◌*ℤ◌}
+use Rattle.laws.proofs.Prelude.{arith, pos, to_z-of_z, sfits_widen, w8, w16, SFits, within, sfits, times}
 use Rattle.segment_set.proofs.editing.area_of.Goals as goal
 use Rattle.segment_set.proofs.editing.area_of.Goals.{Start}
 

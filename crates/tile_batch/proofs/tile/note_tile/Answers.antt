@@ -1,5 +1,6 @@
 -- `tile::note_tile` meets its contract. Assumes nothing.
-use Rattle.laws.proofs.Prelude.{refl, ap, ◌∙◌, ◌*◌, arith, rules, take, sets}
+use Rattle.std.specs.Prelude.{◌*◌}
+use Rattle.laws.proofs.Prelude.{refl, ap, ◌∙◌, arith, rules, take, sets}
 use Rattle.layer_table.specs.Table.{table_of}
 use Rattle.queue_statements.specs.Queue.{queue_of}
 use Rattle.pass_statements.specs.Decision.{decision_in}

@@ -1,5 +1,6 @@
 -- `tile::work_here` meets its contract. Assumes nothing.
-use Rattle.laws.proofs.Prelude.{◌≡◌, refl, ap, sym, ◌∙◌, Bool, false, List, ℕ, arith, rules}
+use Rattle.std.specs.Prelude.{◌≡◌}
+use Rattle.laws.proofs.Prelude.{refl, ap, sym, ◌∙◌, Bool, false, List, ℕ, arith, rules}
 use Rattle.refusals.specs.Refusal.{Judgement, pass, unless, and_then}
 use Rattle.cached_tile.specs.Kept.{tag_out_of_range}
 use Rattle.row_statements.specs.Lent.{ListColumns, columns, list_columns, lent_table}

@@ -1,5 +1,6 @@
 -- `walk::group_end` meets its contract. The search for the layer of the first segment finds the last one of its group. Assumes nothing.
-use Rattle.laws.proofs.Prelude.{◌≡◌, sym, ap, ap₂, ◌∙◌, List, ℕ, ◌-◌, ◌<◌, add-zero, arith, rules, length, get_or, drop, length-drop, get_or-drop}
+use Rattle.std.specs.Prelude.{◌≡◌, ◌-◌, ◌<◌}
+use Rattle.laws.proofs.Prelude.{sym, ap, ap₂, ◌∙◌, List, ℕ, add-zero, arith, rules, length, get_or, drop, length-drop, get_or-drop}
 use Rattle.laws.proofs.Prelude.{take_all}
 use Rattle.pixel_segment.specs.Field.{cpu, layer_id_of}
 use Rattle.segment_rows.specs.Search.{Place, found, absent, place_in, search_of, order_at}

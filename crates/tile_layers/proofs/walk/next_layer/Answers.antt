@@ -1,5 +1,6 @@
 -- `walk::next_layer` meets its contract: a carry comes next, or a group and a carry with it where one is due. Assumes nothing.
-use Rattle.laws.proofs.Prelude.{◌≡◌, sym, ◌∙◌, Bool, true, false, false≢true, ◌&&◌, [], ⊎_elim, ◌≤◌, ◌<◌, arith, rules, ltb-true, ltb, leb, get_or}
+use Rattle.std.specs.Prelude.{◌≡◌, ◌&&◌, ◌≤◌, ◌<◌}
+use Rattle.laws.proofs.Prelude.{sym, ◌∙◌, Bool, true, false, false≢true, [], ⊎_elim, arith, rules, ltb-true, ltb, leb, get_or}
 use Rattle.laws.proofs.Prelude.{bool_byte, left}
 use Rattle.pixel_segment.specs.Field.{cpu, layer_id_of}
 use Rattle.tile_layers.proofs.Runs.{group_at}

@@ -1,6 +1,7 @@
 -- `working::work_columns` meets its contract: the columns are lent as far as they count.
 -- Assumes nothing.
-use Rattle.laws.proofs.Prelude.{sym, ◌*◌, arith, rules, length-take-le, to_z-of_z}
+use Rattle.std.specs.Prelude.{◌*◌}
+use Rattle.laws.proofs.Prelude.{sym, arith, rules, length-take-le, to_z-of_z}
 use Rattle.row_statements.specs.Lent.{columns, list_columns, lent_table}
 use Rattle.row_statements.specs.State.{state_in}
 use Rattle.row_statements.specs.TileWork.{work_call, work_lent}

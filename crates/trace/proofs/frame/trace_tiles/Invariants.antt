@@ -1,4 +1,5 @@
-use Rattle.laws.proofs.Prelude.{◌-◌, rules, arith}
+use Rattle.std.specs.Prelude.{◌-◌}
+use Rattle.laws.proofs.Prelude.{rules, arith}
 use Rattle.trace.proofs.frame.trace_tiles.Given as goal
 
 abbrev pub invariant-loop-left : goal.invariant-loop-left

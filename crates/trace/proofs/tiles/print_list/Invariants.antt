@@ -1,4 +1,5 @@
-use Rattle.laws.proofs.Prelude.{◌-◌, rules, arith}
+use Rattle.std.specs.Prelude.{◌-◌}
+use Rattle.laws.proofs.Prelude.{rules, arith}
 use Rattle.trace.proofs.tiles.print_list.Given as goal
 
 abbrev pub invariant-loop-i : goal.invariant-loop-i

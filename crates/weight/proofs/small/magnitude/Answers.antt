@@ -1,5 +1,6 @@
 -- `weight::small::magnitude` meets its contract. Assumes nothing.
-use Rattle.laws.proofs.Prelude.{arith, pos, nat_abs, ◌-ℤ◌, to_z-of_z, w16, SFits, sfits, equal, whole, taken, lt_true, lt_false}
+use Rattle.std.specs.Prelude.{◌-ℤ◌}
+use Rattle.laws.proofs.Prelude.{arith, pos, nat_abs, to_z-of_z, w16, SFits, sfits, equal, whole, taken, lt_true, lt_false}
 use Rattle.weight.proofs.small.magnitude.Goals as goal
 use Rattle.weight.proofs.small.magnitude.Goals.{Start}
 

@@ -1,5 +1,6 @@
 -- `weight::tile::weigh_even_odd` meets its contract. Assumes nothing.
-use Rattle.laws.proofs.Prelude.{◌≡◌, refl, ap, ◌∙◌, ◌-◌, arith, ℤ, pos, length, get_or, to_z_pos, w16, kept, small}
+use Rattle.std.specs.Prelude.{◌≡◌, ◌-◌}
+use Rattle.laws.proofs.Prelude.{refl, ap, ◌∙◌, arith, ℤ, pos, length, get_or, to_z_pos, w16, kept, small}
 use Rattle.styling.specs.declared.FillRule.TheVariants.{EvenOdd}
 use Rattle.cover_statements.specs.Weight.{even_odd_of}
 use Rattle.cover_statements.specs.InnerWeighed.{weight_in}

@@ -1,4 +1,5 @@
-use Rattle.laws.proofs.Prelude.{◌-◌, arith, pos, length, get_or, w16, kept, unsigned, whole}
+use Rattle.std.specs.Prelude.{◌-◌}
+use Rattle.laws.proofs.Prelude.{arith, pos, length, get_or, w16, kept, unsigned, whole}
 use Rattle.cover_statements.specs.InnerWeighed.{coverage_in}
 use Rattle.cover_statements.proofs.Mapped.{Mapping, map_start, map_next, map_end}
 use Rattle.weight.proofs.tile.write_coverages.Given as goal

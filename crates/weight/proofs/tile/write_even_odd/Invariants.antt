@@ -1,4 +1,5 @@
-use Rattle.laws.proofs.Prelude.{◌+◌, ◌*◌, ◌-◌, arith, nan, get_or}
+use Rattle.std.specs.Prelude.{◌+◌, ◌*◌, ◌-◌}
+use Rattle.laws.proofs.Prelude.{arith, nan, get_or}
 use Rattle.styling.specs.declared.FillRule.TheVariants.{EvenOdd}
 use Rattle.cover_statements.specs.InnerWeighed.{weights_of, coverages_in}
 use Rattle.cover_statements.proofs.PlaneRows.{PlaneRows, rows_start, rows_room, rows_next, rows_end}

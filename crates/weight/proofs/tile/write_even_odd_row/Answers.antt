@@ -1,5 +1,6 @@
 -- `weight::tile::write_even_odd_row` meets its contract. Assumes nothing.
-use Rattle.laws.proofs.Prelude.{◌≡◌, refl, sym, ap, ◌∙◌, ◌+◌, ◌*◌, ◌-◌, arith, nan, ℤ, pos, length, get_or, length-map, w16, kept}
+use Rattle.std.specs.Prelude.{◌≡◌, ◌+◌, ◌*◌, ◌-◌}
+use Rattle.laws.proofs.Prelude.{refl, sym, ap, ◌∙◌, arith, nan, ℤ, pos, length, get_or, length-map, w16, kept}
 use Rattle.styling.specs.declared.FillRule.TheVariants.{EvenOdd}
 use Rattle.cover_statements.specs.Coverage.{coverage_of}
 use Rattle.cover_statements.specs.Weight.{even_odd_of}

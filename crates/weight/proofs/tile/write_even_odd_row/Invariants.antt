@@ -1,4 +1,5 @@
-use Rattle.laws.proofs.Prelude.{◌≡◌, refl, sym, ap, ◌∙◌, ◌+◌, ◌*◌, ◌-◌, arith, nan, ℤ, pos, length, get_or, length-map, w16, kept}
+use Rattle.std.specs.Prelude.{◌≡◌, ◌+◌, ◌*◌, ◌-◌}
+use Rattle.laws.proofs.Prelude.{refl, sym, ap, ◌∙◌, arith, nan, ℤ, pos, length, get_or, length-map, w16, kept}
 use Rattle.styling.specs.declared.FillRule.TheVariants.{EvenOdd}
 use Rattle.cover_statements.specs.Coverage.{coverage_of}
 use Rattle.cover_statements.specs.Weight.{even_odd_of}

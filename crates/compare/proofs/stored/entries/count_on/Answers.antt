@@ -1,5 +1,6 @@
 -- `entries::count_on` is safe and ends. Assumes nothing.
-use Rattle.laws.proofs.Prelude.{◌≡◌, refl, ◌∙◌, ◌-◌, arith, rules, length, length-set}
+use Rattle.std.specs.Prelude.{◌≡◌, ◌-◌}
+use Rattle.laws.proofs.Prelude.{refl, ◌∙◌, arith, rules, length, length-set}
 use Rattle.compare.proofs.stored.entries.count_on.Goals as goal
 
 pub loop-i-preserved : goal.loop-i-preserved

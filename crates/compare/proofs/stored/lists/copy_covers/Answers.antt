@@ -1,5 +1,6 @@
 -- `lists::copy_covers` is safe and ends. Assumes nothing.
-use Rattle.laws.proofs.Prelude.{◌≡◌, refl, ◌∙◌, ◌-◌, arith, length, length-set}
+use Rattle.std.specs.Prelude.{◌≡◌, ◌-◌}
+use Rattle.laws.proofs.Prelude.{refl, ◌∙◌, arith, length, length-set}
 use Rattle.compare.proofs.stored.lists.copy_covers.Goals as goal
 
 pub shape_of-to-then-n-i : goal.shape_of-to-then-n-i

@@ -1,5 +1,6 @@
 -- `lists::fill` is safe and ends. Assumes nothing.
-use Rattle.laws.proofs.Prelude.{◌≡◌, refl, ◌∙◌, ◌-◌, arith, rules, length, length-set}
+use Rattle.std.specs.Prelude.{◌≡◌, ◌-◌}
+use Rattle.laws.proofs.Prelude.{refl, ◌∙◌, arith, rules, length, length-set}
 use Rattle.compare.proofs.stored.lists.fill.Goals as goal
 
 pub shape_of-out-then-n-i : goal.shape_of-out-then-n-i

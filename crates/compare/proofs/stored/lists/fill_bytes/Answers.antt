@@ -1,5 +1,6 @@
 -- `lists::fill_bytes` is safe and ends. Assumes nothing.
-use Rattle.laws.proofs.Prelude.{◌≡◌, refl, ◌∙◌, ◌-◌, arith, rules, length, length-set}
+use Rattle.std.specs.Prelude.{◌≡◌, ◌-◌}
+use Rattle.laws.proofs.Prelude.{refl, ◌∙◌, arith, rules, length, length-set}
 use Rattle.compare.proofs.stored.lists.fill_bytes.Goals as goal
 
 pub loop-i-preserved : goal.loop-i-preserved

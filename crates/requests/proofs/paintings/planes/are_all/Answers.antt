@@ -1,5 +1,6 @@
 -- `planes::are_all` is safe and ends. Assumes nothing.
-use Rattle.laws.proofs.Prelude.{◌-◌, ◌≤◌, arith}
+use Rattle.std.specs.Prelude.{◌-◌, ◌≤◌}
+use Rattle.laws.proofs.Prelude.{arith}
 use Rattle.requests.proofs.paintings.planes.are_all.Goals as goal
 
 pub loop-k-init : goal.loop-k-init

@@ -1,4 +1,5 @@
-use Rattle.laws.proofs.Prelude.{◌-◌, rules, arith}
+use Rattle.std.specs.Prelude.{◌-◌}
+use Rattle.laws.proofs.Prelude.{rules, arith}
 use Rattle.trace.proofs.changes.changes.has_record.Given as goal
 
 abbrev pub invariant-loop-p : goal.invariant-loop-p

@@ -1,5 +1,6 @@
 -- `print_rows` is safe and ends: nothing has to hold from turn to turn, and the measure is what is left to do. Assumes nothing.
-use Rattle.laws.proofs.Prelude.{◌-◌, rules, arith}
+use Rattle.std.specs.Prelude.{◌-◌}
+use Rattle.laws.proofs.Prelude.{rules, arith}
 use Rattle.trace.proofs.text.planes.print_rows.Goals as goal
 
 pub loop-row-init : goal.loop-row-init

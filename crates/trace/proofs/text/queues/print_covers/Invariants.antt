@@ -1,4 +1,5 @@
-use Rattle.laws.proofs.Prelude.{◌-◌, rules, arith}
+use Rattle.std.specs.Prelude.{◌-◌}
+use Rattle.laws.proofs.Prelude.{rules, arith}
 use Rattle.trace.proofs.text.queues.print_covers.Given as goal
 
 abbrev pub invariant-loop-y : goal.invariant-loop-y

@@ -1,4 +1,5 @@
-use Rattle.laws.proofs.Prelude.{◌-◌, rules, arith, length}
+use Rattle.std.specs.Prelude.{◌-◌}
+use Rattle.laws.proofs.Prelude.{rules, arith, length}
 use Rattle.trace.proofs.text.segments.print_part.Given as goal
 
 abbrev pub invariant-loop-i : goal.invariant-loop-i
