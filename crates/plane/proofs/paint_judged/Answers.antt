@@ -21,16 +21,16 @@ use Rattle.plane.proofs.paint_judged.Goals.{Else-not-sum_areas}
 accepted : (c : Else-not-sum_areas) → is_light cpu 16 c.args.cover.covers c.args.part.now ≡ true
 accepted c = sym c.sum_areas.ensures.light ∙ c.if-not-sum_areas.false
 
-areas_are : (c : Else-not-sum_areas) → c.sum_areas.new.1.1.1.0 ≡ areas_of cpu 16 (cover_at c.args.cover.covers) c.args.part.now
+areas_are : (c : Else-not-sum_areas) → c.sum_areas.new.areas ≡ areas_of cpu 16 (cover_at c.args.cover.covers) c.args.part.now
 areas_are c = c.sum_areas.ensures.areas_are (c.if-not-sum_areas.false)
 
-areas_long : (c : Else-not-sum_areas) → length c.sum_areas.new.1.1.1.0 ≡ 256
+areas_long : (c : Else-not-sum_areas) → length c.sum_areas.new.areas ≡ 256
 areas_long c = ap length (areas_are c) ∙ areas_length cpu 16 (cover_at c.args.cover.covers) c.args.part.now
 
 -- the coverages of the weights are the plane
-plane_is : (t : Else-not-sum_areas) → weights_plane 16 (weights_of t.args.rule t.sum_areas.new.1.1.1.0) ≡ part_plane cpu t.args.rule t.args.cover.covers t.args.part.now
+plane_is : (t : Else-not-sum_areas) → weights_plane 16 (weights_of t.args.rule t.sum_areas.new.areas) ≡ part_plane cpu t.args.rule t.args.cover.covers t.args.part.now
 plane_is t =
-    ap (exchange nan 16) (coverages_are t.args.rule t.sum_areas.new.1.1.1.0 ∙ ap (coverages_of t.args.rule) (areas_are t))
+    ap (exchange nan 16) (coverages_are t.args.rule t.sum_areas.new.areas ∙ ap (coverages_of t.args.rule) (areas_are t))
     ∙ plane_of_areas cpu 16 t.args.rule (cover_at t.args.cover.covers) t.args.part.now nan
 
 pub returns-then-not-is_light : goal.returns-then-not-is_light

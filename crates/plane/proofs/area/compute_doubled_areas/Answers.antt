@@ -16,7 +16,7 @@ scaled : (z : ℤ) → mag z < 2 ^ 7 → SFits w16 (pos 32 *ℤ z)
 scaled z h = sfits w16 (pos 32 *ℤ z) (omega (arith, times 32 z, within w8 z (sfits_of h)))
 
 pub loop-y-init : goal.loop-y-init
-loop-y-init c = record { reached = omega arith; next = c.args.t4; shaded = shade_start c.requires.room (search rules) }
+loop-y-init c = record { reached = omega arith; next = c.args.sums; shaded = shade_start c.requires.room (search rules) }
 
 pub overflow_mul-k : goal.overflow_mul-k
 overflow_mul-k c = omega (arith, c.requires.low)
@@ -26,12 +26,12 @@ overflow_add-k c = omega (arith, c.requires.low)
 
 pub overflow_cast-areas : goal.overflow_cast-areas
 overflow_cast-areas c =
-    let z = cover_at c.args.t4 c.loop-y.y in
+    let z = cover_at c.args.sums c.loop-y.y in
     rw (kept w8 z c.areas-1.given) (wide z c.areas-1.given)
 
 pub overflow_mul-areas : goal.overflow_mul-areas
 overflow_mul-areas c =
-    let z = cover_at c.args.t4 c.loop-y.y in
+    let z = cover_at c.args.sums c.loop-y.y in
     rw (kept w8 z c.areas-1.given, to_z-of_z (wide z c.areas-1.given)) (scaled z c.areas-1.given)
 
 pub offset_bounds-areas-k : goal.offset_bounds-areas-k
@@ -42,7 +42,7 @@ bounds-areas-k c = omega (arith, c.requires.low)
 
 pub overflow_add-areas : goal.overflow_add-areas
 overflow_add-areas c =
-    let z = cover_at c.args.t4 c.loop-y.y in
+    let z = cover_at c.args.sums c.loop-y.y in
     rw (
       kept w8 z c.areas-1.given,
       to_z-of_z (wide z c.areas-1.given),
@@ -60,7 +60,7 @@ bounds-areas-k-in-loop-y c = omega (arith, c.requires.low)
 
 pub loop-y-preserved : goal.loop-y-preserved
 loop-y-preserved c =
-    let z = cover_at c.args.t4 c.loop-y.y in
+    let z = cover_at c.args.sums c.loop-y.y in
     record {
       reached = omega arith;
       next = set c.loop-y.invariant.next c.loop-y.y (z +ℤ cover_at c.args.covers.now (c.args.column * 16 + c.loop-y.y));
@@ -83,7 +83,7 @@ pub returns : goal.returns
 returns c =
     let e : c.loop-y.y ≡ 16 = omega (arith, c.loop-y.invariant.reached) in
     let h = rw e at c.loop-y.invariant.shaded in
-    let f : ℕ → ℤ = λ y. cover_at c.args.t4 y +ℤ cover_at c.args.covers.now (c.args.column * 16 + y) in
+    let f : ℕ → ℤ = λ y. cover_at c.args.sums y +ℤ cover_at c.args.covers.now (c.args.column * 16 + y) in
     record {
       long = h.long;
       area = h.area;

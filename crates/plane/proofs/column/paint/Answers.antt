@@ -8,27 +8,24 @@ use Rattle.cover_statements.proofs.Filled.{over_whole}
 use Rattle.cover_statements.proofs.Repeats.{column_in_range, column_long, column_plane, column_painted}
 use Rattle.cover_statements.proofs.Weighings.{weights_are}
 use Rattle.plane.proofs.column.paint.Goals as goal
-use Rattle.plane.proofs.column.paint.Goals.{After-weigh, Start}
+use Rattle.plane.proofs.column.paint.Goals.{After-weigh}
 
-long : (s : Start) → length s.args.cover.covers ≡ 16
-long s = search rules
+long : (w : After-weigh) → length w.args.cover.covers ≡ 16
+long w = search rules
 
 -- the weights of the column
-abbrev start : After-weigh → Start
-start w = w
+weighed : (w : After-weigh) → Weighed w.weigh.new.areas
+weighed w = weights_are w.args.rule w.column_areas.new.areas w.weigh.ensures
 
-weighed : (w : After-weigh) → Weighed w.weigh.new.0
-weighed w = weights_are (start w).args.rule w.column_areas.new.1.0 w.weigh.ensures
-
-weights-long : (w : After-weigh) → length w.weigh.new.0 ≡ 16
-weights-long w = column_long cpu 16 (start w).args.rule (start w).args.cover.covers (long (start w)) w.column_areas.ensures w.weigh.ensures
+weights-long : (w : After-weigh) → length w.weigh.new.areas ≡ 16
+weights-long w = column_long cpu 16 w.args.rule w.args.cover.covers (long w) w.column_areas.ensures w.weigh.ensures
 
 pub column_areas-requires : goal.column_areas-requires
-column_areas-requires c = sym (long (goal.at.column_areas-requires c).Start)
+column_areas-requires c = sym (search rules)
 
 pub weigh-requires : goal.weigh-requires
 weigh-requires c =
-    column_in_range cpu 16 c.args.cover.covers (long (goal.at.weigh-requires c).Start) c.requires.0 c.column_areas.ensures
+    column_in_range cpu 16 c.args.cover.covers (search rules) c.requires.0 c.column_areas.ensures
 
 pub write_coverages-requires : goal.write_coverages-requires
 write_coverages-requires c = (weighed (goal.at.write_coverages-requires c).After-weigh, omega (arith, weights-long (goal.at.write_coverages-requires c).After-weigh))
@@ -38,12 +35,12 @@ mark_of_column-requires c = (weighed (goal.at.mark_of_column-requires c).After-w
 
 pub returns : goal.returns
 returns c =
-    let s = start (goal.at.returns c).After-weigh in
+    let s = (goal.at.returns c).After-weigh in
     let q = c.write_coverages in
     let a = c.column_areas.ensures in
-    let e = length-map c.weigh.new.0 coverage_in ∙ weights-long (goal.at.returns c).After-weigh in
-    let l : length q.new.1.0 ≡ 16 = ap length (q.ensures ∙ over_whole (coverages_in c.weigh.new.0) _ (sym e)) ∙ e in (
+    let e = length-map c.weigh.new.areas coverage_in ∙ weights-long (goal.at.returns c).After-weigh in
+    let l : length q.new.plane ≡ 16 = ap length (q.ensures ∙ over_whole (coverages_in c.weigh.new.areas) _ (sym e)) ∙ e in (
       column_painted cpu 16 s.args.rule s.args.cover.covers (long s) a c.weigh.ensures _ s.args.plane.now refl q.ensures
-          (c.repeat_column.ensures ∙ ap (λ (k : ℕ). over (repeated k q.new.1.0) s.args.plane.now) l),
+          (c.repeat_column.ensures ∙ ap (λ (k : ℕ). over (repeated k q.new.plane) s.args.plane.now) l),
       c.mark_of_column.ensures ∙ ap mark_of (column_plane cpu 16 s.args.rule s.args.cover.covers (long s) a c.weigh.ensures),
     )

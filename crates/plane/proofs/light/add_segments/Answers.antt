@@ -4,7 +4,7 @@ use Rattle.laws.proofs.Prelude.{arith, rules, pos, length, get_or, to_z-of_z, w8
 use Rattle.pixel_segment.proofs.Widths.{cover_fits}
 use Rattle.plane.proofs.LightCells.{LightCells, cells_start, area_within, cover_within_lem, cells_next, cells_end}
 use Rattle.plane.proofs.light.add_segments.Goals as goal
-use Rattle.plane.proofs.light.add_segments.Goals.{After-cover_of-cover}
+use Rattle.plane.proofs.light.add_segments.Goals.{After-cover_of-cover, After-area_of}
 
 -- the cover as the definition has it, which fits eight bits
 narrow : (o : After-cover_of-cover) → SFits w8 (to_z w16 (of_z w16 o.cover_of-cover.result))

@@ -9,10 +9,10 @@ use Rattle.mark.proofs.Rests.{own_weights}
 use Rattle.plane.proofs.shade.paint_non_zero.Goals as goal
 use Rattle.plane.proofs.shade.paint_non_zero.Goals.{After-weigh_non_zero}
 
-weighed : (w : After-weigh_non_zero) → Weighed w.weigh_non_zero.new.0
+weighed : (w : After-weigh_non_zero) → Weighed w.weigh_non_zero.new.areas
 weighed w = weights_are NonZero w.args.areas.now w.weigh_non_zero.ensures
 
-weights-long : (w : After-weigh_non_zero) → length w.weigh_non_zero.new.0 ≡ length w.args.areas.now
+weights-long : (w : After-weigh_non_zero) → length w.weigh_non_zero.new.areas ≡ length w.args.areas.now
 weights-long w = ap length w.weigh_non_zero.ensures ∙ length-map w.args.areas.now (weight_in NonZero)
 
 pub weigh_non_zero-requires : goal.weigh_non_zero-requires
