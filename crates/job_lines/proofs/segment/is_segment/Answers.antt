@@ -1,6 +1,7 @@
 -- `is_segment` meets its contract: packing answers whether it takes the line's numbers, and where it does, 16 - y is a number. Assumes nothing.
 use Rattle.std.specs.Prelude.{◌≡◌, ◌<◌, ◌^◌}
 use Rattle.laws.proofs.Prelude.{ap, sym, ◌∙◌, true, rules, ℤ, pos, mag, w32, w64, SFits, to_z, of_z, to_z-of_z, sfits_widen, given, plus}
+use Rattle.laws.proofs.Prelude.{arith}
 use Rattle.laws.proofs.Prelude.{minus, kept}
 use mir.Val.{hbits}
 use Rattle.pixel_segment.specs.Field.{cpu}
@@ -28,28 +29,30 @@ judged : (c : After-pack-packed) → let s = c.args.s in
     packed_answer c.pack-packed.result ≡ pack_of cpu s.layer s.tile_x (pos 0) s.x s.y s.mult s.cover
 judged c =
     let s = c.args.s in
-    let t = c.type_inv.s in
     rw (
-      handed s.layer t.1.0.1,
-      handed s.tile_x t.0.1,
-      handed s.x t.1.1.0.1,
-      handed s.y t.1.1.1.0.1,
-      handed s.mult t.1.1.1.1.1.0.1,
-      handed s.cover t.1.1.1.1.1.1.0.1,
+      handed s.layer (omega arith),
+      handed s.tile_x (omega arith),
+      handed s.x (omega arith),
+      handed s.y (omega arith),
+      handed s.mult (omega arith),
+      handed s.cover (omega arith),
     ) at c.pack-packed.ensures.answer
 
 -- where it gives a word, it takes the line's numbers
 taken : (c : In-Segment) → let s = c.args.s in
-    is_packable cpu s.layer s.tile_x (pos 0) s.x s.y s.mult s.cover ≡ true
-taken c =
+    packed_answer c.pack-packed.result ≡ pack_of cpu s.layer s.tile_x (pos 0) s.x s.y s.mult s.cover
+    → is_packable cpu s.layer s.tile_x (pos 0) s.x s.y s.mult s.cover ≡ true
+taken c h =
     let s = c.args.s in
     (given_word cpu cpu_layout s.layer s.tile_x (pos 0) s.x s.y s.mult s.cover
-    (sym (judged c.before.before) ∙ ap packed_answer c.in-Segment.is)).0
+    (sym h ∙ ap packed_answer c.in-Segment.is)).0
 
-below : (c : In-Segment) → let y = c.args.s.y in (minus y ≡ 0) × (plus y < 16)
-below c =
+below : (c : In-Segment) → let s = c.args.s in
+    packed_answer c.pack-packed.result ≡ pack_of cpu s.layer s.tile_x (pos 0) s.x s.y s.mult s.cover
+    → (minus s.y ≡ 0) × (plus s.y < 16)
+below c h =
     let s = c.args.s in
-    (in_range_lem cpu cpu_layout s.layer s.tile_x (pos 0) s.x s.y s.mult s.cover (taken c)).local_y
+    (in_range_lem cpu cpu_layout s.layer s.tile_x (pos 0) s.x s.y s.mult s.cover (taken c h)).local_y
 
 pub overflow_cast-s : goal.overflow_cast-s
 overflow_cast-s c = widened c.args.s.layer c.type_inv.s.1.0.1
@@ -72,19 +75,18 @@ overflow_cast-s-6 c = widened c.args.s.cover c.type_inv.s.1.1.1.1.1.1.0.1
 pub overflow_sub-s : goal.overflow_sub-s
 overflow_sub-s c =
     let y = c.args.s.y in
-    rw (kept w32 y c.type_inv.s.1.1.1.0.1) (fits_below y (below (goal.at.overflow_sub-s c).In-Segment))
+    rw (kept w32 y c.type_inv.s.1.1.1.0.1) (fits_below y (below (goal.at.overflow_sub-s c).In-Segment (judged (goal.at.overflow_sub-s c).After-pack-packed)))
 
 pub returns-in-Segment : goal.returns-in-Segment
 unfolding segment_rule
 returns-in-Segment c =
     let s = c.args.s in
-    let t = c.type_inv.s in
     rw (
       c.is_within.ensures,
-      taken (goal.at.returns-in-Segment c).In-Segment,
-      kept w32 s.rows t.1.1.1.1.0.1,
-      kept w32 s.y t.1.1.1.0.1,
-      to_z-of_z (fits_below s.y (below (goal.at.returns-in-Segment c).In-Segment)),
+      taken (goal.at.returns-in-Segment c).In-Segment (judged (goal.at.returns-in-Segment c).After-pack-packed),
+      kept w32 s.rows (omega arith),
+      kept w32 s.y (omega arith),
+      to_z-of_z (fits_below s.y (below (goal.at.returns-in-Segment c).In-Segment (judged (goal.at.returns-in-Segment c).After-pack-packed))),
     )
 
 pub returns-in-FieldOutOfRange : goal.returns-in-FieldOutOfRange
