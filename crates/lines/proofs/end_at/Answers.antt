@@ -1,6 +1,5 @@
 -- `end_at` meets its contract.
 -- Assumes nothing.
-use Rattle.laws.proofs.Prelude.{rules}
 use Rattle.lines.proofs.Starting.{space}
 use Rattle.lines.proofs.end_at.Goals as goal
 

@@ -1,6 +1,5 @@
 -- `read_block` meets its contract: the two answers are laws of `Blocks`.
 -- Assumes nothing.
-use Rattle.laws.proofs.Prelude.{rules}
 use Rattle.lines.proofs.Blocks.{no_names, names_then}
 use Rattle.lines.proofs.read_block.Goals as goal
 

@@ -1,8 +1,8 @@
 -- `read_line` meets its contract. The invariant and its steps are those of `LineReading`; the measure is the fields left.
 -- Assumes nothing.
-use Rattle.laws.proofs.Prelude.{sym, ◌∙◌, arith, rules}
+use Rattle.laws.proofs.Prelude.{sym, ◌∙◌, arith}
 use Rattle.decimal.proofs.Signs.{kept}
-use Rattle.lines.proofs.LineReading.{LineReading, start, no_number, no_end, other_end, next_field, end}
+use Rattle.lines.proofs.LineReading.{start, no_number, no_end, other_end, next_field, end}
 use Rattle.lines.proofs.read_line.Goals as goal
 
 pub loop-left-init : goal.loop-left-init

@@ -1,6 +1,4 @@
-use Rattle.laws.proofs.Prelude.{sym, ◌∙◌, arith, rules}
-use Rattle.decimal.proofs.Signs.{kept}
-use Rattle.lines.proofs.LineReading.{LineReading, start, no_number, no_end, other_end, next_field, end}
+use Rattle.lines.proofs.LineReading.{LineReading}
 use Rattle.lines.proofs.read_line.Given as goal
 
 abbrev pub invariant-loop-left : goal.invariant-loop-left

@@ -1,7 +1,7 @@
 -- `read_lines` meets its contract. The invariant and its steps are those of `LinesReading`; the measure is the lines that may still come.
 -- Assumes nothing.
-use Rattle.laws.proofs.Prelude.{sym, ◌∙◌, arith, not-true, not-false, rules}
-use Rattle.lines.proofs.LinesReading.{LinesReading, start, room_line, no_number, cut, next_line, end}
+use Rattle.laws.proofs.Prelude.{sym, ◌∙◌, arith}
+use Rattle.lines.proofs.LinesReading.{start, room_line, no_number, cut, next_line, end}
 use Rattle.lines.proofs.read_lines.Goals as goal
 
 pub loop-left-init : goal.loop-left-init
@@ -17,7 +17,7 @@ pub read_line-requires : goal.read_line-requires
 read_line-requires c = (omega arith, room_line c.loop-left.invariant (omega arith))
 
 pub shape_of-out-in_default : goal.shape_of-out-in_default
-shape_of-out-in_default c = c.read_line.auto.1.1.1.0 ∙ c.loop-left.invariant.long
+shape_of-out-in_default c = c.read_line.auto.out ∙ c.loop-left.invariant.long
 
 pub returns-in_default : goal.returns-in_default
 returns-in_default c = cut c.loop-left.invariant (omega arith) (sym c.starts_number.ensures ∙ c.if-not-starts_number.false) (rw c.in_default.is at c.read_line.ensures)

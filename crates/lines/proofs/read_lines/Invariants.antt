@@ -1,5 +1,4 @@
-use Rattle.laws.proofs.Prelude.{sym, ◌∙◌, arith, not-true, not-false, rules}
-use Rattle.lines.proofs.LinesReading.{LinesReading, start, room_line, no_number, cut, next_line, end}
+use Rattle.lines.proofs.LinesReading.{LinesReading}
 use Rattle.lines.proofs.read_lines.Given as goal
 
 abbrev pub invariant-loop-left : goal.invariant-loop-left

@@ -1,6 +1,6 @@
 -- `starts_number` meets its contract: each answer is a law of `Starting`.
 -- Assumes nothing.
-use Rattle.laws.proofs.Prelude.{arith, rules}
+use Rattle.laws.proofs.Prelude.{arith}
 use Rattle.lines.proofs.Starting.{past, first}
 use Rattle.lines.proofs.starts_number.Goals as goal
 
