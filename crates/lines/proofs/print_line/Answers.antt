@@ -1,8 +1,7 @@
 -- `print_line` meets its contract. The invariant and its steps are those of `LinePrinting`; the measure is the fields left.
 -- Assumes nothing.
-use Rattle.std.specs.Prelude.{◌-◌}
-use Rattle.laws.proofs.Prelude.{arith, rules, length, w32, kept}
-use Rattle.lines.proofs.LinePrinting.{LinePrinting, start, next_field, end}
+use Rattle.laws.proofs.Prelude.{arith, w32, kept}
+use Rattle.lines.proofs.LinePrinting.{start, next_field, end}
 use Rattle.laws.proofs.Prelude.{get_or, pos}
 use Rattle.lines.proofs.print_line.Goals as goal
 

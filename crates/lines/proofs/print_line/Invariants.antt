@@ -1,6 +1,6 @@
 use Rattle.std.specs.Prelude.{◌-◌}
-use Rattle.laws.proofs.Prelude.{arith, rules, length, w32, kept}
-use Rattle.lines.proofs.LinePrinting.{LinePrinting, start, next_field, end}
+use Rattle.laws.proofs.Prelude.{length}
+use Rattle.lines.proofs.LinePrinting.{LinePrinting}
 use Rattle.lines.proofs.print_line.Given as goal
 
 abbrev pub invariant-loop-j : goal.invariant-loop-j

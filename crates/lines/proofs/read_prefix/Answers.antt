@@ -1,8 +1,7 @@
 -- `read_prefix` meets its contract. The invariant and its steps are those of `PrefixReading`; the measure is what is left of the prefix.
 -- Assumes nothing.
-use Rattle.std.specs.Prelude.{◌-◌}
-use Rattle.laws.proofs.Prelude.{arith, length}
-use Rattle.lines.proofs.PrefixReading.{PrefixReading, start, short, other, next, end}
+use Rattle.laws.proofs.Prelude.{arith}
+use Rattle.lines.proofs.PrefixReading.{start, short, other, next, end}
 use Rattle.lines.proofs.read_prefix.Goals as goal
 
 pub loop-j-init : goal.loop-j-init

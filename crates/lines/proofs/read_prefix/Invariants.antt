@@ -1,6 +1,6 @@
 use Rattle.std.specs.Prelude.{◌-◌}
-use Rattle.laws.proofs.Prelude.{arith, length}
-use Rattle.lines.proofs.PrefixReading.{PrefixReading, start, short, other, next, end}
+use Rattle.laws.proofs.Prelude.{length}
+use Rattle.lines.proofs.PrefixReading.{PrefixReading}
 use Rattle.lines.proofs.read_prefix.Given as goal
 
 abbrev pub invariant-loop-j : goal.invariant-loop-j

@@ -1,6 +1,6 @@
 -- `is_segment` meets its contract: packing answers whether it takes the line's numbers, and where it does, 16 - y is a number. Assumes nothing.
 use Rattle.std.specs.Prelude.{◌≡◌, ◌<◌, ◌^◌}
-use Rattle.laws.proofs.Prelude.{ap, sym, ◌∙◌, true, rules, ℤ, pos, mag, w32, w64, SFits, to_z, of_z, to_z-of_z, sfits_widen, given, plus}
+use Rattle.laws.proofs.Prelude.{ap, sym, ◌∙◌, true, ℤ, pos, mag, w32, w64, SFits, to_z, of_z, to_z-of_z, sfits_widen, plus}
 use Rattle.laws.proofs.Prelude.{arith}
 use Rattle.laws.proofs.Prelude.{minus, kept}
 use mir.Val.{hbits}
