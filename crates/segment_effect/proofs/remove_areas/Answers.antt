@@ -6,6 +6,7 @@ use Rattle.pixel_segment.proofs.Widths.{in_cover, area_le}
 use Rattle.segment_set_statements.proofs.Spreading.{spread_is}
 use Rattle.segment_set_statements.proofs.Wrapping.{opposite_fits}
 use Rattle.segment_effect.proofs.remove_areas.Goals as goal
+use Rattle.segment_effect.proofs.remove_areas.Goals.{After-double_area, After-past_cover}
 
 pub overflow_sub-double_area : goal.overflow_sub-double_area
 overflow_sub-double_area c =

@@ -6,7 +6,7 @@ use Rattle.segment_effect.proofs.spread.Given as goal
 
 abbrev pub invariant-loop-column : goal.invariant-loop-column
 invariant-loop-column l =
-    Spreading l.x l.y (to_z w16 l.own) (to_z w16 l.past) l.initial.areas l.column l.areas × (to_z w16 l.amount ≡ cond (eqb l.x l.column) (to_z w16 l.own) (to_z w16 l.past))
+    Spreading l.x l.y l.own l.past l.initial.areas l.column l.areas × (l.amount ≡ cond (eqb l.x l.column) l.own l.past)
 
 abbrev pub decreases-loop-column : goal.decreases-loop-column
 decreases-loop-column l = 16 - l.column

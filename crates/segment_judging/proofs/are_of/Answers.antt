@@ -13,4 +13,4 @@ loop-i-preserved c = test_next 0 c.loop-i.invariant (omega arith) c.is_of-ok.ens
 
 pub returns : goal.returns
 returns c =
-    rw (to_z-of_z c.ranges.tile_x, to_z-of_z c.ranges.tile_y) at (test_end c.loop-i.invariant (omega arith))
+    simp (to_z-of_z c.ranges.tile_x, to_z-of_z c.ranges.tile_y) at (test_end c.loop-i.invariant (omega arith))

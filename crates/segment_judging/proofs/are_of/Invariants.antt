@@ -5,7 +5,7 @@ use Rattle.segment_set_statements.specs.Set.{is_of}
 use Rattle.segment_judging.proofs.are_of.Given as goal
 
 abbrev pub invariant-loop-i : goal.invariant-loop-i
-invariant-loop-i l = Testing (is_of l.layer_id (to_z w16 l.tile_x) (to_z w16 l.tile_y)) l.part (length l.part) l.ok l.i
+invariant-loop-i l = Testing (is_of l.layer_id l.tile_x l.tile_y) l.part (length l.part) l.ok l.i
 
 abbrev pub decreases-loop-i : goal.decreases-loop-i
 decreases-loop-i l = length l.part - l.i

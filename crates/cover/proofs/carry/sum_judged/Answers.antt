@@ -26,11 +26,10 @@ judged s =
     ∙ loads_judge cpu 16 s.args.cover.covers s.args.part.now
 
 pub loop-i-init : goal.loop-i-init
-loop-i-init c =
-    (
-      load_start (search rules) (λ y h. light_at_lem c.args.incoming c.requires.1 y (omega arith)),
-      rows_start (search rules) c.requires.0.same,
-    )
+loop-i-init c = (
+  load_start (search rules) (λ y h. light_at_lem c.args.incoming c.requires.1 y (omega arith)),
+  rows_start (search rules) c.requires.0.same,
+)
 
 pub overflow_add-load : goal.overflow_add-load
 overflow_add-load c =
@@ -47,17 +46,16 @@ overflow_add-covers c =
     (small w8 _ (omega (arith, c.if-load-gt127.false, rows_fit c.loop-i.invariant.1 c.loop-i-test.true (omega arith) c.local_y-y.ensures (load (goal.at.overflow_add-covers c).After-cover_magnitude))))
 
 pub loop-i-preserved : goal.loop-i-preserved
-loop-i-preserved c =
-    (
-      load_next c.loop-i.invariant.0 c.loop-i-test.true (omega arith) c.local_y-y.ensures (load (goal.at.loop-i-preserved c).After-cover_magnitude) c.if-load-gt127.false,
-      rows_next c.loop-i.invariant.1 c.loop-i-test.true (omega arith) c.loop-i.invariant.0.long c.local_y-y.ensures (load (goal.at.loop-i-preserved c).After-cover_magnitude)
-          (rw (
-            to_z-of_z (overflow_add-covers c),
-            kept w8 (get_or c.loop-i.covers c.local_y-y.result (pos 0)) c.covers-in-loop-i-1.given,
-            kept w8 c.cover-own.result c.cover-own.type_inv,
-            c.cover-own.ensures,
-          )),
-    )
+loop-i-preserved c = (
+  load_next c.loop-i.invariant.0 c.loop-i-test.true (omega arith) c.local_y-y.ensures (load (goal.at.loop-i-preserved c).After-cover_magnitude) c.if-load-gt127.false,
+  rows_next c.loop-i.invariant.1 c.loop-i-test.true (omega arith) c.loop-i.invariant.0.long c.local_y-y.ensures (load (goal.at.loop-i-preserved c).After-cover_magnitude)
+      (rw (
+        to_z-of_z (overflow_add-covers c),
+        kept w8 (get_or c.loop-i.covers c.local_y-y.result (pos 0)) c.covers-in-loop-i-1.given,
+        kept w8 c.cover-own.result c.cover-own.type_inv,
+        c.cover-own.ensures,
+      )),
+)
 
 pub returns : goal.returns
 returns c =
