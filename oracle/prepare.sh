@@ -30,12 +30,12 @@ unpack() {
 mkdir -p ../target/oracle
 [ -f ../target/oracle/unpacked ] || (cd ../target/oracle && unpack)
 
-# proved FILE WORDS: the file that `rt WORDS` writes below target/, proved anew where a source is newer than it. What is said is shown only on failure.
+# proved FILE NAME: the file that `tools/build NAME` writes below target/, proved anew where a source is newer than it. What is said is shown only on failure.
 proved() {
   local file=target/$1 log=target/oracle/$2.log
   (
     cd ..
     [ -f "$file" ] && [ -z "$(find crates.txt crates/*/src crates/*/specs crates/*/proofs -newer "$file" -print -quit)" ] && exit
-    rt "${@:2}" >"$log" 2>&1 || { tail -n 20 "$log" >&2; exit 2; }
+    tools/build "$2" >"$log" 2>&1 || { tail -n 20 "$log" >&2; exit 2; }
   )
 }

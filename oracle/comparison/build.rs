@@ -1,4 +1,4 @@
-//! Links the static library that `rt staticlib ffi` writes.
+//! Links the static library that `tools/build ffi` writes.
 
 use std::{env, path::PathBuf};
 

@@ -158,7 +158,7 @@ pub fn printed(program: &str, text: &[u8]) -> (Vec<u8>, bool) {
         .stdin(Stdio::piped())
         .stdout(Stdio::piped())
         .spawn()
-        .expect("`rt check` builds the programs in target/bin");
+        .expect("`tools/build` builds the programs in target/bin");
     let mut input = child.stdin.take().unwrap();
     let output = thread::scope(|scope| {
         // The program need not read a text to its end, so the pipe may close before.
