@@ -1,5 +1,4 @@
 -- `full_cover_steps::bottom_of` meets its contract. Assumes nothing.
-use Rattle.laws.proofs.Prelude.{rules}
 use Rattle.pass_statements.proofs.Deciding.{bottom_kept, bottom_opaque, bottom_clear, bottom_paint}
 use Rattle.full_cover_steps.proofs.bottom_of.Goals as goal
 

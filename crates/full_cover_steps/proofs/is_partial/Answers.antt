@@ -1,5 +1,4 @@
 -- `full_cover_steps::is_partial` meets its contract. Assumes nothing.
-use Rattle.laws.proofs.Prelude.{rules}
 use Rattle.full_cover_steps.proofs.is_partial.Goals as goal
 
 pub returns : goal.returns

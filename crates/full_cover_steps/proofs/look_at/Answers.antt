@@ -1,5 +1,4 @@
 -- `full_cover_steps::look_at` meets its contract. Assumes nothing.
-use Rattle.laws.proofs.Prelude.{rules}
 use Rattle.pass_statements.proofs.Looks.{looked}
 use Rattle.full_cover_steps.proofs.look_at.Goals as goal
 

@@ -1,5 +1,4 @@
 -- `full_cover_steps::skip_to` meets its contract. Assumes nothing.
-use Rattle.laws.proofs.Prelude.{rules}
 use Rattle.full_cover_steps.proofs.skip_to.Goals as goal
 
 pub returns-then-hidden : goal.returns-then-hidden

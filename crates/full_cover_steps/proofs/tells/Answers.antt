@@ -1,5 +1,4 @@
 -- `full_cover_steps::tells` meets its contract. Assumes nothing.
-use Rattle.laws.proofs.Prelude.{rules}
 use Rattle.pass_statements.proofs.Looks.{tells_partial, tells_opaque, tells_nothing}
 use Rattle.full_cover_steps.proofs.tells.Goals as goal
 

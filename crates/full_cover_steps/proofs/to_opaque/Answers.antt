@@ -1,5 +1,5 @@
 -- `full_cover_steps::to_opaque` meets its contract. Assumes nothing.
-use Rattle.laws.proofs.Prelude.{sym, ap, rules}
+use Rattle.laws.proofs.Prelude.{sym, ap}
 use Rattle.styling.specs.declared.Paint.{Paint}
 use Rattle.styling.specs.Style.{color_in}
 use Rattle.pass_statements.specs.Covered.{opaque_of}

@@ -1,11 +1,7 @@
 -- `tile_unchanged::are_unchanged` meets its contract. Assumes nothing.
-use Rattle.std.specs.Prelude.{◌-◌}
-use Rattle.laws.proofs.Prelude.{ap, Bool, arith}
+use Rattle.laws.proofs.Prelude.{ap}
 use Rattle.layer_table.specs.Table.{table_of}
-use Rattle.cover_statements.proofs.Testing.{Testing, test_start, test_next, test_end}
-use Rattle.pass_statements.specs.declared.item.Item.{Item}
-use Rattle.pass_statements.specs.Entry.{entries_of}
-use Rattle.pass_statements.specs.Item.{items_of}
+use Rattle.cover_statements.proofs.Testing.{test_start, test_next, test_end}
 use Rattle.pass_statements.proofs.Listing.{length_items, item_read}
 use Rattle.tile_unchanged.proofs.are_unchanged.Invariants.{isUnchanged}
 use Rattle.tile_unchanged.proofs.are_unchanged.Goals as goal

@@ -1,11 +1,10 @@
 use Rattle.std.specs.Prelude.{◌-◌}
-use Rattle.laws.proofs.Prelude.{ap, Bool, arith}
+use Rattle.laws.proofs.Prelude.{Bool}
 use Rattle.layer_table.specs.Table.{table_of}
-use Rattle.cover_statements.proofs.Testing.{Testing, test_start, test_next, test_end}
+use Rattle.cover_statements.proofs.Testing.{Testing}
 use Rattle.pass_statements.specs.declared.item.Item.{Item}
 use Rattle.pass_statements.specs.Entry.{entries_of}
 use Rattle.pass_statements.specs.Item.{items_of}
-use Rattle.pass_statements.proofs.Listing.{length_items, item_read}
 use Rattle.tile_unchanged.proofs.are_unchanged.Given as goal
 
 abbrev pub isUnchanged : Item → Bool

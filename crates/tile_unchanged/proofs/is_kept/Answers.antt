@@ -1,5 +1,4 @@
 -- `tile_unchanged::is_kept` meets its contract. Assumes nothing.
-use Rattle.laws.proofs.Prelude.{rules}
 use Rattle.pass_statements.proofs.Keeping.{kept_all, kept_not}
 use Rattle.pass_statements.proofs.Listing.{length_items}
 use Rattle.tile_unchanged.proofs.is_kept.Goals as goal

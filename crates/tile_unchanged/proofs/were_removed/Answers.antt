@@ -1,5 +1,5 @@
 -- `tile_unchanged::were_removed` meets its contract. Assumes nothing.
-use Rattle.laws.proofs.Prelude.{sym, ap, rules}
+use Rattle.laws.proofs.Prelude.{sym, ap}
 use Rattle.pass_statements.specs.declared.unchanged.PreviousCount.{PreviousCount}
 use Rattle.pass_statements.specs.Unchanged.{were_removed}
 use Rattle.tile_unchanged.proofs.were_removed.Goals as goal

@@ -1,5 +1,4 @@
 -- `trivial_clip_steps::clip_step` meets its contract. Assumes nothing.
-use Rattle.laws.proofs.Prelude.{rules}
 use Rattle.pass_statements.proofs.Steps.{composed}
 use Rattle.trivial_clip_steps.proofs.clip_step.Goals as goal
 

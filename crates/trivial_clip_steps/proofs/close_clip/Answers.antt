@@ -1,5 +1,4 @@
 -- `trivial_clip_steps::close_clip` meets its contract. Assumes nothing.
-use Rattle.laws.proofs.Prelude.{rules}
 use Rattle.pass_statements.proofs.Steps.{stays_none, ends, goes_on}
 use Rattle.trivial_clip_steps.proofs.close_clip.Goals as goal
 

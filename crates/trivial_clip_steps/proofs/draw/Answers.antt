@@ -1,5 +1,4 @@
 -- `trivial_clip_steps::draw` meets its contract. Assumes nothing.
-use Rattle.laws.proofs.Prelude.{rules}
 use Rattle.pass_statements.proofs.Steps.{draws_clipped, draws_unclipped}
 use Rattle.trivial_clip_steps.proofs.draw.Goals as goal
 

@@ -1,5 +1,4 @@
 -- `trivial_clip_steps::draw_clipped` meets its contract. Assumes nothing.
-use Rattle.laws.proofs.Prelude.{rules}
 use Rattle.pass_statements.proofs.Steps.{no_clip, outside, inside}
 use Rattle.trivial_clip_steps.proofs.draw_clipped.Goals as goal
 

@@ -1,7 +1,6 @@
 -- `passes::clips::fill` meets its contract. Assumes nothing.
-use Rattle.std.specs.Prelude.{◌-◌}
 use Rattle.laws.proofs.Prelude.{arith}
-use Rattle.pass_statements.proofs.Columns.{Filling, column_start, column_next, column_long, column_end}
+use Rattle.pass_statements.proofs.Columns.{column_start, column_next, column_long, column_end}
 use Rattle.passes.proofs.clips.fill.Goals as goal
 
 pub loop-i-init : goal.loop-i-init

@@ -1,6 +1,5 @@
 use Rattle.std.specs.Prelude.{◌-◌}
-use Rattle.laws.proofs.Prelude.{arith}
-use Rattle.pass_statements.proofs.Columns.{Filling, column_start, column_next, column_long, column_end}
+use Rattle.pass_statements.proofs.Columns.{Filling}
 use Rattle.passes.proofs.clips.fill.Given as goal
 
 abbrev pub invariant-loop-i : goal.invariant-loop-i

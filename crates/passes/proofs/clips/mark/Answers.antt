@@ -1,5 +1,5 @@
 -- `passes::clips::mark` meets its contract. Assumes nothing.
-use Rattle.laws.proofs.Prelude.{refl, rules}
+use Rattle.laws.proofs.Prelude.{refl}
 use Rattle.pass_statements.proofs.Steps.{off_after}
 use Rattle.passes.proofs.clips.mark.Goals as goal
 

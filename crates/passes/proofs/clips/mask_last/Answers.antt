@@ -3,9 +3,6 @@ use Rattle.laws.proofs.Prelude.{rules}
 use Rattle.pass_statements.proofs.Steps.{last_active}
 use Rattle.passes.proofs.clips.mask_last.Goals as goal
 
-pub enum_told-1 : goal.enum_told-1
-enum_told-1 c = search rules
-
 pub enum_known-cur : goal.enum_known-cur
 enum_known-cur c = search rules
 

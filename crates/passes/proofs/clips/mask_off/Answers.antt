@@ -1,5 +1,4 @@
 -- `passes::clips::mask_off` meets its contract. Assumes nothing.
-use Rattle.laws.proofs.Prelude.{rules}
 use Rattle.pass_statements.proofs.Steps.{off_within, off_past}
 use Rattle.passes.proofs.clips.mask_off.Goals as goal
 

@@ -1,10 +1,7 @@
 -- `passes::clips::skip_trivial_clips_pass` meets its contract. Assumes nothing.
-use Rattle.std.specs.Prelude.{◌-◌}
 use Rattle.laws.proofs.Prelude.{◌∙◌, arith}
 use Rattle.layer_table.specs.Table.{table_of}
-use Rattle.pass_statements.specs.Entry.{entries_of}
-use Rattle.pass_statements.specs.Item.{items_of}
-use Rattle.pass_statements.proofs.Clipping.{Passing, pass_start, pass_next, pass_end, passed}
+use Rattle.pass_statements.proofs.Clipping.{pass_start, pass_next, pass_end, passed}
 use Rattle.pass_statements.proofs.Listing.{length_items, drop_items}
 use Rattle.passes.proofs.clips.skip_trivial_clips_pass.Goals as goal
 
@@ -23,7 +20,7 @@ item_at-x-requires c =
 
 pub mark-requires : goal.mark-requires
 mark-requires c =
-    omega (arith, c.loop-i-test.true, c.loop-i.invariant.unclipped_same, c.fill-2.auto.0, c.requires.3)
+    omega (arith, c.loop-i-test.true, c.loop-i.invariant.unclipped_same, c.fill-2.auto.column, c.requires.3)
 
 pub overflow_add-i : goal.overflow_add-i
 overflow_add-i c =
@@ -43,10 +40,10 @@ loop-i-preserved c =
     c.mark.ensures
 
 pub shape_of-unmasked : goal.shape_of-unmasked
-shape_of-unmasked c = c.mask_last.auto.0 ∙ c.loop-i.invariant.unmasked_same ∙ c.fill.auto.0
+shape_of-unmasked c = c.mask_last.auto.unmasked ∙ c.loop-i.invariant.unmasked_same ∙ c.fill.auto.column
 
 pub shape_of-unclipped : goal.shape_of-unclipped
-shape_of-unclipped c = c.loop-i.invariant.unclipped_same ∙ c.fill-2.auto.0
+shape_of-unclipped c = c.loop-i.invariant.unclipped_same ∙ c.fill-2.auto.column
 
 pub returns : goal.returns
 returns c =

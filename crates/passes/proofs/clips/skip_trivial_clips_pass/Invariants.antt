@@ -1,10 +1,8 @@
 use Rattle.std.specs.Prelude.{◌-◌}
-use Rattle.laws.proofs.Prelude.{◌∙◌, arith}
 use Rattle.layer_table.specs.Table.{table_of}
 use Rattle.pass_statements.specs.Entry.{entries_of}
 use Rattle.pass_statements.specs.Item.{items_of}
-use Rattle.pass_statements.proofs.Clipping.{Passing, pass_start, pass_next, pass_end, passed}
-use Rattle.pass_statements.proofs.Listing.{length_items, drop_items}
+use Rattle.pass_statements.proofs.Clipping.{Passing}
 use Rattle.passes.proofs.clips.skip_trivial_clips_pass.Given as goal
 
 abbrev pub invariant-loop-i : goal.invariant-loop-i

@@ -1,11 +1,8 @@
 -- `passes::covered::are_clips_unchanged` meets its contract. Assumes nothing.
-use Rattle.std.specs.Prelude.{◌-◌}
-use Rattle.laws.proofs.Prelude.{refl, ap, ◌∙◌, arith}
+use Rattle.laws.proofs.Prelude.{refl, ap, ◌∙◌}
 use Rattle.layer_table.specs.Table.{table_of}
-use Rattle.cover_statements.proofs.Testing.{Testing, test_start, test_next, test_end}
+use Rattle.cover_statements.proofs.Testing.{test_start, test_next, test_end}
 use Rattle.pass_statements.specs.Covered.{is_clip_unchanged}
-use Rattle.pass_statements.specs.Entry.{entries_of}
-use Rattle.pass_statements.specs.Item.{items_of}
 use Rattle.pass_statements.proofs.Listing.{length_items, item_read}
 use Rattle.passes.proofs.covered.are_clips_unchanged.Goals as goal
 

@@ -1,11 +1,9 @@
 use Rattle.std.specs.Prelude.{◌-◌}
-use Rattle.laws.proofs.Prelude.{refl, ap, ◌∙◌, arith}
 use Rattle.layer_table.specs.Table.{table_of}
-use Rattle.cover_statements.proofs.Testing.{Testing, test_start, test_next, test_end}
+use Rattle.cover_statements.proofs.Testing.{Testing}
 use Rattle.pass_statements.specs.Covered.{is_clip_unchanged}
 use Rattle.pass_statements.specs.Entry.{entries_of}
 use Rattle.pass_statements.specs.Item.{items_of}
-use Rattle.pass_statements.proofs.Listing.{length_items, item_read}
 use Rattle.passes.proofs.covered.are_clips_unchanged.Given as goal
 
 abbrev pub invariant-loop-i : goal.invariant-loop-i

@@ -1,5 +1,5 @@
 -- `passes::covered::is_clip_unchanged` meets its contract. Assumes nothing.
-use Rattle.laws.proofs.Prelude.{ap, ◌∙◌, rules}
+use Rattle.laws.proofs.Prelude.{ap, ◌∙◌}
 use Rattle.layer_table.specs.Table.{table_of}
 use Rattle.pass_statements.specs.declared.item.Item.{Item}
 use Rattle.pass_statements.specs.Clips.{is_clip}

@@ -1,10 +1,8 @@
 -- `passes::covered::skip_fully_covered_layers_pass` meets its contract. Assumes nothing.
 use Rattle.std.specs.Prelude.{◌-◌}
-use Rattle.laws.proofs.Prelude.{arith, rules}
+use Rattle.laws.proofs.Prelude.{arith}
 use Rattle.layer_table.specs.Table.{table_of}
-use Rattle.pass_statements.specs.Entry.{entries_of}
-use Rattle.pass_statements.specs.Item.{items_of}
-use Rattle.pass_statements.proofs.Covering.{Looking, look_start, look_masked, look_next, look_found, look_end}
+use Rattle.pass_statements.proofs.Covering.{look_start, look_masked, look_next, look_found, look_end}
 use Rattle.pass_statements.proofs.Listing.{length_items, item_read}
 use Rattle.passes.proofs.covered.skip_fully_covered_layers_pass.Goals as goal
 

@@ -1,10 +1,7 @@
-use Rattle.std.specs.Prelude.{◌-◌}
-use Rattle.laws.proofs.Prelude.{arith, rules}
 use Rattle.layer_table.specs.Table.{table_of}
 use Rattle.pass_statements.specs.Entry.{entries_of}
 use Rattle.pass_statements.specs.Item.{items_of}
-use Rattle.pass_statements.proofs.Covering.{Looking, look_start, look_masked, look_next, look_found, look_end}
-use Rattle.pass_statements.proofs.Listing.{length_items, item_read}
+use Rattle.pass_statements.proofs.Covering.{Looking}
 use Rattle.passes.proofs.covered.skip_fully_covered_layers_pass.Given as goal
 
 abbrev pub invariant-loop-i : goal.invariant-loop-i

@@ -1,5 +1,4 @@
 -- `passes::covered::start` meets its contract. Assumes nothing.
-use Rattle.laws.proofs.Prelude.{rules}
 use Rattle.passes.proofs.covered.start.Goals as goal
 
 pub returns-then-removed : goal.returns-then-removed

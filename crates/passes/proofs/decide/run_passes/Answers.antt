@@ -1,5 +1,4 @@
 -- `passes::decide::run_passes`  meets its contract. Assumes nothing.
-use Rattle.laws.proofs.Prelude.{rules}
 use Rattle.layer_table.specs.Table.{table_of}
 use Rattle.pass_statements.specs.Entry.{entries_of}
 use Rattle.pass_statements.specs.Item.{items_of}

@@ -1,5 +1,5 @@
 -- `tile_unchanged::item::item_at` meets its contract. Assumes nothing.
-use Rattle.laws.proofs.Prelude.{sym, ◌∙◌, arith, rules}
+use Rattle.laws.proofs.Prelude.{sym, ◌∙◌, arith}
 use Rattle.layer_table.specs.Table.{table_of}
 use Rattle.layer_table.proofs.Looking.{at_place, at_none}
 use Rattle.pass_statements.specs.Entry.{entry_at}

@@ -1,5 +1,4 @@
 -- `tile_unchanged::item::item_for` meets its contract. Assumes nothing.
-use Rattle.laws.proofs.Prelude.{rules}
 use Rattle.tile_unchanged.proofs.item.item_for.Goals as goal
 
 pub returns : goal.returns
