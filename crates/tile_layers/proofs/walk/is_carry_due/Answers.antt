@@ -1,5 +1,5 @@
 -- `walk::is_carry_due` meets its contract. Assumes nothing.
-use Rattle.laws.proofs.Prelude.{rules, lt-ltb, le-ltb}
+use Rattle.laws.proofs.Prelude.{lt-ltb, le-ltb}
 use Rattle.tile_layers.proofs.walk.is_carry_due.Goals as goal
 
 pub returns-then-i-n : goal.returns-then-i-n
