@@ -9,7 +9,7 @@ use Rattle.cover_statements.proofs.Areas.{area_weight}
 use Rattle.cover_statements.proofs.Judging.{Loaded, Summed, load_start, load_next, load_refused, load_accepted, sum_zeros, sum_fits, sum_next, sum_whole}
 use Rattle.cover_statements.proofs.Loads.{light_at_lem}
 use Rattle.cover_gpu.proofs.area.acc_segments.Goals as goal
-use Rattle.cover_gpu.proofs.area.acc_segments.Goals.{After-magnitude}
+use Rattle.cover_gpu.proofs.area.acc_segments.Goals.{After-magnitude, After-area_of}
 
 -- the word, its load as the definition has it, and the cover's own weight
 abbrev word : (m : After-magnitude) → ℕ
@@ -29,12 +29,11 @@ cover_weight : (w : ℕ) → nat_abs (cover_of gpu w) ≤ 1 * abs_cover gpu w
 cover_weight w = omega arith
 
 pub loop-i-init : goal.loop-i-init
-loop-i-init c =
-    (
-      load_start (search rules) (λ y h. light_at_lem c.args.incoming c.requires.0 y (omega arith)),
-      sum_zeros c.requires.1,
-      sum_zeros c.requires.2,
-    )
+loop-i-init c = (
+  load_start (search rules) (λ y h. light_at_lem c.args.incoming c.requires.0 y (omega arith)),
+  sum_zeros c.requires.1,
+  sum_zeros c.requires.2,
+)
 
 pub overflow_add-load : goal.overflow_add-load
 overflow_add-load c =

@@ -6,14 +6,14 @@ use Rattle.cover_gpu.proofs.area.area_of.Goals as goal
 
 pub overflow_mul-result : goal.overflow_mul-result
 unfolding double_area_of
-overflow_mul-result c =    let w = c.args.segment.0 in
+overflow_mul-result c = let w = c.args.segment.0 in
     rw
     (c.double_area_multiplier.ensures, to_z_pos w16 {n = multiplier_of gpu w} (omega arith), to_z-of_z c.ranges.cover, c.requires)
     (area_fits_at 2 w)
 
 pub returns : goal.returns
 unfolding double_area_of
-returns c =    let w = c.args.segment.0 in
+returns c = let w = c.args.segment.0 in
     to_z-of_z (overflow_mul-result c)
     ∙ rw
     (c.double_area_multiplier.ensures, to_z_pos w16 {n = multiplier_of gpu w} (omega arith), to_z-of_z c.ranges.cover, c.requires)

@@ -7,7 +7,7 @@ use Rattle.cover_statements.specs.InnerCell.{no_cells}
 use Rattle.cover_statements.specs.InnerLoad.{loads_of, all_light}
 use Rattle.cover_statements.proofs.Loads.{loads_judge, incoming_heavy}
 use Rattle.cover_gpu.proofs.area.judged_areas.Goals as goal
-use Rattle.cover_gpu.proofs.area.judged_areas.Goals.{After-acc_segments, Else-not-acc_segments}
+use Rattle.cover_gpu.proofs.area.judged_areas.Goals.{After-acc_segments}
 
 -- what the pass says is number 9
 judged : (a : After-acc_segments) → a.acc_segments.result ≡ is_light gpu 4 a.args.cover.covers a.args.part.now
@@ -16,8 +16,8 @@ judged a =
     ∙ ap (λ (l : List ℕ). all_light (loads_of gpu 4 l a.args.part.now)) a.magnitudes-loads.ensures.same
     ∙ loads_judge gpu 4 a.args.cover.covers a.args.part.now
 
-accepted : (c : Else-not-acc_segments) → is_light gpu 4 c.args.cover.covers c.args.part.now ≡ true
-accepted c = sym (judged c.before) ∙ c.if-not-acc_segments.false
+accepted : (a : After-acc_segments) → a.acc_segments.result ≡ true → is_light gpu 4 a.args.cover.covers a.args.part.now ≡ true
+accepted a h = sym (judged a) ∙ h
 
 pub returns-then-not-are_light : goal.returns-then-not-are_light
 returns-then-not-are_light c =
@@ -39,11 +39,11 @@ returns-then-not-acc_segments c = record { light = sym (c.if-not-acc_segments.tr
 
 pub sum_rows-requires : goal.sum_rows-requires
 sum_rows-requires c =
-    record { part = _; cells = c.acc_segments.ensures.sums (c.if-not-acc_segments.false); light = accepted (goal.at.sum_rows-requires c).Else-not-acc_segments }
+    record { part = _; cells = c.acc_segments.ensures.sums (c.if-not-acc_segments.false); light = accepted (goal.at.sum_rows-requires c).After-acc_segments c.if-not-acc_segments.false }
 
 pub returns : goal.returns
 returns c =
     record {
-      light = sym (accepted (goal.at.returns c).Else-not-acc_segments);
+      light = sym (accepted (goal.at.returns c).After-acc_segments c.if-not-acc_segments.false);
       areas_are = λ t. c.sum_rows.ensures.areas_are _ (c.acc_segments.ensures.sums (c.if-not-acc_segments.false));
     }

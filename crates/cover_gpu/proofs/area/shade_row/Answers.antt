@@ -16,7 +16,7 @@ low w = omega arith
 
 -- the sum of the row's columns passed, and the pixel
 abbrev sum_of : (c : In-loop-x) → ℤ
-sum_of c = to_z w8 c.loop-x.sum
+sum_of c = to_z w8 c.loop-x.sum-bits
 
 abbrev own_of : (c : In-loop-x) → ℤ
 own_of c = cover_at c.loop-x.areas (c.loop-x.x * 4 + c.args.y)
@@ -33,6 +33,13 @@ fitting c =
 scaled : (c : In-loop-x) → SFits w16 (pos 32 *ℤ sum_of c)
 scaled c = sfits w16 (pos 32 *ℤ sum_of c) (omega (arith, times 32 (sum_of c), whole (sum_of c), (fitting c).now_fits))
 
+-- the sum at 16 bits, and with the pixel's covers
+wide : (c : In-loop-x) → SFits w16 (sum_of c)
+wide c = small w16 (sum_of c) (omega (arith, (fitting c).now_fits))
+
+next_in : (c : In-loop-x) → SFits w8 (sum_of c +ℤ cell-of c)
+next_in c = small w8 _ (omega (arith, (fitting c).next_fits))
+
 pub loop-x-init : goal.loop-x-init
 loop-x-init c = (omega arith, λ cs part e d. (d, first_sum gpu part c.args.y (to_z w8 (of_z w8 c.args.cover))))
 
@@ -47,13 +54,16 @@ bounds-covers-k c = omega (arith, c.requires.low)
 
 pub overflow_add-next : goal.overflow_add-next
 overflow_add-next c =
-    rw (kept w8 (cell-of (goal.at.overflow_add-next c).In-loop-x) c.next-1.given) (small w8 _ (omega (arith, (fitting (goal.at.overflow_add-next c).In-loop-x).next_fits)))
+    let l = (goal.at.overflow_add-next c).In-loop-x in
+    rw (kept w8 (cell-of l) c.next-1.given) (next_in l)
 
 pub overflow_cast-areas : goal.overflow_cast-areas
-overflow_cast-areas c = small w16 (sum_of (goal.at.overflow_cast-areas c).In-loop-x) (omega (arith, (fitting (goal.at.overflow_cast-areas c).In-loop-x).now_fits))
+overflow_cast-areas c = wide (goal.at.overflow_cast-areas c).In-loop-x
 
 pub overflow_mul-areas : goal.overflow_mul-areas
-overflow_mul-areas c = rw (to_z-of_z (overflow_cast-areas c)) (scaled (goal.at.overflow_mul-areas c).In-loop-x)
+overflow_mul-areas c =
+    let l = (goal.at.overflow_mul-areas c).In-loop-x in
+    rw (to_z-of_z (wide l)) (scaled l)
 
 pub offset_bounds-areas-k : goal.offset_bounds-areas-k
 offset_bounds-areas-k c = omega (arith, c.requires.low)
@@ -63,8 +73,8 @@ bounds-areas-k c = omega (arith, c.requires.low)
 
 pub overflow_add-areas : goal.overflow_add-areas
 overflow_add-areas c =
-    rw (to_z-of_z (overflow_cast-areas (goal.at.overflow_add-areas c).After-next-1), to_z-of_z (scaled (goal.at.overflow_add-areas c).In-loop-x), kept w16 (own_of (goal.at.overflow_add-areas c).In-loop-x) c.areas-1.given)
-    (small w16 _ (omega (arith, (fitting (goal.at.overflow_add-areas c).In-loop-x).d_fits)))
+    let l = (goal.at.overflow_add-areas c).In-loop-x in
+    rw (to_z-of_z (wide l), to_z-of_z (scaled l), kept w16 (own_of l) c.areas-1.given) (small w16 _ (omega (arith, (fitting l).d_fits)))
 
 pub offset_bounds-areas-k-in-loop-x : goal.offset_bounds-areas-k-in-loop-x
 offset_bounds-areas-k-in-loop-x c = omega (arith, c.requires.low)
@@ -74,14 +84,13 @@ bounds-areas-k-in-loop-x c = omega (arith, c.requires.low)
 
 pub loop-x-preserved : goal.loop-x-preserved
 loop-x-preserved c =
-    (
+    let l = (goal.at.loop-x-preserved c).In-loop-x in (
       omega arith,
       λ cs part e d.
           let q = c.loop-x.invariant.1 cs part e d in (
             row_next low c.args.y c.loop-x.x q.0 c.requires.low c.loop-x-test.true e q.1 refl
-                (rw (to_z-of_z (overflow_add-areas c), to_z-of_z (overflow_cast-areas (goal.at.loop-x-preserved c).After-next-1), to_z-of_z (scaled (goal.at.loop-x-preserved c).In-loop-x), kept w16 (own_of (goal.at.loop-x-preserved c).In-loop-x) c.areas-1.given) refl),
-            to_z-of_z (overflow_add-next (goal.at.loop-x-preserved c).After-next-1)
-                ∙ rw (kept w8 (cell-of (goal.at.loop-x-preserved c).In-loop-x) c.next-1.given) (sum_is low c.args.y c.loop-x.x q.0 c.requires.low c.loop-x-test.true e q.1),
+                (rw (to_z-of_z (overflow_add-areas c), to_z-of_z (wide l), to_z-of_z (scaled l), kept w16 (own_of l) c.areas-1.given) refl),
+            rw (kept w8 (cell-of l) c.next-1.given, to_z-of_z (next_in l)) (sum_is low c.args.y c.loop-x.x q.0 c.requires.low c.loop-x-test.true e q.1),
           ),
     )
 

@@ -13,7 +13,7 @@ use Rattle.cover_gpu.proofs.area.shade_row.Given as goal
 abbrev pub invariant-loop-x : goal.invariant-loop-x
 invariant-loop-x l =
     (l.x ≤ 16)
-    × ((cs : List ℤ) (part : List ℕ) → cover_at cs l.y ≡ to_z w8 l.cover → RowsDone gpu 4 cs part l.covers l.y 0 l.initial.areas → RowsDone gpu 4 cs part l.covers l.y l.x l.areas × (to_z w8 l.sum ≡ to_z w8 l.cover +ℤ cover_before gpu l.x l.y part))
+    × ((cs : List ℤ) (part : List ℕ) → cover_at cs l.y ≡ l.cover → RowsDone gpu 4 cs part l.covers l.y 0 l.initial.areas → RowsDone gpu 4 cs part l.covers l.y l.x l.areas × (l.sum ≡ l.cover +ℤ cover_before gpu l.x l.y part))
 
 abbrev pub decreases-loop-x : goal.decreases-loop-x
 decreases-loop-x l = 16 - l.x

@@ -16,18 +16,17 @@ shade_row-requires c =
     record {
       low = c.loop-y-test.true;
       part = c.requires.part;
-      covers = c.args.t3;
-      cover_is = sym (kept w8 (cover_at c.args.t3 c.loop-y.y) c.shade_row-arg-in-loop-y-1.given);
+      covers = c.args.incoming;
+      cover_is = sym (kept w8 (cover_at c.args.incoming c.loop-y.y) c.shade_row-arg-in-loop-y-1.given);
       light = c.requires.light;
       done = c.loop-y.invariant.1 c.requires.part c.requires.cells;
     }
 
 pub loop-y-preserved : goal.loop-y-preserved
-loop-y-preserved c =
-    (
-      omega arith,
-      λ part a. c.shade_row.ensures.done c.args.t3 part (sym (kept w8 (cover_at c.args.t3 c.loop-y.y) c.shade_row-arg-in-loop-y-1.given)) (c.loop-y.invariant.1 part a),
-    )
+loop-y-preserved c = (
+  omega arith,
+  λ part a. c.shade_row.ensures.done c.args.incoming part (sym (kept w8 (cover_at c.args.incoming c.loop-y.y) c.shade_row-arg-in-loop-y-1.given)) (c.loop-y.invariant.1 part a),
+)
 
 pub returns : goal.returns
 returns c =

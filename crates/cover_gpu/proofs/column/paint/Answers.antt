@@ -7,37 +7,34 @@ use Rattle.cover_statements.proofs.Filled.{over_whole}
 use Rattle.cover_statements.proofs.Repeats.{column_in_range, column_long, column_painted}
 use Rattle.cover_statements.proofs.Weighings.{weights_are}
 use Rattle.cover_gpu.proofs.column.paint.Goals as goal
-use Rattle.cover_gpu.proofs.column.paint.Goals.{After-weigh, Start}
+use Rattle.cover_gpu.proofs.column.paint.Goals.{After-weigh}
 
-long : (s : Start) → length s.args.cover.covers ≡ 4
-long s = search rules
+long : (w : After-weigh) → length w.args.cover.covers ≡ 4
+long w = search rules
 
 -- the weights of the column
-abbrev start : After-weigh → Start
-start w = w
+weighed : (w : After-weigh) → Weighed w.weigh.new.areas
+weighed w = weights_are w.args.rule w.column_areas.new.areas w.weigh.ensures
 
-weighed : (w : After-weigh) → Weighed w.weigh.new.0
-weighed w = weights_are (start w).args.rule w.column_areas.new.1.0 w.weigh.ensures
-
-weights-long : (w : After-weigh) → length w.weigh.new.0 ≡ 4
-weights-long w = column_long gpu 4 (start w).args.rule (start w).args.cover.covers (long (start w)) w.column_areas.ensures w.weigh.ensures
+weights-long : (w : After-weigh) → length w.weigh.new.areas ≡ 4
+weights-long w = column_long gpu 4 w.args.rule w.args.cover.covers (long w) w.column_areas.ensures w.weigh.ensures
 
 pub column_areas-requires : goal.column_areas-requires
-column_areas-requires c = sym (long (goal.at.column_areas-requires c).Start)
+column_areas-requires c = sym (search rules)
 
 pub weigh-requires : goal.weigh-requires
 weigh-requires c =
-    column_in_range gpu 4 c.args.cover.covers (long (goal.at.weigh-requires c).Start) c.requires.0 c.column_areas.ensures
+    column_in_range gpu 4 c.args.cover.covers (search rules) c.requires.0 c.column_areas.ensures
 
 pub write_coverages-requires : goal.write_coverages-requires
 write_coverages-requires c = (weighed (goal.at.write_coverages-requires c).After-weigh, omega (arith, weights-long (goal.at.write_coverages-requires c).After-weigh))
 
 pub returns : goal.returns
 returns c =
-    let s = start (goal.at.returns c).After-weigh in
+    let s = (goal.at.returns c).After-weigh in
     let q = c.write_coverages in
     let a = c.column_areas.ensures in
-    let e = length-map c.weigh.new.0 coverage_in ∙ weights-long (goal.at.returns c).After-weigh in
-    let l : length q.new.1.0 ≡ 4 = ap length (q.ensures ∙ over_whole (coverages_in c.weigh.new.0) _ (sym e)) ∙ e in
+    let e = length-map c.weigh.new.areas coverage_in ∙ weights-long (goal.at.returns c).After-weigh in
+    let l : length q.new.plane ≡ 4 = ap length (q.ensures ∙ over_whole (coverages_in c.weigh.new.areas) _ (sym e)) ∙ e in
     column_painted gpu 4 s.args.rule s.args.cover.covers (long s) a c.weigh.ensures _ s.args.plane.now refl q.ensures
-    (c.repeat_column.ensures ∙ ap (λ (k : ℕ). over (repeated k q.new.1.0) s.args.plane.now) l)
+    (c.repeat_column.ensures ∙ ap (λ (k : ℕ). over (repeated k q.new.plane) s.args.plane.now) l)

@@ -1,6 +1,6 @@
 -- `painting::paint_judged` meets its contract. Assumes nothing.
 use Rattle.std.specs.Prelude.{◌≡◌, ◌∷◌}
-use Rattle.laws.proofs.Prelude.{refl, sym, ap, ◌∙◌, true, List, [], ℕ, arith, not-true, not-false, rules, Float, nan, length, length-map}
+use Rattle.laws.proofs.Prelude.{refl, sym, ap, ◌∙◌, true, List, [], ℕ, arith, not-true, not-false, rules, Float, ℤ, nan, length, length-map}
 use Rattle.laws.proofs.Prelude.{over}
 use Rattle.pixel_segment.specs.Field.{gpu}
 use Rattle.cover_statements.specs.Area.{areas_of}
@@ -13,36 +13,33 @@ use Rattle.cover_statements.proofs.Planes.{areas_length, areas_in_range, plane_o
 use Rattle.cover_statements.proofs.Weighings.{weights_are, coverages_are}
 use Rattle.cover_gpu.proofs.Paintings.{gpu_heavy, gpu_done}
 use Rattle.cover_gpu.proofs.painting.paint_judged.Goals as goal
-use Rattle.cover_gpu.proofs.painting.paint_judged.Goals.{After-weigh, Else-not-judged_areas}
+use Rattle.cover_gpu.proofs.painting.paint_judged.Goals.{After-weigh}
 
 none : (l : List ℕ) → length l ≡ 0 → l ≡ []
 none [] e = refl
 none (x ∷ xs) e = absurd (omega arith)
 
+areas_long : (cs : List ℤ) (part : List ℕ) (areas : List ℤ) → areas ≡ areas_of gpu 4 (cover_at cs) part → length areas ≡ 64
+areas_long cs part areas e = ap length e ∙ areas_length gpu 4 (cover_at cs) part
+
 -- a part that number 9 does not refuse, and its areas
-accepted : (c : Else-not-judged_areas) → is_light gpu 4 c.args.cover.covers c.args.part.now ≡ true
-accepted c = sym c.judged_areas.ensures.light ∙ c.if-not-judged_areas.false
+areas_are : (w : After-weigh) → w.judged_areas.new.areas ≡ areas_of gpu 4 (cover_at w.args.cover.covers) w.args.part.now
+areas_are w = w.judged_areas.ensures.areas_are w.if-not-judged_areas.false
 
-areas_are : (c : Else-not-judged_areas) → c.judged_areas.new.1.1.0 ≡ areas_of gpu 4 (cover_at c.args.cover.covers) c.args.part.now
-areas_are c = c.judged_areas.ensures.areas_are (c.if-not-judged_areas.false)
-
-areas_long : (c : Else-not-judged_areas) → length c.judged_areas.new.1.1.0 ≡ 64
-areas_long c = ap length (areas_are c) ∙ areas_length gpu 4 (cover_at c.args.cover.covers) c.args.part.now
-
-weights-long : (w : After-weigh) → length w.weigh.new.0 ≡ 64
+weights-long : (w : After-weigh) → length w.weigh.new.areas ≡ 64
 weights-long w =
-    ap length w.weigh.ensures ∙ length-map w.judged_areas.new.1.1.0 (weight_in w.args.rule) ∙ areas_long w.before.before
+    ap length w.weigh.ensures ∙ length-map w.judged_areas.new.areas (weight_in w.args.rule) ∙ areas_long w.args.cover.covers w.args.part.now _ (areas_are w)
 
-weighed : (w : After-weigh) → Weighed w.weigh.new.0
-weighed w = weights_are w.args.rule w.judged_areas.new.1.1.0 w.weigh.ensures
+weighed : (w : After-weigh) → Weighed w.weigh.new.areas
+weighed w = weights_are w.args.rule w.judged_areas.new.areas w.weigh.ensures
 
 -- the coverages of the weights are the plane
-plane_is : (w : After-weigh) → weights_plane 4 w.weigh.new.0 ≡ plane_of gpu 4 w.args.rule (cover_at w.args.cover.covers) w.args.part.now
+plane_is : (w : After-weigh) → weights_plane 4 w.weigh.new.areas ≡ plane_of gpu 4 w.args.rule (cover_at w.args.cover.covers) w.args.part.now
 plane_is w =
     ap (exchange nan 4)
     (ap coverages_in w.weigh.ensures
-    ∙ coverages_are w.args.rule w.judged_areas.new.1.1.0
-    ∙ ap (coverages_of w.args.rule) (areas_are w.before.before))
+    ∙ coverages_are w.args.rule w.judged_areas.new.areas
+    ∙ ap (coverages_of w.args.rule) (areas_are w))
     ∙ plane_of_areas gpu 4 w.args.rule (cover_at w.args.cover.covers) w.args.part.now nan
 
 pub returns-then-not-is_light : goal.returns-then-not-is_light
@@ -66,11 +63,11 @@ pub returns-then-not-judged_areas : goal.returns-then-not-judged_areas
 returns-then-not-judged_areas c = gpu_heavy c.requires (sym c.judged_areas.ensures.light ∙ c.if-not-judged_areas.true)
 
 pub slice_bounds-weigh-end : goal.slice_bounds-weigh-end
-slice_bounds-weigh-end c = sym (areas_long (goal.at.slice_bounds-weigh-end c).Else-not-judged_areas)
+slice_bounds-weigh-end c = sym (areas_long c.args.cover.covers c.args.part.now _ (c.judged_areas.ensures.areas_are c.if-not-judged_areas.false))
 
 pub weigh-requires : goal.weigh-requires
 weigh-requires c =
-    areas_in_range gpu 4 c.args.cover.covers c.args.part.now refl (accepted (goal.at.weigh-requires c).Else-not-judged_areas) (areas_are (goal.at.weigh-requires c).Else-not-judged_areas)
+    areas_in_range gpu 4 c.args.cover.covers c.args.part.now refl (sym c.judged_areas.ensures.light ∙ c.if-not-judged_areas.false) (c.judged_areas.ensures.areas_are c.if-not-judged_areas.false)
 
 pub write_plane-requires : goal.write_plane-requires
 write_plane-requires c =
@@ -78,5 +75,5 @@ write_plane-requires c =
 
 pub returns : goal.returns
 returns c =
-    gpu_done c.requires (accepted (goal.at.returns c).Else-not-judged_areas)
+    gpu_done c.requires (sym c.judged_areas.ensures.light ∙ c.if-not-judged_areas.false)
     (c.write_plane.ensures ∙ ap (λ (l : List Float). over l c.args.plane.now) (plane_is (goal.at.returns c).After-weigh))
