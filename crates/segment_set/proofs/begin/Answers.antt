@@ -5,9 +5,9 @@ use Rattle.refusals.specs.Refusal.{Judgement, judgement_in}
 use Rattle.segment_set_statements.specs.Set.{Beginning, state, nothing, beginning, begin_verdict, fresh_state, settled}
 use Rattle.segment_set_statements.specs.declared.SegmentSet.{SegmentSet}
 use Rattle.segment_set.proofs.begin.Goals as goal
-use Rattle.segment_set.proofs.begin.Goals.{After-judge_beginning, Start}
+use Rattle.segment_set.proofs.begin.Goals.{After-judge_beginning}
 
-called : Start → Beginning
+called : After-judge_beginning → Beginning
 called s = beginning s.args.layer_id s.args.tile_x s.args.tile_y s.args.cover.covers s.args.part.now
 
 told : (c : After-judge_beginning) → judgement_in c.judge_beginning.result ≡ begin_verdict (called c) c.args.slots.now c.args.areas.now
@@ -27,7 +27,7 @@ returns-in-Refuse c =
     let e = sym (told (goal.at.returns-in-Refuse c).After-judge_beginning) ∙ ap judgement_in c.in-Refuse.is in
     record {
       answer = sym e;
-      leaves = ap (λ (r : SegmentSet). state r c.args.slots.now c.args.areas.now) c.empty_set.ensures ∙ sym (ap (λ (j : Judgement). settled j (fresh_state (called (goal.at.returns-in-Refuse c).Start) c.args.slots.now c.args.areas.now) (state nothing c.args.slots.now c.args.areas.now)) e);
+      leaves = ap (λ (r : SegmentSet). state r c.args.slots.now c.args.areas.now) c.empty_set.ensures ∙ sym (ap (λ (j : Judgement). settled j (fresh_state (called (goal.at.returns-in-Refuse c).After-judge_beginning) c.args.slots.now c.args.areas.now) (state nothing c.args.slots.now c.args.areas.now)) e);
     }
 
 pub returns-in-Pass : goal.returns-in-Pass
@@ -36,5 +36,5 @@ returns-in-Pass c =
     let e = sym (told (goal.at.returns-in-Pass c).After-judge_beginning) ∙ ap judgement_in c.in-Pass.is in
     record {
       answer = sym e;
-      leaves = rw (to_z-of_z c.ranges.tile_x, to_z-of_z c.ranges.tile_y) at c.begin_with.ensures ∙ sym (ap (λ (j : Judgement). settled j (fresh_state (called (goal.at.returns-in-Pass c).Start) c.args.slots.now c.args.areas.now) (state nothing c.args.slots.now c.args.areas.now)) e);
+      leaves = rw (to_z-of_z c.ranges.tile_x, to_z-of_z c.ranges.tile_y) at c.begin_with.ensures ∙ sym (ap (λ (j : Judgement). settled j (fresh_state (called (goal.at.returns-in-Pass c).After-judge_beginning) c.args.slots.now c.args.areas.now) (state nothing c.args.slots.now c.args.areas.now)) e);
     }

@@ -5,9 +5,9 @@ use Rattle.refusals.specs.Refusal.{Judgement, pass, judgement_in}
 use Rattle.segment_set_statements.specs.Set.{SetState, state, let_verdict, let_out, settled}
 use Rattle.segment_set_statements.proofs.Letting.{let_judged, let_ready}
 use Rattle.segment_set.proofs.let_out.Goals as goal
-use Rattle.segment_set.proofs.let_out.Goals.{After-judge_letting, Start}
+use Rattle.segment_set.proofs.let_out.Goals.{After-judge_letting}
 
-called : Start → SetState
+called : After-judge_letting → SetState
 called s = state s.args.set s.args.slots.now s.args.areas.now
 
 told : (c : After-judge_letting) → judgement_in c.judge_letting.result ≡ let_verdict (called c) c.args.word
@@ -26,10 +26,10 @@ pub returns-in-Refuse : goal.returns-in-Refuse
 unfolding called
 returns-in-Refuse c =
     let e = sym (told (goal.at.returns-in-Refuse c).After-judge_letting) ∙ ap judgement_in c.in-Refuse.is in
-    record { answer = sym e; leaves = sym (ap (λ (j : Judgement). settled j (let_out (called (goal.at.returns-in-Refuse c).Start) c.args.word) (called (goal.at.returns-in-Refuse c).Start)) e) }
+    record { answer = sym e; leaves = sym (ap (λ (j : Judgement). settled j (let_out (called (goal.at.returns-in-Refuse c).After-judge_letting) c.args.word) (called (goal.at.returns-in-Refuse c).After-judge_letting)) e) }
 
 pub returns-in-Pass : goal.returns-in-Pass
 unfolding called
 returns-in-Pass c =
     let e = sym (told (goal.at.returns-in-Pass c).After-judge_letting) ∙ ap judgement_in c.in-Pass.is in
-    record { answer = sym e; leaves = c.remove.ensures ∙ sym (ap (λ (j : Judgement). settled j (let_out (called (goal.at.returns-in-Pass c).Start) c.args.word) (called (goal.at.returns-in-Pass c).Start)) e) }
+    record { answer = sym e; leaves = c.remove.ensures ∙ sym (ap (λ (j : Judgement). settled j (let_out (called (goal.at.returns-in-Pass c).After-judge_letting) c.args.word) (called (goal.at.returns-in-Pass c).After-judge_letting)) e) }

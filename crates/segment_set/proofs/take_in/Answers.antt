@@ -5,9 +5,9 @@ use Rattle.refusals.specs.Refusal.{Judgement, pass, judgement_in}
 use Rattle.segment_set_statements.specs.Set.{SetState, state, take_verdict, taken_in, settled}
 use Rattle.segment_set_statements.proofs.Keeping.{take_passed}
 use Rattle.segment_set.proofs.take_in.Goals as goal
-use Rattle.segment_set.proofs.take_in.Goals.{After-judge_taking, Start}
+use Rattle.segment_set.proofs.take_in.Goals.{After-judge_taking}
 
-called : Start → SetState
+called : After-judge_taking → SetState
 called s = state s.args.set s.args.slots.now s.args.areas.now
 
 told : (c : After-judge_taking) → judgement_in c.judge_taking.result ≡ take_verdict (called c) c.args.word
@@ -17,17 +17,17 @@ told c = c.judge_taking.ensures
 pub add-requires : goal.add-requires
 unfolding called
 add-requires c =
-    let p = take_passed (called (goal.at.add-requires c).Start) c.args.word (sym (told (goal.at.add-requires c).After-judge_taking) ∙ ap judgement_in c.in-Pass.is) in
+    let p = take_passed (called (goal.at.add-requires c).After-judge_taking) c.args.word (sym (told (goal.at.add-requires c).After-judge_taking) ∙ ap judgement_in c.in-Pass.is) in
     record { room = p.room; free = p.free; small = p.small }
 
 pub returns-in-Refuse : goal.returns-in-Refuse
 unfolding called
 returns-in-Refuse c =
     let e = sym (told (goal.at.returns-in-Refuse c).After-judge_taking) ∙ ap judgement_in c.in-Refuse.is in
-    record { answer = sym e; leaves = sym (ap (λ (j : Judgement). settled j (taken_in (called (goal.at.returns-in-Refuse c).Start) c.args.word) (called (goal.at.returns-in-Refuse c).Start)) e) }
+    record { answer = sym e; leaves = sym (ap (λ (j : Judgement). settled j (taken_in (called (goal.at.returns-in-Refuse c).After-judge_taking) c.args.word) (called (goal.at.returns-in-Refuse c).After-judge_taking)) e) }
 
 pub returns-in-Pass : goal.returns-in-Pass
 unfolding called
 returns-in-Pass c =
     let e = sym (told (goal.at.returns-in-Pass c).After-judge_taking) ∙ ap judgement_in c.in-Pass.is in
-    record { answer = sym e; leaves = c.add.ensures ∙ sym (ap (λ (j : Judgement). settled j (taken_in (called (goal.at.returns-in-Pass c).Start) c.args.word) (called (goal.at.returns-in-Pass c).Start)) e) }
+    record { answer = sym e; leaves = c.add.ensures ∙ sym (ap (λ (j : Judgement). settled j (taken_in (called (goal.at.returns-in-Pass c).After-judge_taking) c.args.word) (called (goal.at.returns-in-Pass c).After-judge_taking)) e) }

@@ -7,7 +7,7 @@ use Rattle.segment_set.proofs.editing.begin_with.Given as goal
 
 abbrev pub invariant-loop-i : goal.invariant-loop-i
 invariant-loop-i l =
-    Adding (beginning l.layer_id (to_z w16 l.tile_x) (to_z w16 l.tile_y) l.initial.set.carry.covers l.part) l.initial.slots l.initial.areas l.i (state l.set l.slots l.areas)
+    Adding (beginning l.layer_id l.tile_x l.tile_y l.initial.set.carry.covers l.part) l.initial.slots l.initial.areas l.i (state l.set l.slots l.areas)
 
 abbrev pub decreases-loop-i : goal.decreases-loop-i
 decreases-loop-i l = length l.part - l.i
