@@ -1,7 +1,7 @@
 -- Handing on: the carries that a tile's layers hand on, from the column that holds all of them; and the loop, which writes those that are not empty
 -- and knows that what is left of them is what the carries still to come hand on. Assumes nothing.
-use Rattle.std.specs.Prelude.{◌≡◌, ◌∷◌, ◌+◌, ◌*◌, ◌≤◌, ◌<◌}
-use Rattle.laws.proofs.Prelude.{refl, ap, ap₂, sym, subst, ◌∙◌, Bool, true, false, cond, List, [], map, ℕ, arith, ℤ}
+use Rattle.std.specs.Prelude.{◌≡◌, ◌∷◌, ◌+◌, ◌*◌, ◌≤◌}
+use Rattle.laws.proofs.Prelude.{refl, ap, sym, ◌∙◌, Bool, true, false, cond, List, [], map, ℕ, arith, ℤ}
 use Rattle.laws.proofs.Prelude.{length, drop, set, length-map, drop_of_length-le, filter, over, both, nil_le, cons_lt, cons_rest, map_at, all_kept}
 use Rattle.laws.proofs.Prelude.{filled, filled_more, filled_all, length_filled}
 use Rattle.laws.proofs.Filtered.{length_filter}

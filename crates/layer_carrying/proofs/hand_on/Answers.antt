@@ -1,6 +1,6 @@
 -- `hand_on` meets its contract. Assumes nothing.
-use Rattle.std.specs.Prelude.{◌≡◌, ◌-◌}
-use Rattle.laws.proofs.Prelude.{List, ap, ap₂, sym, ◌∙◌, true, not, arith, rules, length}
+use Rattle.std.specs.Prelude.{◌≡◌}
+use Rattle.laws.proofs.Prelude.{List, ap, ap₂, sym, ◌∙◌, true, not, arith, length}
 use Rattle.styling.specs.declared.Layer.{Layer}
 use Rattle.cover_statements.specs.Cover.{is_empty}
 use Rattle.layer_table.specs.Table.{table_of}
@@ -10,7 +10,7 @@ use Rattle.queue_statements.proofs.Queues.{length_queue}
 use Rattle.tile_layers.proofs.Steps.{queue_at}
 use Rattle.tile_layers.proofs.Wide as wide
 use Rattle.layer_carrying.specs.Carrying.{EntryRoom}
-use Rattle.layer_carrying.proofs.Handing.{Handing, hand_start, hand_lengths, hand_next, hand_end}
+use Rattle.layer_carrying.proofs.Handing.{hand_start, hand_lengths, hand_next, hand_end}
 use Rattle.layer_carrying.proofs.hand_on.Goals as goal
 use Rattle.layer_carrying.proofs.hand_on.Goals.{Start}
 
@@ -65,10 +65,10 @@ loop-i-preserved c =
     (rw c.read_cover-sum.ensures at c.put_carry-m.ensures)
 
 pub shape_of-next_ids : goal.shape_of-next_ids
-shape_of-next_ids c =    (hand_lengths (table (goal.at.shape_of-next_ids c).Start) (carries (goal.at.shape_of-next_ids c).Start) c.args.next_ids.now c.args.next_covers.now (are-wide (goal.at.shape_of-next_ids c).Start) (room (goal.at.shape_of-next_ids c).Start) c.loop-i.invariant).ids_same
+shape_of-next_ids c = (hand_lengths (table (goal.at.shape_of-next_ids c).Start) (carries (goal.at.shape_of-next_ids c).Start) c.args.next_ids.now c.args.next_covers.now (are-wide (goal.at.shape_of-next_ids c).Start) (room (goal.at.shape_of-next_ids c).Start) c.loop-i.invariant).ids_same
 
 pub shape_of-next_covers : goal.shape_of-next_covers
-shape_of-next_covers c =    (hand_lengths (table (goal.at.shape_of-next_covers c).Start) (carries (goal.at.shape_of-next_covers c).Start) c.args.next_ids.now c.args.next_covers.now (are-wide (goal.at.shape_of-next_covers c).Start) (room (goal.at.shape_of-next_covers c).Start) c.loop-i.invariant).covers_same
+shape_of-next_covers c = (hand_lengths (table (goal.at.shape_of-next_covers c).Start) (carries (goal.at.shape_of-next_covers c).Start) c.args.next_ids.now c.args.next_covers.now (are-wide (goal.at.shape_of-next_covers c).Start) (room (goal.at.shape_of-next_covers c).Start) c.loop-i.invariant).covers_same
 
 pub returns : goal.returns
-returns c =    hand_end (table (goal.at.returns c).Start) (carries (goal.at.returns c).Start) c.args.next_ids.now c.args.next_covers.now (are-wide (goal.at.returns c).Start) (room (goal.at.returns c).Start) c.loop-i.invariant (rw (many (goal.at.returns c).Start) c.loop-i-test.false)
+returns c = hand_end (table (goal.at.returns c).Start) (carries (goal.at.returns c).Start) c.args.next_ids.now c.args.next_covers.now (are-wide (goal.at.returns c).Start) (room (goal.at.returns c).Start) c.loop-i.invariant (rw (many (goal.at.returns c).Start) c.loop-i-test.false)

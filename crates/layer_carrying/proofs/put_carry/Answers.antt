@@ -1,5 +1,5 @@
 -- `carrying::put_carry` meets its contract. Assumes nothing.
-use Rattle.laws.proofs.Prelude.{refl, rules}
+use Rattle.laws.proofs.Prelude.{refl}
 use Rattle.layer_carrying.proofs.put_carry.Goals as goal
 
 pub returns-then-keep : goal.returns-then-keep
