@@ -1,7 +1,7 @@
 -- `line_of` meets its contract: both numbers are small enough for every width that they pass.
 -- Assumes nothing.
 use Rattle.std.specs.Prelude.{◌≡◌}
-use Rattle.laws.proofs.Prelude.{ap, ◌∙◌, arith, rules, pos, w16, w32}
+use Rattle.laws.proofs.Prelude.{ap, ◌∙◌, arith, pos, w16, w32}
 use mir.ValLaws.{to_z_pos}
 use Rattle.styling.specs.declared.FillRule.TheVariants.{EvenOdd}
 use Rattle.cover_statements.specs.Weight.{weight_of}

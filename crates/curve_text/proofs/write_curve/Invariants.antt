@@ -1,8 +1,6 @@
 use Rattle.std.specs.Prelude.{◌-◌}
-use Rattle.laws.proofs.Prelude.{◌∙◌, arith, rules}
-use Rattle.lines.proofs.LinesPrinting.{LinesPrinting, start, line_room, next}
+use Rattle.lines.proofs.LinesPrinting.{LinesPrinting}
 use Rattle.curve_text.specs.Curve.{curve_line}
-use Rattle.curve_text.proofs.CurvePrinting.{line_long, two, written}
 use Rattle.curve_text.proofs.write_curve.Given as goal
 
 abbrev pub invariant-loop-rest : goal.invariant-loop-rest

@@ -1,5 +1,5 @@
 -- `pack` meets its contract: packing takes the fields, so it answers the word. Assumes nothing.
-use Rattle.laws.proofs.Prelude.{arith, rules, w8, w16, to_z-of_z, kept}
+use Rattle.laws.proofs.Prelude.{arith, w8, w16, to_z-of_z, kept}
 use Rattle.job_statements.proofs.Packing.{down_in_tile, segment_is, never_refused}
 use Rattle.job_row.proofs.pack.Goals as goal
 
@@ -8,12 +8,10 @@ overflow_add-f c = omega (arith, down_in_tile c.args.f c.args.tile_y c.args.i c.
 
 pub returns-in-Segment : goal.returns-in-Segment
 returns-in-Segment c =
-    let t = c.type_inv.f in
     segment_is c.args.f c.args.tile_y c.args.i c.requires
-    (rw (c.in-Segment.is, kept w16 c.args.f.tile_x t.0.1, to_z-of_z c.ranges.tile_y, kept w8 c.args.f.cover t.1.1.1.1.1.1.0.1) at c.new.ensures.answer)
+    (rw (c.in-Segment.is, kept w16 c.args.f.tile_x (omega arith), to_z-of_z c.ranges.tile_y, kept w8 c.args.f.cover (omega arith)) at c.new.ensures.answer)
 
 pub returns-in-FieldOutOfRange : goal.returns-in-FieldOutOfRange
 returns-in-FieldOutOfRange c =
-    let t = c.type_inv.f in
     never_refused c.args.f c.args.tile_y c.args.i c.requires
-    (rw (c.in-FieldOutOfRange.is, kept w16 c.args.f.tile_x t.0.1, to_z-of_z c.ranges.tile_y, kept w8 c.args.f.cover t.1.1.1.1.1.1.0.1) at c.new.ensures.answer)
+    (rw (c.in-FieldOutOfRange.is, kept w16 c.args.f.tile_x (omega arith), to_z-of_z c.ranges.tile_y, kept w8 c.args.f.cover (omega arith)) at c.new.ensures.answer)

@@ -54,11 +54,10 @@ pub overflow_cast-result-7 : goal.overflow_cast-result-7
 overflow_cast-result-7 c =
     let s = c.args.s in
     let h = in_tile s c.requires in
-    rw (kept w32 s.cover c.struct_told-7-1.given.1.1.1.1.1.1.0.1) (fits-cover s h)
+    rw (kept w32 s.cover (omega arith)) (fits-cover s h)
 
 pub returns : goal.returns
 returns c =
     let s = c.args.s in
     let h = in_tile s c.requires in
-    let t = c.struct_told-7-1.given in
-    rw (kept w32 s.tile_x t.0.1, kept w32 s.layer t.1.0.1, kept w32 s.x t.1.1.0.1, kept w32 s.y t.1.1.1.0.1, kept w32 s.rows t.1.1.1.1.0.1, kept w32 s.mult t.1.1.1.1.1.0.1, kept w32 s.cover t.1.1.1.1.1.1.0.1, to_z-of_z (fits-x s h), to_z-of_z (fits-cover s h), natural s.layer h.layer.0, natural s.x h.x.0, natural s.y h.y.0, natural s.rows h.rows.0, natural s.mult h.mult.0)
+    rw (kept w32 s.tile_x (omega arith), kept w32 s.layer (omega arith), kept w32 s.x (omega arith), kept w32 s.y (omega arith), kept w32 s.rows (omega arith), kept w32 s.mult (omega arith), kept w32 s.cover (omega arith), to_z-of_z (fits-x s h), to_z-of_z (fits-cover s h), natural s.layer h.layer.0, natural s.x h.x.0, natural s.y h.y.0, natural s.rows h.rows.0, natural s.mult h.mult.0)

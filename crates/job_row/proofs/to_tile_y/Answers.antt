@@ -1,6 +1,6 @@
 -- `to_tile_y` meets its contract: packing the row number beside zeros judges it alone, and the word reads back as it. Assumes nothing.
 use Rattle.std.specs.Prelude.{◌≡◌}
-use Rattle.laws.proofs.Prelude.{ap, sym, ◌∙◌, true, false, rules, pos, w16, w64, SFits, to_z-of_z, sfits_widen, kept}
+use Rattle.laws.proofs.Prelude.{ap, sym, ◌∙◌, true, false, pos, w16, w64, SFits, to_z-of_z, sfits_widen, kept}
 use Rattle.pixel_segment.specs.Field.{cpu}
 use Rattle.pixel_segment.specs.Pack.{packed_answer, Packs}
 use Rattle.pixel_segment.proofs.Ranges.{cpu_layout}

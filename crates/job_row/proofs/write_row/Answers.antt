@@ -1,9 +1,8 @@
 -- `write_row` meets its contract: the invariant and its steps are those of `Rows`. Assumes nothing.
-use Rattle.std.specs.Prelude.{◌-◌}
-use Rattle.laws.proofs.Prelude.{arith, rules, w16, w32, to_z, of_z, to_z-of_z, kept}
+use Rattle.laws.proofs.Prelude.{arith, w16, w32, to_z, of_z, to_z-of_z, kept}
 use Rattle.job_text_statements.proofs.Counting.{rule_at}
 use Rattle.job_statements.proofs.Packing.{row_tile_lem}
-use Rattle.job_statements.proofs.Rows.{Writing, start, line_room, next, end}
+use Rattle.job_statements.proofs.Rows.{start, line_room, next, end}
 use Rattle.job_row.proofs.write_row.Goals as goal
 
 pub loop-i-init : goal.loop-i-init

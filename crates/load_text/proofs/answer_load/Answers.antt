@@ -8,7 +8,7 @@ use Rattle.load_text.proofs.answer_load.Goals as goal
 pub slice_bounds-print_bytes-end-2 : goal.slice_bounds-print_bytes-end-2
 slice_bounds-print_bytes-end-2 c =
     let w = c.write_load-end in
-    sym (length-take-le w.result w.new.0 (omega (arith, w.auto.0, w.ensures.answer, w.ensures.fits)))
+    sym (length-take-le w.result w.new.out (omega (arith, w.auto.out, w.ensures.answer, w.ensures.fits)))
 
 pub print_bytes-requires : goal.print_bytes-requires
 print_bytes-requires c =

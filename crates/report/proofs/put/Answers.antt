@@ -1,5 +1,5 @@
 -- `put` meets its contract: each answer is a law of `Putting`. Assumes nothing.
-use Rattle.laws.proofs.Prelude.{arith, rules}
+use Rattle.laws.proofs.Prelude.{arith}
 use Rattle.report.proofs.Putting.{full, next}
 use Rattle.report.proofs.put.Goals as goal
 

@@ -7,19 +7,19 @@ use Rattle.row_printing.proofs.print_driven.Goals as goal
 pub print_lines-requires : goal.print_lines-requires
 print_lines-requires c =
     let p = c.print_names-start in
-    asks c.requires (ap lines_written c.in-Done.is) p.ensures p.auto.0
+    asks c.requires (ap lines_written c.in-Done.is) p.ensures p.auto.out
 
 pub print_lines-end-requires : goal.print_lines-end-requires
 print_lines-end-requires c =
     let p = c.print_names-start in
-    asks c.requires (ap lines_written c.in-Refused.is) p.ensures p.auto.0
+    asks c.requires (ap lines_written c.in-Refused.is) p.ensures p.auto.out
 
 pub print_refusal-requires : goal.print_refusal-requires
 print_refusal-requires c =
     let p = c.print_names-start in
     let q = c.print_lines-end in
     let room = last_room c.requires (ap lines_written c.in-Refused.is) p.ensures in
-    omega (arith, room, q.ensures.1, q.auto.1.1.1.0, p.auto.0)
+    omega (arith, room, q.ensures.1, q.auto.out, p.auto.out)
 
 pub returns-in-Done : goal.returns-in-Done
 returns-in-Done c =

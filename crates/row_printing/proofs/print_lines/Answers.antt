@@ -25,7 +25,7 @@ loop-i-smaller c = omega (arith, c.loop-i-test.true)
 
 pub loop-i-preserved : goal.loop-i-preserved
 loop-i-preserved c =
-    next c.loop-i.invariant c.loop-i-test.true c.print_tile-end.auto.1.1.1.0 c.print_tile-end.ensures
+    next c.loop-i.invariant c.loop-i-test.true c.print_tile-end.auto.out c.print_tile-end.ensures
 
 pub shape_of-out : goal.shape_of-out
 shape_of-out c = c.loop-i.invariant.long

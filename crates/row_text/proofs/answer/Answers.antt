@@ -27,7 +27,7 @@ pub slice_bounds-drive-end : goal.slice_bounds-drive-end
 slice_bounds-drive-end c =
     let j = c.read_job in
     let x = accepts j.ensures refl refl refl c.in-Accepted.is in
-    sym (length-take-le c.in-Accepted.segments j.new.1.1.1.0 (omega (arith, x.row_fits, j.auto.1.1.1.0)))
+    sym (length-take-le c.in-Accepted.segments j.new.row (omega (arith, x.row_fits, j.auto.row)))
 
 pub slice_bounds-layers-end : goal.slice_bounds-layers-end
 slice_bounds-layers-end c =
@@ -39,7 +39,7 @@ pub slice_bounds-drive-end-in-Accepted : goal.slice_bounds-drive-end-in-Accepted
 slice_bounds-drive-end-in-Accepted c =
     let j = c.read_job in
     let x = accepts j.ensures refl refl refl c.in-Accepted.is in
-    sym (length-take-le (c.in-Accepted.count * 8) j.new.1.0 (omega (arith, x.words_fit, j.auto.1.0)))
+    sym (length-take-le (c.in-Accepted.count * 8) j.new.layers (omega (arith, x.words_fit, j.auto.layers)))
 
 pub slice_bounds-colors-end : goal.slice_bounds-colors-end
 slice_bounds-colors-end c =
@@ -51,7 +51,7 @@ pub slice_bounds-drive-end-in-Accepted-2 : goal.slice_bounds-drive-end-in-Accept
 slice_bounds-drive-end-in-Accepted-2 c =
     let j = c.read_job in
     let x = accepts j.ensures refl refl refl c.in-Accepted.is in
-    sym (length-take-le (c.in-Accepted.count * 4) j.new.1.1.0 (omega (arith, x.colors_fit, j.auto.1.1.0)))
+    sym (length-take-le (c.in-Accepted.count * 4) j.new.colors (omega (arith, x.colors_fit, j.auto.colors)))
 
 pub returns-in-Accepted : goal.returns-in-Accepted
 returns-in-Accepted c =

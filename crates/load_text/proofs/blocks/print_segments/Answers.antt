@@ -21,14 +21,14 @@ draw_segment-drawn-requires c =
 
 pub print_line-end-requires : goal.print_line-end-requires
 print_line-end-requires c =
-    rw (seven _ _ c.draw_segment-drawn.ensures.0) (line_room c.loop-k.invariant.lines 84 (omega (arith, c.print_bytes-end.ensures.answer, c.print_bytes-end.auto.0)))
+    rw (seven _ _ c.draw_segment-drawn.ensures.0) (line_room c.loop-k.invariant.lines 84 (omega (arith, c.print_bytes-end.ensures.answer, c.print_bytes-end.auto.out)))
 
 pub loop-k-preserved : goal.loop-k-preserved
 loop-k-preserved c =
-    make_next c.requires.0 c.loop-k.invariant (omega arith) c.slot_of-slot.ensures c.draw_segment-drawn.ensures.0 c.draw_segment-drawn.ensures.1 c.print_line-end.auto.0 c.print_line-end.ensures.0
+    make_next c.requires.0 c.loop-k.invariant (omega arith) c.slot_of-slot.ensures c.draw_segment-drawn.ensures.0 c.draw_segment-drawn.ensures.1 c.print_line-end.auto.out c.print_line-end.ensures.0
 
 pub shape_of-out : goal.shape_of-out
-shape_of-out c = c.loop-k.invariant.lines.long ∙ c.print_bytes-end.auto.0
+shape_of-out c = c.loop-k.invariant.lines.long ∙ c.print_bytes-end.auto.out
 
 pub returns : goal.returns
 returns c = segments_printed c.print_bytes-end.ensures c.loop-k.invariant (omega arith)

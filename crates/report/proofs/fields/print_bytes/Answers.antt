@@ -1,8 +1,7 @@
 -- `print_bytes` meets its contract. The invariant and its steps are those of `Copying`; the measure is the bytes left.
 -- Assumes nothing.
-use Rattle.std.specs.Prelude.{◌-◌}
-use Rattle.laws.proofs.Prelude.{arith, length}
-use Rattle.report.proofs.Copying.{Copying, start, next, end}
+use Rattle.laws.proofs.Prelude.{arith}
+use Rattle.report.proofs.Copying.{start, next, end}
 use Rattle.report.proofs.fields.print_bytes.Goals as goal
 
 pub loop-j-init : goal.loop-j-init

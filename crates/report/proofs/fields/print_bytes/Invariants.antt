@@ -1,6 +1,6 @@
 use Rattle.std.specs.Prelude.{◌-◌}
-use Rattle.laws.proofs.Prelude.{arith, length}
-use Rattle.report.proofs.Copying.{Copying, start, next, end}
+use Rattle.laws.proofs.Prelude.{length}
+use Rattle.report.proofs.Copying.{Copying}
 use Rattle.report.proofs.fields.print_bytes.Given as goal
 
 abbrev pub invariant-loop-j : goal.invariant-loop-j

@@ -1,6 +1,6 @@
 -- `print_op` meets its contract.
 -- Assumes nothing.
-use Rattle.laws.proofs.Prelude.{arith, rules}
+use Rattle.laws.proofs.Prelude.{arith}
 use Rattle.report.specs.declared.Op.TheVariants.{None, Solid, Paint}
 use Rattle.report.proofs.Lines.{op_is}
 use Rattle.report.proofs.fields.print_op.Goals as goal

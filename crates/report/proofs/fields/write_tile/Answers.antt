@@ -1,5 +1,5 @@
 -- `write_tile` meets its contract: its parts, joined. Assumes nothing.
-use Rattle.laws.proofs.Prelude.{arith, rules}
+use Rattle.laws.proofs.Prelude.{arith}
 use Rattle.report.proofs.Lines.{line_of}
 use Rattle.report.proofs.fields.write_tile.Goals as goal
 
