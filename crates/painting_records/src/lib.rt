@@ -1,5 +1,5 @@
 // The painting of a layer with a queue that is lent as a slice of carry records. `paint_layer` reads the records and
-// calls a covered function; it is walked by hand.
+// calls the function over columns.
 #![tactic(auto)]
 
 ghost use Rattle.std.specs.Prelude.{◌≡◌};

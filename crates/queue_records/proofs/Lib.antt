@@ -1,5 +1,2 @@
--- The walks over lent records, by hand, and their laws.
-pub mod Again
-pub mod BigLit
-pub mod LentArray
+-- The laws of the loop that reads lent records.
 pub mod Reading

@@ -1,5 +1,4 @@
 // A queue that is lent as a slice of carry records, read into the columns that the rest of the painter works on.
-// Functions over a `&[CarryRecord]` are walked by hand; what they call is covered.
 #![tactic(auto)]
 
 ghost use Rattle.std.specs.Prelude.{◌≡◌, ◌+◌, ◌*◌, ◌<◌, ◌≤◌, min, pos, length, get_or, set, take, replicate};

@@ -1,5 +1,4 @@
 -- `queue_records::columns_with` meets its contract. Assumes nothing.
-use Rattle.laws.proofs.Prelude.{rules}
 use Rattle.queue_records.proofs.columns_with.Goals as goal
 
 pub returns : goal.returns
