@@ -1,6 +1,7 @@
 -- `work_tile` meets its contract. Assumes nothing.
 use Rattle.std.specs.Prelude.{◌≡◌}
 use Rattle.laws.proofs.Prelude.{sym, ap, ◌∙◌, rules, ℤ, to_z-of_z, over}
+use Rattle.refusals.specs.declared.Verdict.TheVariants.{Pass}
 use Rattle.refusals.specs.Refusal.{Judgement, judgement_in, pass}
 use Rattle.pixel_segment.specs.Field.{gpu}
 use Rattle.cover_statements.specs.Cover.{cover_at}
@@ -9,19 +10,19 @@ use Rattle.layer_row_gpu.specs.LayerState.{layer_state_in, layer_tile, past_tile
 use Rattle.layer_row_gpu.specs.WorkLayer.{work_layer_verdict, layer_choice, LayerGiven, worked_by}
 use Rattle.layer_row_gpu.proofs.Verdicts.{work_passed, workable}
 use Rattle.layer_row_gpu.proofs.work_tile.Goals as goal
-use Rattle.layer_row_gpu.proofs.work_tile.Goals.{After-judge_work, In-Pass}
+use Rattle.layer_row_gpu.proofs.work_tile.Goals.{After-judge_work}
 
 -- the judge's verdict
 told : (c : After-judge_work) → let a = c.args in judgement_in c.judge_work.result ≡ work_layer_verdict (layer_state_in a.state) a.tile a.row.now a.plane.now
 told c = rw (to_z-of_z c.ranges.tile) at c.judge_work.ensures
 
-passes : (c : In-Pass) → let a = c.args in work_layer_verdict (layer_state_in a.state) a.tile a.row.now a.plane.now ≡ pass
-passes c = sym (told c.before.before) ∙ ap judgement_in c.in-Pass.is
+passes : (c : After-judge_work) → let a = c.args in c.judge_work.result ≡ Pass → work_layer_verdict (layer_state_in a.state) a.tile a.row.now a.plane.now ≡ pass
+passes c e = sym (told c) ∙ ap judgement_in e
 
 pub work-next-requires : goal.work-next-requires
 work-next-requires c =
     let a = c.args in
-    workable (layer_state_in a.state) a.tile a.row.now a.plane.now (passes (goal.at.work-next-requires c).In-Pass)
+    workable (layer_state_in a.state) a.tile a.row.now a.plane.now (passes (goal.at.work-next-requires c).After-judge_work c.in-Pass.is)
 
 pub returns-in-Refuse : goal.returns-in-Refuse
 returns-in-Refuse c =
@@ -40,7 +41,7 @@ returns-in-Pass c =
     let a = c.args in
     let s = layer_state_in a.state in
     let choice = layer_choice a.tile a.row.now a.plane.now in
-    let v = passes (goal.at.returns-in-Pass c).In-Pass in
+    let v = passes (goal.at.returns-in-Pass c).After-judge_work c.in-Pass.is in
     let due = sym (work_passed s a.tile a.row.now a.plane.now v).tile_is in
     let told-by = sym (ap (λ (k : Judgement). worked_by k s choice) v) in
     record {

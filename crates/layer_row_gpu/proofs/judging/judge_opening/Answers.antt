@@ -1,8 +1,8 @@
 -- `judging::judge_opening` meets its contract: a line for each condition, the lowest first. Assumes nothing.
 use Rattle.std.specs.Prelude.{◌≡◌}
-use Rattle.laws.proofs.Prelude.{sym, ap, ◌∙◌, List, ℕ, suc, add-one, arith, rules, not-false, w16, SFits, to_z-of_z, plus, sfits}
+use Rattle.laws.proofs.Prelude.{true, false, ℤ, sym, ap, ◌∙◌, List, ℕ, suc, add-one, arith, rules, not-false, w16, SFits, to_z-of_z, plus, sfits}
 use Rattle.pixel_segment.specs.Field.{gpu}
-use Rattle.segment_rows.specs.Rows.{is_row}
+use Rattle.segment_rows.specs.Rows.{is_row, Words}
 use Rattle.cover_statements.specs.Carry.{is_light}
 use Rattle.cover_statements.specs.Cover.{no_cover}
 use Rattle.layer_row_gpu.specs.InnerCovers.{layer_within}
@@ -11,7 +11,7 @@ use Rattle.layer_row_gpu.specs.OpenLayer.{layer_left, open_layer_verdict}
 use Rattle.layer_row_gpu.proofs.Parts.{left_from}
 use Rattle.layer_row_gpu.proofs.Verdicts.{Span, good_span}
 use Rattle.layer_row_gpu.proofs.judging.judge_opening.Goals as goal
-use Rattle.layer_row_gpu.proofs.judging.judge_opening.Goals.{After-has_bad_span, After-is_light, After-is_row, Else-not-is_row}
+use Rattle.layer_row_gpu.proofs.judging.judge_opening.Goals.{After-has_bad_span, After-is_light, After-is_row}
 
 -- whether the numbers are out of range
 span-told : (c : After-has_bad_span) → c.has_bad_span.result ≡ has_bad_span c.args.tile_y c.args.from c.args.to
@@ -25,22 +25,22 @@ row_told c =
     ∙ ap (λ (n : ℕ). is_row gpu n c.args.row.now) (add-one c.natural.result ∙ ap suc (c.natural.ensures ∙ ap plus (to_z-of_z c.ranges.tile_y)))
 
 -- where neither 2 nor 3 applies
-span : (c : Else-not-is_row) → Span c.args.tile_y c.args.from c.args.to
-span c =
-    good_span _ _ _ (sym (span-told c.before.before.before.before) ∙ c.if-has_bad_span.false)
+span : (c : After-has_bad_span) → c.has_bad_span.result ≡ false → Span c.args.tile_y c.args.from c.args.to
+span c h = good_span _ _ _ (sym (span-told c) ∙ h)
 
-first_fits : (c : Else-not-is_row) → SFits w16 c.args.from
-first_fits c =
-    let p = span c in
+first_fits : (tile_y from to : ℤ) → Span tile_y from to → SFits w16 from
+first_fits tile_y from to p =
     sfits w16 _ (record { above = omega (arith, p.first.1, p.last.1); below = omega (arith, p.first.0) })
 
+in_order : (c : After-is_row) → c.is_row.result ≡ true → is_row gpu (suc (plus c.args.tile_y)) c.args.row.now ≡ true
+in_order c h = sym (row_told c) ∙ h
+
 -- whether number 9 does not apply
-light-told : (c : After-is_light) → let a = c.args in c.is_light.result ≡ is_light gpu 4 (no_cover 4) (layer_left a.from a.layer_id a.row.now)
-light-told c =
-    let in_order = sym (row_told c.before.before.before.before.before) ∙ c.if-not-is_row.false in
+light-told : (c : After-is_light) → let a = c.args in Span a.tile_y a.from a.to → is_row gpu (suc (plus a.tile_y)) a.row.now ≡ true → Words a.row.now → c.is_light.result ≡ is_light gpu 4 (no_cover 4) (layer_left a.from a.layer_id a.row.now)
+light-told c p e s =
     c.is_light.ensures
-    ∙ ap (λ (l : List ℕ). is_light gpu 4 (no_cover 4) (layer_within c.args.layer_id l)) (rw (to_z-of_z c.ranges.from, to_z-of_z (first_fits c.before.before.before.before)) at c.left_of_tile.ensures)
-    ∙ ap (is_light gpu 4 (no_cover 4)) (left_from _ (record { small = λ i. (c.type_inv.row i).fits }) in_order c.args.from (span c.before.before.before.before).first.0 c.args.layer_id)
+    ∙ ap (λ (l : List ℕ). is_light gpu 4 (no_cover 4) (layer_within c.args.layer_id l)) (rw (to_z-of_z c.ranges.from, to_z-of_z (first_fits _ _ _ p)) at c.left_of_tile.ensures)
+    ∙ ap (is_light gpu 4 (no_cover 4)) (left_from _ s e c.args.from p.first.0 c.args.layer_id)
 
 pub returns-then-has_bad_span : goal.returns-then-has_bad_span
 unfolding open_layer_verdict
@@ -57,7 +57,7 @@ returns-then-is_bad_record c =
 
 pub overflow_cast-from : goal.overflow_cast-from
 overflow_cast-from c =
-    rw (to_z-of_z c.ranges.from) (first_fits (goal.at.overflow_cast-from c).Else-not-is_row)
+    rw (to_z-of_z c.ranges.from) (first_fits _ _ _ (span (goal.at.overflow_cast-from c).After-has_bad_span c.if-has_bad_span.false))
 
 pub returns-then-not-is_light : goal.returns-then-not-is_light
 unfolding open_layer_verdict
@@ -69,7 +69,7 @@ returns-then-not-is_light c =
       c.if-not-is_row.false,
       ← c.is_bad_record.ensures,
       c.if-is_bad_record.false,
-      ← light-told (goal.at.returns-then-not-is_light c).After-is_light,
+      ← light-told (goal.at.returns-then-not-is_light c).After-is_light (span (goal.at.returns-then-not-is_light c).After-has_bad_span c.if-has_bad_span.false) (in_order (goal.at.returns-then-not-is_light c).After-is_row c.if-not-is_row.false) (record { small = λ i. (c.type_inv.row i).fits }),
       c.if-not-is_light.true,
     )
 
@@ -83,6 +83,6 @@ returns c =
       c.if-not-is_row.false,
       ← c.is_bad_record.ensures,
       c.if-is_bad_record.false,
-      ← light-told (goal.at.returns c).After-is_light,
+      ← light-told (goal.at.returns c).After-is_light (span (goal.at.returns c).After-has_bad_span c.if-has_bad_span.false) (in_order (goal.at.returns c).After-is_row c.if-not-is_row.false) (record { small = λ i. (c.type_inv.row i).fits }),
       c.if-not-is_light.false,
     )

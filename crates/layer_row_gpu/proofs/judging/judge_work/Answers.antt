@@ -1,16 +1,16 @@
 -- `judging::judge_work` meets its contract. Assumes nothing.
-use Rattle.std.specs.Prelude.{◌≡◌, ◌≤◌, ◌<◌}
-use Rattle.laws.proofs.Prelude.{sym, ap, ◌∙◌, ℕ, suc, add-one, arith, rules, not-false, lt-ltb, le-ltb, ℤ, pos, length, to_z-of_z, plus}
+use Rattle.std.specs.Prelude.{◌≡◌, ◌≤◌, ◌<◌, ◌||◌}
+use Rattle.laws.proofs.Prelude.{true, false, sym, ap, ◌∙◌, ℕ, suc, add-one, arith, rules, not-false, lt-ltb, le-ltb, ℤ, pos, length, to_z-of_z, plus}
 use Rattle.pixel_segment.specs.Field.{gpu}
-use Rattle.segment_rows.specs.Rows.{is_row}
+use Rattle.segment_rows.specs.Rows.{is_row, Words}
 use Rattle.cover_statements.specs.Carry.{is_light}
 use Rattle.cover_statements.specs.WholeRow.{part_of}
-use Rattle.layer_row_gpu.specs.LayerState.{layer_state_in, layer_tile, is_other_tile}
+use Rattle.layer_row_gpu.specs.LayerState.{layer_state_in, layer_tile, is_astray, is_other_tile}
 use Rattle.layer_row_gpu.specs.WorkLayer.{work_layer_verdict}
 use Rattle.layer_row_gpu.proofs.Parts.{part_is}
 use Rattle.layer_row_gpu.proofs.Verdicts.{due}
 use Rattle.layer_row_gpu.proofs.judging.judge_work.Goals as goal
-use Rattle.layer_row_gpu.proofs.judging.judge_work.Goals.{After-is_light, After-is_other_tile, After-is_row, Else-not-is_row}
+use Rattle.layer_row_gpu.proofs.judging.judge_work.Goals.{After-is_light, After-is_other_tile, After-is_row}
 
 -- whether the tile is another one
 other-told : (c : After-is_other_tile) → let a = c.args in c.is_other_tile.result ≡ is_other_tile (layer_state_in a.state) a.tile
@@ -23,21 +23,20 @@ row_told c =
     c.is_row.ensures ∙ ap (λ (n : ℕ). is_row gpu n a.row.now) (add-one a.state.tile_y)
 
 -- where 2 does not apply
-due-told : (c : Else-not-is_row) → let a = c.args in (a.tile ≡ pos a.state.next) × (a.state.next < a.state.to) × (a.state.to ≤ 4095)
-due-told c =
+due-told : (c : After-is_other_tile) → let a = c.args in is_astray (layer_state_in a.state) || c.is_other_tile.result ≡ false → (a.tile ≡ pos a.state.next) × (a.state.next < a.state.to) × (a.state.to ≤ 4095)
+due-told c h =
     let a = c.args in
-    due (layer_state_in a.state) a.tile (rw (other-told c.before.before.before.before, c.is_astray.ensures) at c.if-is_astray-is_other_tile.false)
+    due (layer_state_in a.state) a.tile (rw (other-told c) at h)
 
 -- whether number 9 does not apply
-light-told : (c : After-is_light) → let a = c.args in c.is_light.result ≡ is_light gpu 4 a.state.cover.covers (layer_tile (layer_state_in a.state) a.tile a.row.now)
-light-told c =
+light-told : (c : After-is_light) → let a = c.args in a.tile ≡ pos a.state.next → is_row gpu (suc a.state.tile_y) a.row.now ≡ true → Words a.row.now → c.is_light.result ≡ is_light gpu 4 a.state.cover.covers (layer_tile (layer_state_in a.state) a.tile a.row.now)
+light-told c d e s =
     let a = c.args in
-    let in_order = sym (row_told c.before.before.before.before) ∙ c.if-not-is_row.false in
     c.is_light.ensures
     ∙ ap (is_light gpu 4 a.state.cover.covers)
     (c.layer_part-part.ensures
-    ∙ part_is _ (record { small = λ i. (c.type_inv.row i).fits }) in_order a.state.next a.state.layer_id
-    ∙ ap (λ (z : ℤ). part_of gpu (suc (plus z)) a.state.layer_id a.row.now) (sym (due-told c.before.before.before).0))
+    ∙ part_is _ s e a.state.next a.state.layer_id
+    ∙ ap (λ (z : ℤ). part_of gpu (suc (plus z)) a.state.layer_id a.row.now) (sym d))
 
 pub returns-then-plane-lt64 : goal.returns-then-plane-lt64
 unfolding work_layer_verdict
@@ -61,7 +60,9 @@ returns-then-not-is_row c =
     )
 
 pub layer_part-part-requires : goal.layer_part-part-requires
-layer_part-part-requires c = omega (arith, (due-told c).1, (due-told c).2)
+layer_part-part-requires c =
+    let d = due-told (goal.at.layer_part-part-requires c).After-is_other_tile (rw (c.is_astray.ensures) at c.if-is_astray-is_other_tile.false) in
+    omega (arith, d.1, d.2)
 
 pub returns-then-not-is_light : goal.returns-then-not-is_light
 unfolding work_layer_verdict
@@ -73,7 +74,7 @@ returns-then-not-is_light c =
       c.if-is_astray-is_other_tile.false,
       ← row_told (goal.at.returns-then-not-is_light c).After-is_row,
       c.if-not-is_row.false,
-      ← light-told (goal.at.returns-then-not-is_light c).After-is_light,
+      ← light-told (goal.at.returns-then-not-is_light c).After-is_light (due-told (goal.at.returns-then-not-is_light c).After-is_other_tile (rw (c.is_astray.ensures) at c.if-is_astray-is_other_tile.false)).0 (sym (row_told (goal.at.returns-then-not-is_light c).After-is_row) ∙ c.if-not-is_row.false) (record { small = λ i. (c.type_inv.row i).fits }),
       c.if-not-is_light.true,
     )
 
@@ -87,6 +88,6 @@ returns c =
       c.if-is_astray-is_other_tile.false,
       ← row_told (goal.at.returns c).After-is_row,
       c.if-not-is_row.false,
-      ← light-told (goal.at.returns c).After-is_light,
+      ← light-told (goal.at.returns c).After-is_light (due-told (goal.at.returns c).After-is_other_tile (rw (c.is_astray.ensures) at c.if-is_astray-is_other_tile.false)).0 (sym (row_told (goal.at.returns c).After-is_row) ∙ c.if-not-is_row.false) (record { small = λ i. (c.type_inv.row i).fits }),
       c.if-not-is_light.false,
     )

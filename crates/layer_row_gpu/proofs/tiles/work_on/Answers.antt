@@ -28,7 +28,7 @@ shape_of-planes-in-End c = c.loop-k.invariant.0.long
 pub returns-in-End : goal.returns-in-End
 returns-in-End c =
     let l = c.loop-k in
-    told_so (stops l.invariant.0 c.loop-k-test.true _ (sym (told (goal.at.returns-in-End c).After-judge_next) ∙ ap next_in c.in-End.is)) c.Ended-so.ensures
+    told_so (stops l.invariant.0 c.loop-k-test.true _ (sym (told (goal.at.returns-in-End c).After-judge_next) ∙ ap next_in c.in-End.is)) c.ended_so.ensures
 
 pub enum_told-1 : goal.enum_told-1
 enum_told-1 c = search rules

@@ -25,5 +25,5 @@ returns c =
     let a = c.args in
     let x = plane_of gpu 4 a.state.rule (cover_at a.state.cover.covers) (due_tile (layer_state_in a.state) a.row.now) in (
       w.ensures.0,
-      put_plane a.k a.planes.now _ _ c.requires.1 (w.ensures.1 ∙ ap (λ (l : List Float). over x l) (lent_plane a.k a.planes.now)) w.auto.1.1.0,
+      put_plane a.k a.planes.now _ _ c.requires.1 (w.ensures.1 ∙ ap (λ (l : List Float). over x l) (lent_plane a.k a.planes.now)) w.auto.plane,
     )

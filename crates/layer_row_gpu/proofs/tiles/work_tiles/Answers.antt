@@ -1,29 +1,30 @@
 -- `tiles::work_tiles` meets its contract. Assumes nothing.
 use Rattle.std.specs.Prelude.{◌≡◌}
 use Rattle.laws.proofs.Prelude.{refl, sym, ap, ◌∙◌, rules, to_z-of_z}
+use Rattle.refusals.specs.declared.Verdict.TheVariants.{Pass}
 use Rattle.refusals.specs.Refusal.{judgement_in, pass}
 use Rattle.layer_row_gpu.specs.LayerState.{layer_state_in}
 use Rattle.layer_row_gpu.specs.WorkLayer.{work_layer_verdict}
 use Rattle.layer_row_gpu.proofs.Going.{ready, told_so, works_so, none_asked, some_asked}
 use Rattle.layer_row_gpu.proofs.tiles.work_tiles.Goals as goal
-use Rattle.layer_row_gpu.proofs.tiles.work_tiles.Goals.{After-judge_work, In-Pass}
+use Rattle.layer_row_gpu.proofs.tiles.work_tiles.Goals.{After-judge_work}
 
 -- the judge's verdict of the first tile
 told : (c : After-judge_work) → let a = c.args in judgement_in c.judge_work.result ≡ work_layer_verdict (layer_state_in a.state) a.tile a.row.now a.planes.now
 told c = rw (to_z-of_z c.ranges.tile) at c.judge_work.ensures
 
-passes : (c : In-Pass) → let a = c.args in work_layer_verdict (layer_state_in a.state) a.tile a.row.now a.planes.now ≡ pass
-passes c = sym (told c.before.before) ∙ ap judgement_in c.in-Pass.is
+passes : (c : After-judge_work) → let a = c.args in c.judge_work.result ≡ Pass → work_layer_verdict (layer_state_in a.state) a.tile a.row.now a.planes.now ≡ pass
+passes c e = sym (told c) ∙ ap judgement_in e
 
 pub returns-then-tiles-eq0 : goal.returns-then-tiles-eq0
 returns-then-tiles-eq0 c =
     let a = c.args in
-    told_so (none_asked (layer_state_in a.state) a.tile a.tiles a.row.now a.planes.now c.if-tiles-eq0.true) c.Ended-so.ensures
+    told_so (none_asked (layer_state_in a.state) a.tile a.tiles a.row.now a.planes.now c.if-tiles-eq0.true) c.ended_so.ensures
 
 pub work_on-requires : goal.work_on-requires
 work_on-requires c =
     let a = c.args in
-    ready (layer_state_in a.state) a.tile a.row.now a.planes.now (passes (goal.at.work_on-requires c).In-Pass)
+    ready (layer_state_in a.state) a.tile a.row.now a.planes.now (passes (goal.at.work_on-requires c).After-judge_work c.in-Pass.is)
 
 pub returns-in-Refuse : goal.returns-in-Refuse
 returns-in-Refuse c =
@@ -33,4 +34,4 @@ returns-in-Refuse c =
 pub returns-in-Pass : goal.returns-in-Pass
 returns-in-Pass c =
     let a = c.args in
-    works_so (some_asked (layer_state_in a.state) a.tile a.tiles a.row.now a.planes.now pass c.if-tiles-eq0.false (passes (goal.at.returns-in-Pass c).In-Pass)) c.work_on.ensures
+    works_so (some_asked (layer_state_in a.state) a.tile a.tiles a.row.now a.planes.now pass c.if-tiles-eq0.false (passes (goal.at.returns-in-Pass c).After-judge_work c.in-Pass.is)) c.work_on.ensures
