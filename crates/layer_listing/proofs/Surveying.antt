@@ -1,7 +1,7 @@
 -- The survey's loop: what is found so far and what is left make the whole, and the carries found so far are kept. Assumes nothing.
 use Rattle.std.specs.Prelude.{◌≡◌, ◌&&◌, ◌+◌, ◌*◌, ◌≤◌}
 use Rattle.laws.proofs.Prelude.{refl, sym, ap, ◌∙◌, Bool, true, false, cond, List, map, ℕ, arith, lt-ltb, ltb, ℤ, length}
-use Rattle.laws.proofs.Prelude.{drop, length-map, Answer, given, refused, is_given, left, right, cons_lt, map_drop, all_again, all_end, filled}
+use Rattle.laws.proofs.Prelude.{drop, length-map, given, refused, is_given, left, right, cons_lt, map_drop, all_again, all_end, filled}
 use Rattle.laws.proofs.Prelude.{filled_all}
 use Rattle.pixel_segment.specs.Field.{cpu}
 use Rattle.segment_rows.specs.Search.{between}

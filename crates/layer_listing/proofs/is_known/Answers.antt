@@ -1,5 +1,4 @@
 -- `listing::is_known` meets its contract. Assumes nothing.
-use Rattle.laws.proofs.Prelude.{rules}
 use Rattle.layer_table.proofs.Looking.{at_place, at_none}
 use Rattle.layer_listing.proofs.is_known.Goals as goal
 

@@ -1,5 +1,5 @@
 -- `keep_carry` meets its contract. Assumes nothing.
-use Rattle.laws.proofs.Prelude.{rules, lt-ltb, le-ltb}
+use Rattle.laws.proofs.Prelude.{lt-ltb, le-ltb}
 use Rattle.layer_listing.proofs.keep_carry.Goals as goal
 
 pub returns-then-place-lt256 : goal.returns-then-place-lt256

@@ -1,5 +1,4 @@
 -- `list_layers` meets its contract. Assumes nothing.
-use Rattle.laws.proofs.Prelude.{rules}
 use Rattle.layer_table.specs.Table.{table_of}
 use Rattle.queue_statements.specs.Queue.{queue_of}
 use Rattle.tile_layers.specs.Listing.{layers_in}

@@ -1,7 +1,7 @@
 use Rattle.std.specs.Prelude.{◌+◌, ◌-◌}
-use Rattle.laws.proofs.Prelude.{arith, rules, length}
+use Rattle.laws.proofs.Prelude.{length}
 use Rattle.layer_table.specs.Table.{table_of}
-use Rattle.layer_listing.proofs.Surveying.{Surveying, survey_start, survey_next, survey_end}
+use Rattle.layer_listing.proofs.Surveying.{Surveying}
 use Rattle.layer_listing.proofs.survey_layers.Given as goal
 
 abbrev pub invariant-loop-i : goal.invariant-loop-i

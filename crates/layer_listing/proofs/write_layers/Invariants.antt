@@ -1,6 +1,6 @@
 use Rattle.std.specs.Prelude.{◌+◌, ◌-◌}
-use Rattle.laws.proofs.Prelude.{arith, length}
-use Rattle.layer_listing.proofs.Writing.{Writing, write_start, write_lengths, write_room, write_next, write_end}
+use Rattle.laws.proofs.Prelude.{length}
+use Rattle.layer_listing.proofs.Writing.{Writing}
 use Rattle.layer_listing.proofs.write_layers.Given as goal
 
 -- `listing::write_layers` meets its contract. Assumes nothing.

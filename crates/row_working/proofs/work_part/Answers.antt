@@ -37,13 +37,13 @@ done-requires c = c.requires.next_low
 pub returns-in-Refuse : goal.returns-in-Refuse
 unfolding called lentTo
 returns-in-Refuse c =
-    let told = c.judge_list-judged.ensures.0.verdict in
+    let told = c.judge_list-judged.ensures.judged.verdict in
     record { gives = λ tile row e. refused_by (called (goal.at.returns-in-Refuse c).Start tile row) (lentTo (goal.at.returns-in-Refuse c).Start) (sym (rw e at told) ∙ ap judgement_in c.in-Refuse.is) refl c.refuse.ensures }
 
 pub returns-in-Pass : goal.returns-in-Pass
 unfolding called lentTo
 returns-in-Pass c =
-    let told = c.judge_list-judged.ensures.0.verdict in
+    let told = c.judge_list-judged.ensures.judged.verdict in
     let w = c.work.ensures in
     record {
       gives =

@@ -34,7 +34,7 @@ part_is c = rw (to_z-of_z c.ranges.tile, to_z-of_z (tile_fits c.before.before.be
 -- what the judge of the list says
 list-told : (c : After-judge_list-judged) → JudgesList (layers_of (called c).table) (listed_by (called c)) c.judge_list-judged.result
 unfolding called
-list-told c = rw (part_is c.before.before) at c.judge_list-judged.ensures.0
+list-told c = rw (part_is c.before.before) at c.judge_list-judged.ensures.judged
 
 -- where it passes
 listable : (c : In-Pass) → Listable (layers_of (called c).table) (listed_by (called c))
@@ -51,7 +51,7 @@ pub write_tile-requires : goal.write_tile-requires
 unfolding called
 write_tile-requires c =
     let l = listable (goal.at.write_tile-requires c).In-Pass in
-    rw (part_is (goal.at.write_tile-requires c).After-in_tile-part) (c.requires.walks, c.requires.covers_long, c.requires.in_table, c.requires.rooms, rw (part_is (goal.at.write_tile-requires c).After-in_tile-part) at (c.judge_list-judged.ensures.1 (ap judgement_in c.in-Pass.is)), l.few, (list-told (goal.at.write_tile-requires c).After-judge_list-judged).listed)
+    rw (part_is (goal.at.write_tile-requires c).After-in_tile-part) (c.requires.walks, c.requires.covers_long, c.requires.in_table, c.requires.rooms, rw (part_is (goal.at.write_tile-requires c).After-in_tile-part) at (c.judge_list-judged.ensures.carries (ap judgement_in c.in-Pass.is)), l.few, (list-told (goal.at.write_tile-requires c).After-judge_list-judged).listed)
 
 pub done-requires : goal.done-requires
 done-requires c = c.requires.next_low

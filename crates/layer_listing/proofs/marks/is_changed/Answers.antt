@@ -1,5 +1,5 @@
 -- `marks::is_changed` meets its contract. Assumes nothing.
-use Rattle.laws.proofs.Prelude.{arith, rules}
+use Rattle.laws.proofs.Prelude.{arith}
 use Rattle.layer_table.specs.Table.{table_of}
 use Rattle.layer_table.proofs.Looking.{at_place, at_none}
 use Rattle.layer_listing.proofs.Marking.{changed_found, changed_missing}

@@ -1,8 +1,7 @@
 -- `marks::mark_changed` meets its contract. Assumes nothing.
-use Rattle.std.specs.Prelude.{◌-◌}
 use Rattle.laws.proofs.Prelude.{arith}
 use Rattle.layer_table.specs.Table.{table_of}
-use Rattle.layer_listing.proofs.Marking.{Marking, mark_start, mark_long, mark_next, mark_end}
+use Rattle.layer_listing.proofs.Marking.{mark_start, mark_long, mark_next, mark_end}
 use Rattle.layer_listing.proofs.marks.mark_changed.Goals as goal
 
 pub loop-i-init : goal.loop-i-init

@@ -1,7 +1,6 @@
 use Rattle.std.specs.Prelude.{◌-◌}
-use Rattle.laws.proofs.Prelude.{arith}
 use Rattle.layer_table.specs.Table.{table_of}
-use Rattle.layer_listing.proofs.Marking.{Marking, mark_start, mark_long, mark_next, mark_end}
+use Rattle.layer_listing.proofs.Marking.{Marking}
 use Rattle.layer_listing.proofs.marks.mark_changed.Given as goal
 
 abbrev pub invariant-loop-i : goal.invariant-loop-i
