@@ -86,8 +86,8 @@ pub record QueueWritten (q : List Carry) (oldIds : List ℕ) (oldCovers : List �
   pub covers_are : covers ≡ over (covers_in q) oldCovers
 
 -- room for 256 entries in a list, with two flags each, and in a queue
-pub record Rooms (list_ids : List ℕ) (listCovers : List ℤ) (flags unmasked : List Bool) (queueIds : List ℕ) (queueCovers : List ℤ) : Type 0 where
-  pub list_ids : 256 ≤ length list_ids
+pub record Rooms (listIds : List ℕ) (listCovers : List ℤ) (flags unmasked : List Bool) (queueIds : List ℕ) (queueCovers : List ℤ) : Type 0 where
+  pub list_ids : 256 ≤ length listIds
   pub list_covers : 4096 ≤ length listCovers
   pub list_flags : 512 ≤ length flags
   pub list_unmasked : 256 ≤ length unmasked

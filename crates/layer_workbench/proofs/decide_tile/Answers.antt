@@ -1,5 +1,5 @@
 -- `decide_tile` meets its contract. Assumes nothing.
-use Rattle.laws.proofs.Prelude.{arith, rules}
+use Rattle.laws.proofs.Prelude.{arith}
 use Rattle.layer_table.specs.Table.{table_of}
 use Rattle.pass_statements.specs.Entry.{entries_of}
 use Rattle.layer_workbench.proofs.Decided.{decided}

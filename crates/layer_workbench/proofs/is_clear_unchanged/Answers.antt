@@ -1,5 +1,4 @@
 -- `is_clear_unchanged` meets its contract. Assumes nothing.
-use Rattle.laws.proofs.Prelude.{rules}
 use Rattle.layer_workbench.proofs.is_clear_unchanged.Goals as goal
 
 pub returns-in-Given : goal.returns-in-Given

@@ -1,5 +1,4 @@
 -- `kept_by` meets its contract. Assumes nothing.
-use Rattle.laws.proofs.Prelude.{rules}
 use Rattle.layer_workbench.proofs.kept_by.Goals as goal
 
 pub returns-in-Paint : goal.returns-in-Paint

@@ -1,5 +1,4 @@
 -- `previous_count` meets its contract. Assumes nothing.
-use Rattle.laws.proofs.Prelude.{rules}
 use Rattle.layer_workbench.proofs.previous_count.Goals as goal
 
 pub returns-in-Count : goal.returns-in-Count
