@@ -1,5 +1,5 @@
 -- `clips::alive_at` meets its contract. Assumes nothing.
-use Rattle.laws.proofs.Prelude.{lt-ltb, le-ltb, rules}
+use Rattle.laws.proofs.Prelude.{lt-ltb, le-ltb}
 use Rattle.painter.proofs.clips.alive_at.Goals as goal
 
 pub returns-then-last-id : goal.returns-then-last-id

@@ -1,5 +1,5 @@
 -- `clips::clip_after` meets its contract. Assumes nothing.
-use Rattle.laws.proofs.Prelude.{arith, rules}
+use Rattle.laws.proofs.Prelude.{arith}
 use Rattle.painter.proofs.Lasting.{last_sum}
 use Rattle.painter.proofs.clips.clip_after.Goals as goal
 

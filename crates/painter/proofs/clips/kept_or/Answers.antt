@@ -1,5 +1,4 @@
 -- `clips::kept_or` meets its contract. Assumes nothing.
-use Rattle.laws.proofs.Prelude.{rules}
 use Rattle.painter.proofs.clips.kept_or.Goals as goal
 
 pub returns-in-Absent : goal.returns-in-Absent

@@ -1,5 +1,4 @@
 -- `clips::lacks_clip` meets its contract. Assumes nothing.
-use Rattle.laws.proofs.Prelude.{rules}
 use Rattle.painter.proofs.clips.lacks_clip.Goals as goal
 
 pub returns-in-Absent : goal.returns-in-Absent

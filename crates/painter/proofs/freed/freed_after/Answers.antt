@@ -1,5 +1,5 @@
 -- `freed::freed_after` meets its contract. Assumes nothing.
-use Rattle.laws.proofs.Prelude.{lt-ltb, le-ltb, rules}
+use Rattle.laws.proofs.Prelude.{lt-ltb, le-ltb}
 use Rattle.painter.proofs.freed.freed_after.Goals as goal
 
 pub returns-then-at-id : goal.returns-then-at-id

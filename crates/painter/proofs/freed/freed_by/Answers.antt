@@ -1,5 +1,5 @@
 -- `freed::freed_by` meets its contract. Assumes nothing.
-use Rattle.laws.proofs.Prelude.{arith, rules}
+use Rattle.laws.proofs.Prelude.{arith}
 use Rattle.layer_table.proofs.Looking.{at_place, at_none}
 use Rattle.painter.proofs.freed.freed_by.Goals as goal
 

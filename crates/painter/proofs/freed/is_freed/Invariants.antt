@@ -1,7 +1,7 @@
 use Rattle.std.specs.Prelude.{◌+◌, ◌-◌}
-use Rattle.laws.proofs.Prelude.{arith, length}
+use Rattle.laws.proofs.Prelude.{length}
 use Rattle.layer_table.specs.Table.{table_of}
-use Rattle.painter.proofs.Freeing.{Freeing, free_start, free_next, free_end}
+use Rattle.painter.proofs.Freeing.{Freeing}
 use Rattle.painter.proofs.freed.is_freed.Given as goal
 
 abbrev pub invariant-loop-i : goal.invariant-loop-i

@@ -1,5 +1,4 @@
 -- `freed::needs_clip` meets its contract. Assumes nothing.
-use Rattle.laws.proofs.Prelude.{rules}
 use Rattle.painter.proofs.freed.needs_clip.Goals as goal
 
 pub returns-then-is_clipped : goal.returns-then-is_clipped

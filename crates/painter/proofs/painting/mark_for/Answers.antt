@@ -1,5 +1,4 @@
 -- `painting::mark_for` meets its contract. Assumes nothing.
-use Rattle.laws.proofs.Prelude.{rules}
 use Rattle.painter.proofs.painting.mark_for.Goals as goal
 
 pub returns-in-Clip : goal.returns-in-Clip

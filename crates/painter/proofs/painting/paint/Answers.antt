@@ -1,5 +1,5 @@
 -- `painting::paint` meets its contract. Assumes nothing.
-use Rattle.laws.proofs.Prelude.{arith, rules}
+use Rattle.laws.proofs.Prelude.{arith}
 use Rattle.layer_table.specs.Table.{table_of}
 use Rattle.queue_statements.specs.Queue.{queue_of}
 use Rattle.painter.proofs.Lasting.{last_small}
