@@ -1,5 +1,4 @@
 -- `read_job` meets its contract: each answer is a law of `Outcomes`. Assumes nothing.
-use Rattle.laws.proofs.Prelude.{rules}
 use Rattle.job_statements.proofs.Outcomes.{judged, reads, refuses}
 use Rattle.job.proofs.read_job.Goals as goal
 
@@ -10,7 +9,7 @@ returns-in_default c =
 
 pub write_job-requires : goal.write_job-requires
 write_job-requires c =
-    judged (rw c.in-Job.is at c.read_numbers.ensures) c.read_numbers.auto.1.1.0 c.read_numbers.auto.1.1.1.0
+    judged (rw c.in-Job.is at c.read_numbers.ensures) c.read_numbers.auto.layers c.read_numbers.auto.segments
 
 pub returns : goal.returns
 returns c =

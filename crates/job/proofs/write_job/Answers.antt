@@ -1,5 +1,5 @@
 -- `write_job` meets its contract: each answer is a law of `Outcomes`. Assumes nothing.
-use Rattle.laws.proofs.Prelude.{arith, not-true, not-false, rules, w32, kept}
+use Rattle.laws.proofs.Prelude.{arith, w32, kept}
 use Rattle.job_statements.proofs.Outcomes.{no_room, room, written}
 use Rattle.job.proofs.write_job.Goals as goal
 
@@ -29,6 +29,6 @@ write_row-requires c =
 pub returns : goal.returns
 returns c =
     let a = c.args in
-    let number = kept w32 a.head.row c.type_inv.head.0.1 in
+    let number = kept w32 a.head.row (omega arith) in
     written a.head c.requires a.layers.now a.colors.now a.row.now (c.if-not-has_room.false)
     c.write_words.ensures c.write_colors.ensures (rw number at c.write_row.ensures)
