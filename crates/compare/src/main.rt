@@ -16,6 +16,7 @@ mod works;
 
 use crate::stored::text::Cursor;
 use crate::stored::{rooms, text};
+use std::io;
 
 // One case of a kind.
 fn replay(
@@ -86,42 +87,39 @@ fn replay_all(text: &[u8], kind: u64, count: u64, at: usize) -> Agreed {
     }
 }
 
-fn say(name: &[u8], compared: u64, same: u64) {
-    io::write_all(1, name);
-    io::write_all(1, b": ");
-    io::print_decimal(1, compared);
-    io::write_all(1, b" compared, ");
-    io::print_decimal(1, std::num::wrapping_sub_u64(compared, same));
-    io::write_all(1, b" differ\n");
+fn say(rt: &impl Print, name: &str, compared: u64, same: u64) -> io::Result<()> {
+    let differing = std::num::wrapping_sub_u64(compared, same);
+    println!(rt; "{name}: {compared} compared, {differing} differ")
 }
 
 // A block of the text: how many cases of a kind, and the cases.
-fn section(text: &[u8], kind: u64, name: &[u8], at: usize) -> usize {
+fn section(rt: &impl Print, text: &[u8], kind: u64, name: &str, at: usize) -> io::Result<usize> {
     let count = text::next(text, at);
     let agreed = replay_all(text, kind, count.value, count.at);
-    say(name, count.value, agreed.same);
-    agreed.at
+    say(rt, name, count.value, agreed.same)?;
+    Ok(agreed.at)
 }
 
-fn main() {
+fn main(rt: HostRuntime) -> io::Result<()> {
     let mut space = rooms::text();
-    let n = io::read_full(0, &mut space);
+    let n = input_front::read_front(&mut rt.reader(), &mut space)?;
     let text: &[u8] = &space[..n];
-    let a1 = section(text, 1, b"packing", 0);
-    let a2 = section(text, 2, b"fields", a1);
-    let a3 = section(text, 3, b"order", a2);
-    let a4 = section(text, 4, b"rows in order", a3);
-    let a5 = section(text, 5, b"searches", a4);
-    let a6 = section(text, 6, b"covers", a5);
-    let a7 = section(text, 7, b"carries", a6);
-    let a8 = section(text, 8, b"painted parts", a7);
-    let a9 = section(text, 9, b"cached counts", a8);
-    let a10 = section(text, 10, b"cached colours", a9);
-    let a11 = section(text, 11, b"settling", a10);
-    let a12 = section(text, 12, b"openings", a11);
-    let a13 = section(text, 13, b"rows of tiles", a12);
-    let a14 = section(text, 14, b"listings", a13);
-    let a15 = section(text, 15, b"decidings", a14);
-    let a16 = section(text, 16, b"kept counts", a15);
-    section(text, 17, b"kept histories", a16);
+    let a1 = section(&rt, text, 1, "packing", 0)?;
+    let a2 = section(&rt, text, 2, "fields", a1)?;
+    let a3 = section(&rt, text, 3, "order", a2)?;
+    let a4 = section(&rt, text, 4, "rows in order", a3)?;
+    let a5 = section(&rt, text, 5, "searches", a4)?;
+    let a6 = section(&rt, text, 6, "covers", a5)?;
+    let a7 = section(&rt, text, 7, "carries", a6)?;
+    let a8 = section(&rt, text, 8, "painted parts", a7)?;
+    let a9 = section(&rt, text, 9, "cached counts", a8)?;
+    let a10 = section(&rt, text, 10, "cached colours", a9)?;
+    let a11 = section(&rt, text, 11, "settling", a10)?;
+    let a12 = section(&rt, text, 12, "openings", a11)?;
+    let a13 = section(&rt, text, 13, "rows of tiles", a12)?;
+    let a14 = section(&rt, text, 14, "listings", a13)?;
+    let a15 = section(&rt, text, 15, "decidings", a14)?;
+    let a16 = section(&rt, text, 16, "kept counts", a15)?;
+    section(&rt, text, 17, "kept histories", a16)?;
+    Ok(())
 }

@@ -1,11 +1,11 @@
 // The curve program: prints the EvenOdd weight of every remainder by 1,024.
 #![tactic(auto)]
 
-use libc::STDOUT_FILENO;
+use std::io;
 
 // The contract of `print_curve` holds the length.
-fn main() {
+fn main(rt: HostRuntime) -> io::Result<()> {
     let mut out = [0u8; 7900];
     let end = curve_text::print_curve(&mut out);
-    io::write_all(STDOUT_FILENO, &out[..end]);
+    rt.write_all(&out[..end])
 }

@@ -2,31 +2,37 @@
 // then the answer of the row program to its text.
 #![tactic(auto)]
 
-use libc::STDOUT_FILENO;
+use std::io;
+use std::io::Read;
+use std::rt::{Env, Files};
 
 // The contract of `answer_front` holds both lengths: what is read decides the answer, and the buffer has room for it.
-fn answer_file(fd: i32) {
+fn answer_file(to: &impl Print, file: &mut impl Read) -> io::Result<()> {
     let mut text = [0u8; 65537];
-    let n = io::read_full(fd, &mut text);
+    let n = input_front::read_front(file, &mut text)?;
     let mut out = [0u8; 249850];
     let end = row_text::answer_front(&text, n, &mut out);
-    io::write_all(STDOUT_FILENO, &out[..end]);
+    to.write_all(&out[..end])
 }
 
-fn run_argument(i: usize) {
-    let fd = argument_files::open_argument(i);
-    if 0 <= fd {
-        answer_file(fd);
-        libc::close(fd);
+fn run_argument(rt: &(impl Env + Files + Print), errors: &impl Print, i: usize) -> io::Result<()> {
+    match argument_files::open_argument(rt, errors, i)? {
+        Some(file) => {
+            let mut file = file;
+            answer_file(rt, &mut file)
+        }
+        None => Ok(()),
     }
 }
 
 // The first argument is the program's own name.
-fn main() {
-    let count = os::arg_count();
+fn main(rt: HostRuntime) -> io::Result<()> {
+    let count = argument_files::count(&rt);
+    let errors = rt.stderr();
     let mut i: usize = 1;
     while i < count {
-        run_argument(i);
+        run_argument(&rt, &errors, i)?;
         i += 1;
     }
+    Ok(())
 }

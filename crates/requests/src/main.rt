@@ -9,12 +9,14 @@ mod rows;
 mod segment_sets;
 mod standing;
 
-fn main() {
-    crate::segment_sets::print_cases();
-    crate::paintings::planes::print_cases();
-    crate::rows::print_cases();
-    crate::bounds::print_cases();
-    crate::standing::print_cases();
-    crate::four_high::print_cases();
-    crate::paintings::languages::print_cases();
+use std::io;
+
+fn main(rt: HostRuntime) -> io::Result<()> {
+    crate::segment_sets::print_cases(&rt)?;
+    crate::paintings::planes::print_cases(&rt)?;
+    crate::rows::print_cases(&rt)?;
+    crate::bounds::print_cases(&rt)?;
+    crate::standing::print_cases(&rt)?;
+    crate::four_high::print_cases(&rt)?;
+    crate::paintings::languages::print_cases(&rt)
 }

@@ -1,13 +1,13 @@
 // The lines of a program that runs worked examples: a name, and whether the example gave what it should.
-use libc::STDOUT_FILENO;
 use refusals::Verdict;
+use std::io;
 
-pub fn print(name: &[u8], ok: bool) {
-    io::write_all(STDOUT_FILENO, name);
+pub fn print(rt: &impl Print, name: &[u8], ok: bool) -> io::Result<()> {
+    rt.write_all(name)?;
     if ok {
-        io::write_all(STDOUT_FILENO, b": yes\n");
+        rt.write_all(b": yes\n")
     } else {
-        io::write_all(STDOUT_FILENO, b": no\n");
+        rt.write_all(b": no\n")
     }
 }
 

@@ -2,6 +2,7 @@
 // same.
 use pixel_segment::{Packed, PixelSegment};
 use row_lines::Driven;
+use std::io;
 
 fn word(layer: u32, tile_x: i16, local_y: u8, cover: i8) -> u64 {
     match PixelSegment::new(layer, tile_x, 0, 3, local_y, 20, cover) {
@@ -96,13 +97,15 @@ fn same_lines(row: [u64; 64], other: [u64; 64]) -> bool {
         & same_line(&lines, &others, 15)
 }
 
-pub fn print_cases() {
+pub fn print_cases(rt: &impl Print) -> io::Result<()> {
     crate::printing::print(
+        rt,
         b"covers up to 31 and their opposites, the same lines",
         same_lines(bands(16, 15, 31, -31), bands(-16, -15, -31, 31)),
-    );
+    )?;
     crate::printing::print(
+        rt,
         b"a cover of -32, which has no opposite, other lines",
         !same_lines(bands(-32, 31, 5, 1), bands(-32, -31, -5, -1)),
-    );
+    )
 }

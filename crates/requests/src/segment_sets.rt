@@ -3,6 +3,7 @@
 use crate::printing::{number_in, print};
 use cover::Cover;
 use segment_set_statements::SegmentSet;
+use std::io;
 
 // The last answer's number, and what it left.
 #[derive(Clone, Copy)]
@@ -186,38 +187,44 @@ fn both() -> Row {
 }
 
 // d, the carry and the loads after each edit.
-fn print_edits() {
+fn print_edits(rt: &impl Print) -> io::Result<()> {
     let none = begun(16);
     let a = with(none, A);
     let two = with(a, B);
-    print(b"begun with nothing", holds(none, 0, 0, nothing()));
-    print(b"A taken in", holds(a, 0, 1, row_of(0, 3, 0, 0, 0, 32)));
-    print(b"A let out", holds(without(a, A), 0, 0, nothing()));
+    print(rt, b"begun with nothing", holds(none, 0, 0, nothing()))?;
+    print(rt, b"A taken in", holds(a, 0, 1, row_of(0, 3, 0, 0, 0, 32)))?;
+    print(rt, b"A let out", holds(without(a, A), 0, 0, nothing()))?;
     print(
+        rt,
         b"B taken in",
         holds(with(none, B), 0, 1, row_of(0, 3, 384, 0, 0, 32)),
-    );
-    print(b"A and B taken in", holds(two, 0, 2, both()));
+    )?;
+    print(rt, b"A and B taken in", holds(two, 0, 2, both()))?;
     print(
+        rt,
         b"B let out of both",
         holds(without(two, B), 0, 1, row_of(0, 3, 0, 0, 0, 32)),
-    );
+    )?;
     print(
+        rt,
         b"A let out of both",
         holds(without(two, A), 0, 1, row_of(0, 3, 384, 0, 0, 32)),
-    );
+    )?;
     print(
+        rt,
         b"begun with both",
         holds(begun_with(16, &[A, B]), 0, 2, both()),
-    );
+    )?;
     print(
+        rt,
         b"C taken in",
         holds(with(none, C), 0, 1, row_of(0, 0, -1441, -480, -15, 47)),
-    );
+    )?;
     print(
+        rt,
         b"D taken in",
         holds(with(none, D), 0, 1, row_of(9, 15, 513, 513, 17, 17)),
-    );
+    )
 }
 
 // The word that stands in the second slot.
@@ -227,135 +234,166 @@ fn second(held: Held) -> u64 {
 }
 
 // Slots that are all held, and segments that are not.
-fn print_slots() {
+fn print_slots(rt: &impl Print) -> io::Result<()> {
     let one = with(begun(16), A);
     let two = with(one, B);
     let other = with(without(two, B), D);
     print(
+        rt,
         b"a third in two slots, 13",
         holds(with(two, D), 13, 2, both()),
-    );
+    )?;
     print(
+        rt,
         b"B let out, and D in its slot",
         (other.number == 0) & (second(other) == D),
-    );
+    )?;
     print(
+        rt,
         b"a part of three in two slots, 13",
         begun_with(16, &[A, B, D]).number == 13,
-    );
+    )?;
     print(
+        rt,
         b"A twice, let out once",
         holds(without(with(one, A), A), 0, 1, row_of(0, 3, 0, 0, 0, 32)),
-    );
+    )?;
     print(
+        rt,
         b"A let out twice, 12",
         holds(without(without(one, A), A), 12, 0, nothing()),
-    );
+    )?;
     print(
+        rt,
         b"nothing held, 12",
         holds(without(begun(16), B), 12, 0, nothing()),
-    );
+    )
 }
 
 // Segments of another layer, covers that are too large, and which number comes first.
-fn print_refusals() {
+fn print_refusals(rt: &impl Print) -> io::Result<()> {
     let light = with(begun(119), EIGHT);
     let full = with(with(begun(120), NONE), NONE);
-    print(b"layer 6 taken in, 3", with(begun(16), OTHER).number == 3);
-    print(b"layer 6 let out, 3", without(begun(16), OTHER).number == 3);
     print(
+        rt,
+        b"layer 6 taken in, 3",
+        with(begun(16), OTHER).number == 3,
+    )?;
+    print(
+        rt,
+        b"layer 6 let out, 3",
+        without(begun(16), OTHER).number == 3,
+    )?;
+    print(
+        rt,
         b"a part with layer 6, 3",
         begun_with(16, &[A, OTHER, A]).number == 3,
-    );
-    print(b"119 and -8", light.number == 0);
-    print(b"119, -8 and 1, 9", with(light, ONE).number == 9);
-    print(b"119, -8 and 0", with(light, NONE).number == 0);
-    print(b"120 and -8, 9", with(begun(120), EIGHT).number == 9);
+    )?;
+    print(rt, b"119 and -8", light.number == 0)?;
+    print(rt, b"119, -8 and 1, 9", with(light, ONE).number == 9)?;
+    print(rt, b"119, -8 and 0", with(light, NONE).number == 0)?;
+    print(rt, b"120 and -8, 9", with(begun(120), EIGHT).number == 9)?;
     print(
+        rt,
         b"120 and -8 in full slots, 9",
         with(full, EIGHT).number == 9,
-    );
+    )?;
     print(
+        rt,
         b"120 and 0 in full slots, 13",
         with(full, NONE).number == 13,
-    );
-    print(b"127 and nothing", begun(-127).number == 0);
-    print(b"128 and nothing, 9", begun(-128).number == 9);
+    )?;
+    print(rt, b"127 and nothing", begun(-127).number == 0)?;
+    print(rt, b"128 and nothing, 9", begun(-128).number == 9)
 }
 
 // Segments of another tile.
-fn print_tiles() {
+fn print_tiles(rt: &impl Print) -> io::Result<()> {
     let none = begun(16);
     let right = begun_at(5, 3, 0, 16, &[RIGHT]);
     let below = begun_at(5, 2, 1, 16, &[BELOW]);
     print(
+        rt,
         b"tile 3 taken in, 3",
         holds(with(none, RIGHT), 3, 0, nothing()),
-    );
-    print(b"tile 3 let out, 3", without(none, RIGHT).number == 3);
+    )?;
+    print(rt, b"tile 3 let out, 3", without(none, RIGHT).number == 3)?;
     print(
+        rt,
         b"a part with tile 3, 3",
         begun_with(16, &[RIGHT, A]).number == 3,
-    );
+    )?;
     print(
+        rt,
         b"row 1 taken in, 3",
         holds(with(none, BELOW), 3, 0, nothing()),
-    );
-    print(b"row 1 let out, 3", without(none, BELOW).number == 3);
+    )?;
+    print(rt, b"row 1 let out, 3", without(none, BELOW).number == 3)?;
     print(
+        rt,
         b"a part with row 1, 3",
         begun_with(16, &[A, BELOW]).number == 3,
-    );
+    )?;
     print(
+        rt,
         b"begun in tile 3",
         holds(right, 0, 1, row_of(0, 3, 0, 0, 0, 32)),
-    );
+    )?;
     print(
+        rt,
         b"begun in tile 3, tile 2 taken in, 3",
         with(right, A).number == 3,
-    );
+    )?;
     print(
+        rt,
         b"begun in row 1",
         holds(below, 0, 1, row_of(0, 3, 0, 0, 0, 32)),
-    );
+    )?;
     print(
+        rt,
         b"begun in row 1, row 0 taken in, 3",
         with(below, A).number == 3,
-    );
+    )
 }
 
 // Beginnings: what they leave, and which number comes first.
-fn print_beginnings() {
+fn print_beginnings(rt: &impl Print) -> io::Result<()> {
     print(
+        rt,
         b"begun with A",
         holds(begun_with(16, &[A]), 0, 1, row_of(0, 3, 0, 0, 0, 32)),
-    );
+    )?;
     print(
+        rt,
         b"begun with D",
         holds(begun_with(16, &[D]), 0, 1, row_of(9, 15, 513, 513, 17, 17)),
-    );
+    )?;
     print(
+        rt,
         b"begun with 119 and -8",
         begun_with(119, &[EIGHT]).number == 0,
-    );
+    )?;
     print(
+        rt,
         b"begun with 120 and -8, 9",
         begun_with(120, &[EIGHT]).number == 9,
-    );
+    )?;
     print(
+        rt,
         b"begun with 120, -8 and two more, 9",
         begun_with(120, &[NONE, NONE, EIGHT]).number == 9,
-    );
+    )?;
     print(
+        rt,
         b"begun with 120, -8 and tile 3, 3",
         begun_with(120, &[EIGHT, RIGHT]).number == 3,
-    );
+    )
 }
 
-pub fn print_cases() {
-    print_edits();
-    print_slots();
-    print_refusals();
-    print_tiles();
-    print_beginnings();
+pub fn print_cases(rt: &impl Print) -> io::Result<()> {
+    print_edits(rt)?;
+    print_slots(rt)?;
+    print_refusals(rt)?;
+    print_tiles(rt)?;
+    print_beginnings(rt)
 }

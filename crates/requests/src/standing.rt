@@ -1,6 +1,7 @@
 // W-212, which layer record stands: each example's name, and whether the answer and the ids of the table are its own.
 use crate::printing::print;
 use revision_statements::Standing;
+use std::io;
 
 // How many layers stand, or 100 and the number of the refusal.
 fn told(answer: Standing) -> usize {
@@ -72,54 +73,65 @@ fn gives_one(records: [u32; 60], count: usize, answer: usize, first: u32) -> boo
 }
 
 // Layer 3 is withdrawn by its highest revision, or stands again above it, or has two records of revision 9.
-fn print_revisions() {
+fn print_revisions(rt: &impl Print) -> io::Result<()> {
     let one = put([0u32; 60], 0, 3, 5, 0, 0);
     let two = put(one, 1, 1, 2, 0, 0);
     let three = put(two, 2, 3, 9, 1, 0);
     let four = put(three, 3, 1, 1, 0, 0);
     let five = put(four, 4, 2, 4294967295, 0, 0);
-    print(b"layers 1 and 2 stand", gives(five, 5, 2, 1, 2, 9));
+    print(rt, b"layers 1 and 2 stand", gives(five, 5, 2, 1, 2, 9))?;
     print(
+        rt,
         b"layers 1, 2 and 3 stand",
         gives(put(five, 5, 3, 10, 0, 0), 6, 3, 1, 2, 3),
-    );
+    )?;
     print(
+        rt,
         b"equal revisions, 15",
         gives(put(five, 5, 3, 9, 0, 0), 6, 115, 9, 9, 9),
-    );
-    print(b"no record, no layer", gives(five, 0, 0, 9, 9, 9));
+    )?;
+    print(rt, b"no record, no layer", gives(five, 0, 0, 9, 9, 9))?;
     print(
+        rt,
         b"a withdrawal alone, no layer",
         gives(put(five, 0, 7, 0, 1, 0), 1, 0, 9, 9, 9),
-    );
+    )
 }
 
 // The order of judging, and the edges of each number.
-fn print_refusals() {
+fn print_refusals(rt: &impl Print) -> io::Result<()> {
     let one = put([0u32; 60], 0, 4, 1, 0, 15);
     let two = put(one, 1, 9, 2, 0, 0);
     let twins = put(two, 2, 9, 2, 1, 0);
     print(
+        rt,
         b"4 before 15",
         gives(put(twins, 0, 2097152, 1, 0, 0), 3, 104, 9, 9, 9),
-    );
-    print(b"15 before 1", gives_one(twins, 3, 115, 9));
-    print(b"two layers, room for one, 1", gives_one(two, 2, 101, 9));
+    )?;
+    print(rt, b"15 before 1", gives_one(twins, 3, 115, 9))?;
     print(
+        rt,
+        b"two layers, room for one, 1",
+        gives_one(two, 2, 101, 9),
+    )?;
+    print(
+        rt,
         b"one withdrawn, room for one",
         gives_one(put(two, 2, 9, 3, 1, 99), 3, 1, 4),
-    );
+    )?;
     print(
+        rt,
         b"blend mode 16, 4",
         gives(put(two, 0, 4, 1, 0, 16), 2, 104, 9, 9, 9),
-    );
+    )?;
     print(
+        rt,
         b"kind 2, 4",
         gives(put(two, 0, 4, 1, 2, 0), 2, 104, 9, 9, 9),
-    );
+    )
 }
 
-pub fn print_cases() {
-    print_revisions();
-    print_refusals();
+pub fn print_cases(rt: &impl Print) -> io::Result<()> {
+    print_revisions(rt)?;
+    print_refusals(rt)
 }

@@ -8,6 +8,7 @@ use crate::tiles::painting;
 use job_statements::Reading;
 use job_text_statements::Head;
 use row_statements::{Opened, RowState};
+use std::io;
 
 // What a frame leaves for the next: its layer table and its row, and the cached tiles, eight bytes each.
 #[derive(Clone, Copy)]
@@ -48,6 +49,7 @@ fn due_tiles(first: u32, to: u32, tiles: i32) -> u32 {
 
 // Works the tiles of an open row, up to the first that is refused.
 fn trace_tiles(
+    rt: &impl Print,
     choice: Choice,
     state: RowState,
     n: u32,
@@ -56,13 +58,14 @@ fn trace_tiles(
     table: Table,
     opened: Queue,
     kept: &mut [u8; 32760],
-) {
+) -> io::Result<()> {
     let mut queue = opened;
     let mut at = state;
     let mut left = n;
     while 0 < left {
         left -= 1;
         let step = crate::tiles::trace_tile(
+            rt,
             choice::chosen_of(choice, at.next),
             at,
             later,
@@ -70,25 +73,27 @@ fn trace_tiles(
             table,
             cached::tile_at(kept, at.next),
             queue,
-        );
+        )?;
         if !step.worked {
-            return;
+            return Ok(());
         }
         cached::store(kept, at.next, step.kept);
         queue = step.queue;
         at = step.state;
     }
+    Ok(())
 }
 
 // Opens the row of a job and works its tiles.
 fn trace_row(
+    rt: &impl Print,
     choice: Choice,
     head: Head,
     later: bool,
     row: &[u64],
     table: Table,
     kept: &mut [u8; 32760],
-) {
+) -> io::Result<()> {
     let layers = table.layers;
     let colors = table.colors;
     let mut ids = [0u32; 256];
@@ -104,14 +109,14 @@ fn trace_row(
         &mut ids,
         &mut covers,
     ) {
-        Opened::Refused(refusal) => painting::print_refusal(refusals::number_of(refusal)),
+        Opened::Refused(refusal) => painting::print_refusal(rt, refusals::number_of(refusal)),
         Opened::Row(state) => {
             let n = due_tiles(state.from, state.to, head.tiles);
             let queue = Queue {
                 ids: ids,
                 covers: covers,
             };
-            trace_tiles(choice, state, n, later, row, table, queue, kept)
+            trace_tiles(rt, choice, state, n, later, row, table, queue, kept)
         }
     }
 }
@@ -119,6 +124,7 @@ fn trace_row(
 // Traces a job that was read as the frame after `before`. A layer whose record and segments are those of the frame
 // before counts as unchanged.
 fn trace_job(
+    rt: &impl Print,
     choice: Choice,
     head: Head,
     read: [u32; 512],
@@ -127,7 +133,7 @@ fn trace_job(
     row: [u64; 2048],
     segments: usize,
     before: Frame,
-) -> Frame {
+) -> io::Result<Frame> {
     let old_layers = before.layers;
     let old_colors = before.colors;
     let old_row = before.row;
@@ -151,14 +157,15 @@ fn trace_job(
         count: count,
     };
     trace_row(
+        rt,
         choice,
         head,
         before.given,
         front(&row, segments),
         table,
         &mut kept,
-    );
-    Frame {
+    )?;
+    Ok(Frame {
         given: true,
         layers: layers,
         colors: colors,
@@ -166,22 +173,30 @@ fn trace_job(
         count: count,
         segments: segments,
         cached: kept,
-    }
+    })
 }
 
 // Reads a job from the front of an input, of which n bytes were read, and traces it as the frame after `before`.
-pub fn trace_frame(choice: Choice, text: &[u8; 65537], n: usize, before: Frame) -> Frame {
+pub fn trace_frame(
+    rt: &impl Print,
+    choice: Choice,
+    text: &[u8; 65537],
+    n: usize,
+    before: Frame,
+) -> io::Result<Frame> {
     let mut layers = [0u32; 512];
     let mut colors = [0.0f32; 256];
     let mut row = [0u64; 2048];
     match job_front::read_front(text, n, &mut layers, &mut colors, &mut row) {
         Reading::Accepted(head, count, segments) => {
-            trace_job(choice, head, layers, colors, count, row, segments, before)
+            trace_job(
+                rt, choice, head, layers, colors, count, row, segments, before,
+            )
         }
-        Reading::NoRoom => before,
+        Reading::NoRoom => Ok(before),
         Reading::Malformed => {
-            painting::print_refusal(10);
-            before
+            painting::print_refusal(rt, 10)?;
+            Ok(before)
         }
     }
 }

@@ -12,26 +12,36 @@ mod tiles;
 
 use choice::Choice;
 use frame::Frame;
-use libc::{STDERR_FILENO, STDIN_FILENO, STDOUT_FILENO};
+use std::io;
+use std::io::Read;
+use std::rt::{Env, Files};
 
 // The contract of `read_front` holds the length: what is read decides the job.
-fn trace_text_of(choice: Choice, fd: i32, before: Frame) -> Frame {
+fn trace_text_of(
+    rt: &impl Print,
+    choice: Choice,
+    reader: &mut impl Read,
+    before: Frame,
+) -> io::Result<Frame> {
     let mut text = [0u8; 65537];
-    let n = io::read_full(fd, &mut text);
-    frame::trace_frame(choice, &text, n, before)
+    let n = input_front::read_front(reader, &mut text)?;
+    frame::trace_frame(rt, choice, &text, n, before)
 }
 
-fn trace_file(choice: Choice, path: &[u8], before: Frame) -> Frame {
-    let fd = os::open_read(path);
-    if fd < 0 {
-        os::fail(path);
-        return before;
+fn trace_file(
+    rt: &(impl Files + Print),
+    errors: &impl Print,
+    choice: Choice,
+    path: &[u8],
+    before: Frame,
+) -> io::Result<Frame> {
+    match argument_files::open_path(rt, errors, path)? {
+        Some(file) => {
+            let mut file = file;
+            trace_text_of(rt, choice, &mut file, before)
+        }
+        None => Ok(before),
     }
-    crate::text::print(path);
-    crate::text::print(b"\n");
-    let after = trace_text_of(choice, fd, before);
-    libc::close(fd);
-    after
 }
 
 // What the last file left, whether the next is its next frame, and which number the last word asks for.
@@ -51,36 +61,51 @@ fn before_of(step: Step) -> Frame {
     }
 }
 
-fn run_word(choice: Choice, word: &[u8], step: Step) -> Step {
+fn run_word(
+    rt: &(impl Files + Print),
+    errors: &impl Print,
+    choice: Choice,
+    word: &[u8],
+    step: Step,
+) -> io::Result<Step> {
     let asked = choice::asked_after(step.asked, word);
     if (step.asked == choice::NO_NUMBER) & choice::is_file(word) {
-        let after = trace_file(choice, word, before_of(step));
-        return Step {
+        let after = trace_file(rt, errors, choice, word, before_of(step))?;
+        return Ok(Step {
             then: false,
             asked: asked,
             frame: after,
-        };
+        });
     }
     let frame = step.frame;
-    Step {
+    Ok(Step {
         then: step.then | choice::is_then(word),
         asked: asked,
         frame: frame,
-    }
+    })
 }
 
-fn run_argument(choice: Choice, i: usize, step: Step) -> Step {
-    let mut path = io::buffer();
-    let n = os::arg(i, &mut path);
-    if os::errno() != 0 {
-        os::fail(b"path");
-        return step;
+fn run_argument(
+    rt: &(impl Env + Files + Print),
+    errors: &impl Print,
+    choice: Choice,
+    i: usize,
+    step: Step,
+) -> io::Result<Step> {
+    let mut path = [0u8; 4096];
+    match argument_files::read_argument(rt, errors, i, &mut path)? {
+        Some(n) => run_word(rt, errors, choice, &path[..n], step),
+        None => Ok(step),
     }
-    run_word(choice, &path[..n], step)
 }
 
 // Traces the files that the arguments name, one after the other.
-fn run_arguments(choice: Choice, count: usize) {
+fn run_arguments(
+    rt: &(impl Env + Files + Print),
+    errors: &impl Print,
+    choice: Choice,
+    count: usize,
+) -> io::Result<()> {
     let mut step = Step {
         then: false,
         asked: choice::NO_NUMBER,
@@ -88,69 +113,61 @@ fn run_arguments(choice: Choice, count: usize) {
     };
     let mut i: usize = 1;
     while i < count {
-        step = run_argument(choice, i, step);
+        step = run_argument(rt, errors, choice, i, step)?;
         i += 1;
     }
+    Ok(())
 }
 
-fn choose_by(choice: Choice, i: usize) -> Choice {
-    let mut word = io::buffer();
-    let n = os::arg(i, &mut word);
+// An argument that is missing or too long counts as an empty word.
+fn choose_by(env: &impl Env, choice: Choice, i: usize) -> Choice {
+    let mut word = [0u8; 4096];
+    let n = match env.arg(i, &mut word) {
+        Ok(n) => n,
+        Err(_) => 0,
+    };
     choice::take(choice, &word[..n])
 }
 
 // What all arguments choose. The first is the program's own name.
-fn chosen_by(count: usize) -> Choice {
+fn chosen_by(env: &impl Env, count: usize) -> Choice {
     let mut choice = choice::everything();
     let mut i: usize = 1;
     while i < count {
-        choice = choose_by(choice, i);
+        choice = choose_by(env, choice, i);
         i += 1;
     }
     choice
 }
 
-fn print_use(fd: i32) {
-    io::write_all(
-        fd,
-        b"usage: trace [FILE [then FILE]..].. [tile N] [layer N] [PART]..\n",
-    );
-    io::write_all(
-        fd,
+fn print_use(to: &impl Print) -> io::Result<()> {
+    to.write_all(b"usage: trace [FILE [then FILE]..].. [tile N] [layer N] [PART]..\n")?;
+    to.write_all(
         b"Traces each tile of each job; `then` makes a file the next frame of the one before; without a file one job is\n",
-    );
-    io::write_all(
-        fd,
+    )?;
+    to.write_all(
         b"read from standard input. `tile N` tells one tile only, `layer N` the paintings of one layer only. Parts of a\n",
-    );
-    io::write_all(
-        fd,
+    )?;
+    to.write_all(
         b"tile, all where none is named: segments taken list decision cached painted areas planes handed line.\n",
-    );
-    io::write_all(
-        fd,
-        b"A file of such a name is named with its folder: ./list\n",
-    );
+    )?;
+    to.write_all(b"A file of such a name is named with its folder: ./list\n")
 }
 
-fn main() {
-    let count = os::arg_count();
-    let choice = chosen_by(count);
+fn main(rt: HostRuntime) -> io::Result<()> {
+    let count = argument_files::count(&rt);
+    let choice = chosen_by(&rt, count);
+    let errors = rt.stderr();
     if choice.help {
-        print_use(STDOUT_FILENO);
-        return;
+        return print_use(&rt);
     }
     if choice.wrong | (choice.asked != choice::NO_NUMBER) {
-        io::write_all(
-            STDERR_FILENO,
-            b"trace: after `tile` and `layer` stands a number\n",
-        );
-        print_use(STDERR_FILENO);
-        return;
+        errors.write_all(b"trace: after `tile` and `layer` stands a number\n")?;
+        return print_use(&errors);
     }
     if choice.named {
-        run_arguments(choice, count);
-        return;
+        return run_arguments(&rt, &errors, choice, count);
     }
-    trace_text_of(choice, STDIN_FILENO, frame::none_before());
+    trace_text_of(&rt, choice, &mut rt.reader(), frame::none_before())?;
+    Ok(())
 }

@@ -5,52 +5,38 @@ pub mod planes;
 pub mod queues;
 pub mod segments;
 
-use libc::STDOUT_FILENO;
+use std::io;
 
-pub fn print(text: &[u8]) {
-    io::write_all(STDOUT_FILENO, text);
+pub fn print(rt: &impl Print, text: &[u8]) -> io::Result<()> {
+    rt.write_all(text)
 }
 
-pub fn print_number(n: u64) {
-    io::print_decimal(STDOUT_FILENO, n);
+pub fn print_number(rt: &impl Print, n: u64) -> io::Result<()> {
+    rt.print(n)
 }
 
-pub fn print_hex(n: u64, digits: usize) {
-    print(b"0x");
-    io::print_hex(STDOUT_FILENO, n, digits);
+pub fn print_hex(rt: &impl Print, n: u64, digits: usize) -> io::Result<()> {
+    print!(rt; "0x{n:0digits$x}")
 }
 
 // At most 16 spaces.
-fn print_spaces(n: usize) {
+fn print_spaces(rt: &impl Print, n: usize) -> io::Result<()> {
     let spaces = [b' '; 16];
     if n <= 16 {
-        print(&spaces[..n]);
+        print(rt, &spaces[..n])
+    } else {
+        Ok(())
     }
 }
 
 // A number with so many spaces before it that the two take a column of that width, where it is wide enough.
-pub fn print_right(n: u64, width: usize) {
-    let mut text = [0u8; 20];
-    let k = io::decimal(n, &mut text);
-    if k < width {
-        print_spaces(width - k);
-    }
-    print(&text[..k]);
+pub fn print_right(rt: &impl Print, n: u64, width: usize) -> io::Result<()> {
+    print!(rt; "{n:>width$}")
 }
 
 // The same of a number with its sign.
-pub fn print_signed(v: i16, width: usize) {
-    let mut text = [0u8; 20];
-    let k = io::decimal(weight::magnitude(v) as u64, &mut text);
-    if v < 0 {
-        if k < width {
-            print_spaces(width - k - 1);
-        }
-        print(b"-");
-    } else if k < width {
-        print_spaces(width - k);
-    }
-    print(&text[..k]);
+pub fn print_signed(rt: &impl Print, v: i16, width: usize) -> io::Result<()> {
+    print!(rt; "{v:>width$}")
 }
 
 pub fn wide(cover: i8) -> i16 {
@@ -58,18 +44,20 @@ pub fn wide(cover: i8) -> i16 {
 }
 
 // A word and spaces up to a column's end.
-pub fn print_left(word: &[u8], width: usize) {
-    print(word);
+pub fn print_left(rt: &impl Print, word: &[u8], width: usize) -> io::Result<()> {
+    print(rt, word)?;
     if word.len() < width {
-        print_spaces(width - word.len());
+        print_spaces(rt, width - word.len())
+    } else {
+        Ok(())
     }
 }
 
-pub fn print_answer(yes: bool, width: usize) {
+pub fn print_answer(rt: &impl Print, yes: bool, width: usize) -> io::Result<()> {
     if yes {
-        print_left(b"yes", width);
+        print_left(rt, b"yes", width)
     } else {
-        print_left(b"no", width);
+        print_left(rt, b"no", width)
     }
 }
 

@@ -12,6 +12,7 @@ use layer_workbench::PreviousClear;
 use lent::{LIST_FLAGS, List, Queue, Table};
 use row_statements::{RowState, TileDone, TileWorked, WorkAnswer};
 use segment_rows::parts;
+use std::io;
 use styling::Color;
 
 // The state after a tile, its cached tile, the queue that it hands on, and whether it was worked.
@@ -43,17 +44,24 @@ fn previous_clear(later: bool) -> PreviousClear {
 }
 
 // The list, a line for each layer.
-fn print_list(table: Table, list: List, skipped: usize, listed: usize) {
+fn print_list(
+    rt: &impl Print,
+    table: Table,
+    list: List,
+    skipped: usize,
+    listed: usize,
+) -> io::Result<()> {
     let layers = table.layers;
     let ids = list.ids;
     let covers = list.covers;
     let flags = list.flags;
     let unmasked = list.unmasked;
-    lists::print_names(listed);
+    lists::print_names(rt, listed)?;
     let mut i: usize = 0;
     while i < listed {
         let id = lent::id_in(&ids, i);
         lists::print_entry(
+            rt,
             id,
             lent::record_in(&layers, table.count, id),
             lent::cover_in(&covers, i),
@@ -61,93 +69,115 @@ fn print_list(table: Table, list: List, skipped: usize, listed: usize) {
             lent::is_changed(&flags, i),
             lent::is_unmasked(&unmasked, i),
             i < skipped,
-        );
+        )?;
         i += 1;
     }
+    Ok(())
 }
 
 // A queue of n carries, under a name.
-fn print_queue(name: &[u8], queue: Queue, n: usize) {
+fn print_queue(rt: &impl Print, name: &[u8], queue: Queue, n: usize) -> io::Result<()> {
     let ids = queue.ids;
     let covers = queue.covers;
-    queues::print_queue(name, &ids, &covers, n);
+    queues::print_queue(rt, name, &ids, &covers, n)
 }
 
-fn print_tile(tile: u32) {
-    crate::text::print(b"tile ");
-    crate::text::print_number(tile as u64);
-    crate::text::print(b"\n");
+fn print_tile(rt: &impl Print, tile: u32) -> io::Result<()> {
+    crate::text::print(rt, b"tile ")?;
+    crate::text::print_number(rt, tile as u64)?;
+    crate::text::print(rt, b"\n")
 }
 
 // What the tile has and what comes to it.
-fn print_before(chosen: Chosen, state: RowState, row: &[u64], queue: Queue) {
+fn print_before(
+    rt: &impl Print,
+    chosen: Chosen,
+    state: RowState,
+    row: &[u64],
+    queue: Queue,
+) -> io::Result<()> {
     if chosen.parts != 0 {
-        print_tile(state.next);
+        print_tile(rt, state.next)?;
     }
     if chosen::has(chosen, chosen::SEGMENTS) {
-        segments::print_part(parts::in_tile(row, painting::small(state.next)));
+        segments::print_part(rt, parts::in_tile(row, painting::small(state.next)))?;
     }
     if chosen::has(chosen, chosen::TAKEN_IN) {
-        print_queue(b"  taken in: ", queue, state.left);
+        print_queue(rt, b"  taken in: ", queue, state.left)?;
     }
+    Ok(())
 }
 
 // A tile that is turned down is told whether it is chosen or not: the row ends there.
-fn print_refused(chosen: Chosen, tile: u32, number: u32) {
+fn print_refused(rt: &impl Print, chosen: Chosen, tile: u32, number: u32) -> io::Result<()> {
     if chosen.parts == 0 {
-        print_tile(tile);
+        print_tile(rt, tile)?;
     }
-    painting::print_refusal(number);
+    painting::print_refusal(rt, number)
 }
 
 // The line of the row program.
-fn print_line(tile: u32, done: TileDone, tally: painting::Tally, carried: usize) {
+fn print_line(
+    rt: &impl Print,
+    tile: u32,
+    done: TileDone,
+    tally: painting::Tally,
+    carried: usize,
+) -> io::Result<()> {
     let decision = done.decision;
-    crate::text::print(b"  line: ");
-    crate::text::print_number(tile as u64);
-    deciding::print_word(decision);
-    crate::text::print_number(done.listed as u64);
-    crate::text::print(b" ");
-    crate::text::print_number(tally.shown as u64);
-    crate::text::print(b" ");
-    crate::text::print_number(tally.octets as u64);
-    crate::text::print(b" ");
-    crate::text::print_number(carried as u64);
-    crate::text::print(b"\n");
+    crate::text::print(rt, b"  line: ")?;
+    crate::text::print_number(rt, tile as u64)?;
+    deciding::print_word(rt, decision)?;
+    crate::text::print_number(rt, done.listed as u64)?;
+    crate::text::print(rt, b" ")?;
+    crate::text::print_number(rt, tally.shown as u64)?;
+    crate::text::print(rt, b" ")?;
+    crate::text::print_number(rt, tally.octets as u64)?;
+    crate::text::print(rt, b" ")?;
+    crate::text::print_number(rt, carried as u64)?;
+    crate::text::print(rt, b"\n")
 }
 
 // Decision and cached tile; the cached tile after settling.
-fn tell_decision(chosen: Chosen, done: TileDone, before: Kept, after: Kept) -> Kept {
+fn tell_decision(
+    rt: &impl Print,
+    chosen: Chosen,
+    done: TileDone,
+    before: Kept,
+    after: Kept,
+) -> io::Result<Kept> {
     let decision = done.decision;
     let cached = chosen::has(chosen, chosen::CACHED);
     if chosen::has(chosen, chosen::DECISION) {
-        deciding::print_decision(decision);
+        deciding::print_decision(rt, decision)?;
     }
     if cached {
-        deciding::print_cached(b"  cached before:", before);
+        deciding::print_cached(rt, b"  cached before:", before)?;
     }
-    let kept = deciding::settle(decision, after, cached);
+    let kept = deciding::settle(rt, decision, after, cached)?;
     if cached {
-        deciding::print_cached(b"  cached after: ", kept);
+        deciding::print_cached(rt, b"  cached after: ", kept)?;
     }
-    kept
+    Ok(kept)
 }
 
 // The end of a tile: what it hands on, and the line of the row program.
 fn tell_after(
+    rt: &impl Print,
     chosen: Chosen,
     tile: u32,
     done: TileDone,
     tally: painting::Tally,
     next: Queue,
     carried: usize,
-) {
+) -> io::Result<()> {
     if chosen::has(chosen, chosen::HANDED_ON) {
-        print_queue(b"  handed on: ", next, carried);
+        print_queue(rt, b"  handed on: ", next, carried)?;
     }
     if chosen::has(chosen, chosen::LINE) {
-        print_line(tile, done, tally, carried);
+        print_line(rt, tile, done, tally, carried)?;
     }
+    Ok(())
 }
 
 // What a work gives and leaves: its answer, the queue handed on and the list.
@@ -248,6 +278,7 @@ fn work_next(
 
 // An accepted work told: list, decision, cached tile, paintings, the queue handed on, line.
 fn tell_done(
+    rt: &impl Print,
     chosen: Chosen,
     tile: u32,
     after: RowState,
@@ -259,15 +290,16 @@ fn tell_done(
     queue: Queue,
     list: List,
     next: Queue,
-) -> Step {
+) -> io::Result<Step> {
     let decision = done.decision;
     let skipped = done.skipped;
     let listed = done.listed;
     if chosen::has(chosen, chosen::LIST) {
-        print_list(table, list, skipped.0, listed);
+        print_list(rt, table, list, skipped.0, listed)?;
     }
-    let settled = tell_decision(chosen, done, before, kept);
+    let settled = tell_decision(rt, chosen, done, before, kept)?;
     let tally = painting::tally_shown(
+        rt,
         chosen,
         after,
         deciding::is_paint(decision),
@@ -278,19 +310,20 @@ fn tell_done(
         list,
         skipped.0,
         listed,
-    );
-    tell_after(chosen, tile, done, tally, next, after.left);
+    )?;
+    tell_after(rt, chosen, tile, done, tally, next, after.left)?;
     let left = tally.state;
-    Step {
+    Ok(Step {
         state: left,
         kept: settled,
         queue: next,
         worked: true,
-    }
+    })
 }
 
 // Works the next tile of a row from the queue that is left, and tells it.
 pub fn trace_tile(
+    rt: &impl Print,
     chosen: Chosen,
     state: RowState,
     later: bool,
@@ -298,8 +331,8 @@ pub fn trace_tile(
     table: Table,
     kept: Kept,
     queue: Queue,
-) -> Step {
-    print_before(chosen, state, row, queue);
+) -> io::Result<Step> {
+    print_before(rt, chosen, state, row, queue)?;
     let done = work_next(state, later, row, table, kept, queue);
     let worked = done.worked;
     let list = done.list;
@@ -309,16 +342,16 @@ pub fn trace_tile(
     let answer = worked.answer;
     match answer {
         WorkAnswer::Refused(refusal) => {
-            print_refused(chosen, state.next, refusals::number_of(refusal));
-            Step {
+            print_refused(rt, chosen, state.next, refusals::number_of(refusal))?;
+            Ok(Step {
                 state: after,
                 kept: kept_after,
                 queue: next,
                 worked: false,
-            }
+            })
         }
         WorkAnswer::Done(told) => tell_done(
-            chosen, state.next, after, told, kept, kept_after, row, table, queue, list, next,
+            rt, chosen, state.next, after, told, kept, kept_after, row, table, queue, list, next,
         ),
     }
 }

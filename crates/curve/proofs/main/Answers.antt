@@ -1,5 +1,5 @@
 -- `main` meets its contract: what is written is the front of the buffer that the text fills. Assumes nothing.
-use Rattle.laws.proofs.Prelude.{ap, sym, arith, rules, length, length-sets, length-take-le}
+use Rattle.laws.proofs.Prelude.{ap, sym, arith, length, length-sets, length-take-le}
 use Rattle.curve.proofs.main.Goals as goal
 
 pub slice_bounds-out-end : goal.slice_bounds-out-end
@@ -8,4 +8,6 @@ slice_bounds-out-end c =
     omega (arith, w.answer, w.fits, simp length-sets at (ap length w.written))
 
 pub slice_bounds-write_all-end : goal.slice_bounds-write_all-end
-slice_bounds-write_all-end c = sym (length-take-le _ _ (slice_bounds-out-end (goal.at.slice_bounds-write_all-end c).After-print_curve-end))
+slice_bounds-write_all-end c =
+    let w = c.print_curve-end.ensures in
+    sym (length-take-le _ _ (omega (arith, w.answer, w.fits, simp length-sets at (ap length w.written))))

@@ -1,5 +1,5 @@
 -- `front` meets its contract: a buffer of no more than n bytes is its own front. Assumes nothing.
-use Rattle.laws.proofs.Prelude.{sym, arith, rules, length-take-le, take_all}
+use Rattle.laws.proofs.Prelude.{sym, arith, length-take-le, take_all}
 use Rattle.input_front.proofs.front.Goals as goal
 
 pub slice_bounds-result-end : goal.slice_bounds-result-end

@@ -5,6 +5,7 @@ use cached_tile::CachedTile;
 use cached_tile::kept::Kept;
 use layer_workbench::PreviousClear;
 use row_statements::{Opened, PaintAnswer, RowState, WorkAnswer};
+use std::io;
 use styling::Color;
 
 // The state after a tile, and whether every call so far was accepted.
@@ -173,7 +174,7 @@ fn is_unmoved(other: &[u64]) -> bool {
     painted & is_same(&a0, &b0) & is_same(&a1, &b1)
 }
 
-pub fn print_cases() {
+pub fn print_cases(rt: &impl Print) -> io::Result<()> {
     let same: [u64; 5] = [
         0x20000000530810,
         0x20020000542A3B,
@@ -189,11 +190,13 @@ pub fn print_cases() {
         0x20040000725530,
     ];
     crate::printing::print(
+        rt,
         b"the French layer beside other German layers stays",
         is_unmoved(&same),
-    );
+    )?;
     crate::printing::print(
+        rt,
         b"with a segment one pixel row lower it moves",
         !is_unmoved(&moved),
-    );
+    )
 }

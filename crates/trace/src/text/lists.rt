@@ -1,5 +1,6 @@
 // The list of a tile's layers, with what its record in the layer table says and what the passes made of it.
 use cover::{Cover, entry};
+use std::io;
 use styling::{FillRule, codes};
 
 // What a table's record says of a listed layer, as far as the trace tells it.
@@ -51,18 +52,19 @@ pub fn entry_cover(covers: &[i8], place: usize) -> Cover {
     }
 }
 
-fn print_kind(func: u32, clipped: u32) {
+fn print_kind(rt: &impl Print, func: u32, clipped: u32) -> io::Result<()> {
     if func == 1 {
-        crate::text::print_left(b"clip", 9);
+        crate::text::print_left(rt, b"clip", 9)
     } else if clipped == 1 {
-        crate::text::print_left(b"clipped", 9);
+        crate::text::print_left(rt, b"clipped", 9)
     } else {
-        crate::text::print_left(b"draw", 9);
+        crate::text::print_left(rt, b"draw", 9)
     }
 }
 
 // One line: a layer is full where its cover is by its rule and no segment of it lies in the tile.
 pub fn print_entry(
+    rt: &impl Print,
     id: u32,
     record: Record,
     cover: Cover,
@@ -70,28 +72,30 @@ pub fn print_entry(
     changed: bool,
     unmasked: bool,
     covered: bool,
-) {
+) -> io::Result<()> {
     let rule = record.rule;
-    crate::text::print(b"    ");
-    crate::text::print_right(id as u64, 7);
-    crate::text::print(b"  ");
-    print_kind(record.func, record.clipped);
-    crate::text::print_answer(segments, 10);
-    crate::text::print_answer(!segments & cover.is_full(rule), 6);
-    crate::text::print_answer(changed, 9);
-    crate::text::print_answer(!unmasked, 12);
-    crate::text::print_answer(covered, 13);
-    crate::text::print_answer(unmasked & !covered, 0);
-    crate::text::print(b"\n");
+    crate::text::print(rt, b"    ")?;
+    crate::text::print_right(rt, id as u64, 7)?;
+    crate::text::print(rt, b"  ")?;
+    print_kind(rt, record.func, record.clipped)?;
+    crate::text::print_answer(rt, segments, 10)?;
+    crate::text::print_answer(rt, !segments & cover.is_full(rule), 6)?;
+    crate::text::print_answer(rt, changed, 9)?;
+    crate::text::print_answer(rt, !unmasked, 12)?;
+    crate::text::print_answer(rt, covered, 13)?;
+    crate::text::print_answer(rt, unmasked & !covered, 0)?;
+    crate::text::print(rt, b"\n")
 }
 
-pub fn print_names(listed: usize) {
-    crate::text::print(b"  list: ");
-    crate::text::print_number(listed as u64);
-    crate::text::print(b"\n");
+pub fn print_names(rt: &impl Print, listed: usize) -> io::Result<()> {
+    crate::text::print(rt, b"  list: ")?;
+    crate::text::print_number(rt, listed as u64)?;
+    crate::text::print(rt, b"\n")?;
     if 0 < listed {
         crate::text::print(
+            rt,
             b"      layer  kind     segments  full  changed  masked_off  passed_over  shown\n",
-        );
+        )?;
     }
+    Ok(())
 }

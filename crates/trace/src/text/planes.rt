@@ -1,4 +1,5 @@
 // The pixels of a tile: doubled areas and weights as numbers, coverages as 16 lines of 16 characters.
+use std::io;
 use styling::FillRule;
 
 // Where the pixel of a column and a row stands in a plane of coverages.
@@ -79,46 +80,47 @@ fn character(coverage: f32) -> u8 {
     }
 }
 
-fn print_line(plane: &[f32], row: usize) {
+fn print_line(rt: &impl Print, plane: &[f32], row: usize) -> io::Result<()> {
     let mut line = [b' '; 16];
     let mut column = 0;
     while column < 16 {
         line[column] = character(coverage_at(plane, place_of(column, row)));
         column += 1;
     }
-    crate::text::print(b"    ");
-    crate::text::print(&line);
-    crate::text::print(b"\n");
+    crate::text::print(rt, b"    ")?;
+    crate::text::print(rt, &line)?;
+    crate::text::print(rt, b"\n")
 }
 
 // The coverages of a plane, a line for each pixel row.
-pub fn print_plane(plane: &[f32]) {
+pub fn print_plane(rt: &impl Print, plane: &[f32]) -> io::Result<()> {
     let mut row: usize = 0;
     while row < 16 {
-        print_line(plane, row);
+        print_line(rt, plane, row)?;
         row += 1;
     }
+    Ok(())
 }
 
 // The doubled areas of a pixel row.
-fn print_areas(areas: &[i16], row: usize) {
+fn print_areas(rt: &impl Print, areas: &[i16], row: usize) -> io::Result<()> {
     let mut column: usize = 0;
     while column < 16 {
-        crate::text::print_signed(area_at(areas, area_place(column, row)), 6);
+        crate::text::print_signed(rt, area_at(areas, area_place(column, row)), 6)?;
         column += 1;
     }
-    crate::text::print(b"\n");
+    crate::text::print(rt, b"\n")
 }
 
 // Their weights.
-fn print_weights(areas: &[i16], row: usize, rule: FillRule) {
+fn print_weights(rt: &impl Print, areas: &[i16], row: usize, rule: FillRule) -> io::Result<()> {
     let mut column: usize = 0;
     while column < 16 {
         let d = area_at(areas, area_place(column, row));
-        crate::text::print_right(weight::weight(d, rule) as u64, 6);
+        crate::text::print_right(rt, weight::weight(d, rule) as u64, 6)?;
         column += 1;
     }
-    crate::text::print(b"\n");
+    crate::text::print(rt, b"\n")
 }
 
 // Whether two pixel rows have the same doubled areas.
@@ -135,25 +137,26 @@ fn are_alike(areas: &[i16], row: usize, other: usize) -> bool {
 }
 
 // A pixel row by its doubled areas and its weights, unless it is like the row above it.
-fn print_row(areas: &[i16], row: usize, rule: FillRule) {
+fn print_row(rt: &impl Print, areas: &[i16], row: usize, rule: FillRule) -> io::Result<()> {
     if 0 < row {
         if are_alike(areas, row, row - 1) {
-            return;
+            return Ok(());
         }
     }
-    crate::text::print(b"    row ");
-    crate::text::print_right(row as u64, 2);
-    crate::text::print(b" d     ");
-    print_areas(areas, row);
-    crate::text::print(b"           weight");
-    print_weights(areas, row, rule);
+    crate::text::print(rt, b"    row ")?;
+    crate::text::print_right(rt, row as u64, 2)?;
+    crate::text::print(rt, b" d     ")?;
+    print_areas(rt, areas, row)?;
+    crate::text::print(rt, b"           weight")?;
+    print_weights(rt, areas, row, rule)
 }
 
 // The pixel rows of a tile. One that is like the row above it is left out.
-pub fn print_rows(areas: &[i16], rule: FillRule) {
+pub fn print_rows(rt: &impl Print, areas: &[i16], rule: FillRule) -> io::Result<()> {
     let mut row: usize = 0;
     while row < 16 {
-        print_row(areas, row, rule);
+        print_row(rt, areas, row, rule)?;
         row += 1;
     }
+    Ok(())
 }

@@ -7,6 +7,7 @@ use cover::Cover;
 use painter::Clip;
 use row_statements::{PaintAnswer, Painted, RowState};
 use segment_rows::parts;
+use std::io;
 use styling::FillRule;
 
 // The state after the paintings of a tile, how many layers were shown, and how many octets they used.
@@ -35,7 +36,15 @@ fn rule_of(table: Table, id: u32) -> FillRule {
 }
 
 // The doubled areas of a layer in a tile, of a kept set of its segments that is begun from the cover that comes in.
-fn print_areas(id: u32, tile: u32, tile_y: u32, cover: Cover, row: &[u64], rule: FillRule) {
+fn print_areas(
+    rt: &impl Print,
+    id: u32,
+    tile: u32,
+    tile_y: u32,
+    cover: Cover,
+    row: &[u64],
+    rule: FillRule,
+) -> io::Result<()> {
     let part = parts::of_layer(parts::in_tile(row, small(tile)), id);
     let mut slots = [0u64; 2048];
     let mut areas = [0i16; 256];
@@ -48,54 +57,61 @@ fn print_areas(id: u32, tile: u32, tile_y: u32, cover: Cover, row: &[u64], rule:
         &mut slots,
         &mut areas,
     );
-    planes::print_rows(&areas, rule);
+    planes::print_rows(rt, &areas, rule)
 }
 
-fn print_clip(clip: Clip) {
+fn print_clip(rt: &impl Print, clip: Clip) -> io::Result<()> {
     match clip {
-        Clip::Absent => crate::text::print(b", the painter has no clip after it\n"),
+        Clip::Absent => crate::text::print(rt, b", the painter has no clip after it\n"),
         Clip::Until(last) => {
-            crate::text::print(b", the painter has a clip after it, up to layer ");
-            crate::text::print_number(last as u64);
-            crate::text::print(b"\n");
+            crate::text::print(rt, b", the painter has a clip after it, up to layer ")?;
+            crate::text::print_number(rt, last as u64)?;
+            crate::text::print(rt, b"\n")
         }
     }
 }
 
-fn print_mark(id: u32, mark: u32, clip: Clip) {
-    crate::text::print(b"  painted layer ");
-    crate::text::print_number(id as u64);
-    crate::text::print(b": mark ");
-    crate::text::print_hex(mark as u64, 8);
-    crate::text::print(b", octets ");
-    crate::text::print_number(mark::octets(mark) as u64);
-    print_clip(clip);
+fn print_mark(rt: &impl Print, id: u32, mark: u32, clip: Clip) -> io::Result<()> {
+    crate::text::print(rt, b"  painted layer ")?;
+    crate::text::print_number(rt, id as u64)?;
+    crate::text::print(rt, b": mark ")?;
+    crate::text::print_hex(rt, mark as u64, 8)?;
+    crate::text::print(rt, b", octets ")?;
+    crate::text::print_number(rt, mark::octets(mark) as u64)?;
+    print_clip(rt, clip)
 }
 
-pub fn print_refusal(number: u32) {
-    crate::text::print(b"refused ");
-    crate::text::print_number(number as u64);
-    crate::text::print(b"\n");
+pub fn print_refusal(rt: &impl Print, number: u32) -> io::Result<()> {
+    crate::text::print(rt, b"refused ")?;
+    crate::text::print_number(rt, number as u64)?;
+    crate::text::print(rt, b"\n")
 }
 
 // The octets of an answer; a refusal is told in any case.
-fn tell_answer(chosen: Chosen, id: u32, answer: PaintAnswer, clip: Clip) -> u32 {
+fn tell_answer(
+    rt: &impl Print,
+    chosen: Chosen,
+    id: u32,
+    answer: PaintAnswer,
+    clip: Clip,
+) -> io::Result<u32> {
     match answer {
         PaintAnswer::Mark(mark) => {
             if chosen::has_painting(chosen, id) {
-                print_mark(id, mark, clip);
+                print_mark(rt, id, mark, clip)?;
             }
-            mark::octets(mark)
+            Ok(mark::octets(mark))
         }
         PaintAnswer::Refused(refusal) => {
-            print_refusal(refusals::number_of(refusal));
-            0
+            print_refusal(rt, refusals::number_of(refusal))?;
+            Ok(0)
         }
     }
 }
 
 // The pixels of a painting, below its line: doubled areas and weights, coverages.
 fn tell_pixels(
+    rt: &impl Print,
     chosen: Chosen,
     id: u32,
     tile: u32,
@@ -104,14 +120,15 @@ fn tell_pixels(
     row: &[u64],
     rule: FillRule,
     plane: &[f32; 256],
-) {
+) -> io::Result<()> {
     let told = chosen::has_painting(chosen, id);
     if told & chosen::has(chosen, chosen::AREAS) {
-        print_areas(id, tile, tile_y, cover, row, rule);
+        print_areas(rt, id, tile, tile_y, cover, row, rule)?;
     }
     if told & chosen::has(chosen, chosen::PLANES) {
-        planes::print_plane(plane);
+        planes::print_plane(rt, plane)?;
     }
+    Ok(())
 }
 
 // Paints a layer by lent arrays.
@@ -144,6 +161,7 @@ fn paint_lent(
 
 // Paints a layer, and tells it: mark, clip, doubled areas and weights, coverages.
 fn paint_layer(
+    rt: &impl Print,
     chosen: Chosen,
     tally: Tally,
     tile: u32,
@@ -152,21 +170,21 @@ fn paint_layer(
     row: &[u64],
     table: Table,
     queue: Queue,
-) -> Tally {
+) -> io::Result<Tally> {
     let state = tally.state;
     let mut plane = [0.0f32; 256];
     let painted = paint_lent(state, tile, id, row, table, queue, &mut plane);
     let answer = painted.answer;
     let after = painted.state;
     let clip = after.clip;
-    let octets = tell_answer(chosen, id, answer, clip);
+    let octets = tell_answer(rt, chosen, id, answer, clip)?;
     let rule = rule_of(table, id);
-    tell_pixels(chosen, id, tile, after.tile_y, cover, row, rule, &plane);
-    Tally {
+    tell_pixels(rt, chosen, id, tile, after.tile_y, cover, row, rule, &plane)?;
+    Ok(Tally {
         state: after,
         shown: std::num::wrapping_add_u32(tally.shown, 1),
         octets: std::num::wrapping_add_u32(tally.octets, octets),
-    }
+    })
 }
 
 // A shown layer of a tile that is not painted.
@@ -181,6 +199,7 @@ fn count_layer(tally: Tally) -> Tally {
 
 // An entry of the list: one that is not shown leaves the tally.
 fn tally_entry(
+    rt: &impl Print,
     chosen: Chosen,
     shown: bool,
     paints: bool,
@@ -191,14 +210,14 @@ fn tally_entry(
     row: &[u64],
     table: Table,
     queue: Queue,
-) -> Tally {
+) -> io::Result<Tally> {
     if !shown {
-        return tally;
+        return Ok(tally);
     }
     if !paints {
-        return count_layer(tally);
+        return Ok(count_layer(tally));
     }
-    paint_layer(chosen, tally, tile, id, cover, row, table, queue)
+    paint_layer(rt, chosen, tally, tile, id, cover, row, table, queue)
 }
 
 // How many are left of `listed` past the first `skipped`.
@@ -212,6 +231,7 @@ fn rest_of(skipped: usize, listed: usize) -> usize {
 
 // The shown layers of a list of `listed` layers, of which the first `skipped` are passed over.
 pub fn tally_shown(
+    rt: &impl Print,
     chosen: Chosen,
     state: RowState,
     paints: bool,
@@ -222,7 +242,7 @@ pub fn tally_shown(
     list: List,
     skipped: usize,
     listed: usize,
-) -> Tally {
+) -> io::Result<Tally> {
     let ids = list.ids;
     let covers = list.covers;
     let unmasked = list.unmasked;
@@ -236,6 +256,7 @@ pub fn tally_shown(
     while 0 < left {
         left -= 1;
         tally = tally_entry(
+            rt,
             chosen,
             lent::is_unmasked(&unmasked, i),
             paints,
@@ -246,8 +267,8 @@ pub fn tally_shown(
             row,
             table,
             queue,
-        );
+        )?;
         i = std::num::wrapping_add_usize(i, 1);
     }
-    tally
+    Ok(tally)
 }
