@@ -1,7 +1,7 @@
 -- The shown layers of a work that draws the tile, and with them the picture, rest neither on flags nor on whether layers were removed. Assumes nothing.
 use Rattle.std.specs.Prelude.{◌≡◌, ◌&&◌, ◌∷◌}
-use Rattle.laws.proofs.Prelude.{refl, sym, ap, ap₂, ◌∙◌, Bool, true, false, cond, not, List, [], map, Option, some, none, ℕ, zero}
-use Rattle.laws.proofs.Prelude.{suc, leb, length, get_or, replicate, length-map, List·getD-map}
+use Rattle.laws.proofs.Prelude.{refl, sym, ap, ◌∙◌, Bool, true, false, cond, List, [], map, Option, none, ℕ, zero}
+use Rattle.laws.proofs.Prelude.{suc, leb, length, get_or, replicate, length-map}
 use Rattle.pass_statements.specs.Clips.{step_of, clips_from, marks_of}
 use Rattle.pass_statements.specs.Covered.{hides, look_at, item_at, covered_from, start_of, covered_of}
 use Rattle.pass_statements.specs.Decide.{shown_from, shown_of}
@@ -11,7 +11,7 @@ use Rattle.pass_statements.specs.declared.clips.Current.TheVariants.{Nothing}
 use Rattle.pass_statements.specs.declared.covered.Covered.{Covered}
 use Rattle.pass_statements.proofs.Covering.{look_past, look_on, look_last}
 use Rattle.painter.specs.Clip.{clip_after}
-use Rattle.kept_frames.specs.Picture.{unflagged, shown_afresh, mask_after, strokes_from, picture_of}
+use Rattle.kept_frames.specs.Picture.{unflagged, shown_afresh, mask_after, strokes_from}
 use Rattle.kept_frames.specs.Right.{FlagsNoPart}
 use Rattle.kept_frames.proofs.Latest.{needs_flags}
 

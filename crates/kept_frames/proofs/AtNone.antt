@@ -1,11 +1,9 @@
 -- The keep rule matters only where the full-cover pass would keep the tile. Assumes nothing.
 use Rattle.std.specs.Prelude.{◌≡◌, ◌⊎◌}
-use Rattle.laws.proofs.Prelude.{refl, sym, ap, ◌∙◌, Bool, true, List, inl, inr, length}
-use Rattle.styling.specs.declared.Color.{Color}
+use Rattle.laws.proofs.Prelude.{refl, sym, ap, ◌∙◌, true, inl, inr, length}
 use Rattle.pass_statements.specs.Decide.{Outcome, passed_of, outcome_of}
 use Rattle.pass_statements.specs.Decision as decision
 use Rattle.pass_statements.specs.Unchanged.{were_removed}
-use Rattle.pass_statements.specs.declared.item.Item.{Item}
 use Rattle.pass_statements.specs.declared.unchanged.PreviousCount.TheVariants as counts
 use Rattle.pass_statements.proofs.Outcomes.{outcome_passed}
 use Rattle.kept_frames.specs.Right.{RuleOnlyAtNone}

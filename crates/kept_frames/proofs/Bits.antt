@@ -1,6 +1,6 @@
 -- Colours of the same bits are the same, and the other way. Assumes nothing.
 use Rattle.std.specs.Prelude.{◌≡◌, ◌&&◌}
-use Rattle.laws.proofs.Prelude.{refl, sym, ap, ◌∙◌, Bool, true, false, Bool·beq, false≢true, ℕ, eqb-true, eq-eqb, eqb, Float, nan, inf}
+use Rattle.laws.proofs.Prelude.{refl, sym, ap, ◌∙◌, Bool, true, false, Bool·beq, false≢true, eqb-true, eq-eqb, eqb, Float, nan, inf}
 use Rattle.laws.proofs.Prelude.{fin, ℤ, pos, negsuc, both, left, right}
 use Rattle.styling.specs.declared.Color.{Color}
 use Rattle.kept_frames.specs.Alike.{same_int, same_float, same_bits}

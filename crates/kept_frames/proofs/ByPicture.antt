@@ -1,25 +1,24 @@
 -- The decision of a work without a count rests on its paintings and the clear colour alone. Assumes nothing.
 use Rattle.std.specs.Prelude.{◌≡◌, ◌&&◌, ◌||◌, ◌∷◌, ◌+◌, ◌≤◌, ◌<◌}
 use Rattle.laws.proofs.Prelude.{refl, sym, ap, ap₂, subst, fun_ext, ◌∙◌, Bool, true, false, cond, not, false≢true, List, []}
-use Rattle.laws.proofs.Prelude.{map, ⊎_elim, Option, none, ℕ, zero, suc, arith, le-leb, leb-true, lt-leb, leb, length, get_or, drop, all}
-use Rattle.laws.proofs.Prelude.{left, right, either}
+use Rattle.laws.proofs.Prelude.{map, ⊎_elim, none, ℕ, zero, suc, arith, le-leb, lt-leb, leb, length, get_or, drop, all}
+use Rattle.laws.proofs.Prelude.{either}
 use Rattle.styling.specs.Style.{is_clipped_of, is_opaque, solid_color}
 use Rattle.styling.specs.declared.Color.{Color}
 use Rattle.styling.specs.declared.Func.{Func}
 use Rattle.styling.specs.declared.Func.TheVariants.{Draw, Clip}
 use Rattle.pass_statements.specs.Clips.{is_clip, marks_of}
-use Rattle.pass_statements.specs.Covered.{first_of, opaque_of, is_partial, hides, tells, look_at, item_at, covered_from, start_of, covered_of}
-use Rattle.pass_statements.specs.Decide.{Outcome, shown_from, shown_of, has_color, are_solid, decision_by, passed_of}
+use Rattle.pass_statements.specs.Covered.{first_of, opaque_of, hides, tells, look_at, item_at, covered_from, start_of, covered_of}
+use Rattle.pass_statements.specs.Decide.{shown_from, has_color, are_solid, decision_by}
 use Rattle.pass_statements.specs.Decision.{TileDecision, solid, paint}
-use Rattle.pass_statements.specs.Rules.{needs_clip, is_ascending, is_freed, latest_below, is_free, DrawAt}
+use Rattle.pass_statements.specs.Rules.{needs_clip, is_ascending, is_free}
 use Rattle.pass_statements.specs.declared.item.Item.{Item}
 use Rattle.pass_statements.specs.declared.covered.Covered.{Covered}
 use Rattle.pass_statements.specs.declared.covered.InterestingCover.{InterestingCover}
 use Rattle.pass_statements.specs.declared.covered.InterestingCover.TheVariants.{Absent, Opaque, Incomplete}
-use Rattle.pass_statements.specs.declared.unchanged.PreviousCount.TheVariants as counts
 use Rattle.pass_statements.proofs.Covering.{look_past, look_on, look_last, skipped_by}
 use Rattle.pass_statements.proofs.Deciding.{unmasked_long}
-use Rattle.pass_statements.proofs.Outcomes.{outcome_passed, ruled_at}
+use Rattle.pass_statements.proofs.Outcomes.{ruled_at}
 use Rattle.kept_frames.specs.Picture.{shown_afresh, Stroke, picture_of, decision_afresh}
 use Rattle.kept_frames.specs.Right.{DecisionByPicture}
 use Rattle.kept_frames.proofs.Strokes.{Plainly, plainly, plainly_in, strokes_plainly}

@@ -1,11 +1,11 @@
 -- Whether layers were removed, and flags, matter to a decision in one way alone: it may be *none*. Else it is that of a work without a count, and the shown
 -- layers are the same in any case. Assumes nothing.
 use Rattle.std.specs.Prelude.{◌≡◌, ◌&&◌, ◌⊎◌}
-use Rattle.laws.proofs.Prelude.{refl, sym, ap, ap₂, ◌∙◌, Bool, true, false, cond, not, List, inl, inr, ⊎_elim, ℕ, zero, suc, length}
+use Rattle.laws.proofs.Prelude.{refl, sym, ap, ap₂, ◌∙◌, Bool, true, false, List, inl, inr, ⊎_elim, ℕ, zero, suc, length}
 use Rattle.laws.proofs.Prelude.{get_or}
 use Rattle.styling.specs.declared.Color.{Color}
 use Rattle.pass_statements.specs.Clips.{marks_of}
-use Rattle.pass_statements.specs.Covered.{hides, look_at, item_at, covered_from, are_clips_unchanged, start_of, covered_of}
+use Rattle.pass_statements.specs.Covered.{hides, look_at, item_at, covered_from, start_of, covered_of}
 use Rattle.pass_statements.specs.Decide.{Outcome, decision_by, shown_of, passed_of, outcome_of}
 use Rattle.pass_statements.specs.Decision as decision
 use Rattle.pass_statements.specs.Unchanged.{were_removed}
@@ -13,7 +13,6 @@ use Rattle.pass_statements.specs.declared.item.Item.{Item}
 use Rattle.pass_statements.specs.declared.covered.Covered.{Covered}
 use Rattle.pass_statements.specs.declared.covered.InterestingCover.{InterestingCover}
 use Rattle.pass_statements.specs.declared.covered.InterestingCover.TheVariants.{Absent, Opaque, Incomplete}
-use Rattle.pass_statements.specs.declared.unchanged.PreviousCount.{PreviousCount}
 use Rattle.pass_statements.specs.declared.unchanged.PreviousCount.TheVariants as counts
 use Rattle.pass_statements.proofs.Covering.{look_past, look_on, look_last}
 use Rattle.pass_statements.proofs.Outcomes.{outcome_passed}

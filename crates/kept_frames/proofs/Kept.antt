@@ -1,6 +1,6 @@
 -- *None* by the first pass: with truthful flags and the count of the last work, the list is that of the last work. Assumes nothing.
 use Rattle.std.specs.Prelude.{◌≡◌, ◌&&◌, ◌∷◌}
-use Rattle.laws.proofs.Prelude.{sym, ap, ◌∙◌, Bool, true, false, not, cond, List, [], map, Option, some, none, ℕ, eqb-true, eqb}
+use Rattle.laws.proofs.Prelude.{sym, ap, ◌∙◌, Bool, true, false, not, cond, List, [], map, Option, none, ℕ, eqb-true, eqb}
 use Rattle.laws.proofs.Prelude.{length, left, right, all_at}
 use Rattle.styling.specs.declared.Color.{Color}
 use Rattle.styling.specs.declared.Func.{Func}

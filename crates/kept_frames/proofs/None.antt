@@ -1,6 +1,6 @@
 -- *None* is right wherever the count was kept by the rule, and no right rule is wider. Assumes nothing.
 use Rattle.std.specs.Prelude.{◌≡◌}
-use Rattle.laws.proofs.Prelude.{refl, sym, ap, ◌∙◌, Bool, true, false, cond, false≢true, List, ⊎_elim, length, left, either}
+use Rattle.laws.proofs.Prelude.{refl, sym, ap, ◌∙◌, Bool, true, false, false≢true, List, ⊎_elim, length, left, either}
 use Rattle.styling.specs.declared.Color.{Color}
 use Rattle.pass_statements.specs.Decide.{Outcome, outcome_of}
 use Rattle.pass_statements.specs.Decision as decision

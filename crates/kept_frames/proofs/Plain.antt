@@ -1,7 +1,7 @@
 -- A tile that the full-cover pass keeps: every shown layer is unchanged and needs no clip. So where the shown layers are alike, the paintings are those of
 -- the last work. Assumes nothing.
 use Rattle.std.specs.Prelude.{◌≡◌, ◌&&◌, ◌||◌, ◌∷◌, ◌≤◌, ◌<◌}
-use Rattle.laws.proofs.Prelude.{refl, sym, ap, ap₂, ◌∙◌, Bool, true, false, cond, not, Bool·beq, false≢true, List, [], map}
+use Rattle.laws.proofs.Prelude.{refl, sym, ap, ap₂, ◌∙◌, Bool, true, false, not, Bool·beq, List, [], map}
 use Rattle.laws.proofs.Prelude.{Option, none, ℕ, arith, eqb-true, eq-eqb, eqb, length, both, left, right, not_right, clash}
 use Rattle.styling.specs.declared.Color.{Color}
 use Rattle.styling.specs.Style.{is_clipped_of}
@@ -13,7 +13,7 @@ use Rattle.pass_statements.specs.Rules.{needs_clip, is_ascending, is_unmasked, i
 use Rattle.pass_statements.specs.declared.item.Item.{Item}
 use Rattle.pass_statements.proofs.Covering.{hidden_skipped}
 use Rattle.painter.specs.Clip.{alive_at, clip_after, has_no_clip, lacks_clip}
-use Rattle.kept_frames.specs.Picture.{unflagged, shown_afresh, Stroke, mask_for, mask_after, strokes_from, picture_of, Drawn, drawn_afresh}
+use Rattle.kept_frames.specs.Picture.{unflagged, shown_afresh, Stroke, mask_for, mask_after, strokes_from, picture_of, Drawn}
 use Rattle.kept_frames.specs.Told.{WasListed}
 use Rattle.kept_frames.specs.Alike.{shown_by, same_shown, all_same, layers_alike, same_bits}
 use Rattle.kept_frames.specs.Right.{Frames, ListedUnchanged, FullCoverRight, AlikeExact}

@@ -2,11 +2,10 @@
 -- layer id of clip 1, so at 3 it has no clip, and the draw paints nothing. Without clip 1 the draw is cut by clip 2. And an opaque draw over a clip makes
 -- it be skipped, so that a clipped draw above is left without one. proofs/Refuted has them computed.
 use Rattle.std.specs.Prelude.{◌≡◌, ◌∷◌}
-use Rattle.laws.specs.Prelude.{true, false, List, [], Option, some, none, ℕ, binary32, of_bits}
+use Rattle.laws.specs.Prelude.{true, false, [], Option, some, none, ℕ, binary32, of_bits}
 use Rattle.styling.specs.declared.BlendMode.TheVariants.{Over}
 use Rattle.styling.specs.declared.Color.{Color}
 use Rattle.styling.specs.declared.Fill.TheVariants.{Solid}
-use Rattle.styling.specs.declared.Func.{Func}
 use Rattle.styling.specs.declared.Func.TheVariants.{Draw, Clip}
 use Rattle.pass_statements.specs.declared.item.Item.{Item}
 use Rattle.kept_frames.specs.Picture.{Stroke, picture_of}

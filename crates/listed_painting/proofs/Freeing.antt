@@ -1,9 +1,9 @@
 -- The layer id below which the clips that are passed free clipped draws tells whether the next layer, if it is a clipped draw, is freed: the layers
 -- ascend, so that the clips below it are those that are passed. Assumes nothing.
 use Rattle.std.specs.Prelude.{◌≡◌, ◌&&◌, ◌∷◌, ◌++◌, ◌+◌, ◌≤◌, ◌<◌}
-use Rattle.laws.proofs.Prelude.{refl, sym, ap, ◌∙◌, Bool, true, false, cond, not, and-true, and-false, List, [], map, Option}
-use Rattle.laws.proofs.Prelude.{some, none, ℕ, zero, suc, le_of_suc-le-suc, eq-or-lt_of_le, arith, lt-ltb, le-ltb, leb-true, leb-false}
-use Rattle.laws.proofs.Prelude.{⊎_elim, leb, ltb, length, get_or, take, length-map, List·getD-map, Answer, refused, given, is_given}
+use Rattle.laws.proofs.Prelude.{refl, sym, ap, ◌∙◌, Bool, true, false, cond, not, and-true, and-false, List, [], Option}
+use Rattle.laws.proofs.Prelude.{some, none, ℕ, zero, suc, eq-or-lt_of_le, arith, lt-ltb, le-ltb, leb-true, leb-false}
+use Rattle.laws.proofs.Prelude.{⊎_elim, leb, ltb, length, get_or, take, length-map, List·getD-map, Answer, refused, given}
 use Rattle.layer_table.specs.Lookup.{lookup}
 use Rattle.styling.specs.Ascending.{strictly_ascends}
 use Rattle.styling.specs.Style.{is_clipped_of}

@@ -1,5 +1,4 @@
 -- `free_after` meets its contract. Assumes nothing.
-use Rattle.laws.proofs.Prelude.{rules}
 use Rattle.listed_painting.proofs.free_after.Goals as goal
 
 pub returns-then-is_full : goal.returns-then-is_full

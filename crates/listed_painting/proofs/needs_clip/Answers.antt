@@ -1,5 +1,4 @@
 -- `needs_clip` meets its contract. Assumes nothing.
-use Rattle.laws.proofs.Prelude.{rules}
 use Rattle.listed_painting.proofs.needs_clip.Goals as goal
 
 pub returns : goal.returns

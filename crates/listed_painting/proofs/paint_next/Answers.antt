@@ -1,5 +1,5 @@
 -- `paint_next` meets its contract. Assumes nothing.
-use Rattle.laws.proofs.Prelude.{refl, sym, ap, ◌∙◌, arith, rules, given}
+use Rattle.laws.proofs.Prelude.{refl, sym, ap, ◌∙◌, arith, given}
 use Rattle.layer_table.specs.Table.{table_of}
 use Rattle.layer_table.proofs.Looking.{at_place, at_none}
 use Rattle.painter.proofs.Lasting.{last_small}
@@ -13,7 +13,7 @@ next_layer-next-requires c =
     (c.requires.0.walks, h.carries_in, h.segments_in, more (table_of a.layers.now a.colors.now a.count) a.n a.ids.now a.covers.now a.part.now h c.requires.2.listed)
 
 pub incoming_cover-cover-requires : goal.incoming_cover-cover-requires
-incoming_cover-cover-requires c = λ e. omega (arith, c.next_layer-next.ensures.1.has e, c.requires.0.queued.covers_long)
+incoming_cover-cover-requires c = λ e. omega (arith, c.next_layer-next.ensures.moved.has e, c.requires.0.queued.covers_long)
 
 pub layer_at-layer-requires : goal.layer_at-layer-requires
 layer_at-layer-requires c =
@@ -29,7 +29,7 @@ paint_own-painted-requires c =
     let a = c.args in
     let n = c.next_layer-next in
     let found = at_place {floats = a.colors.now} c.in-At.is c.find_from.ensures c.requires.0.in_table.ascending in
-    (light_is (table_of a.layers.now a.colors.now a.count) a.n a.ids.now a.covers.now a.part.now c.requires.1 n.result (n.ensures.0 a.covers.now) n.ensures.1 c.requires.0.queued c.requires.0.walks c.incoming_cover-cover.ensures refl c.requires.2, c.requires.3, last_small c.requires.0.in_table n.result.id c.layer_at-layer.result (found.looked ∙ ap given (sym c.layer_at-layer.ensures)))
+    (light_is (table_of a.layers.now a.colors.now a.count) a.n a.ids.now a.covers.now a.part.now c.requires.1 n.result (n.ensures.stepped a.covers.now) n.ensures.moved c.requires.0.queued c.requires.0.walks c.incoming_cover-cover.ensures refl c.requires.2, c.requires.3, last_small c.requires.0.in_table n.result.id c.layer_at-layer.result (found.looked ∙ ap given (sym c.layer_at-layer.ensures)))
 
 pub overflow_add-p : goal.overflow_add-p
 overflow_add-p c =
@@ -44,7 +44,7 @@ returns-in-At c =
     let a = c.args in
     let n = c.next_layer-next in
     let found = at_place {floats = a.colors.now} c.in-At.is c.find_from.ensures c.requires.0.in_table.ascending in
-    paints_next (table_of a.layers.now a.colors.now a.count) a.n a.ids.now a.covers.now a.part.now c.requires.1 n.result (n.ensures.0 a.covers.now) n.ensures.1 c.requires.0.queued c.requires.0.walks c.paint_own-painted.result
+    paints_next (table_of a.layers.now a.colors.now a.count) a.n a.ids.now a.covers.now a.part.now c.requires.1 n.result (n.ensures.stepped a.covers.now) n.ensures.moved c.requires.0.queued c.requires.0.walks c.paint_own-painted.result
     c.step.ensures (found.looked ∙ ap given (sym c.layer_at-layer.ensures)) c.incoming_cover-cover.ensures refl c.needs_clip-needs.ensures c.paint_own-painted.ensures c.free_after-free_below.ensures
 
 pub returns-in-Absent : goal.returns-in-Absent
@@ -52,4 +52,4 @@ returns-in-Absent c =
     let a = c.args in
     let n = c.next_layer-next in
     let missing = at_none {floats = a.colors.now} c.in-Absent.is c.find_from.ensures in
-    absurd (in_table (table_of a.layers.now a.colors.now a.count) a.n a.ids.now a.covers.now a.part.now c.requires.1 n.result (n.ensures.0 a.covers.now) n.ensures.1 c.requires.2 missing.looked)
+    absurd (in_table (table_of a.layers.now a.colors.now a.count) a.n a.ids.now a.covers.now a.part.now c.requires.1 n.result (n.ensures.stepped a.covers.now) n.ensures.moved c.requires.2 missing.looked)

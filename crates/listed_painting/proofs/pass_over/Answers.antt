@@ -1,5 +1,5 @@
 -- `pass_over` meets its contract. Assumes nothing.
-use Rattle.laws.proofs.Prelude.{sym, ap, ◌∙◌, arith, rules, given}
+use Rattle.laws.proofs.Prelude.{sym, ap, ◌∙◌, arith, given}
 use Rattle.layer_table.specs.Table.{table_of}
 use Rattle.layer_table.proofs.Looking.{at_place, at_none}
 use Rattle.listed_painting.proofs.Walks.{more, over_known, over_missing}
@@ -12,7 +12,7 @@ next_layer-next-requires c =
     (c.requires.0.walks, h.carries_in, h.segments_in, more (table_of a.layers.now a.colors.now a.count) a.n a.ids.now a.covers.now a.part.now h c.requires.2)
 
 pub incoming_cover-cover-requires : goal.incoming_cover-cover-requires
-incoming_cover-cover-requires c = λ e. omega (arith, c.next_layer-next.ensures.1.has e, c.requires.0.queued.covers_long)
+incoming_cover-cover-requires c = λ e. omega (arith, c.next_layer-next.ensures.moved.has e, c.requires.0.queued.covers_long)
 
 pub layer_at-layer-requires : goal.layer_at-layer-requires
 layer_at-layer-requires c =
@@ -33,7 +33,7 @@ returns-in-At c =
     let a = c.args in
     let n = c.next_layer-next in
     let found = at_place {floats = a.colors.now} c.in-At.is c.find_from.ensures c.requires.0.in_table.ascending in
-    over_known (table_of a.layers.now a.colors.now a.count) a.n a.ids.now a.covers.now a.part.now c.requires.1 n.result (n.ensures.0 a.covers.now) n.ensures.1
+    over_known (table_of a.layers.now a.colors.now a.count) a.n a.ids.now a.covers.now a.part.now c.requires.1 n.result (n.ensures.stepped a.covers.now) n.ensures.moved
     c.step.ensures (found.looked ∙ ap given (sym c.layer_at-layer.ensures)) c.incoming_cover-cover.ensures c.free_after-free_below.ensures
 
 pub returns-in-Absent : goal.returns-in-Absent
@@ -41,4 +41,4 @@ returns-in-Absent c =
     let a = c.args in
     let n = c.next_layer-next in
     let missing = at_none {floats = a.colors.now} c.in-Absent.is c.find_from.ensures in
-    over_missing (table_of a.layers.now a.colors.now a.count) a.n a.ids.now a.covers.now a.part.now c.requires.1 n.result (n.ensures.0 a.covers.now) n.ensures.1 c.step-in-Absent.ensures missing.looked
+    over_missing (table_of a.layers.now a.colors.now a.count) a.n a.ids.now a.covers.now a.part.now c.requires.1 n.result (n.ensures.stepped a.covers.now) n.ensures.moved c.step-in-Absent.ensures missing.looked

@@ -1,9 +1,7 @@
 -- `start_past` meets its contract: the layers are passed one after the other. Assumes nothing.
-use Rattle.std.specs.Prelude.{◌≡◌, ◌-◌, ◌≤◌}
-use Rattle.laws.proofs.Prelude.{ap, ◌∙◌, none, arith, rules}
+use Rattle.laws.proofs.Prelude.{ap, ◌∙◌, arith}
 use Rattle.layer_table.specs.Table.{table_of}
 use Rattle.painter.specs.Clip.{clip_in}
-use Rattle.listed_painting.specs.InnerWalk.{WalkHolds}
 use Rattle.listed_painting.proofs.start_past.Goals as goal
 
 pub loop-i-init : goal.loop-i-init

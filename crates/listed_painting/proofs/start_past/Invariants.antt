@@ -1,5 +1,5 @@
 use Rattle.std.specs.Prelude.{◌≡◌, ◌-◌, ◌≤◌}
-use Rattle.laws.proofs.Prelude.{ap, ◌∙◌, none, arith, rules}
+use Rattle.laws.proofs.Prelude.{none}
 use Rattle.layer_table.specs.Table.{table_of}
 use Rattle.painter.specs.Clip.{clip_in}
 use Rattle.listed_painting.specs.InnerWalk.{WalkHolds}
