@@ -28,8 +28,8 @@ done_listing s n left =
     }
 
 -- room for 256 entries in a list, with two flags each, and in a queue
-pub record ListingRooms (list_ids : List ℕ) (listCovers : List ℤ) (flags : List Bool) (queueIds : List ℕ) (queueCovers : List ℤ) : Type 0 where
-  pub list_ids : 256 ≤ length list_ids
+pub record ListingRooms (listIds : List ℕ) (listCovers : List ℤ) (flags : List Bool) (queueIds : List ℕ) (queueCovers : List ℤ) : Type 0 where
+  pub list_ids : 256 ≤ length listIds
   pub list_covers : 4096 ≤ length listCovers
   pub list_flags : 512 ≤ length flags
   pub queue_ids : 256 ≤ length queueIds
