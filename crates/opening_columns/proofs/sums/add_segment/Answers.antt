@@ -1,6 +1,6 @@
 -- `opening_columns::sums::add_segment` meets its contract. Assumes nothing.
 use Rattle.std.specs.Prelude.{◌≡◌}
-use Rattle.laws.proofs.Prelude.{arith, rules, pos, get_or, to_z-of_z, w8, small, kept}
+use Rattle.laws.proofs.Prelude.{arith, pos, get_or, to_z-of_z, w8, small, kept}
 use Rattle.queue_statements.specs.InnerSums.{load_with}
 use Rattle.queue_statements.proofs.Placing.{placed_light, placed_heavy, sum_fits}
 use Rattle.opening_columns.proofs.sums.add_segment.Goals as goal

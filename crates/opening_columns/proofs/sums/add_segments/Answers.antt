@@ -1,9 +1,9 @@
 -- `opening_columns::sums::add_segments` meets its contract. What holds at a word is `Tallying`. Assumes nothing.
-use Rattle.std.specs.Prelude.{◌≡◌, ◌-◌}
-use Rattle.laws.proofs.Prelude.{refl, sym, ◌∙◌, arith, not-true, not-false, length, get_or}
+use Rattle.std.specs.Prelude.{◌≡◌}
+use Rattle.laws.proofs.Prelude.{refl, sym, ◌∙◌, arith, get_or}
 use Rattle.cover_statements.proofs.Filled.{get_d_default}
 use Rattle.queue_statements.proofs.Summing.{key_of, ascending, start, end, refuse}
-use Rattle.queue_statements.proofs.Tallying.{Tallying, tally_placing, tally_next}
+use Rattle.queue_statements.proofs.Tallying.{tally_placing, tally_next}
 use Rattle.opening_columns.proofs.sums.add_segments.Goals as goal
 use Rattle.opening_columns.proofs.sums.add_segments.Goals.{After-place_of-place}
 
@@ -24,7 +24,7 @@ pub add_segment-requires : goal.add_segment-requires
 add_segment-requires c = tally_placing c.loop-i.invariant c.loop-i-test.true (at (goal.at.add_segment-requires c).After-place_of-place)
 
 pub shape_of-sums-then-not-add_segment : goal.shape_of-sums-then-not-add_segment
-shape_of-sums-then-not-add_segment c = c.add_segment.auto.1.1.0 ∙ c.loop-i.invariant.sums_long ∙ sym c.requires.room
+shape_of-sums-then-not-add_segment c = c.add_segment.auto.sums ∙ c.loop-i.invariant.sums_long ∙ sym c.requires.room
 
 pub returns-then-not-add_segment : goal.returns-then-not-add_segment
 returns-then-not-add_segment c = refuse c.requires c.loop-i.invariant c.loop-i-test.true (at (goal.at.returns-then-not-add_segment c).After-place_of-place) c.add_segment.ensures (c.if-not-add_segment.true)

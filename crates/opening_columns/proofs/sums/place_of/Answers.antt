@@ -1,6 +1,6 @@
 -- `opening_columns::sums::place_of` meets its contract. Assumes nothing.
 use Rattle.std.specs.Prelude.{◌≤◌}
-use Rattle.laws.proofs.Prelude.{arith, rules, take, length-take-le}
+use Rattle.laws.proofs.Prelude.{arith, take, length-take-le}
 use Rattle.queue_statements.specs.InnerSums.{key_in}
 use Rattle.queue_statements.proofs.Ranks.{ranked}
 use Rattle.opening_columns.proofs.sums.place_of.Goals as goal
