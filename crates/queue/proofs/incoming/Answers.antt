@@ -1,5 +1,5 @@
 -- `queue::incoming` meets its contract. Assumes nothing.
-use Rattle.laws.proofs.Prelude.{sym, ◌∙◌, arith, rules, take, length-take-le}
+use Rattle.laws.proofs.Prelude.{sym, ◌∙◌, arith, take, length-take-le}
 use Rattle.queue_statements.proofs.Ranks.{Held, held}
 use Rattle.queue_statements.proofs.Queues.{held_lent, missed_lent}
 use Rattle.queue.proofs.incoming.Goals as goal

@@ -1,7 +1,6 @@
 -- `queue::is_queue` meets its contract. What holds while the ids are passed is `Judging`. Assumes nothing.
-use Rattle.std.specs.Prelude.{◌-◌}
-use Rattle.laws.proofs.Prelude.{arith, rules}
-use Rattle.queue_statements.proofs.Judging.{Judging, begin, next, end, many}
+use Rattle.laws.proofs.Prelude.{arith}
+use Rattle.queue_statements.proofs.Judging.{begin, next, end, many}
 use Rattle.queue.proofs.is_queue.Goals as goal
 
 pub returns-then-n-gt-LIMIT : goal.returns-then-n-gt-LIMIT

@@ -1,6 +1,5 @@
 use Rattle.std.specs.Prelude.{◌-◌}
-use Rattle.laws.proofs.Prelude.{arith, rules}
-use Rattle.queue_statements.proofs.Judging.{Judging, begin, next, end, many}
+use Rattle.queue_statements.proofs.Judging.{Judging}
 use Rattle.queue.proofs.is_queue.Given as goal
 
 abbrev pub invariant-loop-i : goal.invariant-loop-i

@@ -1,7 +1,6 @@
 -- `queue_opening::copy_covers` meets its contract. Assumes nothing.
-use Rattle.std.specs.Prelude.{◌-◌}
 use Rattle.laws.proofs.Prelude.{arith, pos, w8, kept}
-use Rattle.queue_statements.proofs.Copying.{Copying, copy_start, copy_next, copy_end}
+use Rattle.queue_statements.proofs.Copying.{copy_start, copy_next, copy_end}
 use Rattle.queue_opening.proofs.copy_covers.Goals as goal
 
 pub loop-i-init : goal.loop-i-init

@@ -1,6 +1,5 @@
 use Rattle.std.specs.Prelude.{◌-◌}
-use Rattle.laws.proofs.Prelude.{refl, arith}
-use Rattle.queue_statements.proofs.Copying.{Copying, copy_start, copy_next, copy_end}
+use Rattle.queue_statements.proofs.Copying.{Copying}
 use Rattle.queue_opening.proofs.copy_ids.Given as goal
 
 abbrev pub invariant-loop-i : goal.invariant-loop-i

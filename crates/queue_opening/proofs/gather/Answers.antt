@@ -1,5 +1,5 @@
 -- `queue_opening::gather` meets its contract. Assumes nothing.
-use Rattle.laws.proofs.Prelude.{◌∙◌, rules}
+use Rattle.laws.proofs.Prelude.{◌∙◌}
 use Rattle.queue_statements.proofs.Gathering.{many, summing, light, heavy}
 use Rattle.queue_opening.proofs.gather.Goals as goal
 

@@ -1,5 +1,5 @@
 -- `queue_opening::open_queue` meets its contract. Assumes nothing.
-use Rattle.laws.proofs.Prelude.{refl, ap, rules, nat_abs}
+use Rattle.laws.proofs.Prelude.{refl, ap, nat_abs}
 use Rattle.cover_statements.proofs.Filled.{get_d_default}
 use Rattle.queue_statements.proofs.Gathering.{opens}
 use Rattle.queue_opening.proofs.open_queue.Goals as goal

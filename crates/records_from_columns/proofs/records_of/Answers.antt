@@ -1,7 +1,6 @@
 -- `records_of` meets its contract. Assumes nothing.
-use Rattle.std.specs.Prelude.{◌-◌}
 use Rattle.laws.proofs.Prelude.{refl, arith}
-use Rattle.records_from_columns.proofs.Making.{Making, make_start, make_next, make_end}
+use Rattle.records_from_columns.proofs.Making.{make_start, make_next, make_end}
 use Rattle.records_from_columns.proofs.records_of.Goals as goal
 
 pub loop-i-init : goal.loop-i-init

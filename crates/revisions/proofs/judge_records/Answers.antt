@@ -1,5 +1,5 @@
 -- `judge_records` meets its contract: the answers of `Verdicts`, in the order of the tests. Assumes nothing.
-use Rattle.laws.proofs.Prelude.{sym, ◌∙◌, arith, rules, not-true, not-false, lt-ltb, le-ltb}
+use Rattle.laws.proofs.Prelude.{sym, ◌∙◌, arith, lt-ltb, le-ltb}
 use Rattle.revision_statements.proofs.Verdicts.{says_4, says_15, says_1, says_pass}
 use Rattle.revisions.proofs.judge_records.Goals as goal
 

@@ -1,5 +1,5 @@
 -- `stand` meets its contract: a refusal leaves all as it was, and what passes is written. Assumes nothing.
-use Rattle.laws.proofs.Prelude.{sym, ap, ◌∙◌, arith, rules}
+use Rattle.laws.proofs.Prelude.{sym, ap, ◌∙◌, arith}
 use Rattle.refusals.specs.Refusal.{judgement_in}
 use Rattle.revision_statements.proofs.Verdicts.{passes, judged, stands_refused, stands_written}
 use Rattle.revisions.proofs.stand.Goals as goal

@@ -1,6 +1,6 @@
 -- `cached_tile::CachedTile::layer_count` meets its contract.
 -- Assumes nothing.
-use Rattle.laws.proofs.Prelude.{refl, sym, ◌∙◌, rules}
+use Rattle.laws.proofs.Prelude.{refl, sym, ◌∙◌}
 use Rattle.cached_tile.proofs.CachedTile.layer_count.Goals as goal
 
 pub returns-then-keeps_count : goal.returns-then-keeps_count

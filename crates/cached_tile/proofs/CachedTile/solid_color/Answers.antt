@@ -1,6 +1,6 @@
 -- `cached_tile::CachedTile::solid_color` meets its contract.
 -- Assumes nothing.
-use Rattle.laws.proofs.Prelude.{refl, rules}
+use Rattle.laws.proofs.Prelude.{refl}
 use Rattle.cached_tile.proofs.CachedTile.solid_color.Goals as goal
 
 pub returns : goal.returns

@@ -1,6 +1,6 @@
 -- `cached_tile::CachedTile::update_layer_count` meets its contract.
 -- Assumes nothing.
-use Rattle.laws.proofs.Prelude.{sym, ap, ◌∙◌, rules}
+use Rattle.laws.proofs.Prelude.{sym, ap, ◌∙◌}
 use Rattle.cached_tile.specs.declared.LayerCount.{LayerCount}
 use Rattle.cached_tile.specs.Tile.{count_in, update_count}
 use Rattle.cached_tile.proofs.CachedTile.update_layer_count.Goals as goal

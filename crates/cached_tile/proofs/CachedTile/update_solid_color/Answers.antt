@@ -1,6 +1,5 @@
 -- `cached_tile::CachedTile::update_solid_color` meets its contract.
 -- Assumes nothing.
-use Rattle.laws.proofs.Prelude.{rules}
 use Rattle.cached_tile.proofs.CachedTile.update_solid_color.Goals as goal
 
 pub returns-then-solid_color : goal.returns-then-solid_color

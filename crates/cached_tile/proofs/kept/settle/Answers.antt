@@ -1,6 +1,6 @@
 -- `cached_tile::kept::settle` meets its contract.
 -- Assumes nothing.
-use Rattle.laws.proofs.Prelude.{refl, sym, ◌∙◌, rules}
+use Rattle.laws.proofs.Prelude.{refl, sym, ◌∙◌}
 use Rattle.cached_tile.proofs.kept.settle.Goals as goal
 
 pub returns-then-is_tag_out_of_range : goal.returns-then-is_tag_out_of_range

@@ -1,5 +1,5 @@
 -- `queue::search::is_at` meets its contract. Assumes nothing.
-use Rattle.laws.proofs.Prelude.{arith, rules}
+use Rattle.laws.proofs.Prelude.{arith}
 use Rattle.queue_statements.proofs.Ranks.{holds_is, holds_not}
 use Rattle.queue.proofs.search.is_at.Goals as goal
 

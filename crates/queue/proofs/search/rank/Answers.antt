@@ -1,7 +1,6 @@
 -- `queue::search::rank` meets its contract. What holds of the places that are left is `Halving`. Assumes nothing.
-use Rattle.std.specs.Prelude.{◌-◌}
 use Rattle.laws.proofs.Prelude.{arith}
-use Rattle.queue_statements.proofs.Ranks.{Halving, begin, upper, lower, end}
+use Rattle.queue_statements.proofs.Ranks.{begin, upper, lower, end}
 use Rattle.queue.proofs.search.rank.Goals as goal
 
 pub loop-low-init : goal.loop-low-init

@@ -1,6 +1,5 @@
 use Rattle.std.specs.Prelude.{◌-◌}
-use Rattle.laws.proofs.Prelude.{arith}
-use Rattle.queue_statements.proofs.Ranks.{Halving, begin, upper, lower, end}
+use Rattle.queue_statements.proofs.Ranks.{Halving}
 use Rattle.queue.proofs.search.rank.Given as goal
 
 abbrev pub invariant-loop-low : goal.invariant-loop-low

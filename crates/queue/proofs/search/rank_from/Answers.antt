@@ -1,6 +1,6 @@
 -- `queue::search::rank_from` meets its contract. Assumes nothing.
 use Rattle.std.specs.Prelude.{◌+◌}
-use Rattle.laws.proofs.Prelude.{arith, rules}
+use Rattle.laws.proofs.Prelude.{arith}
 use Rattle.queue_statements.proofs.Ranks.{begin, upper, lower, end, hit}
 use Rattle.queue.proofs.search.rank_from.Goals as goal
 

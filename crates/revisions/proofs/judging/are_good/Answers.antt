@@ -1,7 +1,6 @@
 -- `are_good` meets its contract: `Passing` holds while the records are passed. Assumes nothing.
-use Rattle.std.specs.Prelude.{◌≤◌, ◌-◌}
-use Rattle.laws.proofs.Prelude.{List, arith, Float}
-use Rattle.revision_statements.proofs.Judging.{Passing, pass_first, pass_next, pass_last}
+use Rattle.laws.proofs.Prelude.{arith}
+use Rattle.revision_statements.proofs.Judging.{pass_first, pass_next, pass_last}
 use Rattle.revisions.proofs.judging.are_good.Goals as goal
 
 pub loop-i-init : goal.loop-i-init

@@ -1,6 +1,6 @@
 use Rattle.std.specs.Prelude.{◌≤◌, ◌-◌}
-use Rattle.laws.proofs.Prelude.{List, arith, Float}
-use Rattle.revision_statements.proofs.Judging.{Passing, pass_first, pass_next, pass_last}
+use Rattle.laws.proofs.Prelude.{List, Float}
+use Rattle.revision_statements.proofs.Judging.{Passing}
 use Rattle.revisions.proofs.judging.are_good.Given as goal
 
 abbrev pub invariant-loop-i : goal.invariant-loop-i

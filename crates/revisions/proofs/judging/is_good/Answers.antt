@@ -1,5 +1,5 @@
 -- `is_good` meets its contract. Assumes nothing.
-use Rattle.laws.proofs.Prelude.{ap, ◌∙◌, rules, eq-eqb, ne_eqb}
+use Rattle.laws.proofs.Prelude.{ap, ◌∙◌, eq-eqb, ne_eqb}
 use Rattle.layer_table.specs.Record.{in_range}
 use Rattle.revision_statements.specs.Sent.{sent_at, is_good}
 use Rattle.revisions.proofs.judging.is_good.Goals as goal

@@ -1,6 +1,6 @@
 -- `cached_tile::kept::Kept::absent` meets its contract.
 -- Assumes nothing.
-use Rattle.laws.proofs.Prelude.{refl, rules}
+use Rattle.laws.proofs.Prelude.{refl}
 use Rattle.cached_tile.proofs.kept.Kept.absent.Goals as goal
 
 pub returns : goal.returns

@@ -1,6 +1,6 @@
 -- `cached_tile::kept::Kept::clear_solid_color` meets its contract.
 -- Assumes nothing.
-use Rattle.laws.proofs.Prelude.{refl, rules}
+use Rattle.laws.proofs.Prelude.{refl}
 use Rattle.cached_tile.proofs.kept.Kept.clear_solid_color.Goals as goal
 
 pub returns-then-self : goal.returns-then-self

@@ -1,6 +1,6 @@
 -- `cached_tile::kept::Kept::update_layer_count` meets its contract.
 -- Assumes nothing.
-use Rattle.laws.proofs.Prelude.{refl, rules}
+use Rattle.laws.proofs.Prelude.{refl}
 use Rattle.cached_tile.proofs.kept.Kept.update_layer_count.Goals as goal
 
 pub returns-then-self : goal.returns-then-self
