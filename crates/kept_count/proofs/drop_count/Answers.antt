@@ -1,5 +1,5 @@
 -- `drop_count` meets its contract. Assumes nothing.
-use Rattle.laws.proofs.Prelude.{refl, rules}
+use Rattle.laws.proofs.Prelude.{refl}
 use Rattle.kept_count.proofs.drop_count.Goals as goal
 
 pub returns-then-kept : goal.returns-then-kept

@@ -1,5 +1,5 @@
 -- `keep_or_drop` meets its contract. Assumes nothing.
-use Rattle.laws.proofs.Prelude.{refl, rules}
+use Rattle.laws.proofs.Prelude.{refl}
 use Rattle.kept_count.proofs.keep_or_drop.Goals as goal
 
 pub returns-then-may : goal.returns-then-may

@@ -1,5 +1,5 @@
 -- `judging::are_kinds` meets its contract. Assumes nothing.
-use Rattle.std.specs.Prelude.{◌≡◌, ◌&&◌, ◌-◌, ◌≤◌}
+use Rattle.std.specs.Prelude.{◌≡◌, ◌&&◌}
 use Rattle.laws.proofs.Prelude.{refl, ap, ◌∙◌, Bool, add-one, arith, leb, get_or}
 use Rattle.kept_count.specs.Keeping.{are_kinds}
 use Rattle.kept_count.proofs.judging.are_kinds.Goals as goal

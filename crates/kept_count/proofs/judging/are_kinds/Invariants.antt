@@ -1,5 +1,4 @@
-use Rattle.std.specs.Prelude.{◌≡◌, ◌&&◌, ◌-◌, ◌≤◌}
-use Rattle.laws.proofs.Prelude.{refl, ap, ◌∙◌, Bool, add-one, arith, leb, get_or}
+use Rattle.std.specs.Prelude.{◌≡◌, ◌-◌, ◌≤◌}
 use Rattle.kept_count.specs.Keeping.{are_kinds}
 use Rattle.kept_count.proofs.judging.are_kinds.Given as goal
 

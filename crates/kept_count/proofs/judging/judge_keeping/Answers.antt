@@ -1,5 +1,5 @@
 -- `judging::judge_keeping` meets its contract: a line for each condition, the lowest first. Assumes nothing.
-use Rattle.laws.proofs.Prelude.{sym, ◌∙◌, arith, rules}
+use Rattle.laws.proofs.Prelude.{sym, ◌∙◌, arith}
 use Rattle.refusals.proofs.Judging.{or_left, or_right}
 use Rattle.kept_count.specs.Keeping.{keep_verdict}
 use Rattle.kept_count.proofs.Verdicts.{room}

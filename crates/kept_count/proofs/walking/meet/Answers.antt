@@ -1,5 +1,5 @@
 -- `walking::meet` meets its contract. Assumes nothing.
-use Rattle.laws.proofs.Prelude.{true, false, rules}
+use Rattle.laws.proofs.Prelude.{true, false}
 use Rattle.kept_count.proofs.Members.{meets, meets_none}
 use Rattle.kept_count.proofs.walking.meet.Goals as goal
 

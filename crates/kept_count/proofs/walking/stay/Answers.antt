@@ -1,8 +1,7 @@
 -- `walking::stay` meets its contract. Assumes nothing.
-use Rattle.std.specs.Prelude.{◌-◌, ◌≤◌}
 use Rattle.laws.proofs.Prelude.{sym, ap, ◌∙◌, arith, eqb}
 use Rattle.kept_count.specs.Keeping.{member_at, members_of}
-use Rattle.kept_count.proofs.Walks.{Walking, start, next, end}
+use Rattle.kept_count.proofs.Walks.{start, next, end}
 use Rattle.kept_count.proofs.Members.{members_long, members_next, members_ascend}
 use Rattle.kept_count.proofs.walking.stay.Goals as goal
 
