@@ -1,5 +1,5 @@
 -- `queue_opening::copy_covers` meets its contract. Assumes nothing.
-use Rattle.laws.proofs.Prelude.{arith, pos, w8, kept}
+use Rattle.laws.proofs.Prelude.{arith, get_or, pos, w8, kept}
 use Rattle.queue_statements.proofs.Copying.{copy_start, copy_next, copy_end}
 use Rattle.queue_opening.proofs.copy_covers.Goals as goal
 
@@ -7,7 +7,7 @@ pub loop-i-init : goal.loop-i-init
 loop-i-init c = copy_start c.requires.0 c.requires.1
 
 pub loop-i-preserved : goal.loop-i-preserved
-loop-i-preserved c = copy_next (pos 0) c.loop-i.invariant c.loop-i-test.true (kept w8 _ c.to-1.given)
+loop-i-preserved c = copy_next (pos 0) c.loop-i.invariant c.loop-i-test.true (kept w8 (get_or c.args.from.now c.loop-i.i (pos 0)) (omega arith))
 
 pub shape_of-to : goal.shape_of-to
 shape_of-to c = c.loop-i.invariant.long

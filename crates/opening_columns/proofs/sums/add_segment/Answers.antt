@@ -16,10 +16,10 @@ returns-then-load-gt127 c = placed_heavy (load (goal.at.returns-then-load-gt127 
 
 pub overflow_add-sums : goal.overflow_add-sums
 overflow_add-sums c =
-    rw (kept w8 (get_or c.args.sums.now c.args.place (pos 0)) c.sums-1.given, kept w8 c.cover-cover.result c.cover-cover.type_inv, c.cover-cover.ensures)
+    rw (kept w8 (get_or c.args.sums.now c.args.place (pos 0)) (omega arith), kept w8 c.cover-cover.result c.cover-cover.type_inv, c.cover-cover.ensures)
     (small w8 _ (omega (arith, sum_fits c.args.word c.requires (omega (arith, load (goal.at.overflow_add-sums c).After-load_with-load)))))
 
 pub returns : goal.returns
 returns c =
     placed_light (load (goal.at.returns c).After-load_with-load) (omega arith)
-    (rw (to_z-of_z (overflow_add-sums c), kept w8 (get_or c.args.sums.now c.args.place (pos 0)) c.sums-1.given, kept w8 c.cover-cover.result c.cover-cover.type_inv, c.cover-cover.ensures))
+    (rw (to_z-of_z (overflow_add-sums c), kept w8 (get_or c.args.sums.now c.args.place (pos 0)) (omega arith), kept w8 c.cover-cover.result c.cover-cover.type_inv, c.cover-cover.ensures))
