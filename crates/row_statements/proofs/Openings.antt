@@ -15,8 +15,8 @@ use Rattle.row_statements.specs.declared.Opened.{Opened}
 use Rattle.row_statements.specs.declared.Opened.TheVariants as opened
 
 -- the row's number and its tiles are in range
-pub record Ends (tile_y from to : ℤ) : Type 0 where
-  pub tile_y : (minus tile_y ≡ 0) × (plus tile_y ≤ 2046)
+pub record Ends (tileY from to : ℤ) : Type 0 where
+  pub tile_y : (minus tileY ≡ 0) × (plus tileY ≤ 2046)
   pub first : (minus from ≡ 0) × (plus from ≤ plus to)
   pub last : (minus to ≡ 0) × (plus to ≤ 4095)
 

@@ -79,9 +79,9 @@ step_right is_open holds (Step.other_paint {a = a} {plane = plane} {n = n} es e 
 
 pub run_right : {o : OpenRow} {p : Past} {h h' : Held} {es : List Event} → IsOpen o → Holds o p h → Run o h es h' → AllRight o p es
 run_right is_open holds Run.none = tt
-run_right is_open holds (Run.next s rest) =
+run_right {o = o} {p = p} is_open holds (Run.next {e = e} s rest) =
     let u = step_right is_open holds s in
-    (u.0, run_right is_open u.1 rest)
+    (u.0, run_right {p = past_after o e p} is_open u.1 rest)
 
 -- what the caller then holds is the row's carries, after some calls
 pub record HoldsAfter (o : OpenRow) (h : Held) : Type 0 where
@@ -90,7 +90,7 @@ pub record HoldsAfter (o : OpenRow) (h : Held) : Type 0 where
 
 pub run_holds : {o : OpenRow} {p : Past} {h h' : Held} {es : List Event} → IsOpen o → Holds o p h → Run o h es h' → HoldsAfter o h'
 run_holds {p = p} is_open holds Run.none = record { past = p; holds = holds }
-run_holds is_open holds (Run.next s rest) = run_holds is_open (step_right is_open holds s).1 rest
+run_holds {o = o} {p = p} is_open holds (Run.next {e = e} s rest) = run_holds {p = past_after o e p} is_open (step_right is_open holds s).1 rest
 
 -- ---- the opening
 

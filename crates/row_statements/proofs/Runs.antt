@@ -25,7 +25,7 @@ use Rattle.row_statements.specs.State.{State, state_in, is_wrong_next, is_wrong_
 use Rattle.row_statements.specs.Conditions.{first_five}
 use Rattle.row_statements.specs.TileWork.{WorkCall, WorkLent, WorkGiven, TileAnswer, is_short_for, args_verdict, list_verdict, listed_for, layers_verdict, work_verdict, says_for, work_out, work_of, GivesWork}
 use Rattle.row_statements.specs.Painting.{PaintCall, PaintGiven, is_paint_short, call_verdict, layer_verdict, taken_for, part_for, own_verdict, paint_verdict, paint_says, paint_out, paint_of, PaintsLayer}
-use Rattle.row_statements.specs.Due.{OpenRow, Past, table_on, queue_on, layers_on, WorkChoice, is_not_due, work_due_verdict, says_on, state_on, work_due, PaintChoice, is_not_last, paint_due_verdict, paint_on, paint_due}
+use Rattle.row_statements.specs.Due.{OpenRow, Past, table_on, queue_on, layers_on, WorkChoice, is_not_due, work_due_verdict, says_on, state_on, work_due, past_work, PaintChoice, is_not_last, paint_due_verdict, paint_on, paint_due, past_paint}
 use Rattle.row_statements.specs.Run.{Held, SameCarries, work_on, paint_onto, Event, Step, Run}
 use Rattle.row_statements.specs.Example.{Choice, work_at, paint_at, if_turned_down, dues_of, choices_due}
 use Rattle.row_statements.specs.InnerHolding.{IsOpen, Holds}
@@ -242,10 +242,10 @@ module _ {o : OpenRow} (is_open : IsOpen o) where
   unfolding dues_of choices_due
   exists {p} {h} holds [] = record { events = []; after = h; runs = Run.none; dues = refl }
   exists {p} {h} holds (Choice.work c ∷ cs) =
-      let rest = exists (right_work is_open holds (held_work h c) as_held (work_goes is_open holds c)).1 cs in
+      let rest = exists {p = past_work (work_due_verdict o p.tiles (held_work h c)) p} (right_work is_open holds (held_work h c) as_held (work_goes is_open holds c)).1 cs in
       record { events = _ ∷ rest.events; after = rest.after; runs = Run.next (Step.work {c = held_work h c} as_held (work_goes is_open holds c)) rest.runs; dues = ap (λ (vs : List Judgement). work_due_verdict o p.tiles c ∷ vs) rest.dues }
   exists {p} {h} holds (Choice.paint c ∷ cs) =
-      let rest = exists (right_paint is_open holds (held_paint h c) as_held (paint_goes is_open holds c)).1 cs in
+      let rest = exists {p = past_paint (paint_due_verdict o p.tiles (held_paint h c)) o c.layer p} (right_paint is_open holds (held_paint h c) as_held (paint_goes is_open holds c)).1 cs in
       record { events = _ ∷ rest.events; after = rest.after; runs = Run.next (Step.paint {c = held_paint h c} as_held (paint_goes is_open holds c)) rest.runs; dues = ap (λ (vs : List Judgement). paint_due_verdict o p.tiles c ∷ vs) rest.dues }
   exists {p} {h} holds (Choice.other_work row table c ∷ cs) =
       let a = work_at (state_on o p) row table c in

@@ -21,7 +21,6 @@ use Rattle.row_carries.proofs.Carried.{queue_next, queue_ascends, queue_wide}
 use Rattle.row_statements.specs.Lent.{Columns, carries_in, is_queue_short, queue_over, is_list_short, entries_in}
 use Rattle.row_statements.specs.State.{State, next_state, state_in, is_stray, is_not_next}
 use Rattle.row_statements.specs.TileWork.{WorkLent, WorkGiven, TileSays, listed_for, is_short_for, args_verdict, layers_verdict, list_verdict, work_verdict, says_for, work_out, work_of, work_answer, GivesWork}
-use Rattle.row_statements.specs.Due as due
 use Rattle.row_statements.specs.Due.{OpenRow, Past, WorkChoice, table_on, queue_on, layers_on, state_on, is_not_due, work_due_verdict, says_on, work_due, past_work}
 use Rattle.row_statements.specs.Run.{Held, SameCarries, work_on, held_after}
 use Rattle.row_statements.specs.Claim.{RightWork}
