@@ -1,7 +1,7 @@
 -- What a verdict that passes tells of a call; that its planes say what they should; and d by columns. Assumes nothing.
 use Rattle.std.specs.Prelude.{◌≡◌, ◌&&◌, ◌||◌, ◌+◌, ◌*◌, ◌/◌, ◌%◌, ◌≤◌, ◌<◌}
 use Rattle.laws.proofs.Prelude.{ap, ap₂, ◌∙◌, Bool, true, false, not, List, ℕ, arith, ltb-false}
-use Rattle.laws.proofs.Prelude.{not-false, ltb, ℤ, pos, negsuc, length, le_z, plus, minus, every, all, left, right, every_at, le_true, true_le, whole}
+use Rattle.laws.proofs.Prelude.{not-false, ltb, ℤ, pos, negsuc, length, le_z, plus, minus, all, left, right, every_at, le_true, true_le, whole}
 use Rattle.laws.proofs.Ranges.{within}
 use Rattle.refusals.specs.Refusal.{pass, unless}
 use Rattle.refusals.proofs.Judging.{passed, or_left, or_right}

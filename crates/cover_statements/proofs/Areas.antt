@@ -1,6 +1,6 @@
 -- Laws of the doubled area, over any widths. Assumes nothing.
 use Rattle.std.specs.Prelude.{◌≡◌, ◌&&◌, ◌∷◌, ◌+◌, ◌*◌, ◌^◌, ◌/◌, ◌≤◌, ◌<◌, ◌+ℤ◌, ◌*ℤ◌}
-use Rattle.laws.proofs.Prelude.{refl, sym, ap, ◌∙◌, Bool, true, false, cond, not, List, [], ⊎_elim, ℕ}
+use Rattle.laws.proofs.Prelude.{refl, sym, ap, ◌∙◌, Bool, true, false, cond, List, [], ⊎_elim, ℕ}
 use Rattle.laws.proofs.Prelude.{mul-le-mul_right, mod-lt, arith, ltb-true, eqb-true, eq-eqb, ne_eqb, lt-ltb, le-ltb, eqb, ltb, lit<, ℤ, pos, nat_abs}
 use Rattle.laws.proofs.Prelude.{+ℤ_idl, +ℤ_idr, get_or, left, all_intro, le_or_lt, eq_or_ne, added, times, abs_times, abs_add, sumℤ}
 use Rattle.laws.proofs.Sums.{sum_abs, sum_none, sumℕ_le, sumℤ_split}

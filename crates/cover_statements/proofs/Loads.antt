@@ -11,7 +11,7 @@ use Rattle.pixel_segment.specs.Field.{local_y_of}
 use Rattle.cover_statements.proofs.Carries.{light}
 use Rattle.cover_statements.proofs.Filled.{filled_whole, get_d_default}
 use Rattle.cover_statements.proofs.Testing.{all_every}
-use Rattle.cover_statements.specs.Carry.{in_row, abs_cover, load_in, light_at, is_light}
+use Rattle.cover_statements.specs.Carry.{abs_cover, load_in, light_at, is_light}
 use Rattle.cover_statements.specs.Cover.{cover_at}
 use Rattle.cover_statements.specs.InnerLoad.{Capped, Magnitudes, loads_of, all_light}
 

@@ -1,8 +1,8 @@
 -- The doubled areas of a tile, one pixel row after another: the pixels passed hold d, the others their own double areas, and the row's sum is the
 -- cover that comes in with what lies left of the column. Over any widths whose local y stays below the height n. Assumes nothing.
-use Rattle.std.specs.Prelude.{◌≡◌, ◌&&◌, ◌||◌, ◌+◌, ◌*◌, ◌/◌, ◌%◌, ◌≤◌, ◌<◌, ◌+ℤ◌, ◌*ℤ◌}
-use Rattle.laws.proofs.Prelude.{refl, sym, ap, ◌∙◌, Bool, true, false, List, ⊎_elim, ℕ, div-add-mod'}
-use Rattle.laws.proofs.Prelude.{arith, eq-eqb, ne_eqb, lt-ltb, le-ltb, digits_lt, digits_div, digits_mod, eqb, ltb, ℤ, pos, nat_abs}
+use Rattle.std.specs.Prelude.{◌≡◌, ◌+◌, ◌*◌, ◌/◌, ◌%◌, ◌≤◌, ◌<◌, ◌+ℤ◌, ◌*ℤ◌}
+use Rattle.laws.proofs.Prelude.{refl, sym, ap, ◌∙◌, true, false, List, ⊎_elim, ℕ, div-add-mod'}
+use Rattle.laws.proofs.Prelude.{arith, eq-eqb, ne_eqb, lt-ltb, le-ltb, digits_lt, digits_div, digits_mod, eqb, ℤ, pos, nat_abs}
 use Rattle.laws.proofs.Prelude.{+ℤ_assoc, +ℤ_idr, length, set, length-set, get_or-set_same, get_or-set_other, eq_or_ne, is_tabulate, abs_add, sumℤ}
 use Rattle.pixel_segment.specs.Field.{local_y_of, cover_of, double_area_of, width_of}
 use Rattle.cover_statements.specs.Area.{is_own, cover_before, own_area, doubled_area, areas_of}

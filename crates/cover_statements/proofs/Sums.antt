@@ -1,11 +1,9 @@
 -- d summed up by rows and by columns, over any widths whose local y stays below the height, and at both heights. Assumes nothing.
-use Rattle.std.specs.Prelude.{◌≡◌, ◌+◌, ◌≤◌, ◌<◌}
-use Rattle.laws.proofs.Prelude.{refl, List, ℕ, zero, suc, add-one, arith, ℤ}
+use Rattle.std.specs.Prelude.{◌≤◌, ◌<◌}
+use Rattle.laws.proofs.Prelude.{refl, List, ℕ, zero, suc, add-one, arith}
 use Rattle.pixel_segment.specs.Field.{local_y_of, widths_of}
-use Rattle.cover_statements.specs.Cover.{cover_at}
 use Rattle.cover_statements.specs.Height.{height_of}
-use Rattle.cover_statements.specs.InnerCell.{Accumulated, Shaded}
-use Rattle.cover_statements.specs.InnerRows.{RowsDone, RowShaded}
+use Rattle.cover_statements.specs.InnerRows.{RowsDone}
 use Rattle.cover_statements.specs.Sums.{SumsByRows, SumsByColumns, SumsAnywhere, SumsAtBoth}
 use Rattle.cover_statements.proofs.Columns.{Columns, columns_start, columns_next, columns_end}
 use Rattle.cover_statements.proofs.Heights.{row_low}

@@ -1,7 +1,7 @@
 -- The covers of a part of a row, added to an incoming cover; and when that is refused. A part is a list of packed words: one layer's segments in
 -- one tile. The field widths `ws` and the tile's height n are parameters. Stands for 'a carry is incoming cover plus segment covers' and for
 -- number 9, 'a layer and pixel row with absolute incoming cover plus absolute segment covers above 127'.
-use Rattle.std.specs.Prelude.{◌≡◌, ◌+◌, ◌+ℤ◌}
+use Rattle.std.specs.Prelude.{◌+◌, ◌+ℤ◌}
 use Rattle.laws.specs.Prelude.{Bool, cond, List, ℕ, eqb, leb, ℤ, nat_abs, Answer, refused, given, tabulate, every, sumℤ, sumℕ}
 use Rattle.pixel_segment.specs.Field.{local_y_of, cover_of}
 use Rattle.cover_statements.specs.Cover.{cover_at}

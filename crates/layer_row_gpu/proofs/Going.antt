@@ -1,6 +1,6 @@
 -- A range as its loop goes: what is left to do on what is left is the whole. Assumes nothing.
 use Rattle.std.specs.Prelude.{◌≡◌, ◌||◌, ◌+◌, ◌-◌, ◌*◌, ◌/◌, ◌≤◌, ◌<◌}
-use Rattle.laws.proofs.Prelude.{refl, sym, ap, subst, ◌∙◌, Bool, true, false, not, List, ℕ, zero, suc}
+use Rattle.laws.proofs.Prelude.{refl, sym, ap, subst, ◌∙◌, Bool, true, false, not, List, ℕ, suc}
 use Rattle.laws.proofs.Prelude.{add-one, arith, le-ltb, lt-leb, leb-false, ltb-false, eq-eqb, ne_eqb, not-false, ltb, leb, Float, ℤ, pos, length}
 use Rattle.laws.proofs.Prelude.{sets, length-sets, over}
 use Rattle.refusals.specs.Refusal.{Judgement, pass, refuse, unless, judgement_in}

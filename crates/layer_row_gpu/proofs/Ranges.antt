@@ -1,19 +1,18 @@
 -- A range of tiles after an accepted opening is as the whole row has it. Assumes nothing.
-use Rattle.std.specs.Prelude.{◌≡◌, ◌++◌, ◌+◌, ◌-◌, ◌*◌, ◌/◌, ◌≤◌, ◌<◌}
+use Rattle.std.specs.Prelude.{◌≡◌, ◌+◌, ◌-◌, ◌*◌, ◌/◌, ◌≤◌, ◌<◌}
 use Rattle.laws.proofs.Prelude.{refl, sym, ap, ◌∙◌, Bool, true, false, cond, List, ℕ, zero, suc, min}
-use Rattle.laws.proofs.Prelude.{add-zero, add-suc, arith, leb, eqb, ltb, Float, pos, length, drop, length-append, length-take, length-drop, sets}
+use Rattle.laws.proofs.Prelude.{add-zero, add-suc, arith, leb, eqb, Float, pos, length, drop, length-append, length-take, length-drop, sets}
 use Rattle.laws.proofs.Prelude.{plus, over, length_over}
 use Rattle.refusals.specs.Refusal.{Judgement, pass, refuse}
 use Rattle.pixel_segment.specs.Field.{gpu}
 use Rattle.cover_statements.specs.WholeRow.{row_plane}
 use Rattle.cover_statements.proofs.Planes.{places_length}
-use Rattle.layer_row_gpu.specs.LayerState.{LayerState}
 use Rattle.layer_row_gpu.specs.OpenLayer.{LayerCall, layer_rule}
-use Rattle.layer_row_gpu.specs.WorkLayer.{layer_choice, LayerGiven, work_layer_of}
-use Rattle.layer_row_gpu.specs.WorkTiles.{plane_at, TilesEnd, NextTile, next_by, next_tile, TilesGiven, tiles_by, own_call, tiles_from, TilesChoice, tiles_verdict, tiles_given_by, work_tiles_of}
-use Rattle.layer_row_gpu.specs.LayerDue.{layer_tile_on, layer_state_on, layer_due_verdict, layer_out, work_layer_due, TilesDue, own_due, tiles_due_by, tiles_due, planes_due, tiles_due_verdict, tiles_out, work_tiles_due}
+use Rattle.layer_row_gpu.specs.WorkLayer.{layer_choice, LayerGiven}
+use Rattle.layer_row_gpu.specs.WorkTiles.{plane_at, NextTile, next_tile, TilesGiven, tiles_by, own_call, tiles_from, TilesChoice, tiles_verdict, tiles_given_by, work_tiles_of}
+use Rattle.layer_row_gpu.specs.LayerDue.{layer_tile_on, layer_state_on, layer_due_verdict, layer_out, TilesDue, own_due, tiles_due_by, tiles_due, planes_due, tiles_due_verdict, tiles_out, work_tiles_due}
 use Rattle.layer_row_gpu.proofs.Verdicts.{OpenPassed, not_at_most}
-use Rattle.layer_row_gpu.proofs.Planes.{plane_long, put_next}
+use Rattle.layer_row_gpu.proofs.Planes.{put_next}
 use Rattle.layer_row_gpu.proofs.Dues.{verdict_due, work_given}
 
 -- a next tile that is worked: the row has it, a plane is left, and its own call passes

@@ -1,10 +1,10 @@
 -- The cells of a part that number 9 does not refuse, summed without loads: the loads are there in the proof alone, and bound each sum as they do
 -- where they are judged (cover_statements/proofs/Judging). Assumes nothing.
 use Rattle.std.specs.Prelude.{◌≡◌, ◌∷◌, ◌+◌, ◌*◌, ◌≤◌, ◌<◌, ◌+ℤ◌}
-use Rattle.laws.proofs.Prelude.{refl, sym, ◌∙◌, true, List, [], map, ⊎_elim, ℕ, arith, ℤ, nat_abs, length, get_or}
+use Rattle.laws.proofs.Prelude.{refl, ◌∙◌, true, List, [], map, ⊎_elim, ℕ, arith, ℤ, nat_abs, length, get_or}
 use Rattle.laws.proofs.Prelude.{set, length-map, clash, le_or_lt}
 use Rattle.laws.proofs.Bools.{not-false}
-use Rattle.pixel_segment.specs.Field.{cpu, local_x_of, local_y_of, cover_of, double_area_of}
+use Rattle.pixel_segment.specs.Field.{cpu, local_y_of, cover_of, double_area_of}
 use Rattle.cover_statements.specs.Carry.{is_light, abs_cover}
 use Rattle.cover_statements.specs.Cover.{cover_at}
 use Rattle.cover_statements.specs.InnerCell.{cell_of, no_cells, Accumulated}

@@ -7,10 +7,10 @@ use Rattle.refusals.specs.Refusal.{Judgement, pass, refuse, unless}
 use Rattle.pixel_segment.specs.Field.{cpu, local_y_of}
 use Rattle.cover_statements.specs.Carry.{abs_cover, is_light}
 use Rattle.cover_statements.proofs.Carries.{light}
-use Rattle.segment_set_statements.specs.Set.{SetState, held_of, is_of, is_here, is_word_held, loads_from, beginning, begin_verdict}
+use Rattle.segment_set_statements.specs.Set.{SetState, held_of, is_of, is_here, loads_from, beginning, begin_verdict}
 use Rattle.segment_set_statements.specs.Set.{take_verdict, taken_in, let_verdict, let_out, settled}
 use Rattle.segment_set_statements.specs.Kept.{Kept, SameWords}
-use Rattle.segment_set_statements.specs.Alike.{Alike, AnsweredAlike, OrderLaw}
+use Rattle.segment_set_statements.specs.Alike.{Alike, OrderLaw}
 use Rattle.segment_set_statements.proofs.Keeping.{count_held, take_passed, let_passed, same_taken, same_let, kept_taken, kept_let}
 use Rattle.segment_set_statements.proofs.Sames.{same_refl, same_sym, same_length, same_held, same_all}
 use Rattle.segment_set_statements.proofs.Steps.{same_light, light_taken, loads_at, own_load}

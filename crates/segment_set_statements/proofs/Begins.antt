@@ -1,17 +1,17 @@
 -- A set begun with nothing and then word by word is the fresh working of the part. Assumes nothing.
-use Rattle.std.specs.Prelude.{◌≡◌, ◌∷◌, ◌++◌, ◌+◌, ◌*◌, ◌/◌, ◌%◌, ◌≤◌, ◌<◌, ◌+ℤ◌, ◌*ℤ◌}
-use Rattle.laws.proofs.Prelude.{refl, sym, ap, ap₂, ◌∙◌, Bool, true, false, cond, List, [], map, ℕ, suc}
-use Rattle.laws.proofs.Prelude.{add-one, arith, ltb-false, not-false, eqb, ltb, ℤ, pos, nat_abs, +ℤ_idr, length, get_or, take, drop, set}
-use Rattle.laws.proofs.Prelude.{length-set, length-append, length-map, take-append-drop, List·getD-map, take_at, drop_at, take-suc, take_all}
-use Rattle.laws.proofs.Prelude.{length-take-le, over, all, count_by, filled, filled_more, filled_all, is_tabulate, length_over, sum_append}
-use Rattle.refusals.specs.Refusal.{Judgement, pass, unless}
+use Rattle.std.specs.Prelude.{◌≡◌, ◌∷◌, ◌++◌, ◌+◌, ◌%◌, ◌≤◌, ◌<◌, ◌+ℤ◌, ◌*ℤ◌}
+use Rattle.laws.proofs.Prelude.{refl, sym, ap, ap₂, ◌∙◌, true, List, [], map, ℕ}
+use Rattle.laws.proofs.Prelude.{add-one, arith, ltb-false, not-false, eqb, ℤ, pos, nat_abs, +ℤ_idr, length, get_or, take, drop, set}
+use Rattle.laws.proofs.Prelude.{length-set, length-map, take-append-drop, List·getD-map, take_at, drop_at, take-suc, take_all}
+use Rattle.laws.proofs.Prelude.{length-take-le, over, all, filled, filled_more, filled_all, is_tabulate, length_over, sum_append}
+use Rattle.refusals.specs.Refusal.{pass}
 use Rattle.refusals.proofs.Judging.{passed}
 use Rattle.pixel_segment.specs.Field.{cpu, local_y_of}
 use Rattle.cover_statements.specs.Area.{doubled_area, areas_of}
 use Rattle.cover_statements.specs.Carry.{in_row, abs_cover, load_in, is_light, carry_of}
 use Rattle.cover_statements.specs.Cover.{cover_at}
 use Rattle.cover_statements.specs.InnerLoad.{Magnitudes}
-use Rattle.cover_statements.proofs.Carries.{light, carry_none}
+use Rattle.cover_statements.proofs.Carries.{light}
 use Rattle.cover_statements.proofs.Planes.{areas_length, areas_at}
 use Rattle.segment_set_statements.specs.Effect.{areas_after, carry_after, loads_after}
 use Rattle.segment_set_statements.specs.Set.{SetState, state, Beginning, beginning, begin_verdict, fresh_set, fresh_state, is_of, loads_from, taken_in}

@@ -2,7 +2,6 @@
 use Rattle.std.specs.Prelude.{◌≡◌}
 use Rattle.laws.proofs.Prelude.{ap₂, List, ℕ, ℤ}
 use Rattle.pixel_segment.specs.Field.{cpu}
-use Rattle.cover.specs.declared.Cover.{Cover}
 use Rattle.segment_set_statements.specs.Effect.{carry_after, loads_after}
 use Rattle.segment_set_statements.specs.Set.{set_changed}
 use Rattle.segment_set_statements.specs.declared.SegmentSet.{SegmentSet}

@@ -1,6 +1,6 @@
 -- Beginning with a part is beginning with none and taking its words in, one after the other. Assumes nothing.
-use Rattle.std.specs.Prelude.{◌≡◌, ◌∷◌, ◌+◌, ◌≤◌, ◌<◌}
-use Rattle.laws.proofs.Prelude.{refl, sym, ap, ◌∙◌, true, List, [], ℕ, zero, suc, add-one, arith, le-ltb, lt-leb, ℤ, length}
+use Rattle.std.specs.Prelude.{◌≡◌, ◌+◌, ◌<◌}
+use Rattle.laws.proofs.Prelude.{refl, ap, ◌∙◌, true, List, ℕ, zero, suc, add-one, arith, le-ltb, lt-leb, ℤ, length}
 use Rattle.laws.proofs.Prelude.{get_or, drop, drop_of_length-le, drop-cons, all_at}
 use Rattle.refusals.specs.Refusal.{Judgement, pass}
 use Rattle.pixel_segment.specs.Field.{cpu, local_y_of}
@@ -8,7 +8,7 @@ use Rattle.cover_statements.specs.Carry.{abs_cover}
 use Rattle.segment_set_statements.specs.Set.{SetState, Beginning, begin_verdict, fresh_state, is_of, is_here, take_verdict, taken_in, settled}
 use Rattle.segment_set_statements.specs.Edits.{take_all}
 use Rattle.segment_set_statements.specs.InnerSpread.{Addable}
-use Rattle.segment_set_statements.proofs.Begins.{Begun, Adding, up_to, begin_passed, add_start, add_ready, add_next, add_end}
+use Rattle.segment_set_statements.proofs.Begins.{Adding, up_to, begin_passed, add_start, add_ready, add_next, add_end}
 
 -- what can be added and is of the set's layer and tile passes
 pub take_passes : (s : SetState) (w : ℕ) → Addable s w → is_here s.set w ≡ true → take_verdict s w ≡ pass

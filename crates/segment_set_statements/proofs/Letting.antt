@@ -1,9 +1,9 @@
 -- Letting out, as the code judges it: by the place of the word among the held ones. Assumes nothing.
 use Rattle.std.specs.Prelude.{◌≡◌, ◌≤◌, ◌<◌}
-use Rattle.laws.proofs.Prelude.{refl, sym, ap, ap₂, ◌∙◌, Bool, true, false, List, ⊎_elim, ℕ, min, arith, ltb-true, ltb, ℤ, length}
+use Rattle.laws.proofs.Prelude.{sym, ap, ap₂, ◌∙◌, List, ⊎_elim, ℕ, min, arith, ltb-true, ltb, ℤ, length}
 use Rattle.laws.proofs.Prelude.{take, length-take, take_all, le_or_lt}
 use Rattle.refusals.specs.Refusal.{pass}
-use Rattle.segment_set_statements.specs.Set.{SetState, state, held_of, is_word_held, held_place, let_verdict}
+use Rattle.segment_set_statements.specs.Set.{state, held_of, is_word_held, held_place, let_verdict}
 use Rattle.segment_set_statements.specs.InnerSpread.{let_verdict_by, Removable}
 use Rattle.segment_set_statements.specs.declared.SegmentSet.{SegmentSet}
 use Rattle.segment_set_statements.proofs.Keeping.{let_passed}

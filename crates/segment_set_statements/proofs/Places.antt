@@ -2,7 +2,7 @@
 use Rattle.std.specs.Prelude.{◌≡◌, ◌||◌, ◌∷◌, ◌+◌, ◌≤◌, ◌<◌}
 use Rattle.laws.proofs.Prelude.{refl, sym, ap, ◌∙◌, Bool, true, false, cond, List, [], ℕ, suc, add-one, arith, eq-eqb}
 use Rattle.laws.proofs.Prelude.{ne_eqb, eqb-true, lt-ltb, le-ltb, ltb-true, eqb, ltb, length, get_or, take, drop, drop_of_length-le, drop-cons}
-use Rattle.laws.proofs.Prelude.{get_or-take, length-take-le, same, any}
+use Rattle.laws.proofs.Prelude.{get_or-take, length-take-le, same}
 use Rattle.segment_set_statements.specs.Set.{is_word_held, held_place}
 
 -- what is left to look at, with the places passed, is the place

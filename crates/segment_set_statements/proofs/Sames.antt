@@ -1,12 +1,12 @@
 -- Two lists with the same words, each as often, are worked alike: order within a set carries no meaning. Over any widths and height.
 -- Assumes nothing.
-use Rattle.std.specs.Prelude.{◌≡◌, ◌&&◌, ◌||◌, ◌∷◌, ◌+◌, ◌*◌, ◌/◌, ◌%◌, ◌+ℤ◌, ◌*ℤ◌}
+use Rattle.std.specs.Prelude.{◌≡◌, ◌||◌, ◌∷◌, ◌+◌, ◌*◌, ◌/◌, ◌%◌, ◌+ℤ◌, ◌*ℤ◌}
 use Rattle.laws.proofs.Prelude.{refl, sym, ap, ap₂, ◌∙◌, Bool, true, false, cond, not, List, [], ℕ, arith}
-use Rattle.laws.proofs.Prelude.{lt-ltb, le-ltb, ℤ, pos, nat_abs, eqb, leb, ltb, length, tabulate, all, every, count_by, both, left, right}
+use Rattle.laws.proofs.Prelude.{lt-ltb, le-ltb, ℤ, pos, nat_abs, eqb, ltb, length, all, count_by, both, left, right}
 use Rattle.laws.proofs.Prelude.{sumℤ_same, sumℕ_same}
 use Rattle.pixel_segment.specs.Field.{cover_of, double_area_of}
-use Rattle.cover_statements.specs.Area.{is_before, is_own, cover_before, own_area, doubled_area, areas_of}
-use Rattle.cover_statements.specs.Carry.{in_row, abs_cover, cover_in, load_in, light_at, is_light, carry_of}
+use Rattle.cover_statements.specs.Area.{is_before, is_own, doubled_area, areas_of}
+use Rattle.cover_statements.specs.Carry.{in_row, abs_cover, cover_in, load_in, carry_of}
 use Rattle.cover_statements.specs.Cover.{cover_at}
 use Rattle.segment_set_statements.specs.Set.{is_word_held, loads_from}
 use Rattle.segment_set_statements.specs.Kept.{SameWords}

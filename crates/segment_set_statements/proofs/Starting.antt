@@ -3,14 +3,12 @@ use Rattle.std.specs.Prelude.{◌≡◌, ◌≤◌}
 use Rattle.laws.proofs.Prelude.{refl, sym, ap, ap₂, ◌∙◌, List, [], ℕ, arith, ℤ, length, take, length-take-le, over, length_over}
 use Rattle.pixel_segment.specs.Field.{cpu}
 use Rattle.cover_statements.specs.Area.{areas_of}
-use Rattle.cover_statements.specs.Carry.{carry_of}
 use Rattle.cover_statements.specs.Cover.{cover_at}
 use Rattle.cover_statements.specs.InnerLoad.{Magnitudes}
 use Rattle.cover_statements.proofs.Carries.{carry_none}
 use Rattle.cover_statements.proofs.Planes.{areas_length}
-use Rattle.segment_set_statements.specs.Set.{SetState, state, Beginning, fresh_state, fresh_set, loads_from}
-use Rattle.segment_set_statements.specs.declared.SegmentSet.{SegmentSet}
-use Rattle.segment_set_statements.proofs.Begins.{Begun, Adding, set_of, three, up_to, over_over, loads_none, add_start, add_end}
+use Rattle.segment_set_statements.specs.Set.{SetState, state, Beginning, fresh_state}
+use Rattle.segment_set_statements.proofs.Begins.{Begun, Adding, set_of, three, over_over, loads_none, add_start, add_end}
 
 module _ (b : Beginning) (slots : List ℕ) (areas start : List ℤ) (e : start ≡ over (areas_of cpu 16 (cover_at b.incoming) []) areas) where
   long : length (areas_of cpu 16 (cover_at b.incoming) []) ≡ 256

@@ -2,7 +2,7 @@
 -- segment added, or without it, wherever it stands. Number 9 keeps every number within its width, so nothing is wrapped. Assumes nothing.
 use Rattle.std.specs.Prelude.{◌≡◌, ◌∷◌, ◌+◌, ◌-◌, ◌/◌, ◌%◌, ◌≤◌, ◌<◌, ◌+ℤ◌, ◌-ℤ◌}
 use Rattle.laws.proofs.Prelude.{refl, sym, ap, ◌∙◌, Bool, true, false, cond, List, ⊎_elim, ℕ, arith, eq-eqb}
-use Rattle.laws.proofs.Prelude.{ne_eqb, le-leb, eqb, ℤ, pos, nat_abs, +ℤ_idr, +ℤ_assoc, length, get_or, take, set, length-set, get_or-take}
+use Rattle.laws.proofs.Prelude.{ne_eqb, le-leb, ℤ, pos, nat_abs, +ℤ_idr, +ℤ_assoc, get_or, take, set, length-set, get_or-take}
 use Rattle.laws.proofs.Prelude.{get_or-set_same, get_or-set_other, tabulate, over, every_intro, eq_or_ne, is_tabulate, length_tabulate, get_d_tabulate}
 use lib.IntN.{+ℤ-neg_ℤ_cancel}
 use Rattle.pixel_segment.specs.Field.{cpu, local_y_of, cover_of}

@@ -1,5 +1,5 @@
 -- `cover::is_row_full` meets its contract. Assumes nothing.
-use Rattle.laws.proofs.Prelude.{rules, to_z-of_z}
+use Rattle.laws.proofs.Prelude.{to_z-of_z}
 use Rattle.cover.proofs.is_row_full.Goals as goal
 
 pub returns-in-NonZero : goal.returns-in-NonZero

@@ -1,6 +1,6 @@
 -- `bound_part` meets its contract: judged, and then d at both sides and the planes. Assumes nothing.
 use Rattle.std.specs.Prelude.{◌≡◌}
-use Rattle.laws.proofs.Prelude.{refl, sym, ap, ◌∙◌, rules, to_z-of_z}
+use Rattle.laws.proofs.Prelude.{refl, sym, ap, ◌∙◌, to_z-of_z}
 use Rattle.refusals.specs.Refusal.{judgement_in}
 use Rattle.cover_statements.specs.InnerCell.{no_cells}
 use Rattle.cover_bounds_statements.specs.Within.{bounds_call, bound_planes, bounds_verdict}

@@ -1,5 +1,4 @@
 -- `closed` meets its contract. Assumes nothing.
-use Rattle.laws.proofs.Prelude.{rules}
 use Rattle.layer_row_gpu.proofs.closed.Goals as goal
 
 pub returns : goal.returns

@@ -1,5 +1,5 @@
 -- `drop_empty` meets its contract. Assumes nothing.
-use Rattle.laws.proofs.Prelude.{sym, ◌∙◌, rules}
+use Rattle.laws.proofs.Prelude.{sym, ◌∙◌}
 use Rattle.layer_row_gpu.proofs.drop_empty.Goals as goal
 
 pub returns-then-is_empty : goal.returns-then-is_empty

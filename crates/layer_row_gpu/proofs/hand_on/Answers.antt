@@ -1,6 +1,6 @@
 -- `hand_on` meets its contract. Assumes nothing.
 use Rattle.std.specs.Prelude.{◌+◌}
-use Rattle.laws.proofs.Prelude.{arith, rules}
+use Rattle.laws.proofs.Prelude.{arith}
 use Rattle.layer_row_gpu.proofs.hand_on.Goals as goal
 
 pub overflow_add-result : goal.overflow_add-result

@@ -1,6 +1,6 @@
 -- `open` meets its contract. Assumes nothing.
 use Rattle.std.specs.Prelude.{◌≡◌}
-use Rattle.laws.proofs.Prelude.{ap, ◌∙◌, arith, rules, w16, SFits, to_z-of_z, plus, sfits}
+use Rattle.laws.proofs.Prelude.{ap, ◌∙◌, arith, w16, SFits, to_z-of_z, plus, sfits}
 use Rattle.pixel_segment.specs.Field.{gpu}
 use Rattle.cover_statements.specs.Carry.{is_light, carry_of}
 use Rattle.cover_statements.specs.Cover.{no_cover}

@@ -1,6 +1,6 @@
 -- `open_layer_row` meets its contract. Assumes nothing.
 use Rattle.std.specs.Prelude.{◌≡◌}
-use Rattle.laws.proofs.Prelude.{sym, ap, ◌∙◌, rules, to_z-of_z}
+use Rattle.laws.proofs.Prelude.{sym, ap, ◌∙◌, to_z-of_z}
 use Rattle.refusals.specs.declared.Verdict.TheVariants.{Pass}
 use Rattle.refusals.specs.Refusal.{Judgement, judgement_in, pass}
 use Rattle.layer_row_gpu.specs.OpenLayer.{LayerCall, layer_call, call_verdict_of, opened_state}

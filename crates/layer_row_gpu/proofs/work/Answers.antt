@@ -1,6 +1,6 @@
 -- `work` meets its contract. Assumes nothing.
 use Rattle.std.specs.Prelude.{◌≡◌}
-use Rattle.laws.proofs.Prelude.{ap, ◌∙◌, List, ℕ, rules, over}
+use Rattle.laws.proofs.Prelude.{ap, ◌∙◌, List, ℕ, over}
 use Rattle.pixel_segment.specs.Field.{gpu}
 use Rattle.cover_statements.specs.Carry.{is_light, carry_of}
 use Rattle.cover_statements.specs.Cover.{cover_at}

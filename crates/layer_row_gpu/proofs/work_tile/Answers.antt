@@ -1,6 +1,6 @@
 -- `work_tile` meets its contract. Assumes nothing.
 use Rattle.std.specs.Prelude.{◌≡◌}
-use Rattle.laws.proofs.Prelude.{sym, ap, ◌∙◌, rules, ℤ, to_z-of_z, over}
+use Rattle.laws.proofs.Prelude.{sym, ap, ◌∙◌, ℤ, to_z-of_z, over}
 use Rattle.refusals.specs.declared.Verdict.TheVariants.{Pass}
 use Rattle.refusals.specs.Refusal.{Judgement, judgement_in, pass}
 use Rattle.pixel_segment.specs.Field.{gpu}

@@ -1,7 +1,7 @@
 -- `layer_table::find` meets its contract. What holds of the places that are left is `Halving`.
 -- Assumes nothing.
 use Rattle.laws.proofs.Prelude.{sym, ◌∙◌, arith}
-use Rattle.layer_table.proofs.Halving.{Halving, begin, upper, lower, found, absent, none}
+use Rattle.layer_table.proofs.Halving.{begin, upper, lower, found, absent, none}
 use Rattle.layer_table.proofs.find.Goals as goal
 
 pub returns-then-count-eq0 : goal.returns-then-count-eq0

@@ -1,5 +1,4 @@
-use Rattle.laws.proofs.Prelude.{sym, ◌∙◌, arith}
-use Rattle.layer_table.proofs.Halving.{Halving, begin, upper, lower, found, absent, none}
+use Rattle.layer_table.proofs.Halving.{Halving}
 use Rattle.layer_table.proofs.find.Given as goal
 
 abbrev pub invariant-loop-len : goal.invariant-loop-len

@@ -1,7 +1,6 @@
 -- `layer_table::find_from` meets its contract: a record that is tried and has the id stands in its place, and else the table is searched.
 -- Assumes nothing.
-use Rattle.std.specs.Prelude.{◌+◌, ◌-◌}
-use Rattle.laws.proofs.Prelude.{rules}
+use Rattle.std.specs.Prelude.{◌+◌}
 use Rattle.layer_table.proofs.Halving.{tried}
 use Rattle.layer_table.proofs.find_from.Goals as goal
 

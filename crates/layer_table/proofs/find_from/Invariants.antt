@@ -1,6 +1,4 @@
-use Rattle.std.specs.Prelude.{◌+◌, ◌-◌}
-use Rattle.laws.proofs.Prelude.{rules}
-use Rattle.layer_table.proofs.Halving.{tried}
+use Rattle.std.specs.Prelude.{◌-◌}
 use Rattle.layer_table.proofs.find_from.Given as goal
 
 abbrev pub invariant-loop-k : goal.invariant-loop-k

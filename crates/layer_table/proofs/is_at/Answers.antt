@@ -1,5 +1,5 @@
 -- `layer_table::is_at` meets its contract. Assumes nothing.
-use Rattle.laws.proofs.Prelude.{arith, rules, lt-ltb, le-ltb}
+use Rattle.laws.proofs.Prelude.{lt-ltb, le-ltb}
 use Rattle.layer_table.proofs.is_at.Goals as goal
 
 pub returns-then-at-count : goal.returns-then-at-count

@@ -1,9 +1,9 @@
 -- `layer_table::is_table` meets its contract. What holds while the records are passed is `Judging`.
 -- Assumes nothing.
-use Rattle.std.specs.Prelude.{◌≡◌, ◌-◌}
-use Rattle.laws.proofs.Prelude.{sym, ◌∙◌, false, arith, rules}
+use Rattle.std.specs.Prelude.{◌≡◌}
+use Rattle.laws.proofs.Prelude.{sym, ◌∙◌, false, arith}
 use Rattle.layer_table.specs.Table.{is_table_short}
-use Rattle.layer_table.proofs.Judging.{Judging, begin, next, end, long, table_short, table_long}
+use Rattle.layer_table.proofs.Judging.{begin, next, end, long, table_short, table_long}
 use Rattle.layer_table.proofs.is_table.Goals as goal
 use Rattle.layer_table.proofs.is_table.Goals.{In-loop-i}
 

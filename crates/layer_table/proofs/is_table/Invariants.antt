@@ -1,7 +1,5 @@
-use Rattle.std.specs.Prelude.{◌≡◌, ◌-◌}
-use Rattle.laws.proofs.Prelude.{sym, ◌∙◌, false, arith, rules}
-use Rattle.layer_table.specs.Table.{is_table_short}
-use Rattle.layer_table.proofs.Judging.{Judging, begin, next, end, long, table_short, table_long}
+use Rattle.std.specs.Prelude.{◌-◌}
+use Rattle.layer_table.proofs.Judging.{Judging}
 use Rattle.layer_table.proofs.is_table.Given as goal
 
 abbrev pub invariant-loop-i : goal.invariant-loop-i

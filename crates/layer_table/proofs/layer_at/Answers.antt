@@ -1,6 +1,6 @@
 -- `layer_table::layer_at` meets its contract.
 -- Assumes nothing.
-use Rattle.laws.proofs.Prelude.{ap₂, ◌∙◌, rules}
+use Rattle.laws.proofs.Prelude.{ap₂, ◌∙◌}
 use Rattle.layer_table.specs.Record.{layer_of}
 use Rattle.layer_table.specs.Table.{layer_at}
 use Rattle.layer_table.proofs.layer_at.Goals as goal

@@ -1,6 +1,6 @@
 -- `layer_table::to_func` meets its contract.
 -- Assumes nothing.
-use Rattle.laws.proofs.Prelude.{refl, rules, eq-eqb, ne_eqb}
+use Rattle.laws.proofs.Prelude.{refl, eq-eqb, ne_eqb}
 use Rattle.layer_table.proofs.to_func.Goals as goal
 
 pub returns-then-words-eq0 : goal.returns-then-words-eq0

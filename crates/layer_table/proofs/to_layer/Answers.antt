@@ -1,6 +1,6 @@
 -- `layer_table::to_layer` meets its contract.
 -- Assumes nothing.
-use Rattle.laws.proofs.Prelude.{refl, rules}
+use Rattle.laws.proofs.Prelude.{refl}
 use Rattle.layer_table.proofs.to_layer.Goals as goal
 
 pub returns : goal.returns

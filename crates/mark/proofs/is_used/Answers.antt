@@ -1,5 +1,4 @@
 -- `mark::is_used` meets its contract. Assumes nothing.
-use Rattle.laws.proofs.Prelude.{rules}
 use Rattle.cover_statements.proofs.Marks.{used_eight}
 use Rattle.mark.proofs.is_used.Goals as goal
 

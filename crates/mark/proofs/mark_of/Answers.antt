@@ -1,6 +1,6 @@
 -- `mark::mark_of` meets its contract. Assumes nothing.
-use Rattle.laws.proofs.Prelude.{arith, rules}
-use Rattle.cover_statements.proofs.Marks.{Marking, mark_start, mark_small, mark_next, mark_end, bit_lt}
+use Rattle.laws.proofs.Prelude.{arith}
+use Rattle.cover_statements.proofs.Marks.{mark_start, mark_small, mark_next, mark_end, bit_lt}
 use Rattle.mark.proofs.mark_of.Goals as goal
 
 pub loop-octet-init : goal.loop-octet-init

@@ -1,5 +1,4 @@
-use Rattle.laws.proofs.Prelude.{arith, rules}
-use Rattle.cover_statements.proofs.Marks.{Marking, mark_start, mark_small, mark_next, mark_end, bit_lt}
+use Rattle.cover_statements.proofs.Marks.{Marking}
 use Rattle.mark.proofs.mark_of.Given as goal
 
 abbrev pub invariant-loop-octet : goal.invariant-loop-octet

@@ -1,5 +1,5 @@
 -- `mark::mark_plane` meets its contract. Assumes nothing.
-use Rattle.laws.proofs.Prelude.{lt-ltb, le-ltb, rules}
+use Rattle.laws.proofs.Prelude.{lt-ltb, le-ltb}
 use Rattle.mark.proofs.mark_plane.Goals as goal
 
 pub returns-then-plane-lt256 : goal.returns-then-plane-lt256

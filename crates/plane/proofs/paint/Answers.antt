@@ -1,6 +1,6 @@
 -- `plane::paint` meets its contract: what is judged again is not refused. Assumes nothing.
 use Rattle.std.specs.Prelude.{◌≡◌}
-use Rattle.laws.proofs.Prelude.{sym, ap, ◌∙◌, ℕ, arith, rules, Answer, refused, given}
+use Rattle.laws.proofs.Prelude.{sym, ap, ◌∙◌, ℕ, arith, Answer, refused, given}
 use Rattle.cover_statements.specs.Paint.{painted_answer}
 use Rattle.cover_statements.proofs.Paintings.{paint_answer, paint_plane}
 use Rattle.plane.proofs.paint.Goals as goal

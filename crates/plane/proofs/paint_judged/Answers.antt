@@ -1,6 +1,6 @@
 -- `plane::paint_judged` meets its contract. Assumes nothing.
-use Rattle.std.specs.Prelude.{◌≡◌, ◌∷◌}
-use Rattle.laws.proofs.Prelude.{refl, sym, ap, ◌∙◌, true, List, [], ℕ, arith, not-true, not-false, rules, Float, nan, length, over}
+use Rattle.std.specs.Prelude.{◌≡◌}
+use Rattle.laws.proofs.Prelude.{refl, sym, ap, ◌∙◌, true, List, arith, Float, nan, length, over}
 use Rattle.pixel_segment.specs.Field.{cpu}
 use Rattle.cover_statements.specs.Area.{areas_of}
 use Rattle.cover_statements.specs.Carry.{is_light}

@@ -1,5 +1,5 @@
 -- `plane::sum_areas` meets its contract. Assumes nothing.
-use Rattle.laws.proofs.Prelude.{sym, rules}
+use Rattle.laws.proofs.Prelude.{sym}
 use Rattle.plane.proofs.sum_areas.Goals as goal
 
 pub sum_areas-requires : goal.sum_areas-requires

@@ -1,5 +1,5 @@
 -- `add_areas` meets its contract. Assumes nothing.
-use Rattle.laws.proofs.Prelude.{rules, ◌∙◌, ℤ, w16, kept}
+use Rattle.laws.proofs.Prelude.{◌∙◌, ℤ, w16, kept}
 use Rattle.pixel_segment.specs.Field.{cpu}
 use Rattle.segment_set_statements.proofs.Spreading.{spread_is}
 use Rattle.segment_effect.proofs.add_areas.Goals as goal

@@ -1,6 +1,6 @@
 -- `added` meets its contract. Assumes nothing.
 use Rattle.std.specs.Prelude.{◌+◌, ◌+ℤ◌}
-use Rattle.laws.proofs.Prelude.{rules, arith, w8, kept}
+use Rattle.laws.proofs.Prelude.{arith, w8, kept}
 use Rattle.segment_set_statements.specs.Effect.{carry_after, loads_after}
 use Rattle.segment_set_statements.proofs.Changes.{changes}
 use Rattle.segment_effect.proofs.added.Goals as goal

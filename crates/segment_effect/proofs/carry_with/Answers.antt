@@ -1,5 +1,5 @@
 -- `carry_with` meets its contract. Assumes nothing.
-use Rattle.laws.proofs.Prelude.{ap, ◌∙◌, rules, sfits_of, ℤ, set, to_z-of_z, w8, kept}
+use Rattle.laws.proofs.Prelude.{ap, ◌∙◌, sfits_of, ℤ, set, to_z-of_z, w8, kept}
 use Rattle.segment_effect.proofs.carry_with.Goals as goal
 
 pub returns : goal.returns

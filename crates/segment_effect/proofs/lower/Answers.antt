@@ -1,5 +1,4 @@
 -- `lower` meets its contract. Assumes nothing.
-use Rattle.laws.proofs.Prelude.{rules}
 use Rattle.segment_effect.proofs.lower.Goals as goal
 
 pub returns : goal.returns

@@ -1,6 +1,6 @@
 -- `past_cover` meets its contract. Assumes nothing.
 use Rattle.std.specs.Prelude.{◌*ℤ◌}
-use Rattle.laws.proofs.Prelude.{rules, arith, pos, to_z-of_z, sfits_widen, w8, w16, SFits, small, kept, whole, times}
+use Rattle.laws.proofs.Prelude.{arith, pos, to_z-of_z, sfits_widen, w8, w16, SFits, small, kept, whole, times}
 use Rattle.pixel_segment.specs.Field.{cpu, cover_of}
 use Rattle.pixel_segment.proofs.Widths.{in_cover, cover_fits}
 use Rattle.segment_effect.proofs.past_cover.Goals as goal

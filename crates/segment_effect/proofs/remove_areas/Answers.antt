@@ -1,6 +1,6 @@
 -- `remove_areas` meets its contract. Assumes nothing.
 use Rattle.std.specs.Prelude.{◌*ℤ◌}
-use Rattle.laws.proofs.Prelude.{rules, ◌∙◌, arith, pos, neg_ℤ, +ℤ_idl, to_z-of_z, w16, kept, whole, times}
+use Rattle.laws.proofs.Prelude.{◌∙◌, arith, pos, neg_ℤ, +ℤ_idl, to_z-of_z, w16, kept, whole, times}
 use Rattle.pixel_segment.specs.Field.{cpu, cover_of, double_area_of}
 use Rattle.pixel_segment.proofs.Widths.{in_cover, area_le}
 use Rattle.segment_set_statements.proofs.Spreading.{spread_is}

@@ -1,6 +1,6 @@
 -- `removed` meets its contract. Assumes nothing.
 use Rattle.std.specs.Prelude.{◌-◌, ◌-ℤ◌}
-use Rattle.laws.proofs.Prelude.{rules, arith, ℕ, pos, ◌+ℤ◌, SFits, neg_ℤ, +ℤ_idl, to_z-of_z, w8, kept}
+use Rattle.laws.proofs.Prelude.{arith, ℕ, pos, ◌+ℤ◌, SFits, neg_ℤ, +ℤ_idl, to_z-of_z, w8, kept}
 use Rattle.pixel_segment.specs.Field.{cpu, cover_of}
 use Rattle.pixel_segment.proofs.Widths.{in_cover}
 use Rattle.segment_set_statements.specs.Effect.{carry_after, loads_after}

@@ -1,8 +1,8 @@
 -- `spread` meets its contract. Assumes nothing.
-use Rattle.std.specs.Prelude.{◌≡◌, ◌+◌, ◌-◌, ◌*◌}
-use Rattle.laws.proofs.Prelude.{refl, ◌∙◌, cond, arith, eq-eqb, ne_eqb, eqb, to_z-of_z, w16, to_z, kept}
+use Rattle.std.specs.Prelude.{◌+◌, ◌*◌}
+use Rattle.laws.proofs.Prelude.{refl, ◌∙◌, arith, eq-eqb, ne_eqb, to_z-of_z, w16, kept}
 use Rattle.cover_statements.specs.Cover.{cover_at}
-use Rattle.segment_set_statements.proofs.Spreading.{Spreading, spread_start, spread_next, spread_end}
+use Rattle.segment_set_statements.proofs.Spreading.{spread_start, spread_next, spread_end}
 use Rattle.segment_effect.proofs.spread.Goals as goal
 
 pub loop-column-init : goal.loop-column-init

@@ -1,7 +1,6 @@
-use Rattle.std.specs.Prelude.{◌≡◌, ◌+◌, ◌-◌, ◌*◌}
-use Rattle.laws.proofs.Prelude.{refl, ◌∙◌, cond, arith, eq-eqb, ne_eqb, eqb, to_z-of_z, w16, to_z, kept}
-use Rattle.cover_statements.specs.Cover.{cover_at}
-use Rattle.segment_set_statements.proofs.Spreading.{Spreading, spread_start, spread_next, spread_end}
+use Rattle.std.specs.Prelude.{◌≡◌, ◌-◌}
+use Rattle.laws.proofs.Prelude.{cond, eqb}
+use Rattle.segment_set_statements.proofs.Spreading.{Spreading}
 use Rattle.segment_effect.proofs.spread.Given as goal
 
 abbrev pub invariant-loop-column : goal.invariant-loop-column

@@ -1,8 +1,6 @@
 -- `are_of` meets its contract. Assumes nothing.
-use Rattle.std.specs.Prelude.{◌-◌}
-use Rattle.laws.proofs.Prelude.{refl, arith, rules, length, to_z-of_z, w16, to_z}
-use Rattle.cover_statements.proofs.Testing.{Testing, test_start, test_next, test_end}
-use Rattle.segment_set_statements.specs.Set.{is_of}
+use Rattle.laws.proofs.Prelude.{refl, arith, to_z-of_z}
+use Rattle.cover_statements.proofs.Testing.{test_start, test_next, test_end}
 use Rattle.segment_judging.proofs.are_of.Goals as goal
 
 pub loop-i-init : goal.loop-i-init

@@ -1,6 +1,6 @@
 use Rattle.std.specs.Prelude.{◌-◌}
-use Rattle.laws.proofs.Prelude.{refl, arith, rules, length, to_z-of_z, w16, to_z}
-use Rattle.cover_statements.proofs.Testing.{Testing, test_start, test_next, test_end}
+use Rattle.laws.proofs.Prelude.{length}
+use Rattle.cover_statements.proofs.Testing.{Testing}
 use Rattle.segment_set_statements.specs.Set.{is_of}
 use Rattle.segment_judging.proofs.are_of.Given as goal
 

@@ -1,5 +1,5 @@
 -- `is_of` meets its contract. Assumes nothing.
-use Rattle.laws.proofs.Prelude.{rules, refl, to_z-of_z, w16, kept}
+use Rattle.laws.proofs.Prelude.{refl, to_z-of_z, w16, kept}
 use Rattle.segment_judging.proofs.is_of.Goals as goal
 
 pub returns : goal.returns

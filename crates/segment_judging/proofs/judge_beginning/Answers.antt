@@ -1,6 +1,6 @@
 -- `judge_beginning` meets its contract. Assumes nothing.
 use Rattle.std.specs.Prelude.{◌≡◌}
-use Rattle.laws.proofs.Prelude.{rules, lt-ltb, le-ltb, to_z-of_z, all}
+use Rattle.laws.proofs.Prelude.{lt-ltb, le-ltb, to_z-of_z, all}
 use Rattle.segment_set_statements.specs.Set.{is_of, begin_verdict}
 use Rattle.segment_judging.proofs.judge_beginning.Goals as goal
 use Rattle.segment_judging.proofs.judge_beginning.Goals.{After-are_of}

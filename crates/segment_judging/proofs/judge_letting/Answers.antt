@@ -1,5 +1,5 @@
 -- `judge_letting` meets its contract. Assumes nothing.
-use Rattle.laws.proofs.Prelude.{rules, lt-ltb, le-ltb}
+use Rattle.laws.proofs.Prelude.{lt-ltb, le-ltb}
 use Rattle.segment_set_statements.specs.InnerSpread.{let_verdict_by}
 use Rattle.segment_judging.proofs.judge_letting.Goals as goal
 

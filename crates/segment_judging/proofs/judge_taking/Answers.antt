@@ -1,5 +1,5 @@
 -- `judge_taking` meets its contract. Assumes nothing.
-use Rattle.laws.proofs.Prelude.{rules, lt-ltb, le-ltb}
+use Rattle.laws.proofs.Prelude.{lt-ltb, le-ltb}
 use Rattle.segment_set_statements.specs.Set.{take_verdict}
 use Rattle.segment_judging.proofs.judge_taking.Goals as goal
 

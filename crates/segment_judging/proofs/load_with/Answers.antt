@@ -1,5 +1,5 @@
 -- `load_with` meets its contract. Assumes nothing.
-use Rattle.laws.proofs.Prelude.{rules, ◌∙◌, w8, kept}
+use Rattle.laws.proofs.Prelude.{w8, kept}
 use Rattle.segment_judging.proofs.load_with.Goals as goal
 
 pub returns : goal.returns

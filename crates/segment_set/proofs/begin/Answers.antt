@@ -1,6 +1,6 @@
 -- `begin` meets its contract. Assumes nothing.
 use Rattle.std.specs.Prelude.{◌≡◌}
-use Rattle.laws.proofs.Prelude.{rules, sym, ap, ◌∙◌, to_z-of_z}
+use Rattle.laws.proofs.Prelude.{sym, ap, ◌∙◌, to_z-of_z}
 use Rattle.refusals.specs.Refusal.{Judgement, judgement_in}
 use Rattle.segment_set_statements.specs.Set.{Beginning, state, nothing, beginning, begin_verdict, fresh_state, settled}
 use Rattle.segment_set_statements.specs.declared.SegmentSet.{SegmentSet}

@@ -1,5 +1,5 @@
 -- `empty_set` meets its contract. Assumes nothing.
-use Rattle.laws.proofs.Prelude.{rules, ap, List, ℤ}
+use Rattle.laws.proofs.Prelude.{ap, List, ℤ}
 use Rattle.segment_set_statements.specs.Set.{nothing}
 use Rattle.segment_set_statements.proofs.Changes.{with}
 use Rattle.segment_set.proofs.empty_set.Goals as goal

@@ -1,7 +1,7 @@
 -- `let_out` meets its contract. Assumes nothing.
 use Rattle.std.specs.Prelude.{◌≡◌}
-use Rattle.laws.proofs.Prelude.{rules, sym, ap, ◌∙◌}
-use Rattle.refusals.specs.Refusal.{Judgement, pass, judgement_in}
+use Rattle.laws.proofs.Prelude.{sym, ap, ◌∙◌}
+use Rattle.refusals.specs.Refusal.{Judgement, judgement_in}
 use Rattle.segment_set_statements.specs.Set.{SetState, state, let_verdict, let_out, settled}
 use Rattle.segment_set_statements.proofs.Letting.{let_judged, let_ready}
 use Rattle.segment_set.proofs.let_out.Goals as goal

@@ -1,7 +1,7 @@
 -- `take_in` meets its contract. Assumes nothing.
 use Rattle.std.specs.Prelude.{◌≡◌}
-use Rattle.laws.proofs.Prelude.{rules, sym, ap, ◌∙◌}
-use Rattle.refusals.specs.Refusal.{Judgement, pass, judgement_in}
+use Rattle.laws.proofs.Prelude.{sym, ap, ◌∙◌}
+use Rattle.refusals.specs.Refusal.{Judgement, judgement_in}
 use Rattle.segment_set_statements.specs.Set.{SetState, state, take_verdict, taken_in, settled}
 use Rattle.segment_set_statements.proofs.Keeping.{take_passed}
 use Rattle.segment_set.proofs.take_in.Goals as goal

@@ -1,6 +1,6 @@
 -- `weight::cover_magnitude` meets its contract. Assumes nothing.
 use Rattle.std.specs.Prelude.{◌≡◌}
-use Rattle.laws.proofs.Prelude.{arith, rules, nat_abs, to_z-of_z, sfits_widen, w8, w16, SFits, within, whole}
+use Rattle.laws.proofs.Prelude.{arith, nat_abs, to_z-of_z, sfits_widen, w8, w16, SFits, within, whole}
 use Rattle.weight.proofs.cover_magnitude.Goals as goal
 use Rattle.weight.proofs.cover_magnitude.Goals.{Start}
 

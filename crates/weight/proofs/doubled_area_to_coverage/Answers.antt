@@ -1,6 +1,6 @@
 -- `weight::doubled_area_to_coverage` meets its contract. Assumes nothing.
 use Rattle.std.specs.Prelude.{◌≡◌}
-use Rattle.laws.proofs.Prelude.{ap, ◌∙◌, rules, to_z-of_z}
+use Rattle.laws.proofs.Prelude.{ap, ◌∙◌, to_z-of_z}
 use Rattle.cover_statements.specs.Coverage.{coverage_of}
 use Rattle.cover_statements.specs.Weight.{weight_of}
 use Rattle.cover_statements.proofs.Weights.{weight_le}

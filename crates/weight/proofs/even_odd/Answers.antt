@@ -1,5 +1,5 @@
 -- `weight::even_odd` meets its contract. Assumes nothing.
-use Rattle.laws.proofs.Prelude.{rules, to_z-of_z}
+use Rattle.laws.proofs.Prelude.{to_z-of_z}
 use Rattle.weight.proofs.even_odd.Goals as goal
 
 pub returns : goal.returns

@@ -1,6 +1,6 @@
 -- `weight::even_odd_in` meets its contract. Assumes nothing.
 use Rattle.std.specs.Prelude.{◌≡◌, ◌<◌}
-use Rattle.laws.proofs.Prelude.{ap, ◌∙◌, List, ℕ, arith, rules, lit<, get_or, to_z-of_z, remainder, modℤ}
+use Rattle.laws.proofs.Prelude.{ap, ◌∙◌, List, ℕ, arith, lit<, get_or, to_z-of_z, remainder, modℤ}
 use Rattle.weight_table.proofs.Table.{curve_at}
 use Rattle.weight_table.specs.Rest.{rest_weight}
 use Rattle.weight.proofs.even_odd_in.Goals as goal

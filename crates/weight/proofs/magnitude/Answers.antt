@@ -1,6 +1,6 @@
 -- `weight::magnitude` meets its contract. Assumes nothing.
 use Rattle.std.specs.Prelude.{◌-ℤ◌}
-use Rattle.laws.proofs.Prelude.{arith, rules, pos, to_z-of_z, sfits_widen, w16, w32, SFits, sfits, within, unsigned, whole, taken, lt_true}
+use Rattle.laws.proofs.Prelude.{arith, pos, to_z-of_z, sfits_widen, w16, w32, SFits, sfits, within, unsigned, whole, taken, lt_true}
 use Rattle.laws.proofs.Prelude.{lt_false}
 use Rattle.weight.proofs.magnitude.Goals as goal
 use Rattle.weight.proofs.magnitude.Goals.{Start}

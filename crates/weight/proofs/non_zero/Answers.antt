@@ -1,5 +1,5 @@
 -- `weight::non_zero` meets its contract. Assumes nothing.
-use Rattle.laws.proofs.Prelude.{arith, rules, to_z-of_z}
+use Rattle.laws.proofs.Prelude.{arith, to_z-of_z}
 use Rattle.weight.proofs.non_zero.Goals as goal
 
 pub returns-then-a-lt512 : goal.returns-then-a-lt512

@@ -1,7 +1,7 @@
 -- `weight::rest_of_area` meets its contract. With 32,768, a multiple of 1,024, no d is negative, and its remainder is the machine's.
 -- Assumes nothing.
 use Rattle.std.specs.Prelude.{◌%◌, ◌<◌, ◌≤◌, ◌+ℤ◌}
-use Rattle.laws.proofs.Prelude.{ap, ℕ, arith, rules, T, lit<, lit≤, pos, nat_abs, non_neg, to_z-of_z, sfits_widen, w16, w32, SFits}
+use Rattle.laws.proofs.Prelude.{ap, ℕ, arith, T, lit<, lit≤, pos, nat_abs, non_neg, to_z-of_z, sfits_widen, w16, w32, SFits}
 use Rattle.laws.proofs.Prelude.{Fits, sfits, within, unsigned, lifted, added}
 use Rattle.weight.proofs.rest_of_area.Goals as goal
 use Rattle.weight.proofs.rest_of_area.Goals.{Start}

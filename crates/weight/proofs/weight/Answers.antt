@@ -1,5 +1,5 @@
 -- `weight::weight` meets its contract. Assumes nothing.
-use Rattle.laws.proofs.Prelude.{rules, to_z-of_z}
+use Rattle.laws.proofs.Prelude.{to_z-of_z}
 use Rattle.weight.proofs.weight.Goals as goal
 
 pub returns-in-NonZero : goal.returns-in-NonZero

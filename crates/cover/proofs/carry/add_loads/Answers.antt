@@ -1,8 +1,7 @@
 -- `cover::carry::add_loads` meets its contract. Assumes nothing.
-use Rattle.std.specs.Prelude.{◌-◌}
-use Rattle.laws.proofs.Prelude.{arith, rules, length, w8, kept}
+use Rattle.laws.proofs.Prelude.{arith, rules, w8, kept}
 use Rattle.pixel_segment.specs.Field.{cpu}
-use Rattle.cover_statements.proofs.Loads.{Loading, load_start, load_next, load_end}
+use Rattle.cover_statements.proofs.Loads.{load_start, load_next, load_end}
 use Rattle.cover.proofs.carry.add_loads.Goals as goal
 
 pub loop-i-init : goal.loop-i-init

@@ -1,7 +1,7 @@
 use Rattle.std.specs.Prelude.{◌-◌}
-use Rattle.laws.proofs.Prelude.{arith, rules, length, w8, kept}
+use Rattle.laws.proofs.Prelude.{length}
 use Rattle.pixel_segment.specs.Field.{cpu}
-use Rattle.cover_statements.proofs.Loads.{Loading, load_start, load_next, load_end}
+use Rattle.cover_statements.proofs.Loads.{Loading}
 use Rattle.cover.proofs.carry.add_loads.Given as goal
 
 abbrev pub invariant-loop-i : goal.invariant-loop-i

@@ -1,6 +1,6 @@
 -- `cover::carry::carry` meets its contract. Assumes nothing.
 use Rattle.std.specs.Prelude.{◌≡◌}
-use Rattle.laws.proofs.Prelude.{sym, ap, ◌∙◌, rules, not-true, not-false, length}
+use Rattle.laws.proofs.Prelude.{sym, ap, ◌∙◌, rules, length}
 use Rattle.pixel_segment.specs.Field.{cpu}
 use Rattle.cover_statements.specs.InnerLoad.{all_light}
 use Rattle.cover_statements.proofs.Loads.{incoming_heavy}

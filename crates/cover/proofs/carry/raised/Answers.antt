@@ -1,6 +1,6 @@
 -- `cover::carry::raised` meets its contract. Assumes nothing.
 use Rattle.std.specs.Prelude.{◌≡◌}
-use Rattle.laws.proofs.Prelude.{arith, rules, nat_abs, to_z-of_z}
+use Rattle.laws.proofs.Prelude.{arith, nat_abs, to_z-of_z}
 use Rattle.cover.proofs.carry.raised.Goals as goal
 use Rattle.cover.proofs.carry.raised.Goals.{After-cover_magnitude}
 

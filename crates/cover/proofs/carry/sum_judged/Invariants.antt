@@ -1,11 +1,8 @@
-use Rattle.std.specs.Prelude.{◌≡◌, ◌+◌, ◌-◌}
-use Rattle.laws.proofs.Prelude.{ap, ◌∙◌, sym, List, ℕ, arith, rules, pos, length, get_or, to_z-of_z, w8, small, kept}
+use Rattle.std.specs.Prelude.{◌-◌}
+use Rattle.laws.proofs.Prelude.{length}
 use Rattle.pixel_segment.specs.Field.{cpu}
-use Rattle.cover_statements.specs.Carry.{abs_cover, is_light}
-use Rattle.cover_statements.specs.InnerLoad.{loads_of, all_light}
-use Rattle.cover_statements.proofs.Judging.{Loaded, load_start, load_next, load_refused, load_accepted}
-use Rattle.cover_statements.proofs.Loads.{light_at_lem, loads_judge}
-use Rattle.cover.proofs.RowSums.{RowSums, rows_start, rows_fit, rows_next, rows_end}
+use Rattle.cover_statements.proofs.Judging.{Loaded}
+use Rattle.cover.proofs.RowSums.{RowSums}
 use Rattle.cover.proofs.carry.sum_judged.Given as goal
 
 abbrev pub invariant-loop-i : goal.invariant-loop-i

@@ -1,7 +1,7 @@
 -- `cover::entry::read_cover` meets its contract. Assumes nothing.
-use Rattle.std.specs.Prelude.{◌+◌, ◌*◌, ◌-◌}
+use Rattle.std.specs.Prelude.{◌+◌, ◌*◌}
 use Rattle.laws.proofs.Prelude.{refl, arith, pos, get_or, w8, kept}
-use Rattle.cover_statements.proofs.Entries.{Reading, read_start, read_next, read_end}
+use Rattle.cover_statements.proofs.Entries.{read_start, read_next, read_end}
 use Rattle.cover.proofs.entry.read_cover.Goals as goal
 
 pub loop-y-init : goal.loop-y-init

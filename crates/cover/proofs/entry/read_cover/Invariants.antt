@@ -1,6 +1,5 @@
-use Rattle.std.specs.Prelude.{◌+◌, ◌*◌, ◌-◌}
-use Rattle.laws.proofs.Prelude.{refl, arith, pos, get_or, w8, kept}
-use Rattle.cover_statements.proofs.Entries.{Reading, read_start, read_next, read_end}
+use Rattle.std.specs.Prelude.{◌-◌}
+use Rattle.cover_statements.proofs.Entries.{Reading}
 use Rattle.cover.proofs.entry.read_cover.Given as goal
 
 abbrev pub invariant-loop-y : goal.invariant-loop-y

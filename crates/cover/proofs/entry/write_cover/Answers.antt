@@ -1,7 +1,6 @@
 -- `cover::entry::write_cover` meets its contract. Assumes nothing.
-use Rattle.std.specs.Prelude.{◌-◌}
 use Rattle.laws.proofs.Prelude.{refl, arith, rules, pos, get_or, w8, kept}
-use Rattle.cover_statements.proofs.Entries.{Writing, write_start, write_next, write_end}
+use Rattle.cover_statements.proofs.Entries.{write_start, write_next, write_end}
 use Rattle.cover.proofs.entry.write_cover.Goals as goal
 
 pub loop-y-init : goal.loop-y-init

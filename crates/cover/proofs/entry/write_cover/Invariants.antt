@@ -1,6 +1,5 @@
 use Rattle.std.specs.Prelude.{◌-◌}
-use Rattle.laws.proofs.Prelude.{refl, arith, rules, pos, get_or, w8, kept}
-use Rattle.cover_statements.proofs.Entries.{Writing, write_start, write_next, write_end}
+use Rattle.cover_statements.proofs.Entries.{Writing}
 use Rattle.cover.proofs.entry.write_cover.Given as goal
 
 abbrev pub invariant-loop-y : goal.invariant-loop-y

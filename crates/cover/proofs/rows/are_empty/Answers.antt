@@ -1,10 +1,10 @@
 -- `cover::rows::are_empty` meets its contract. Assumes nothing.
-use Rattle.std.specs.Prelude.{◌≡◌, ◌&&◌, ◌+◌, ◌-◌, ◌≤◌}
-use Rattle.laws.proofs.Prelude.{refl, sym, ap, ◌∙◌, Bool, true, false, cond, ℕ, arith, rules, sfits_of, ne_eqb, eqb, pos}
-use Rattle.laws.proofs.Prelude.{length, to_z-of_z, w8}
-use Rattle.cover_statements.specs.Cover.{empty_at, is_empty}
+use Rattle.std.specs.Prelude.{◌≡◌, ◌&&◌, ◌+◌}
+use Rattle.laws.proofs.Prelude.{refl, sym, ap, ◌∙◌, Bool, true, false, cond, ℕ, arith, sfits_of, ne_eqb, eqb, pos}
+use Rattle.laws.proofs.Prelude.{to_z-of_z, w8}
+use Rattle.cover_statements.specs.Cover.{is_empty}
 use Rattle.cover_statements.proofs.Areas.{and-false}
-use Rattle.cover_statements.proofs.Testing.{Testing, test_start, test_next, test_end, and-true}
+use Rattle.cover_statements.proofs.Testing.{test_start, test_next, test_end, and-true}
 use Rattle.cover.proofs.rows.are_empty.Goals as goal
 
 -- none is counted exactly where none was before and the next does not count

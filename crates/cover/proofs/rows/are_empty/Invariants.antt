@@ -1,9 +1,8 @@
-use Rattle.std.specs.Prelude.{◌≡◌, ◌&&◌, ◌+◌, ◌-◌, ◌≤◌}
-use Rattle.laws.proofs.Prelude.{refl, sym, ap, ◌∙◌, Bool, true, false, cond, ℕ, arith, rules, sfits_of, ne_eqb, eqb, pos}
-use Rattle.laws.proofs.Prelude.{length, to_z-of_z, w8}
-use Rattle.cover_statements.specs.Cover.{empty_at, is_empty}
-use Rattle.cover_statements.proofs.Areas.{and-false}
-use Rattle.cover_statements.proofs.Testing.{Testing, test_start, test_next, test_end, and-true}
+use Rattle.std.specs.Prelude.{◌-◌, ◌≤◌}
+use Rattle.laws.proofs.Prelude.{eqb}
+use Rattle.laws.proofs.Prelude.{length}
+use Rattle.cover_statements.specs.Cover.{empty_at}
+use Rattle.cover_statements.proofs.Testing.{Testing}
 use Rattle.cover.proofs.rows.are_empty.Given as goal
 
 -- how many of the first y rows are not empty, and that none is exactly where all of them are

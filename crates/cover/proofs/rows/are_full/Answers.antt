@@ -1,8 +1,7 @@
 -- `cover::rows::are_full` meets its contract. Assumes nothing.
-use Rattle.std.specs.Prelude.{◌-◌}
-use Rattle.laws.proofs.Prelude.{refl, arith, rules, sfits_of, pos, length, to_z-of_z, w8}
-use Rattle.cover_statements.specs.Cover.{full_at, is_full}
-use Rattle.cover_statements.proofs.Testing.{Testing, test_start, test_next, test_end}
+use Rattle.laws.proofs.Prelude.{refl, arith, sfits_of, pos, to_z-of_z, w8}
+use Rattle.cover_statements.specs.Cover.{is_full}
+use Rattle.cover_statements.proofs.Testing.{test_start, test_next, test_end}
 use Rattle.cover.proofs.rows.are_full.Goals as goal
 
 pub loop-y-init : goal.loop-y-init

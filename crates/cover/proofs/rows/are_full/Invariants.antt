@@ -1,7 +1,7 @@
 use Rattle.std.specs.Prelude.{◌-◌}
-use Rattle.laws.proofs.Prelude.{refl, arith, rules, sfits_of, pos, length, to_z-of_z, w8}
-use Rattle.cover_statements.specs.Cover.{full_at, is_full}
-use Rattle.cover_statements.proofs.Testing.{Testing, test_start, test_next, test_end}
+use Rattle.laws.proofs.Prelude.{length}
+use Rattle.cover_statements.specs.Cover.{full_at}
+use Rattle.cover_statements.proofs.Testing.{Testing}
 use Rattle.cover.proofs.rows.are_full.Given as goal
 
 abbrev pub invariant-loop-y : goal.invariant-loop-y

@@ -1,11 +1,11 @@
 -- `cover::rows::are_light` meets its contract. Assumes nothing.
-use Rattle.std.specs.Prelude.{◌≡◌, ◌&&◌, ◌+◌, ◌-◌, ◌≤◌}
-use Rattle.laws.proofs.Prelude.{refl, sym, ◌∙◌, Bool, true, false, ℕ, add-one, arith, rules, ne_eqb, leb, eqb, length, get_or}
+use Rattle.std.specs.Prelude.{◌≡◌, ◌&&◌, ◌+◌, ◌≤◌}
+use Rattle.laws.proofs.Prelude.{refl, sym, ◌∙◌, Bool, true, false, ℕ, add-one, arith, ne_eqb, leb, eqb, length, get_or}
 use Rattle.laws.proofs.Prelude.{bool_byte}
 use Prim.Native.Nat.compare
 use Rattle.cover_statements.specs.InnerLoad.{all_light}
 use Rattle.cover_statements.proofs.Areas.{and-false}
-use Rattle.cover_statements.proofs.Testing.{Testing, test_start, test_next, test_end, and-true}
+use Rattle.cover_statements.proofs.Testing.{test_start, test_next, test_end, and-true}
 use Rattle.cover.proofs.rows.are_light.Goals as goal
 use Rattle.cover.proofs.rows.are_light.Goals.{In-loop-y}
 

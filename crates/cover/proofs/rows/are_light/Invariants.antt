@@ -1,10 +1,6 @@
-use Rattle.std.specs.Prelude.{◌≡◌, ◌&&◌, ◌+◌, ◌-◌, ◌≤◌}
-use Rattle.laws.proofs.Prelude.{refl, sym, ◌∙◌, Bool, true, false, ℕ, add-one, arith, rules, ne_eqb, leb, eqb, length, get_or}
-use Rattle.laws.proofs.Prelude.{bool_byte}
-use Prim.Native.Nat.compare
-use Rattle.cover_statements.specs.InnerLoad.{all_light}
-use Rattle.cover_statements.proofs.Areas.{and-false}
-use Rattle.cover_statements.proofs.Testing.{Testing, test_start, test_next, test_end, and-true}
+use Rattle.std.specs.Prelude.{◌-◌, ◌≤◌}
+use Rattle.laws.proofs.Prelude.{leb, eqb, length}
+use Rattle.cover_statements.proofs.Testing.{Testing}
 use Rattle.cover.proofs.rows.are_light.Given as goal
 
 -- how many of the first y loads are light, and that all are exactly where these are y

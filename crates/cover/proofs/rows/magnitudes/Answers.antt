@@ -1,7 +1,6 @@
 -- `cover::rows::magnitudes` meets its contract. Assumes nothing.
-use Rattle.std.specs.Prelude.{◌-◌}
-use Rattle.laws.proofs.Prelude.{refl, sym, ap, ◌∙◌, arith, rules, sfits_of, length, length-replicate, to_z-of_z, w8}
-use Rattle.cover_statements.proofs.Loads.{Measuring, measure_start, measure_next, measure_end}
+use Rattle.laws.proofs.Prelude.{refl, sym, ap, ◌∙◌, arith, sfits_of, length, length-replicate, to_z-of_z, w8}
+use Rattle.cover_statements.proofs.Loads.{measure_start, measure_next, measure_end}
 use Rattle.cover.proofs.rows.magnitudes.Goals as goal
 
 pub loop-y-init : goal.loop-y-init

@@ -1,6 +1,6 @@
 use Rattle.std.specs.Prelude.{◌-◌}
-use Rattle.laws.proofs.Prelude.{refl, sym, ap, ◌∙◌, arith, rules, sfits_of, length, length-replicate, to_z-of_z, w8}
-use Rattle.cover_statements.proofs.Loads.{Measuring, measure_start, measure_next, measure_end}
+use Rattle.laws.proofs.Prelude.{length}
+use Rattle.cover_statements.proofs.Loads.{Measuring}
 use Rattle.cover.proofs.rows.magnitudes.Given as goal
 
 abbrev pub invariant-loop-y : goal.invariant-loop-y

@@ -1,5 +1,5 @@
 -- `area::add_bounds` meets its contract. Assumes nothing.
-use Rattle.std.specs.Prelude.{◌≡◌, ◌-◌, ◌≤◌, ◌<◌}
+use Rattle.std.specs.Prelude.{◌≡◌, ◌<◌}
 use Rattle.laws.proofs.Prelude.{sym, ◌∙◌, arith, pos, length, get_or, to_z-of_z, w8, w16, small, kept}
 use Rattle.pixel_segment.specs.Field.{cpu, cover_of, double_area_of}
 use Rattle.pixel_segment.proofs.Ranges.{cpu_layout}
@@ -7,7 +7,7 @@ use Rattle.cover_statements.specs.InnerCell.{cell_of}
 use Rattle.cover_bounds_statements.specs.Chosen.{chosen}
 use Rattle.cover_bounds_statements.specs.Within.{bound_at}
 use Rattle.cover_bounds_statements.proofs.Choosing.{chosen_length, chosen_cell, chosen_cover, chosen_double_area}
-use Rattle.cover_bounds_statements.proofs.Loops.{Adding, add_start, area_fits, cover_fits, add_next, add_end}
+use Rattle.cover_bounds_statements.proofs.Loops.{add_start, area_fits, cover_fits, add_next, add_end}
 use Rattle.cover_bounds.proofs.area.add_bounds.Goals as goal
 use Rattle.cover_bounds.proofs.area.add_bounds.Goals.{After-double_area}
 
@@ -58,23 +58,22 @@ overflow_add-covers c =
     (small w8 _ (omega (arith, cover_fits c.requires.0.few c.loop-i.invariant.1 (here (goal.at.overflow_add-covers c).After-double_area) (cell-is (goal.at.overflow_add-covers c).After-double_area))))
 
 pub loop-i-preserved : goal.loop-i-preserved
-loop-i-preserved c =
-    (
-      omega arith,
-      add_next c.requires.0.few c.loop-i.invariant.1 (here (goal.at.loop-i-preserved c).After-double_area) (cell-is (goal.at.loop-i-preserved c).After-double_area)
-          (rw (
-            to_z-of_z (overflow_add-areas (goal.at.loop-i-preserved c).After-double_area),
-            kept w16 (get_or c.loop-i.areas c.cell-k.result (pos 0)) c.areas-1.given,
-            kept w16 c.double_area.result c.double_area.type_inv,
-            area_is (goal.at.loop-i-preserved c).After-double_area,
-          ))
-          (rw (
-            to_z-of_z (overflow_add-covers c),
-            kept w8 (get_or c.loop-i.covers c.cell-k.result (pos 0)) c.covers-1.given,
-            kept w8 c.bound_at-cover.result c.bound_at-cover.type_inv,
-            cover_is (goal.at.loop-i-preserved c).After-double_area,
-          )),
-    )
+loop-i-preserved c = (
+  omega arith,
+  add_next c.requires.0.few c.loop-i.invariant.1 (here (goal.at.loop-i-preserved c).After-double_area) (cell-is (goal.at.loop-i-preserved c).After-double_area)
+      (rw (
+        to_z-of_z (overflow_add-areas (goal.at.loop-i-preserved c).After-double_area),
+        kept w16 (get_or c.loop-i.areas c.cell-k.result (pos 0)) c.areas-1.given,
+        kept w16 c.double_area.result c.double_area.type_inv,
+        area_is (goal.at.loop-i-preserved c).After-double_area,
+      ))
+      (rw (
+        to_z-of_z (overflow_add-covers c),
+        kept w8 (get_or c.loop-i.covers c.cell-k.result (pos 0)) c.covers-1.given,
+        kept w8 c.bound_at-cover.result c.bound_at-cover.type_inv,
+        cover_is (goal.at.loop-i-preserved c).After-double_area,
+      )),
+)
 
 pub returns : goal.returns
 returns c =

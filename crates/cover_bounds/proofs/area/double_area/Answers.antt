@@ -1,6 +1,6 @@
 -- `area::double_area` meets its contract: a multiplier is at most 63 and a byte at most 128. Assumes nothing.
 use Rattle.std.specs.Prelude.{◌≤◌, ◌*ℤ◌}
-use Rattle.laws.proofs.Prelude.{◌∙◌, mul-le-mul, arith, rules, pos, nat_abs, to_z-of_z, to_z_pos, sfits_widen, w8, w16, SFits, small, within}
+use Rattle.laws.proofs.Prelude.{◌∙◌, mul-le-mul, arith, pos, nat_abs, to_z-of_z, to_z_pos, sfits_widen, w8, w16, SFits, small, within}
 use Rattle.laws.proofs.Prelude.{whole, abs_times}
 use Rattle.pixel_segment.specs.Field.{cpu, multiplier_of}
 use Rattle.cover_bounds.proofs.area.double_area.Goals as goal

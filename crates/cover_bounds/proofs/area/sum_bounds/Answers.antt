@@ -1,5 +1,5 @@
 -- `area::sum_bounds` meets its contract. Assumes nothing.
-use Rattle.laws.proofs.Prelude.{refl, rules}
+use Rattle.laws.proofs.Prelude.{refl}
 use Rattle.cover_statements.specs.InnerCell.{no_cells}
 use Rattle.cover_bounds.proofs.area.sum_bounds.Goals as goal
 

@@ -1,5 +1,5 @@
 -- `interval::greatest_even_odd` meets its contract. Assumes nothing.
-use Rattle.laws.proofs.Prelude.{sym, ap₂, ◌∙◌, max, rules, to_z-of_z}
+use Rattle.laws.proofs.Prelude.{sym, ap₂, ◌∙◌, max, to_z-of_z}
 use Rattle.cover_bounds_statements.proofs.Ends.{greatest_found, greatest_of_ends}
 use Rattle.cover_bounds.proofs.interval.greatest_even_odd.Goals as goal
 

@@ -1,5 +1,5 @@
 -- `interval::greatest_non_zero` meets its contract. Assumes nothing.
-use Rattle.laws.proofs.Prelude.{ap₂, ◌∙◌, max, rules, to_z-of_z}
+use Rattle.laws.proofs.Prelude.{ap₂, ◌∙◌, max, to_z-of_z}
 use Rattle.cover_bounds_statements.proofs.Ends.{greatest_of_both}
 use Rattle.cover_bounds.proofs.interval.greatest_non_zero.Goals as goal
 

@@ -1,5 +1,5 @@
 -- `interval::has_multiple` meets its contract. Assumes nothing.
-use Rattle.laws.proofs.Prelude.{arith, rules, to_z-of_z}
+use Rattle.laws.proofs.Prelude.{arith, to_z-of_z}
 use Rattle.cover_bounds_statements.specs.InnerEnds.{has_multiple}
 use Rattle.cover_bounds.proofs.interval.has_multiple.Goals as goal
 

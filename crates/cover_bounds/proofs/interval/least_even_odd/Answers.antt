@@ -1,5 +1,5 @@
 -- `interval::least_even_odd` meets its contract. Assumes nothing.
-use Rattle.laws.proofs.Prelude.{sym, ap₂, ◌∙◌, min, rules, to_z-of_z}
+use Rattle.laws.proofs.Prelude.{sym, ap₂, ◌∙◌, min, to_z-of_z}
 use Rattle.styling.specs.declared.FillRule.TheVariants.{EvenOdd}
 use Rattle.cover_bounds_statements.proofs.Ends.{least_found, least_of_ends}
 use Rattle.cover_bounds.proofs.interval.least_even_odd.Goals as goal

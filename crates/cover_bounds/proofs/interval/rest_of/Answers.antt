@@ -1,7 +1,7 @@
 -- `interval::rest_of` meets its contract. With 32,768, a multiple of 1,024, no number is negative, and its remainder is the machine's.
 -- Assumes nothing.
 use Rattle.std.specs.Prelude.{◌≡◌, ◌%◌, ◌+ℤ◌}
-use Rattle.laws.proofs.Prelude.{ap, ℕ, arith, rules, T, lit<, pos, nat_abs, non_neg, to_z-of_z, to_z_pos, sfits_widen, w16, w32, SFits}
+use Rattle.laws.proofs.Prelude.{ap, ℕ, arith, T, lit<, pos, nat_abs, non_neg, to_z-of_z, to_z_pos, sfits_widen, w16, w32, SFits}
 use Rattle.laws.proofs.Prelude.{Fits, to_z, sfits, within, unsigned, lifted, added}
 use Rattle.cover_bounds.proofs.interval.rest_of.Goals as goal
 use Rattle.cover_bounds.proofs.interval.rest_of.Goals.{Start}

@@ -1,12 +1,9 @@
-use Rattle.std.specs.Prelude.{◌≡◌, ◌-◌, ◌<◌}
-use Rattle.laws.proofs.Prelude.{sym, ◌∙◌, ℕ, arith, rules, ℤ, length, w8, kept}
+use Rattle.std.specs.Prelude.{◌-◌}
+use Rattle.laws.proofs.Prelude.{length}
 use Rattle.pixel_segment.specs.Field.{cpu}
-use Rattle.pixel_segment.proofs.Ranges.{cpu_layout}
-use Rattle.cover_statements.proofs.Loads.{Loading, load_start, load_next, load_end}
+use Rattle.cover_statements.proofs.Loads.{Loading}
 use Rattle.cover_bounds_statements.specs.Chosen.{chosen, heavier}
 use Rattle.cover_bounds_statements.specs.Within.{bound_at}
-use Rattle.cover_bounds_statements.proofs.Calls.{held_heavier}
-use Rattle.cover_bounds_statements.proofs.Choosing.{chosen_length, chosen_y, chosen_cover}
 use Rattle.cover_bounds.proofs.judging.add_heavier.Given as goal
 
 abbrev pub invariant-loop-i : goal.invariant-loop-i

@@ -1,8 +1,6 @@
 -- `judging::are_bounded` meets its contract. Assumes nothing.
-use Rattle.std.specs.Prelude.{◌-◌}
 use Rattle.laws.proofs.Prelude.{arith, w8, kept}
-use Rattle.cover_bounds_statements.specs.Within.{bound_at, is_bounded}
-use Rattle.cover_bounds_statements.proofs.Loops.{Passing, pass_start, pass_next, pass_end}
+use Rattle.cover_bounds_statements.proofs.Loops.{pass_start, pass_next, pass_end}
 use Rattle.cover_bounds.proofs.judging.are_bounded.Goals as goal
 
 pub loop-i-init : goal.loop-i-init

@@ -1,7 +1,6 @@
 use Rattle.std.specs.Prelude.{◌-◌}
-use Rattle.laws.proofs.Prelude.{arith, w8, kept}
 use Rattle.cover_bounds_statements.specs.Within.{bound_at, is_bounded}
-use Rattle.cover_bounds_statements.proofs.Loops.{Passing, pass_start, pass_next, pass_end}
+use Rattle.cover_bounds_statements.proofs.Loops.{Passing}
 use Rattle.cover_bounds.proofs.judging.are_bounded.Given as goal
 
 abbrev pub invariant-loop-i : goal.invariant-loop-i

@@ -1,6 +1,6 @@
 -- `judging::heavier` meets its contract. Assumes nothing.
 use Rattle.std.specs.Prelude.{◌≤◌, ◌<◌}
-use Rattle.laws.proofs.Prelude.{arith, rules, le-leb, lt-leb, nat_abs, to_z-of_z}
+use Rattle.laws.proofs.Prelude.{arith, le-leb, lt-leb, nat_abs, to_z-of_z}
 use Rattle.cover_bounds.proofs.judging.heavier.Goals as goal
 
 pub returns-then-cover_magnitude : goal.returns-then-cover_magnitude

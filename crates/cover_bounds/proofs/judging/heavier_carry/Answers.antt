@@ -1,9 +1,6 @@
 -- `judging::heavier_carry` meets its contract. Assumes nothing.
-use Rattle.std.specs.Prelude.{◌-◌}
 use Rattle.laws.proofs.Prelude.{◌∙◌, arith, rules, sfits_of, to_z-of_z, w8, kept}
-use Rattle.cover_statements.specs.Cover.{cover_at}
-use Rattle.cover_bounds_statements.specs.Chosen.{heavier}
-use Rattle.cover_bounds_statements.proofs.Loops.{Placing, place_start, place_next, place_whole}
+use Rattle.cover_bounds_statements.proofs.Loops.{place_start, place_next, place_whole}
 use Rattle.cover_bounds.proofs.judging.heavier_carry.Goals as goal
 
 pub loop-y-init : goal.loop-y-init

@@ -1,5 +1,5 @@
 -- `judging::is_bounded` meets its contract. Assumes nothing.
-use Rattle.laws.proofs.Prelude.{rules, to_z-of_z}
+use Rattle.laws.proofs.Prelude.{to_z-of_z}
 use Rattle.cover_bounds.proofs.judging.is_bounded.Goals as goal
 
 pub returns : goal.returns

@@ -1,8 +1,6 @@
 -- `judging::is_carry_bounded` meets its contract. Assumes nothing.
-use Rattle.std.specs.Prelude.{◌-◌}
-use Rattle.laws.proofs.Prelude.{arith, sfits_of, le_z, to_z-of_z, w8}
-use Rattle.cover_statements.specs.Cover.{cover_at}
-use Rattle.cover_bounds_statements.proofs.Loops.{Passing, pass_start, pass_next, pass_end}
+use Rattle.laws.proofs.Prelude.{arith, sfits_of, to_z-of_z, w8}
+use Rattle.cover_bounds_statements.proofs.Loops.{pass_start, pass_next, pass_end}
 use Rattle.cover_bounds.proofs.judging.is_carry_bounded.Goals as goal
 
 pub loop-y-init : goal.loop-y-init

@@ -1,7 +1,7 @@
 use Rattle.std.specs.Prelude.{◌-◌}
-use Rattle.laws.proofs.Prelude.{arith, sfits_of, le_z, to_z-of_z, w8}
+use Rattle.laws.proofs.Prelude.{le_z}
 use Rattle.cover_statements.specs.Cover.{cover_at}
-use Rattle.cover_bounds_statements.proofs.Loops.{Passing, pass_start, pass_next, pass_end}
+use Rattle.cover_bounds_statements.proofs.Loops.{Passing}
 use Rattle.cover_bounds.proofs.judging.is_carry_bounded.Given as goal
 
 abbrev pub invariant-loop-y : goal.invariant-loop-y

@@ -1,5 +1,5 @@
 -- `judging::is_light_within` meets its contract. Assumes nothing.
-use Rattle.laws.proofs.Prelude.{ap, ◌∙◌, List, map, ℕ, rules, nat_abs, tabulate}
+use Rattle.laws.proofs.Prelude.{ap, ◌∙◌, List, map, ℕ, nat_abs, tabulate}
 use Rattle.pixel_segment.specs.Field.{cpu}
 use Rattle.cover_statements.specs.Cover.{cover_at}
 use Rattle.cover_statements.specs.InnerLoad.{loads_of, all_light}

@@ -1,6 +1,6 @@
 -- `judging::judge_bounds` meets its contract. Assumes nothing.
 use Rattle.std.specs.Prelude.{◌≡◌}
-use Rattle.laws.proofs.Prelude.{sym, ◌∙◌, rules, not-false, to_z-of_z, all, left}
+use Rattle.laws.proofs.Prelude.{sym, ◌∙◌, to_z-of_z, all, left}
 use Rattle.segment_set_statements.specs.Set.{is_of}
 use Rattle.cover_bounds_statements.specs.Within.{bounds_call, bound_planes, lacks_room, bounds_verdict}
 use Rattle.cover_bounds_statements.proofs.Calls.{pairs_there}
@@ -34,11 +34,10 @@ returns-then-not-are_bounded-is_carry_bounded c =
     rw (← room-told (goal.at.returns-then-not-are_bounded-is_carry_bounded c).After-lacks_room, c.if-lacks_room.false, ← are-told (goal.at.returns-then-not-are_bounded-is_carry_bounded c).After-are_of, c.if-not-are_of.false, ← c.are_bounded.ensures, ← c.is_carry_bounded.ensures, c.if-not-are_bounded-is_carry_bounded.true)
 
 pub is_light_within-requires : goal.is_light_within-requires
-is_light_within-requires c =
-    (
-      pairs_there (bounds_call c.args.layer_id c.args.tile_x c.args.tile_y c.args.part.now c.args.bounds.now c.args.low.covers c.args.high.covers) (bound_planes c.args.lowest.now c.args.highest.now c.args.least_non_zero.now c.args.greatest_non_zero.now c.args.least_even_odd.now c.args.greatest_even_odd.now) (sym (room-told (goal.at.is_light_within-requires c).After-lacks_room) ∙ c.if-lacks_room.false),
-      sym c.are_bounded.ensures ∙ left _ _ (c.if-not-are_bounded-is_carry_bounded.false),
-    )
+is_light_within-requires c = (
+  pairs_there (bounds_call c.args.layer_id c.args.tile_x c.args.tile_y c.args.part.now c.args.bounds.now c.args.low.covers c.args.high.covers) (bound_planes c.args.lowest.now c.args.highest.now c.args.least_non_zero.now c.args.greatest_non_zero.now c.args.least_even_odd.now c.args.greatest_even_odd.now) (sym (room-told (goal.at.is_light_within-requires c).After-lacks_room) ∙ c.if-lacks_room.false),
+  sym c.are_bounded.ensures ∙ left _ _ (c.if-not-are_bounded-is_carry_bounded.false),
+)
 
 pub returns-then-not-is_light_within : goal.returns-then-not-is_light_within
 unfolding bounds_verdict

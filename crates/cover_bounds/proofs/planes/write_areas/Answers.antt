@@ -1,10 +1,8 @@
 -- `planes::write_areas` meets its contract. Assumes nothing.
-use Rattle.std.specs.Prelude.{◌-◌}
 use Rattle.laws.proofs.Prelude.{ap, ◌∙◌, arith, w16, kept}
 use Rattle.cover_statements.specs.Cover.{cover_at}
-use Rattle.cover_statements.specs.Plane.{column_of, row_of, in_places}
-use Rattle.cover_bounds_statements.specs.InnerPlanes.{area_in}
-use Rattle.cover_bounds_statements.proofs.Loops.{Placing, place_start, place_next, place_end}
+use Rattle.cover_statements.specs.Plane.{in_places}
+use Rattle.cover_bounds_statements.proofs.Loops.{place_start, place_next, place_end}
 use Rattle.cover_bounds.proofs.planes.write_areas.Goals as goal
 
 pub loop-place-init : goal.loop-place-init

@@ -1,12 +1,10 @@
 -- `planes::write_non_zero` meets its contract. Assumes nothing.
-use Rattle.std.specs.Prelude.{◌-◌}
 use Rattle.laws.proofs.Prelude.{ap, ◌∙◌, ℕ, arith, w16, kept}
 use Rattle.styling.specs.declared.FillRule.TheVariants.{NonZero}
 use Rattle.cover_statements.specs.Cover.{cover_at}
-use Rattle.cover_statements.specs.Plane.{column_of, row_of, in_places}
+use Rattle.cover_statements.specs.Plane.{in_places}
 use Rattle.cover_bounds_statements.specs.Interval.{least_weight, greatest_weight}
-use Rattle.cover_bounds_statements.specs.InnerPlanes.{least_in, greatest_in}
-use Rattle.cover_bounds_statements.proofs.Loops.{Placing, place_start, place_next, place_end}
+use Rattle.cover_bounds_statements.proofs.Loops.{place_start, place_next, place_end}
 use Rattle.cover_bounds.proofs.planes.write_non_zero.Goals as goal
 
 pub loop-place-init : goal.loop-place-init

@@ -1,11 +1,8 @@
 use Rattle.std.specs.Prelude.{◌-◌}
-use Rattle.laws.proofs.Prelude.{ap, ◌∙◌, ℕ, arith, w16, kept}
 use Rattle.styling.specs.declared.FillRule.TheVariants.{NonZero}
-use Rattle.cover_statements.specs.Cover.{cover_at}
-use Rattle.cover_statements.specs.Plane.{column_of, row_of, in_places}
-use Rattle.cover_bounds_statements.specs.Interval.{least_weight, greatest_weight}
+use Rattle.cover_statements.specs.Plane.{column_of, row_of}
 use Rattle.cover_bounds_statements.specs.InnerPlanes.{least_in, greatest_in}
-use Rattle.cover_bounds_statements.proofs.Loops.{Placing, place_start, place_next, place_end}
+use Rattle.cover_bounds_statements.proofs.Loops.{Placing}
 use Rattle.cover_bounds.proofs.planes.write_non_zero.Given as goal
 
 abbrev pub invariant-loop-place : goal.invariant-loop-place

@@ -1,12 +1,7 @@
-use Rattle.std.specs.Prelude.{◌≡◌, ◌+◌, ◌-◌, ◌*◌, ◌≤◌}
-use Rattle.laws.proofs.Prelude.{refl, sym, ap, false≢true, ℕ, arith, rules, pos, nat_abs, length, get_or, to_z-of_z, w8, w16}
-use Rattle.laws.proofs.Prelude.{SFits, to_z, of_z, small, kept}
+use Rattle.std.specs.Prelude.{◌-◌}
+use Rattle.laws.proofs.Prelude.{length}
 use Rattle.pixel_segment.specs.Field.{gpu, cover_of, double_area_of}
-use Rattle.pixel_segment.proofs.Widths.{cover_fits_at, in_cover_at}
-use Rattle.cover_statements.specs.Carry.{abs_cover}
-use Rattle.cover_statements.proofs.Areas.{area_weight}
-use Rattle.cover_statements.proofs.Judging.{Loaded, Summed, load_start, load_next, load_refused, load_accepted, sum_zeros, sum_fits, sum_next, sum_whole}
-use Rattle.cover_statements.proofs.Loads.{light_at_lem}
+use Rattle.cover_statements.proofs.Judging.{Loaded, Summed}
 use Rattle.cover_gpu.proofs.area.acc_segments.Given as goal
 
 abbrev pub invariant-loop-i : goal.invariant-loop-i

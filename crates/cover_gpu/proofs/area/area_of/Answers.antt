@@ -1,5 +1,5 @@
 -- `area::area_of` meets its contract. Assumes nothing.
-use Rattle.laws.proofs.Prelude.{◌∙◌, arith, rules, w16, to_z-of_z, to_z_pos}
+use Rattle.laws.proofs.Prelude.{◌∙◌, arith, w16, to_z-of_z, to_z_pos}
 use Rattle.pixel_segment.specs.Field.{gpu, multiplier_of, double_area_of}
 use Rattle.pixel_segment.proofs.Widths.{area_fits_at}
 use Rattle.cover_gpu.proofs.area.area_of.Goals as goal

@@ -1,5 +1,5 @@
 -- `cover_gpu::area::cover_of` meets its contract: both layouts have the cover in the lowest six bits. Assumes nothing.
-use Rattle.laws.proofs.Prelude.{◌∙◌, rules, w16, kept}
+use Rattle.laws.proofs.Prelude.{◌∙◌, w16, kept}
 use Rattle.pixel_segment.specs.Field.{cover_of}
 use Rattle.cover_gpu.proofs.area.cover_of.Goals as goal
 

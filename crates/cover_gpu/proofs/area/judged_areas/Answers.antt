@@ -1,6 +1,6 @@
 -- `area::judged_areas` meets its contract. Assumes nothing.
 use Rattle.std.specs.Prelude.{◌≡◌}
-use Rattle.laws.proofs.Prelude.{refl, sym, ap, ◌∙◌, true, false≢true, List, ℕ, rules, not-true, not-false, length}
+use Rattle.laws.proofs.Prelude.{refl, sym, ap, ◌∙◌, true, false≢true, List, ℕ, rules, length}
 use Rattle.pixel_segment.specs.Field.{gpu}
 use Rattle.cover_statements.specs.Carry.{is_light}
 use Rattle.cover_statements.specs.InnerCell.{no_cells}

@@ -1,12 +1,10 @@
 -- `area::shade_row` meets its contract. Assumes nothing.
-use Rattle.std.specs.Prelude.{◌≡◌, ◌+◌, ◌-◌, ◌*◌, ◌≤◌, ◌<◌, ◌+ℤ◌, ◌*ℤ◌}
-use Rattle.laws.proofs.Prelude.{refl, sym, ◌∙◌, List, ℕ, arith, ℤ, pos, to_z-of_z, w8, w16, SFits, to_z, of_z}
+use Rattle.std.specs.Prelude.{◌≡◌, ◌+◌, ◌*◌, ◌<◌, ◌+ℤ◌, ◌*ℤ◌}
+use Rattle.laws.proofs.Prelude.{refl, sym, ◌∙◌, ℕ, arith, ℤ, pos, to_z-of_z, w8, w16, SFits, to_z, of_z}
 use Rattle.laws.proofs.Prelude.{sfits, small, kept, times, whole}
 use Rattle.pixel_segment.specs.Field.{gpu, local_y_of}
-use Rattle.cover_statements.specs.Area.{cover_before}
 use Rattle.cover_statements.specs.Cover.{cover_at}
 use Rattle.cover_statements.proofs.Carries.{light}
-use Rattle.cover_statements.specs.InnerRows.{RowsDone}
 use Rattle.cover_statements.proofs.Rows.{Fitting, sum_is, row_next, row_end_step, row_fits, first_sum}
 use Rattle.cover_gpu.proofs.area.shade_row.Goals as goal
 use Rattle.cover_gpu.proofs.area.shade_row.Goals.{In-loop-x}

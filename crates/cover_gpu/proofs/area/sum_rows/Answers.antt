@@ -1,10 +1,7 @@
 -- `area::sum_rows` meets its contract. Assumes nothing.
-use Rattle.std.specs.Prelude.{◌≡◌, ◌-◌, ◌≤◌}
-use Rattle.laws.proofs.Prelude.{sym, List, ℕ, arith, w8, kept}
-use Rattle.pixel_segment.specs.Field.{gpu}
+use Rattle.std.specs.Prelude.{◌≡◌}
+use Rattle.laws.proofs.Prelude.{sym, arith, w8, kept}
 use Rattle.cover_statements.specs.Cover.{cover_at}
-use Rattle.cover_statements.specs.InnerCell.{Accumulated}
-use Rattle.cover_statements.specs.InnerRows.{RowsDone}
 use Rattle.cover_statements.proofs.Rows.{rows_start, rows_end}
 use Rattle.cover_gpu.proofs.area.sum_rows.Goals as goal
 

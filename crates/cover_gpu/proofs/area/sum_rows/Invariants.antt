@@ -1,10 +1,8 @@
-use Rattle.std.specs.Prelude.{◌≡◌, ◌-◌, ◌≤◌}
-use Rattle.laws.proofs.Prelude.{sym, List, ℕ, arith, w8, kept}
+use Rattle.std.specs.Prelude.{◌-◌, ◌≤◌}
+use Rattle.laws.proofs.Prelude.{List, ℕ}
 use Rattle.pixel_segment.specs.Field.{gpu}
-use Rattle.cover_statements.specs.Cover.{cover_at}
 use Rattle.cover_statements.specs.InnerCell.{Accumulated}
 use Rattle.cover_statements.specs.InnerRows.{RowsDone}
-use Rattle.cover_statements.proofs.Rows.{rows_start, rows_end}
 use Rattle.cover_gpu.proofs.area.sum_rows.Given as goal
 
 -- of every part with these cells

@@ -1,9 +1,7 @@
 use Rattle.std.specs.Prelude.{◌-◌}
-use Rattle.laws.proofs.Prelude.{arith, rules, pos, length, get_or, to_z-of_z, w8, small, kept}
+use Rattle.laws.proofs.Prelude.{length}
 use Rattle.pixel_segment.specs.Field.{gpu, local_y_of, cover_of}
-use Rattle.cover_statements.specs.Carry.{carry_of}
-use Rattle.cover_statements.proofs.Carries.{light}
-use Rattle.cover_statements.proofs.Tables.{Filling, fill_start, fill_next, fill_fits, fill_end}
+use Rattle.cover_statements.proofs.Tables.{Filling}
 use Rattle.cover_gpu.proofs.carry.add_segments.Given as goal
 
 abbrev pub invariant-loop-i : goal.invariant-loop-i

@@ -1,5 +1,5 @@
 -- `carry::carry` meets its contract. Assumes nothing.
-use Rattle.laws.proofs.Prelude.{sym, ◌∙◌, rules}
+use Rattle.laws.proofs.Prelude.{sym, ◌∙◌}
 use Rattle.cover_gpu.proofs.carry.carry.Goals as goal
 
 pub add_segments-sum-requires : goal.add_segments-sum-requires

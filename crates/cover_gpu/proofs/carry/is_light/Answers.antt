@@ -1,5 +1,5 @@
 -- `carry::is_light` meets its contract. Assumes nothing.
-use Rattle.laws.proofs.Prelude.{ap, ◌∙◌, List, ℕ, rules}
+use Rattle.laws.proofs.Prelude.{ap, ◌∙◌, List, ℕ}
 use Rattle.pixel_segment.specs.Field.{gpu}
 use Rattle.cover_statements.specs.InnerLoad.{loads_of, all_light}
 use Rattle.cover_statements.proofs.Loads.{loads_judge}

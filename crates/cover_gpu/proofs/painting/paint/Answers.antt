@@ -1,5 +1,4 @@
 -- `painting::paint` meets its contract: what is judged again is not refused. Assumes nothing.
-use Rattle.laws.proofs.Prelude.{rules}
 use Rattle.cover_gpu.proofs.Paintings.{gpu_plane}
 use Rattle.cover_gpu.proofs.painting.paint.Goals as goal
 

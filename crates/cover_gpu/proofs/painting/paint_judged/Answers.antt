@@ -1,10 +1,9 @@
 -- `painting::paint_judged` meets its contract. Assumes nothing.
 use Rattle.std.specs.Prelude.{◌≡◌, ◌∷◌}
-use Rattle.laws.proofs.Prelude.{refl, sym, ap, ◌∙◌, true, List, [], ℕ, arith, not-true, not-false, rules, Float, ℤ, nan, length, length-map}
+use Rattle.laws.proofs.Prelude.{refl, sym, ap, ◌∙◌, List, [], ℕ, arith, Float, ℤ, nan, length, length-map}
 use Rattle.laws.proofs.Prelude.{over}
 use Rattle.pixel_segment.specs.Field.{gpu}
 use Rattle.cover_statements.specs.Area.{areas_of}
-use Rattle.cover_statements.specs.Carry.{is_light}
 use Rattle.cover_statements.specs.InnerCell.{no_cells}
 use Rattle.cover_statements.specs.Cover.{cover_at}
 use Rattle.cover_statements.specs.Plane.{coverages_of, exchange, plane_of}

@@ -1,5 +1,4 @@
 -- `painting::paint_part` meets its contract. Assumes nothing.
-use Rattle.laws.proofs.Prelude.{rules}
 use Rattle.cover_gpu.proofs.Paintings.{gpu_short}
 use Rattle.cover_gpu.proofs.painting.paint_part.Goals as goal
 

@@ -1,8 +1,7 @@
 use Rattle.std.specs.Prelude.{◌+◌, ◌*◌, ◌-◌}
-use Rattle.laws.proofs.Prelude.{ap, ◌∙◌, List, arith, Float, nan, get_or}
-use Rattle.cover_statements.specs.InnerWeighed.{coverages_in, put_row}
-use Rattle.cover_statements.proofs.PlaneRows.{PlaneRows, rows_start, rows_room, rows_next, rows_end}
-use Rattle.weight.proofs.WeightRows.{long, row_weighed, row_coverages}
+use Rattle.laws.proofs.Prelude.{nan, get_or}
+use Rattle.cover_statements.specs.InnerWeighed.{coverages_in}
+use Rattle.cover_statements.proofs.PlaneRows.{PlaneRows}
 use Rattle.cover_gpu.proofs.painting.write_plane.Given as goal
 
 abbrev pub invariant-loop-y : goal.invariant-loop-y

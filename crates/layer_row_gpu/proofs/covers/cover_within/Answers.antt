@@ -1,6 +1,6 @@
 -- `covers::cover_within` meets its contract. Assumes nothing.
 use Rattle.std.specs.Prelude.{◌≡◌}
-use Rattle.laws.proofs.Prelude.{sym, ◌∙◌, true, false, rules, eq-eqb, ne_eqb, eqb, w8, kept}
+use Rattle.laws.proofs.Prelude.{sym, ◌∙◌, true, false, eq-eqb, ne_eqb, eqb, w8, kept}
 use Rattle.pixel_segment.specs.Field.{gpu, layer_id_of}
 use Rattle.layer_row_gpu.proofs.covers.cover_within.Goals as goal
 

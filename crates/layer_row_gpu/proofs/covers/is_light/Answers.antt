@@ -1,5 +1,5 @@
 -- `covers::is_light` meets its contract. Assumes nothing.
-use Rattle.laws.proofs.Prelude.{ap, ◌∙◌, rules}
+use Rattle.laws.proofs.Prelude.{ap, ◌∙◌}
 use Rattle.cover_statements.specs.InnerLoad.{all_light}
 use Rattle.layer_row_gpu.proofs.Within.{judge_within}
 use Rattle.layer_row_gpu.proofs.covers.is_light.Goals as goal

@@ -1,10 +1,8 @@
 use Rattle.std.specs.Prelude.{◌-◌}
-use Rattle.laws.proofs.Prelude.{◌∙◌, ℕ, arith, rules, nat_abs, length, replicate, length-replicate, w8, kept}
+use Rattle.laws.proofs.Prelude.{nat_abs, length, replicate}
 use Rattle.pixel_segment.specs.Field.{gpu, local_y_of}
-use Rattle.cover_statements.proofs.Loads.{LoadingBy, load_start, load_next, load_end_by}
-use Rattle.cover_statements.proofs.Filled.{get_d_default}
+use Rattle.cover_statements.proofs.Loads.{LoadingBy}
 use Rattle.layer_row_gpu.specs.InnerCovers.{cover_within}
-use Rattle.layer_row_gpu.proofs.Within.{loads_within}
 use Rattle.layer_row_gpu.proofs.covers.loads.Given as goal
 
 abbrev pub invariant-loop-i : goal.invariant-loop-i

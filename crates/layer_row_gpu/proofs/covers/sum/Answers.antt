@@ -1,9 +1,6 @@
 -- `covers::sum` meets its contract. Assumes nothing.
-use Rattle.std.specs.Prelude.{◌-◌}
-use Rattle.laws.proofs.Prelude.{◌∙◌, arith, rules, pos, length, get_or, replicate, length-replicate, to_z-of_z, w8, small, kept}
-use Rattle.pixel_segment.specs.Field.{gpu, local_y_of}
-use Rattle.cover_statements.proofs.Tables.{Filling, fill_start, fill_next, fill_fits, fill_end}
-use Rattle.layer_row_gpu.specs.InnerCovers.{cover_within}
+use Rattle.laws.proofs.Prelude.{◌∙◌, arith, pos, get_or, length-replicate, to_z-of_z, w8, small, kept}
+use Rattle.cover_statements.proofs.Tables.{fill_start, fill_next, fill_fits, fill_end}
 use Rattle.layer_row_gpu.proofs.Within.{covers_within, within_light}
 use Rattle.layer_row_gpu.proofs.covers.sum.Goals as goal
 

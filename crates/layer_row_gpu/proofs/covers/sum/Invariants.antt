@@ -1,9 +1,8 @@
 use Rattle.std.specs.Prelude.{◌-◌}
-use Rattle.laws.proofs.Prelude.{◌∙◌, arith, rules, pos, length, get_or, replicate, length-replicate, to_z-of_z, w8, small, kept}
+use Rattle.laws.proofs.Prelude.{pos, length, replicate}
 use Rattle.pixel_segment.specs.Field.{gpu, local_y_of}
-use Rattle.cover_statements.proofs.Tables.{Filling, fill_start, fill_next, fill_fits, fill_end}
+use Rattle.cover_statements.proofs.Tables.{Filling}
 use Rattle.layer_row_gpu.specs.InnerCovers.{cover_within}
-use Rattle.layer_row_gpu.proofs.Within.{covers_within, within_light}
 use Rattle.layer_row_gpu.proofs.covers.sum.Given as goal
 
 abbrev pub invariant-loop-i : goal.invariant-loop-i

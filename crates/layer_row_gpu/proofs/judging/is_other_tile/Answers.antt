@@ -1,5 +1,5 @@
 -- `judging::is_other_tile` meets its contract. Assumes nothing.
-use Rattle.laws.proofs.Prelude.{rules, to_z-of_z}
+use Rattle.laws.proofs.Prelude.{to_z-of_z}
 use Rattle.layer_row_gpu.proofs.judging.is_other_tile.Goals as goal
 
 pub returns : goal.returns

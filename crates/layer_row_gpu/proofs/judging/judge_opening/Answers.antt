@@ -1,6 +1,6 @@
 -- `judging::judge_opening` meets its contract: a line for each condition, the lowest first. Assumes nothing.
 use Rattle.std.specs.Prelude.{◌≡◌}
-use Rattle.laws.proofs.Prelude.{true, false, ℤ, sym, ap, ◌∙◌, List, ℕ, suc, add-one, arith, rules, not-false, w16, SFits, to_z-of_z, plus, sfits}
+use Rattle.laws.proofs.Prelude.{true, false, ℤ, sym, ap, ◌∙◌, List, ℕ, suc, add-one, arith, w16, SFits, to_z-of_z, plus, sfits}
 use Rattle.pixel_segment.specs.Field.{gpu}
 use Rattle.segment_rows.specs.Rows.{is_row, Words}
 use Rattle.cover_statements.specs.Carry.{is_light}

@@ -1,6 +1,6 @@
 -- `judging::judge_work` meets its contract. Assumes nothing.
 use Rattle.std.specs.Prelude.{◌≡◌, ◌≤◌, ◌<◌, ◌||◌}
-use Rattle.laws.proofs.Prelude.{true, false, sym, ap, ◌∙◌, ℕ, suc, add-one, arith, rules, not-false, lt-ltb, le-ltb, ℤ, pos, length, to_z-of_z, plus}
+use Rattle.laws.proofs.Prelude.{true, false, sym, ap, ◌∙◌, ℕ, suc, add-one, arith, lt-ltb, le-ltb, ℤ, pos, length, to_z-of_z, plus}
 use Rattle.pixel_segment.specs.Field.{gpu}
 use Rattle.segment_rows.specs.Rows.{is_row, Words}
 use Rattle.cover_statements.specs.Carry.{is_light}

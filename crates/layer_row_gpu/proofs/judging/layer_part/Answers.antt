@@ -1,5 +1,5 @@
 -- `judging::layer_part` meets its contract. Assumes nothing.
-use Rattle.laws.proofs.Prelude.{arith, rules, w16, to_z_pos}
+use Rattle.laws.proofs.Prelude.{arith, w16, to_z_pos}
 use Rattle.layer_row_gpu.proofs.judging.layer_part.Goals as goal
 
 pub returns : goal.returns

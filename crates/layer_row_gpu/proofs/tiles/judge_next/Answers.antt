@@ -1,6 +1,6 @@
 -- `tiles::judge_next` meets its contract. Assumes nothing.
 use Rattle.std.specs.Prelude.{◌≡◌}
-use Rattle.laws.proofs.Prelude.{ap, ◌∙◌, arith, rules, le-leb, lt-leb}
+use Rattle.laws.proofs.Prelude.{ap, ◌∙◌, arith, le-leb, lt-leb}
 use Rattle.pixel_segment.specs.Field.{gpu}
 use Rattle.cover_statements.specs.Carry.{is_light}
 use Rattle.layer_row_gpu.specs.LayerState.{layer_state_in}

@@ -1,9 +1,9 @@
 -- `tiles::work_on` meets its contract: each turn is a tile of `Going`. Assumes nothing.
-use Rattle.std.specs.Prelude.{◌≡◌, ◌-◌, ◌/◌}
+use Rattle.std.specs.Prelude.{◌≡◌, ◌/◌}
 use Rattle.laws.proofs.Prelude.{refl, sym, ap, ◌∙◌, ℕ, arith, rules, leb, length}
 use Rattle.layer_row_gpu.specs.LayerState.{layer_state_in}
 use Rattle.layer_row_gpu.specs.InnerTiles.{next_in, next_judged}
-use Rattle.layer_row_gpu.proofs.Going.{Going, start, all_worked, stops, tile_ready, next, told_so}
+use Rattle.layer_row_gpu.proofs.Going.{start, all_worked, stops, tile_ready, next, told_so}
 use Rattle.layer_row_gpu.proofs.tiles.work_on.Goals as goal
 use Rattle.layer_row_gpu.proofs.tiles.work_on.Goals.{After-judge_next}
 

@@ -1,8 +1,7 @@
 use Rattle.std.specs.Prelude.{◌≡◌, ◌-◌, ◌/◌}
-use Rattle.laws.proofs.Prelude.{refl, sym, ap, ◌∙◌, ℕ, arith, rules, leb, length}
+use Rattle.laws.proofs.Prelude.{length}
 use Rattle.layer_row_gpu.specs.LayerState.{layer_state_in}
-use Rattle.layer_row_gpu.specs.InnerTiles.{next_in, next_judged}
-use Rattle.layer_row_gpu.proofs.Going.{Going, start, all_worked, stops, tile_ready, next, told_so}
+use Rattle.layer_row_gpu.proofs.Going.{Going}
 use Rattle.layer_row_gpu.proofs.tiles.work_on.Given as goal
 
 abbrev pub invariant-loop-k : goal.invariant-loop-k

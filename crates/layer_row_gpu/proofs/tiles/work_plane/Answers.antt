@@ -1,6 +1,5 @@
 -- `tiles::work_plane` meets its contract. Assumes nothing.
-use Rattle.std.specs.Prelude.{◌≡◌}
-use Rattle.laws.proofs.Prelude.{ap, ◌∙◌, List, arith, rules, Float, over}
+use Rattle.laws.proofs.Prelude.{ap, ◌∙◌, List, arith, Float, over}
 use Rattle.pixel_segment.specs.Field.{gpu}
 use Rattle.cover_statements.specs.Cover.{cover_at}
 use Rattle.cover_statements.specs.Plane.{plane_of}

@@ -1,6 +1,6 @@
 -- `tiles::work_tiles` meets its contract. Assumes nothing.
 use Rattle.std.specs.Prelude.{◌≡◌}
-use Rattle.laws.proofs.Prelude.{refl, sym, ap, ◌∙◌, rules, to_z-of_z}
+use Rattle.laws.proofs.Prelude.{refl, sym, ap, ◌∙◌, to_z-of_z}
 use Rattle.refusals.specs.declared.Verdict.TheVariants.{Pass}
 use Rattle.refusals.specs.Refusal.{judgement_in, pass}
 use Rattle.layer_row_gpu.specs.LayerState.{layer_state_in}

@@ -1,5 +1,5 @@
 -- `mark::weights::is_above` meets its contract. Assumes nothing.
-use Rattle.laws.proofs.Prelude.{rules, to_z-of_z}
+use Rattle.laws.proofs.Prelude.{to_z-of_z}
 use Rattle.mark.proofs.Rests.{rest_above}
 use Rattle.mark.proofs.weights.is_above.Goals as goal
 

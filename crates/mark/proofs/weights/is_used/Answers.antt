@@ -1,6 +1,6 @@
 -- `mark::weights::is_used` meets its contract. Assumes nothing.
 use Rattle.std.specs.Prelude.{◌+◌, ◌*◌}
-use Rattle.laws.proofs.Prelude.{rules, w16, kept}
+use Rattle.laws.proofs.Prelude.{w16, kept}
 use Rattle.cover_statements.specs.Cover.{cover_at}
 use Rattle.mark.proofs.Rests.{areas_above}
 use Rattle.mark.proofs.weights.is_used.Goals as goal

@@ -1,9 +1,9 @@
 -- `mark::weights::mark_of` meets its contract. Assumes nothing.
 use Rattle.std.specs.Prelude.{◌-◌}
-use Rattle.laws.proofs.Prelude.{◌∙◌, arith, rules}
+use Rattle.laws.proofs.Prelude.{◌∙◌, arith}
 use Rattle.styling.specs.declared.FillRule.TheVariants.{EvenOdd}
-use Rattle.cover_statements.specs.InnerWeighed.{weights_of, coverages_in, weights_plane}
-use Rattle.cover_statements.proofs.Marks.{Marking, mark_start, mark_small, mark_next, mark_end, bit_lt, octet_used}
+use Rattle.cover_statements.specs.InnerWeighed.{weights_of, coverages_in}
+use Rattle.cover_statements.proofs.Marks.{mark_start, mark_small, mark_next, mark_end, bit_lt, octet_used}
 use Rattle.mark.proofs.weights.mark_of.Goals as goal
 
 pub loop-octet-init : goal.loop-octet-init

@@ -1,8 +1,6 @@
-use Rattle.std.specs.Prelude.{◌-◌}
-use Rattle.laws.proofs.Prelude.{◌∙◌, arith, rules}
 use Rattle.styling.specs.declared.FillRule.TheVariants.{EvenOdd}
-use Rattle.cover_statements.specs.InnerWeighed.{weights_of, coverages_in, weights_plane}
-use Rattle.cover_statements.proofs.Marks.{Marking, mark_start, mark_small, mark_next, mark_end, bit_lt, octet_used}
+use Rattle.cover_statements.specs.InnerWeighed.{weights_of, weights_plane}
+use Rattle.cover_statements.proofs.Marks.{Marking}
 use Rattle.mark.proofs.weights.mark_of.Given as goal
 
 abbrev pub invariant-loop-octet : goal.invariant-loop-octet

@@ -1,5 +1,5 @@
 -- `mark::weights::mark_of_column` meets its contract. Assumes nothing.
-use Rattle.laws.proofs.Prelude.{sym, ap, ◌∙◌, List, arith, rules, ℤ}
+use Rattle.laws.proofs.Prelude.{sym, ap, ◌∙◌, List, arith, ℤ}
 use Rattle.styling.specs.declared.FillRule.TheVariants.{EvenOdd}
 use Rattle.cover_statements.specs.Mark.{mark_of}
 use Rattle.cover_statements.specs.InnerWeighed.{weights_of, coverages_in, repeated}

@@ -1,11 +1,10 @@
 -- `plane::area::add_covers` meets its contract: it is the half of shading a column that leaves the areas alone. Assumes nothing.
-use Rattle.std.specs.Prelude.{◌≡◌, ◌+◌, ◌-◌, ◌*◌, ◌≤◌, ◌+ℤ◌, ◌*ℤ◌}
-use Rattle.laws.proofs.Prelude.{refl, List, ℕ, arith, rules, lt-ltb, ℤ, pos, replicate, set, length-replicate}
+use Rattle.std.specs.Prelude.{◌≡◌, ◌+◌, ◌*◌, ◌+ℤ◌, ◌*ℤ◌}
+use Rattle.laws.proofs.Prelude.{refl, arith, rules, lt-ltb, pos, set, length-replicate}
 use Rattle.laws.proofs.Prelude.{to_z-of_z, w8, small, kept, is_tabulate}
-use Rattle.cover_statements.specs.InnerCell.{Shaded}
 use Rattle.cover_statements.specs.Cover.{cover_at}
 use Rattle.cover_statements.proofs.Shades.{shade_start, shade_next}
-use Rattle.plane.proofs.area.add_covers.Invariants.{Raised, none}
+use Rattle.plane.proofs.area.add_covers.Invariants.{none}
 use Rattle.plane.proofs.area.add_covers.Goals as goal
 
 pub loop-y-init : goal.loop-y-init

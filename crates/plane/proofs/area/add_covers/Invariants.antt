@@ -1,9 +1,6 @@
-use Rattle.std.specs.Prelude.{◌≡◌, ◌+◌, ◌-◌, ◌*◌, ◌≤◌, ◌+ℤ◌, ◌*ℤ◌}
-use Rattle.laws.proofs.Prelude.{refl, List, ℕ, arith, rules, lt-ltb, ℤ, pos, replicate, set, length-replicate}
-use Rattle.laws.proofs.Prelude.{to_z-of_z, w8, small, kept, is_tabulate}
+use Rattle.std.specs.Prelude.{◌-◌, ◌≤◌}
+use Rattle.laws.proofs.Prelude.{List, ℕ, ℤ, pos, replicate}
 use Rattle.cover_statements.specs.InnerCell.{Shaded}
-use Rattle.cover_statements.specs.Cover.{cover_at}
-use Rattle.cover_statements.proofs.Shades.{shade_start, shade_next}
 use Rattle.plane.proofs.area.add_covers.Given as goal
 
 -- areas of no matter, shaded beside

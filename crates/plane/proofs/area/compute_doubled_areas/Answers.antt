@@ -1,11 +1,9 @@
 -- `plane::area::compute_doubled_areas` meets its contract. Assumes nothing.
-use Rattle.std.specs.Prelude.{◌≡◌, ◌+◌, ◌-◌, ◌*◌, ◌^◌, ◌≤◌, ◌<◌, ◌+ℤ◌, ◌*ℤ◌}
-use Rattle.laws.proofs.Prelude.{refl, List, ℕ, arith, rules, sfits_of, lt-ltb, ℤ, pos, set, mag}
+use Rattle.std.specs.Prelude.{◌≡◌, ◌+◌, ◌*◌, ◌^◌, ◌<◌, ◌+ℤ◌, ◌*ℤ◌}
+use Rattle.laws.proofs.Prelude.{refl, ℕ, arith, rules, sfits_of, lt-ltb, ℤ, pos, set, mag}
 use Rattle.laws.proofs.Prelude.{to_z-of_z, sfits_widen, w8, w16, SFits, sfits, within, small, kept, times, length_tabulate, get_d_tabulate}
-use Rattle.cover_statements.specs.InnerCell.{Shaded}
 use Rattle.cover_statements.specs.Cover.{cover_at}
 use Rattle.cover_statements.proofs.Shades.{shade_start, shade_area, shade_next}
-use Rattle.plane.proofs.area.compute_doubled_areas.Invariants.{Shading}
 use Rattle.plane.proofs.area.compute_doubled_areas.Goals as goal
 
 -- a row's sum at 16 bits, and 32 times it

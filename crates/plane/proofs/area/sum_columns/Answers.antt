@@ -1,10 +1,7 @@
 -- `plane::area::sum_columns` meets its contract. Assumes nothing.
-use Rattle.std.specs.Prelude.{◌-◌}
-use Rattle.laws.proofs.Prelude.{refl, List, ℕ, arith}
-use Rattle.pixel_segment.specs.Field.{cpu}
-use Rattle.cover_statements.specs.InnerCell.{Accumulated}
+use Rattle.laws.proofs.Prelude.{refl, arith}
 use Rattle.cover_statements.proofs.Carries.{light}
-use Rattle.cover_statements.proofs.Columns.{Columns, columns_start, columns_ready, columns_next, columns_end}
+use Rattle.cover_statements.proofs.Columns.{columns_start, columns_ready, columns_next, columns_end}
 use Rattle.plane.proofs.area.sum_columns.Goals as goal
 
 pub loop-column-init : goal.loop-column-init

@@ -1,9 +1,8 @@
 use Rattle.std.specs.Prelude.{◌-◌}
-use Rattle.laws.proofs.Prelude.{refl, List, ℕ, arith}
+use Rattle.laws.proofs.Prelude.{List, ℕ}
 use Rattle.pixel_segment.specs.Field.{cpu}
 use Rattle.cover_statements.specs.InnerCell.{Accumulated}
-use Rattle.cover_statements.proofs.Carries.{light}
-use Rattle.cover_statements.proofs.Columns.{Columns, columns_start, columns_ready, columns_next, columns_end}
+use Rattle.cover_statements.proofs.Columns.{Columns}
 use Rattle.plane.proofs.area.sum_columns.Given as goal
 
 -- of every part with these cells

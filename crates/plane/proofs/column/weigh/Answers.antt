@@ -1,5 +1,4 @@
 -- `plane::column::weigh` meets its contract. Assumes nothing.
-use Rattle.laws.proofs.Prelude.{rules}
 use Rattle.plane.proofs.column.weigh.Goals as goal
 
 pub returns-in-NonZero : goal.returns-in-NonZero

@@ -1,8 +1,7 @@
 -- `plane::light::add_segments` meets its contract: two tables are filled, of double areas and of covers. Assumes nothing.
-use Rattle.std.specs.Prelude.{◌≡◌, ◌-◌}
-use Rattle.laws.proofs.Prelude.{arith, rules, pos, length, get_or, to_z-of_z, w8, w16, SFits, to_z, of_z, small, kept}
+use Rattle.laws.proofs.Prelude.{arith, rules, pos, get_or, to_z-of_z, w8, w16, SFits, to_z, of_z, small, kept}
 use Rattle.pixel_segment.proofs.Widths.{cover_fits}
-use Rattle.plane.proofs.LightCells.{LightCells, cells_start, area_within, cover_within_lem, cells_next, cells_end}
+use Rattle.plane.proofs.LightCells.{cells_start, area_within, cover_within_lem, cells_next, cells_end}
 use Rattle.plane.proofs.light.add_segments.Goals as goal
 use Rattle.plane.proofs.light.add_segments.Goals.{After-cover_of-cover, After-area_of}
 

@@ -1,7 +1,6 @@
-use Rattle.std.specs.Prelude.{◌≡◌, ◌-◌}
-use Rattle.laws.proofs.Prelude.{arith, rules, pos, length, get_or, to_z-of_z, w8, w16, SFits, to_z, of_z, small, kept}
-use Rattle.pixel_segment.proofs.Widths.{cover_fits}
-use Rattle.plane.proofs.LightCells.{LightCells, cells_start, area_within, cover_within_lem, cells_next, cells_end}
+use Rattle.std.specs.Prelude.{◌-◌}
+use Rattle.laws.proofs.Prelude.{length}
+use Rattle.plane.proofs.LightCells.{LightCells}
 use Rattle.plane.proofs.light.add_segments.Given as goal
 
 abbrev pub invariant-loop-i : goal.invariant-loop-i

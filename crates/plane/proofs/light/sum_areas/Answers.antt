@@ -1,5 +1,5 @@
 -- `plane::light::sum_areas` meets its contract. Assumes nothing.
-use Rattle.laws.proofs.Prelude.{refl, rules}
+use Rattle.laws.proofs.Prelude.{refl}
 use Rattle.cover_statements.specs.InnerCell.{no_cells}
 use Rattle.plane.proofs.light.sum_areas.Goals as goal
 

@@ -1,5 +1,4 @@
 -- `plane::shade::paint` meets its contract. Assumes nothing.
-use Rattle.laws.proofs.Prelude.{rules}
 use Rattle.plane.proofs.shade.paint.Goals as goal
 
 pub paint_non_zero-requires : goal.paint_non_zero-requires

@@ -1,5 +1,4 @@
 -- `plane::shade::paint_even_odd` meets its contract. Assumes nothing.
-use Rattle.laws.proofs.Prelude.{rules}
 use Rattle.plane.proofs.shade.paint_even_odd.Goals as goal
 
 pub write_even_odd-requires : goal.write_even_odd-requires

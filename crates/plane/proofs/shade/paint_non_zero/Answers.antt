@@ -1,6 +1,6 @@
 -- `plane::shade::paint_non_zero` meets its contract. Assumes nothing.
 use Rattle.std.specs.Prelude.{◌≡◌}
-use Rattle.laws.proofs.Prelude.{ap, ◌∙◌, List, arith, rules, ℤ, length, length-map, over}
+use Rattle.laws.proofs.Prelude.{ap, ◌∙◌, List, arith, ℤ, length, length-map, over}
 use Rattle.styling.specs.declared.FillRule.TheVariants.{NonZero}
 use Rattle.cover_statements.specs.Mark.{mark_of}
 use Rattle.cover_statements.specs.InnerWeighed.{Weighed, weight_in, weights_plane}

@@ -1,5 +1,5 @@
 -- `editing::add` meets its contract. Assumes nothing.
-use Rattle.laws.proofs.Prelude.{rules, ap₂, List, ℤ, set}
+use Rattle.laws.proofs.Prelude.{ap₂, List, ℤ, set}
 use Rattle.segment_set_statements.specs.Set.{state}
 use Rattle.segment_set_statements.specs.declared.SegmentSet.{SegmentSet}
 use Rattle.segment_set.proofs.editing.add.Goals as goal

@@ -1,8 +1,7 @@
 -- `editing::begin_with` meets its contract. Assumes nothing.
-use Rattle.std.specs.Prelude.{◌-◌}
-use Rattle.laws.proofs.Prelude.{◌∙◌, arith, rules, length, to_z-of_z, w16, to_z}
-use Rattle.segment_set_statements.specs.Set.{state, beginning}
-use Rattle.segment_set_statements.proofs.Begins.{Adding, begin_passed, add_ready, add_next}
+use Rattle.laws.proofs.Prelude.{◌∙◌, arith, rules, to_z-of_z}
+use Rattle.segment_set_statements.specs.Set.{beginning}
+use Rattle.segment_set_statements.proofs.Begins.{begin_passed, add_ready, add_next}
 use Rattle.segment_set_statements.proofs.Starting.{begin_start, begin_end, start_length, slots_length, areas_long}
 use Rattle.segment_set.proofs.editing.begin_with.Goals as goal
 

@@ -1,8 +1,7 @@
 use Rattle.std.specs.Prelude.{◌-◌}
-use Rattle.laws.proofs.Prelude.{◌∙◌, arith, rules, length, to_z-of_z, w16, to_z}
+use Rattle.laws.proofs.Prelude.{length}
 use Rattle.segment_set_statements.specs.Set.{state, beginning}
-use Rattle.segment_set_statements.proofs.Begins.{Adding, begin_passed, add_ready, add_next}
-use Rattle.segment_set_statements.proofs.Starting.{begin_start, begin_end, start_length, slots_length, areas_long}
+use Rattle.segment_set_statements.proofs.Begins.{Adding}
 use Rattle.segment_set.proofs.editing.begin_with.Given as goal
 
 abbrev pub invariant-loop-i : goal.invariant-loop-i

@@ -1,7 +1,6 @@
 -- `editing::find` meets its contract. Assumes nothing.
-use Rattle.std.specs.Prelude.{◌-◌}
-use Rattle.laws.proofs.Prelude.{arith, rules}
-use Rattle.segment_set_statements.proofs.Places.{Looking, look_start, look_found, look_next, look_end}
+use Rattle.laws.proofs.Prelude.{arith}
+use Rattle.segment_set_statements.proofs.Places.{look_start, look_found, look_next, look_end}
 use Rattle.segment_set.proofs.editing.find.Goals as goal
 
 pub loop-i-init : goal.loop-i-init

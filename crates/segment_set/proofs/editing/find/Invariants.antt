@@ -1,6 +1,5 @@
 use Rattle.std.specs.Prelude.{◌-◌}
-use Rattle.laws.proofs.Prelude.{arith, rules}
-use Rattle.segment_set_statements.proofs.Places.{Looking, look_start, look_found, look_next, look_end}
+use Rattle.segment_set_statements.proofs.Places.{Looking}
 use Rattle.segment_set.proofs.editing.find.Given as goal
 
 abbrev pub invariant-loop-i : goal.invariant-loop-i

@@ -1,6 +1,6 @@
 -- `editing::remove` meets its contract. Assumes nothing.
 use Rattle.std.specs.Prelude.{◌-◌}
-use Rattle.laws.proofs.Prelude.{rules, ap₂, List, ℤ, get_or, set}
+use Rattle.laws.proofs.Prelude.{ap₂, List, ℤ, get_or, set}
 use Rattle.segment_set_statements.specs.Set.{state}
 use Rattle.segment_set_statements.specs.declared.SegmentSet.{SegmentSet}
 use Rattle.segment_set.proofs.editing.remove.Goals as goal

@@ -1,8 +1,8 @@
 -- `editing::start_areas` meets its contract. Assumes nothing.
-use Rattle.std.specs.Prelude.{◌-◌, ◌%◌}
+use Rattle.std.specs.Prelude.{◌%◌}
 use Rattle.laws.proofs.Prelude.{◌∙◌, arith, w16, w8, kept}
 use Rattle.cover_statements.specs.Cover.{cover_at}
-use Rattle.segment_set_statements.proofs.Begins.{Starting, start_areas, next_area, end_areas}
+use Rattle.segment_set_statements.proofs.Begins.{start_areas, next_area, end_areas}
 use Rattle.segment_set.proofs.editing.start_areas.Goals as goal
 
 pub loop-k-init : goal.loop-k-init

@@ -1,7 +1,5 @@
-use Rattle.std.specs.Prelude.{◌-◌, ◌%◌}
-use Rattle.laws.proofs.Prelude.{◌∙◌, arith, w16, w8, kept}
-use Rattle.cover_statements.specs.Cover.{cover_at}
-use Rattle.segment_set_statements.proofs.Begins.{Starting, start_areas, next_area, end_areas}
+use Rattle.std.specs.Prelude.{◌-◌}
+use Rattle.segment_set_statements.proofs.Begins.{Starting}
 use Rattle.segment_set.proofs.editing.start_areas.Given as goal
 
 abbrev pub invariant-loop-k : goal.invariant-loop-k

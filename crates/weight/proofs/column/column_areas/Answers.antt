@@ -1,9 +1,9 @@
 -- `weight::column::column_areas` meets its contract. Assumes nothing.
-use Rattle.std.specs.Prelude.{◌≡◌, ◌-◌, ◌^◌, ◌<◌, ◌*ℤ◌}
-use Rattle.laws.proofs.Prelude.{sym, arith, rules, sfits_of, ℤ, pos, length, mag, to_z-of_z, sfits_widen, w8, w16, SFits}
+use Rattle.std.specs.Prelude.{◌^◌, ◌<◌, ◌*ℤ◌}
+use Rattle.laws.proofs.Prelude.{arith, sfits_of, ℤ, pos, mag, to_z-of_z, sfits_widen, w8, w16, SFits}
 use Rattle.laws.proofs.Prelude.{sfits, within, kept, times}
 use Rattle.cover_statements.specs.Cover.{cover_at}
-use Rattle.cover_statements.proofs.Mapped.{Mapping, map_start, map_next, map_whole}
+use Rattle.cover_statements.proofs.Mapped.{map_start, map_next, map_whole}
 use Rattle.weight.proofs.column.column_areas.Goals as goal
 
 -- a row's cover at 16 bits, and 32 times it

@@ -1,8 +1,6 @@
-use Rattle.std.specs.Prelude.{◌≡◌, ◌-◌, ◌^◌, ◌<◌, ◌*ℤ◌}
-use Rattle.laws.proofs.Prelude.{sym, arith, rules, sfits_of, ℤ, pos, length, mag, to_z-of_z, sfits_widen, w8, w16, SFits}
-use Rattle.laws.proofs.Prelude.{sfits, within, kept, times}
-use Rattle.cover_statements.specs.Cover.{cover_at}
-use Rattle.cover_statements.proofs.Mapped.{Mapping, map_start, map_next, map_whole}
+use Rattle.std.specs.Prelude.{◌-◌, ◌*ℤ◌}
+use Rattle.laws.proofs.Prelude.{pos, length}
+use Rattle.cover_statements.proofs.Mapped.{Mapping}
 use Rattle.weight.proofs.column.column_areas.Given as goal
 
 abbrev pub invariant-loop-y : goal.invariant-loop-y

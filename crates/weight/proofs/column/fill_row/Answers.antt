@@ -1,7 +1,6 @@
 -- `weight::column::fill_row` meets its contract. Assumes nothing.
-use Rattle.std.specs.Prelude.{◌-◌}
 use Rattle.laws.proofs.Prelude.{refl, arith}
-use Rattle.cover_statements.proofs.PlaneRows.{Row, row_start, row_next, row_end_step}
+use Rattle.cover_statements.proofs.PlaneRows.{row_start, row_next, row_end_step}
 use Rattle.weight.proofs.column.fill_row.Goals as goal
 
 pub loop-x-init : goal.loop-x-init

@@ -1,6 +1,5 @@
 use Rattle.std.specs.Prelude.{◌-◌}
-use Rattle.laws.proofs.Prelude.{refl, arith}
-use Rattle.cover_statements.proofs.PlaneRows.{Row, row_start, row_next, row_end_step}
+use Rattle.cover_statements.proofs.PlaneRows.{Row}
 use Rattle.weight.proofs.column.fill_row.Given as goal
 
 abbrev pub invariant-loop-x : goal.invariant-loop-x

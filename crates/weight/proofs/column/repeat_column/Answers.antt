@@ -1,7 +1,6 @@
 -- `weight::column::repeat_column` meets its contract. Assumes nothing.
-use Rattle.std.specs.Prelude.{◌-◌}
-use Rattle.laws.proofs.Prelude.{arith, nan, length, get_or}
-use Rattle.cover_statements.proofs.PlaneRows.{PlaneRows, rows_start, rows_room, rows_next, rows_end}
+use Rattle.laws.proofs.Prelude.{arith}
+use Rattle.cover_statements.proofs.PlaneRows.{rows_start, rows_room, rows_next, rows_end}
 use Rattle.weight.proofs.column.repeat_column.Goals as goal
 
 pub loop-y-init : goal.loop-y-init

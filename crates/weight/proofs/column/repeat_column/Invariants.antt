@@ -1,6 +1,6 @@
 use Rattle.std.specs.Prelude.{◌-◌}
-use Rattle.laws.proofs.Prelude.{arith, nan, length, get_or}
-use Rattle.cover_statements.proofs.PlaneRows.{PlaneRows, rows_start, rows_room, rows_next, rows_end}
+use Rattle.laws.proofs.Prelude.{nan, length, get_or}
+use Rattle.cover_statements.proofs.PlaneRows.{PlaneRows}
 use Rattle.weight.proofs.column.repeat_column.Given as goal
 
 abbrev pub invariant-loop-y : goal.invariant-loop-y

@@ -1,6 +1,6 @@
 -- `weight::small::non_zero` meets its contract. Assumes nothing.
 use Rattle.std.specs.Prelude.{◌≡◌}
-use Rattle.laws.proofs.Prelude.{ap, ◌∙◌, min, arith, rules, ltb-true, ltb-false, pos, nat_abs, to_z-of_z, w16, kept}
+use Rattle.laws.proofs.Prelude.{ap, ◌∙◌, min, arith, ltb-true, ltb-false, pos, nat_abs, to_z-of_z, w16, kept}
 use Rattle.weight.proofs.small.non_zero.Goals as goal
 use Rattle.weight.proofs.small.non_zero.Goals.{After-magnitude-a}
 

@@ -1,7 +1,7 @@
 -- `weight::tile::row_of` meets its contract. Assumes nothing.
-use Rattle.std.specs.Prelude.{◌≡◌, ◌+◌, ◌*◌, ◌-◌, ◌≤◌, ◌<◌}
+use Rattle.std.specs.Prelude.{◌≡◌, ◌+◌, ◌*◌, ◌<◌}
 use Rattle.laws.proofs.Prelude.{refl, ◌∙◌, ℕ, arith, digits_lt, ℤ, pos, length, replicate, length-replicate, w16, kept}
-use Rattle.laws.proofs.Prelude.{filled, filled_more, length_tabulate, get_d_tabulate, tabulate}
+use Rattle.laws.proofs.Prelude.{filled_more, length_tabulate, get_d_tabulate, tabulate}
 use Rattle.cover_statements.specs.Cover.{cover_at}
 use Rattle.cover_statements.proofs.Filled.{filled_whole}
 use Rattle.weight.proofs.tile.row_of.Goals as goal

@@ -1,5 +1,4 @@
 -- `weight::tile::weigh` meets its contract. Assumes nothing.
-use Rattle.laws.proofs.Prelude.{rules}
 use Rattle.weight.proofs.tile.weigh.Goals as goal
 
 pub returns-in-NonZero : goal.returns-in-NonZero

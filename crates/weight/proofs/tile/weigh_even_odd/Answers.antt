@@ -1,10 +1,9 @@
 -- `weight::tile::weigh_even_odd` meets its contract. Assumes nothing.
-use Rattle.std.specs.Prelude.{◌≡◌, ◌-◌}
-use Rattle.laws.proofs.Prelude.{refl, ap, ◌∙◌, arith, ℤ, pos, length, get_or, to_z_pos, w16, kept, small}
+use Rattle.std.specs.Prelude.{◌≡◌}
+use Rattle.laws.proofs.Prelude.{refl, ap, ◌∙◌, arith, ℤ, pos, get_or, to_z_pos, w16, kept, small}
 use Rattle.styling.specs.declared.FillRule.TheVariants.{EvenOdd}
 use Rattle.cover_statements.specs.Weight.{even_odd_of}
-use Rattle.cover_statements.specs.InnerWeighed.{weight_in}
-use Rattle.cover_statements.proofs.Mapped.{Mapping, map_start, map_rest, map_next, map_whole}
+use Rattle.cover_statements.proofs.Mapped.{map_start, map_rest, map_next, map_whole}
 use Rattle.cover_statements.proofs.Weights.{weight_le}
 use Rattle.weight.proofs.tile.weigh_even_odd.Goals as goal
 use Rattle.weight.proofs.tile.weigh_even_odd.Goals.{After-even_odd_in}

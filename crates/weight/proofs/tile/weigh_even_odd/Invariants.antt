@@ -1,10 +1,8 @@
-use Rattle.std.specs.Prelude.{◌≡◌, ◌-◌}
-use Rattle.laws.proofs.Prelude.{refl, ap, ◌∙◌, arith, ℤ, pos, length, get_or, to_z_pos, w16, kept, small}
+use Rattle.std.specs.Prelude.{◌-◌}
+use Rattle.laws.proofs.Prelude.{length}
 use Rattle.styling.specs.declared.FillRule.TheVariants.{EvenOdd}
-use Rattle.cover_statements.specs.Weight.{even_odd_of}
 use Rattle.cover_statements.specs.InnerWeighed.{weight_in}
-use Rattle.cover_statements.proofs.Mapped.{Mapping, map_start, map_rest, map_next, map_whole}
-use Rattle.cover_statements.proofs.Weights.{weight_le}
+use Rattle.cover_statements.proofs.Mapped.{Mapping}
 use Rattle.weight.proofs.tile.weigh_even_odd.Given as goal
 
 abbrev pub invariant-loop-k : goal.invariant-loop-k

@@ -1,9 +1,7 @@
 -- `weight::tile::weigh_non_zero` meets its contract. Assumes nothing.
-use Rattle.std.specs.Prelude.{◌≡◌, ◌-◌}
-use Rattle.laws.proofs.Prelude.{refl, ◌∙◌, arith, pos, length, get_or, w16, to_z, of_z, kept}
-use Rattle.styling.specs.declared.FillRule.TheVariants.{NonZero}
-use Rattle.cover_statements.specs.InnerWeighed.{weight_in}
-use Rattle.cover_statements.proofs.Mapped.{Mapping, map_start, map_rest, map_next, map_whole}
+use Rattle.std.specs.Prelude.{◌≡◌}
+use Rattle.laws.proofs.Prelude.{refl, ◌∙◌, arith, pos, get_or, w16, to_z, of_z, kept}
+use Rattle.cover_statements.proofs.Mapped.{map_start, map_rest, map_next, map_whole}
 use Rattle.weight.proofs.tile.weigh_non_zero.Goals as goal
 use Rattle.weight.proofs.tile.weigh_non_zero.Goals.{After-non_zero-arg-1}
 

@@ -1,8 +1,8 @@
-use Rattle.std.specs.Prelude.{◌≡◌, ◌-◌}
-use Rattle.laws.proofs.Prelude.{refl, ◌∙◌, arith, pos, length, get_or, w16, to_z, of_z, kept}
+use Rattle.std.specs.Prelude.{◌-◌}
+use Rattle.laws.proofs.Prelude.{length}
 use Rattle.styling.specs.declared.FillRule.TheVariants.{NonZero}
 use Rattle.cover_statements.specs.InnerWeighed.{weight_in}
-use Rattle.cover_statements.proofs.Mapped.{Mapping, map_start, map_rest, map_next, map_whole}
+use Rattle.cover_statements.proofs.Mapped.{Mapping}
 use Rattle.weight.proofs.tile.weigh_non_zero.Given as goal
 
 abbrev pub invariant-loop-k : goal.invariant-loop-k

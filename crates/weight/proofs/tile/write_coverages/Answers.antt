@@ -1,8 +1,6 @@
 -- `weight::tile::write_coverages` meets its contract. Assumes nothing.
-use Rattle.std.specs.Prelude.{◌-◌}
-use Rattle.laws.proofs.Prelude.{arith, pos, length, get_or, w16, kept, unsigned, whole}
-use Rattle.cover_statements.specs.InnerWeighed.{coverage_in}
-use Rattle.cover_statements.proofs.Mapped.{Mapping, map_start, map_next, map_end}
+use Rattle.laws.proofs.Prelude.{arith, pos, get_or, w16, kept, unsigned, whole}
+use Rattle.cover_statements.proofs.Mapped.{map_start, map_next, map_end}
 use Rattle.weight.proofs.tile.write_coverages.Goals as goal
 
 pub loop-k-init : goal.loop-k-init

@@ -1,7 +1,7 @@
 use Rattle.std.specs.Prelude.{◌-◌}
-use Rattle.laws.proofs.Prelude.{arith, pos, length, get_or, w16, kept, unsigned, whole}
+use Rattle.laws.proofs.Prelude.{length}
 use Rattle.cover_statements.specs.InnerWeighed.{coverage_in}
-use Rattle.cover_statements.proofs.Mapped.{Mapping, map_start, map_next, map_end}
+use Rattle.cover_statements.proofs.Mapped.{Mapping}
 use Rattle.weight.proofs.tile.write_coverages.Given as goal
 
 abbrev pub invariant-loop-k : goal.invariant-loop-k

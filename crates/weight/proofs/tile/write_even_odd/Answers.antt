@@ -1,9 +1,6 @@
 -- `weight::tile::write_even_odd` meets its contract. Assumes nothing.
-use Rattle.std.specs.Prelude.{◌+◌, ◌*◌, ◌-◌}
-use Rattle.laws.proofs.Prelude.{arith, nan, get_or}
-use Rattle.styling.specs.declared.FillRule.TheVariants.{EvenOdd}
-use Rattle.cover_statements.specs.InnerWeighed.{weights_of, coverages_in}
-use Rattle.cover_statements.proofs.PlaneRows.{PlaneRows, rows_start, rows_room, rows_next, rows_end}
+use Rattle.laws.proofs.Prelude.{arith}
+use Rattle.cover_statements.proofs.PlaneRows.{rows_start, rows_room, rows_next, rows_end}
 use Rattle.weight.proofs.tile.write_even_odd.Goals as goal
 
 pub loop-y-init : goal.loop-y-init

@@ -1,8 +1,8 @@
 use Rattle.std.specs.Prelude.{◌+◌, ◌*◌, ◌-◌}
-use Rattle.laws.proofs.Prelude.{arith, nan, get_or}
+use Rattle.laws.proofs.Prelude.{nan, get_or}
 use Rattle.styling.specs.declared.FillRule.TheVariants.{EvenOdd}
 use Rattle.cover_statements.specs.InnerWeighed.{weights_of, coverages_in}
-use Rattle.cover_statements.proofs.PlaneRows.{PlaneRows, rows_start, rows_room, rows_next, rows_end}
+use Rattle.cover_statements.proofs.PlaneRows.{PlaneRows}
 use Rattle.weight.proofs.tile.write_even_odd.Given as goal
 
 abbrev pub invariant-loop-y : goal.invariant-loop-y

@@ -1,11 +1,11 @@
 -- `weight::tile::write_even_odd_row` meets its contract. Assumes nothing.
-use Rattle.std.specs.Prelude.{◌≡◌, ◌+◌, ◌*◌, ◌-◌}
-use Rattle.laws.proofs.Prelude.{refl, sym, ap, ◌∙◌, arith, nan, ℤ, pos, length, get_or, length-map, w16, kept}
+use Rattle.std.specs.Prelude.{◌≡◌, ◌+◌, ◌*◌}
+use Rattle.laws.proofs.Prelude.{refl, sym, ap, ◌∙◌, arith, nan, ℤ, pos, get_or, length-map, w16, kept}
 use Rattle.styling.specs.declared.FillRule.TheVariants.{EvenOdd}
 use Rattle.cover_statements.specs.Coverage.{coverage_of}
 use Rattle.cover_statements.specs.Weight.{even_odd_of}
-use Rattle.cover_statements.specs.InnerWeighed.{weight_in, weights_of, coverage_in, coverages_in}
-use Rattle.cover_statements.proofs.PlaneRows.{Row, row_start, row_next, row_end_step}
+use Rattle.cover_statements.specs.InnerWeighed.{weight_in, weights_of, coverage_in}
+use Rattle.cover_statements.proofs.PlaneRows.{row_start, row_next, row_end_step}
 use Rattle.cover_statements.proofs.Weighings.{map_lt}
 use Rattle.cover_statements.proofs.Weights.{weight_le}
 use Rattle.weight.proofs.tile.write_even_odd_row.Goals as goal

@@ -1,12 +1,8 @@
-use Rattle.std.specs.Prelude.{◌≡◌, ◌+◌, ◌*◌, ◌-◌}
-use Rattle.laws.proofs.Prelude.{refl, sym, ap, ◌∙◌, arith, nan, ℤ, pos, length, get_or, length-map, w16, kept}
+use Rattle.std.specs.Prelude.{◌+◌, ◌*◌, ◌-◌}
+use Rattle.laws.proofs.Prelude.{nan, get_or}
 use Rattle.styling.specs.declared.FillRule.TheVariants.{EvenOdd}
-use Rattle.cover_statements.specs.Coverage.{coverage_of}
-use Rattle.cover_statements.specs.Weight.{even_odd_of}
-use Rattle.cover_statements.specs.InnerWeighed.{weight_in, weights_of, coverage_in, coverages_in}
-use Rattle.cover_statements.proofs.PlaneRows.{Row, row_start, row_next, row_end_step}
-use Rattle.cover_statements.proofs.Weighings.{map_lt}
-use Rattle.cover_statements.proofs.Weights.{weight_le}
+use Rattle.cover_statements.specs.InnerWeighed.{weights_of, coverages_in}
+use Rattle.cover_statements.proofs.PlaneRows.{Row}
 use Rattle.weight.proofs.tile.write_even_odd_row.Given as goal
 
 abbrev pub invariant-loop-x : goal.invariant-loop-x

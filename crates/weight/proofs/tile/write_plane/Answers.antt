@@ -1,8 +1,7 @@
 -- `weight::tile::write_plane` meets its contract. Assumes nothing.
-use Rattle.std.specs.Prelude.{◌+◌, ◌*◌, ◌-◌}
-use Rattle.laws.proofs.Prelude.{ap, ◌∙◌, List, arith, Float, nan, get_or}
-use Rattle.cover_statements.specs.InnerWeighed.{coverages_in, put_row}
-use Rattle.cover_statements.proofs.PlaneRows.{PlaneRows, rows_start, rows_room, rows_next, rows_end}
+use Rattle.laws.proofs.Prelude.{ap, ◌∙◌, List, arith, Float}
+use Rattle.cover_statements.specs.InnerWeighed.{put_row}
+use Rattle.cover_statements.proofs.PlaneRows.{rows_start, rows_room, rows_next, rows_end}
 use Rattle.weight.proofs.WeightRows.{long, row_weighed, row_coverages}
 use Rattle.weight.proofs.tile.write_plane.Goals as goal
 

@@ -1,8 +1,7 @@
 -- `weight::tile::write_row` meets its contract. Assumes nothing.
-use Rattle.std.specs.Prelude.{◌-◌}
 use Rattle.laws.proofs.Prelude.{refl, sym, ap, ◌∙◌, List, arith, Float, nan, pos, get_or, length-map, w16, kept, unsigned, whole, is_tabulate}
 use Rattle.cover_statements.specs.InnerWeighed.{coverage_in, coverages_in, put_row}
-use Rattle.cover_statements.proofs.PlaneRows.{Row, row_start, row_next, row_end_step}
+use Rattle.cover_statements.proofs.PlaneRows.{row_start, row_next, row_end_step}
 use Rattle.cover_statements.proofs.Weighings.{map_lt}
 use Rattle.weight.proofs.tile.write_row.Goals as goal
 
