@@ -150,7 +150,7 @@ module _ (o : OpenRow) where
   pub lines_are : {k n : ℕ} (clip : Option ℕ) {es : List Event} {ls : RowLines} → o.from + n + k ≤ o.to → LineCalls o k n es ls → AllRight o (tiles_past n clip) es → ls ≡ lines_from o k n
   unfolding lines_from
   lines_are clip inside LineCalls.none all = refl
-  lines_are {n = n} clip inside (LineCalls.Turned-down w a) all = rw (refused_told (omega (arith, inside)) w all.0 a)
+  lines_are {n = n} clip inside (LineCalls.turned_down w a) all = rw (refused_told (omega (arith, inside)) w all.0 a)
   lines_are {k} {n} clip inside (LineCalls.next {k = m} {r = r} {back = back} {t = t} {ps = ps} {es = es} {octets = octets} {rest = rest} w a paintings calls) all =
       let here : o.from + n < o.to = omega (arith, inside) in
       let told = work_told here w all.0 a in

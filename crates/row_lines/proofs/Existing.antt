@@ -164,7 +164,7 @@ module _ (o : OpenRow) (is_open : IsOpen o) where
             lines = record { lines = []; end = refuse m };
             after = held_after r.answer (state_in r.state) h c.queue back;
             runs = Run.next (Step.work {c = c} as_held g) Run.none;
-            calls = LineCalls.Turned-down (works n h) (due.answer ∙ refused_answer m p c (verdict_is o here (works n h) right ∙ e));
+            calls = LineCalls.turned_down (works n h) (due.answer ∙ refused_answer m p c (verdict_is o here (works n h) right ∙ e));
           }
       by go pass e =
           let a = due.answer ∙ accepted_answer p c (verdict_is o here (works n h) right ∙ e) in

@@ -1,5 +1,4 @@
 -- `cached::put_kept` meets its contract. Assumes nothing.
-use Rattle.laws.proofs.Prelude.{rules}
 use Rattle.ffi_numbers.proofs.cached.put_kept.Goals as goal
 
 pub returns-then-kept : goal.returns-then-kept

@@ -1,5 +1,5 @@
 -- `rows::to_state` meets its contract. Assumes nothing.
-use Rattle.laws.proofs.Prelude.{refl, rules}
+use Rattle.laws.proofs.Prelude.{refl}
 use Rattle.ffi_numbers.proofs.rows.to_state.Goals as goal
 
 pub returns : goal.returns
