@@ -15,7 +15,7 @@ loop-column-preserved c =
     let h = c.loop-column.invariant.0.from in (
       spread_next c.loop-column.invariant.0 (omega arith)
           (kept w16 c.add_area.result c.add_area.type_inv
-          ∙ rw (kept w16 (cover_at c.loop-column.areas (c.loop-column.column * 16 + c.args.y)) c.add_area-arg-1.given, c.loop-column.invariant.1) at c.add_area.ensures),
+          ∙ rw (kept w16 (cover_at c.loop-column.areas (c.loop-column.column * 16 + c.args.y)) (omega arith), c.loop-column.invariant.1) at c.add_area.ensures),
       rw (ne_eqb x (c.loop-column.column + 1) (λ e. omega arith)),
     )
 

@@ -42,7 +42,7 @@ returns-then-load-gt127 c =
 
 pub overflow_add-covers : goal.overflow_add-covers
 overflow_add-covers c =
-    rw (kept w8 (get_or c.loop-i.covers c.local_y-y.result (pos 0)) c.covers-in-loop-i-1.given, kept w8 c.cover-own.result c.cover-own.type_inv, c.cover-own.ensures)
+    rw (kept w8 (get_or c.loop-i.covers c.local_y-y.result (pos 0)) (omega arith), kept w8 c.cover-own.result c.cover-own.type_inv, c.cover-own.ensures)
     (small w8 _ (omega (arith, c.if-load-gt127.false, rows_fit c.loop-i.invariant.1 c.loop-i-test.true (omega arith) c.local_y-y.ensures (load (goal.at.overflow_add-covers c).After-cover_magnitude))))
 
 pub loop-i-preserved : goal.loop-i-preserved
@@ -51,7 +51,7 @@ loop-i-preserved c = (
   rows_next c.loop-i.invariant.1 c.loop-i-test.true (omega arith) c.loop-i.invariant.0.long c.local_y-y.ensures (load (goal.at.loop-i-preserved c).After-cover_magnitude)
       (rw (
         to_z-of_z (overflow_add-covers c),
-        kept w8 (get_or c.loop-i.covers c.local_y-y.result (pos 0)) c.covers-in-loop-i-1.given,
+        kept w8 (get_or c.loop-i.covers c.local_y-y.result (pos 0)) (omega arith),
         kept w8 c.cover-own.result c.cover-own.type_inv,
         c.cover-own.ensures,
       )),

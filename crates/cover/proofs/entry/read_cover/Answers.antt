@@ -9,7 +9,7 @@ loop-y-init c = read_start refl c.requires
 
 pub loop-y-preserved : goal.loop-y-preserved
 loop-y-preserved c =
-    read_next c.loop-y.invariant (omega arith) (kept w8 (get_or c.args.covers.now (c.args.place * 16 + c.loop-y.y) (pos 0)) c.entry-1.given)
+    read_next c.loop-y.invariant (omega arith) (kept w8 (get_or c.args.covers.now (c.args.place * 16 + c.loop-y.y) (pos 0)) (omega arith))
 
 pub returns : goal.returns
 returns c = read_end c.loop-y.invariant (omega arith)

@@ -8,7 +8,7 @@ loop-y-init c = write_start refl c.requires (search rules)
 
 pub loop-y-preserved : goal.loop-y-preserved
 loop-y-preserved c =
-    write_next c.loop-y.invariant (omega arith) refl (kept w8 (get_or c.args.cover.covers c.loop-y.y (pos 0)) c.covers-1.given)
+    write_next c.loop-y.invariant (omega arith) refl (kept w8 (get_or c.args.cover.covers c.loop-y.y (pos 0)) (omega arith))
 
 pub shape_of-covers : goal.shape_of-covers
 shape_of-covers c = c.loop-y.invariant.long

@@ -1,7 +1,7 @@
 -- `cover::rows::are_empty` meets its contract. Assumes nothing.
 use Rattle.std.specs.Prelude.{◌≡◌, ◌&&◌, ◌+◌}
-use Rattle.laws.proofs.Prelude.{refl, sym, ap, ◌∙◌, Bool, true, false, cond, ℕ, arith, sfits_of, ne_eqb, eqb, pos}
-use Rattle.laws.proofs.Prelude.{to_z-of_z, w8}
+use Rattle.laws.proofs.Prelude.{refl, sym, ap, ◌∙◌, Bool, true, false, cond, ℕ, arith, ne_eqb, eqb, pos}
+use Rattle.laws.proofs.Prelude.{w8, kept, get_or}
 use Rattle.cover_statements.specs.Cover.{is_empty}
 use Rattle.cover_statements.proofs.Areas.{and-false}
 use Rattle.cover_statements.proofs.Testing.{test_start, test_next, test_end, and-true}
@@ -21,7 +21,7 @@ overflow_add-filled c = omega (arith, c.filled_at-filled.ensures.1, c.loop-y.inv
 pub loop-y-preserved : goal.loop-y-preserved
 loop-y-preserved c =
     let s = c.loop-y in
-    let t = rw (to_z-of_z (sfits_of {w = w8} c.filled_at-arg-1.given)) at c.filled_at-filled.ensures.0 in (
+    let t = rw (kept w8 (get_or c.args.covers.now c.loop-y.y (pos 0)) (omega arith)) at c.filled_at-filled.ensures.0 in (
       omega (arith, c.filled_at-filled.ensures.1, s.invariant.0),
       let next = test_next (pos 0) s.invariant.1 (omega arith) refl in
           let e = ap (λ (k : ℕ). eqb (s.filled + k) 0) t ∙ none_more s.filled _ in

@@ -1,5 +1,5 @@
 -- `cover::rows::are_full` meets its contract. Assumes nothing.
-use Rattle.laws.proofs.Prelude.{refl, arith, sfits_of, pos, to_z-of_z, w8}
+use Rattle.laws.proofs.Prelude.{refl, arith, pos, w8, kept, get_or}
 use Rattle.cover_statements.specs.Cover.{is_full}
 use Rattle.cover_statements.proofs.Testing.{test_start, test_next, test_end}
 use Rattle.cover.proofs.rows.are_full.Goals as goal
@@ -10,7 +10,7 @@ loop-y-init c = test_start refl
 pub loop-y-preserved : goal.loop-y-preserved
 loop-y-preserved c =
     test_next (pos 0) c.loop-y.invariant (omega arith)
-    (rw (to_z-of_z (sfits_of {w = w8} c.is_row_full-arg-1.given)) at c.is_row_full-ok.ensures)
+    (rw (kept w8 (get_or c.args.covers.now c.loop-y.y (pos 0)) (omega arith)) at c.is_row_full-ok.ensures)
 
 pub returns : goal.returns
 unfolding is_full

@@ -1,5 +1,5 @@
 -- `cover::rows::magnitudes` meets its contract. Assumes nothing.
-use Rattle.laws.proofs.Prelude.{refl, sym, ap, ◌∙◌, arith, sfits_of, length, length-replicate, to_z-of_z, w8}
+use Rattle.laws.proofs.Prelude.{refl, sym, ap, ◌∙◌, arith, length, length-replicate, w8, kept, get_or, pos}
 use Rattle.cover_statements.proofs.Loads.{measure_start, measure_next, measure_end}
 use Rattle.cover.proofs.rows.magnitudes.Goals as goal
 
@@ -9,7 +9,7 @@ loop-y-init c = rw c.requires (measure_start refl)
 pub loop-y-preserved : goal.loop-y-preserved
 loop-y-preserved c =
     measure_next c.loop-y.invariant (omega arith)
-    (rw (to_z-of_z (sfits_of {w = w8} c.cover_magnitude-arg-1.given)) at c.cover_magnitude.ensures.0)
+    (rw (kept w8 (get_or c.args.covers.now c.loop-y.y (pos 0)) (omega arith)) at c.cover_magnitude.ensures.0)
     c.cover_magnitude.ensures.1
 
 pub returns : goal.returns

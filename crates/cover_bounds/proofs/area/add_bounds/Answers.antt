@@ -42,7 +42,7 @@ bound_at-cover-requires c = omega (arith, c.requires.0.side_is, c.requires.0.pai
 pub overflow_add-areas : goal.overflow_add-areas
 overflow_add-areas c =
     rw (
-      kept w16 (get_or c.loop-i.areas c.cell-k.result (pos 0)) c.areas-1.given,
+      kept w16 (get_or c.loop-i.areas c.cell-k.result (pos 0)) (omega arith),
       kept w16 c.double_area.result c.double_area.type_inv,
       area_is c,
     )
@@ -51,7 +51,7 @@ overflow_add-areas c =
 pub overflow_add-covers : goal.overflow_add-covers
 overflow_add-covers c =
     rw (
-      kept w8 (get_or c.loop-i.covers c.cell-k.result (pos 0)) c.covers-1.given,
+      kept w8 (get_or c.loop-i.covers c.cell-k.result (pos 0)) (omega arith),
       kept w8 c.bound_at-cover.result c.bound_at-cover.type_inv,
       cover_is (goal.at.overflow_add-covers c).After-double_area,
     )
@@ -63,13 +63,13 @@ loop-i-preserved c = (
   add_next c.requires.0.few c.loop-i.invariant.1 (here (goal.at.loop-i-preserved c).After-double_area) (cell-is (goal.at.loop-i-preserved c).After-double_area)
       (rw (
         to_z-of_z (overflow_add-areas (goal.at.loop-i-preserved c).After-double_area),
-        kept w16 (get_or c.loop-i.areas c.cell-k.result (pos 0)) c.areas-1.given,
+        kept w16 (get_or c.loop-i.areas c.cell-k.result (pos 0)) (omega arith),
         kept w16 c.double_area.result c.double_area.type_inv,
         area_is (goal.at.loop-i-preserved c).After-double_area,
       ))
       (rw (
         to_z-of_z (overflow_add-covers c),
-        kept w8 (get_or c.loop-i.covers c.cell-k.result (pos 0)) c.covers-1.given,
+        kept w8 (get_or c.loop-i.covers c.cell-k.result (pos 0)) (omega arith),
         kept w8 c.bound_at-cover.result c.bound_at-cover.type_inv,
         cover_is (goal.at.loop-i-preserved c).After-double_area,
       )),

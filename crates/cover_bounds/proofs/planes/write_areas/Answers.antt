@@ -12,7 +12,7 @@ pub loop-place-preserved : goal.loop-place-preserved
 loop-place-preserved c =
     let areas = c.args.areas.now in
     place_next c.loop-place.invariant (omega arith)
-    (kept w16 (cover_at areas c.cell.result) c.plane-1.given ∙ ap (cover_at areas) c.cell.ensures)
+    (kept w16 (cover_at areas c.cell.result) (omega arith) ∙ ap (cover_at areas) c.cell.ensures)
 
 pub shape_of-plane : goal.shape_of-plane
 shape_of-plane c = c.loop-place.invariant.long

@@ -16,7 +16,7 @@ least_non_zero-requires c =
     let lows = c.args.lows.now in
     let highs = c.args.highs.now in
     let z = c.cell-k.result in
-    rw (kept w16 (cover_at lows z) c.least_non_zero-arg-1.given, kept w16 (cover_at highs z) c.least_non_zero-arg-in-loop-place-1.given)
+    rw (kept w16 (cover_at lows z) (omega arith), kept w16 (cover_at highs z) (omega arith))
     (c.requires.0.at z (omega arith))
 
 pub greatest_non_zero-requires : goal.greatest_non_zero-requires
@@ -24,7 +24,7 @@ greatest_non_zero-requires c =
     let lows = c.args.lows.now in
     let highs = c.args.highs.now in
     let z = c.cell-k.result in
-    rw (kept w16 (cover_at lows z) c.greatest_non_zero-arg-1.given, kept w16 (cover_at highs z) c.greatest_non_zero-arg-in-loop-place-1.given)
+    rw (kept w16 (cover_at lows z) (omega arith), kept w16 (cover_at highs z) (omega arith))
     (c.requires.0.at z (omega arith))
 
 pub loop-place-preserved : goal.loop-place-preserved
@@ -33,10 +33,10 @@ loop-place-preserved c =
     let highs = c.args.highs.now in
     let z = c.cell-k.result in (
       place_next c.loop-place.invariant.0 (omega arith)
-          (rw (kept w16 (cover_at lows z) c.least_non_zero-arg-1.given, kept w16 (cover_at highs z) c.least_non_zero-arg-in-loop-place-1.given) at c.least_non_zero.ensures
+          (rw (kept w16 (cover_at lows z) (omega arith), kept w16 (cover_at highs z) (omega arith)) at c.least_non_zero.ensures
           ∙ ap (λ (v : ℕ). least_weight NonZero (cover_at lows v) (cover_at highs v)) c.cell-k.ensures),
       place_next c.loop-place.invariant.1 (omega arith)
-          (rw (kept w16 (cover_at lows z) c.greatest_non_zero-arg-1.given, kept w16 (cover_at highs z) c.greatest_non_zero-arg-in-loop-place-1.given) at c.greatest_non_zero.ensures
+          (rw (kept w16 (cover_at lows z) (omega arith), kept w16 (cover_at highs z) (omega arith)) at c.greatest_non_zero.ensures
           ∙ ap (λ (v : ℕ). greatest_weight NonZero (cover_at lows v) (cover_at highs v)) c.cell-k.ensures),
     )
 

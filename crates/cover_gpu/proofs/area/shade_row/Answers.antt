@@ -53,7 +53,7 @@ bounds-covers-k c = omega (arith, c.requires.low)
 pub overflow_add-next : goal.overflow_add-next
 overflow_add-next c =
     let l = (goal.at.overflow_add-next c).In-loop-x in
-    rw (kept w8 (cell-of l) c.next-1.given) (next_in l)
+    rw (kept w8 (cell-of l) (omega arith)) (next_in l)
 
 pub overflow_cast-areas : goal.overflow_cast-areas
 overflow_cast-areas c = wide (goal.at.overflow_cast-areas c).In-loop-x
@@ -72,7 +72,7 @@ bounds-areas-k c = omega (arith, c.requires.low)
 pub overflow_add-areas : goal.overflow_add-areas
 overflow_add-areas c =
     let l = (goal.at.overflow_add-areas c).In-loop-x in
-    rw (to_z-of_z (wide l), to_z-of_z (scaled l), kept w16 (own_of l) c.areas-1.given) (small w16 _ (omega (arith, (fitting l).d_fits)))
+    rw (to_z-of_z (wide l), to_z-of_z (scaled l), kept w16 (own_of l) (omega arith)) (small w16 _ (omega (arith, (fitting l).d_fits)))
 
 pub offset_bounds-areas-k-in-loop-x : goal.offset_bounds-areas-k-in-loop-x
 offset_bounds-areas-k-in-loop-x c = omega (arith, c.requires.low)
@@ -87,8 +87,8 @@ loop-x-preserved c =
       λ cs part e d.
           let q = c.loop-x.invariant.1 cs part e d in (
             row_next low c.args.y c.loop-x.x q.0 c.requires.low c.loop-x-test.true e q.1 refl
-                (rw (to_z-of_z (overflow_add-areas c), to_z-of_z (wide l), to_z-of_z (scaled l), kept w16 (own_of l) c.areas-1.given) refl),
-            rw (kept w8 (cell-of l) c.next-1.given, to_z-of_z (next_in l)) (sum_is low c.args.y c.loop-x.x q.0 c.requires.low c.loop-x-test.true e q.1),
+                (rw (to_z-of_z (overflow_add-areas c), to_z-of_z (wide l), to_z-of_z (scaled l), kept w16 (own_of l) (omega arith)) refl),
+            rw (kept w8 (cell-of l) (omega arith), to_z-of_z (next_in l)) (sum_is low c.args.y c.loop-x.x q.0 c.requires.low c.loop-x-test.true e q.1),
           ),
     )
 

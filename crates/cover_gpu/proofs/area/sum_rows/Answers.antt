@@ -14,7 +14,7 @@ shade_row-requires c =
       low = c.loop-y-test.true;
       part = c.requires.part;
       covers = c.args.incoming;
-      cover_is = sym (kept w8 (cover_at c.args.incoming c.loop-y.y) c.shade_row-arg-in-loop-y-1.given);
+      cover_is = sym (kept w8 (cover_at c.args.incoming c.loop-y.y) (omega arith));
       light = c.requires.light;
       done = c.loop-y.invariant.1 c.requires.part c.requires.cells;
     }
@@ -22,7 +22,7 @@ shade_row-requires c =
 pub loop-y-preserved : goal.loop-y-preserved
 loop-y-preserved c = (
   omega arith,
-  λ part a. c.shade_row.ensures.done c.args.incoming part (sym (kept w8 (cover_at c.args.incoming c.loop-y.y) c.shade_row-arg-in-loop-y-1.given)) (c.loop-y.invariant.1 part a),
+  λ part a. c.shade_row.ensures.done c.args.incoming part (sym (kept w8 (cover_at c.args.incoming c.loop-y.y) (omega arith))) (c.loop-y.invariant.1 part a),
 )
 
 pub returns : goal.returns

@@ -10,13 +10,13 @@ loop-i-init c = fill_start (search rules) (light c.requires).at
 
 pub overflow_add-covers : goal.overflow_add-covers
 overflow_add-covers c =
-    rw (kept w8 (get_or c.loop-i.covers c.local_y-y.result (pos 0)) c.covers-in-loop-i-1.given, kept w8 c.cover.result c.cover.type_inv, c.cover.ensures)
+    rw (kept w8 (get_or c.loop-i.covers c.local_y-y.result (pos 0)) (omega arith), kept w8 c.cover.result c.cover.type_inv, c.cover.ensures)
     (small w8 _ (omega (arith, fill_fits c.loop-i.invariant (omega arith) (omega arith) c.local_y-y.ensures)))
 
 pub loop-i-preserved : goal.loop-i-preserved
 loop-i-preserved c =
     fill_next c.loop-i.invariant (omega arith) (omega arith) c.local_y-y.ensures
-    (rw (to_z-of_z (overflow_add-covers c), kept w8 (get_or c.loop-i.covers c.local_y-y.result (pos 0)) c.covers-in-loop-i-1.given, kept w8 c.cover.result c.cover.type_inv, c.cover.ensures))
+    (rw (to_z-of_z (overflow_add-covers c), kept w8 (get_or c.loop-i.covers c.local_y-y.result (pos 0)) (omega arith), kept w8 c.cover.result c.cover.type_inv, c.cover.ensures))
 
 pub returns : goal.returns
 unfolding carry_of

@@ -9,13 +9,13 @@ loop-i-init c = fill_start (length-replicate 4 (pos 0)) (within_light c.args.lay
 
 pub overflow_add-covers : goal.overflow_add-covers
 overflow_add-covers c =
-    rw (kept w8 (get_or c.loop-i.covers c.local_y-y.result (pos 0)) c.covers-1.given, kept w8 c.cover_within.result c.cover_within.type_inv, c.cover_within.ensures)
+    rw (kept w8 (get_or c.loop-i.covers c.local_y-y.result (pos 0)) (omega arith), kept w8 c.cover_within.result c.cover_within.type_inv, c.cover_within.ensures)
     (small w8 _ (omega (arith, fill_fits c.loop-i.invariant (omega arith) (omega arith) c.local_y-y.ensures)))
 
 pub loop-i-preserved : goal.loop-i-preserved
 loop-i-preserved c =
     fill_next c.loop-i.invariant (omega arith) (omega arith) c.local_y-y.ensures
-    (rw (to_z-of_z (overflow_add-covers c), kept w8 (get_or c.loop-i.covers c.local_y-y.result (pos 0)) c.covers-1.given, kept w8 c.cover_within.result c.cover_within.type_inv, c.cover_within.ensures))
+    (rw (to_z-of_z (overflow_add-covers c), kept w8 (get_or c.loop-i.covers c.local_y-y.result (pos 0)) (omega arith), kept w8 c.cover_within.result c.cover_within.type_inv, c.cover_within.ensures))
 
 pub returns : goal.returns
 returns c = fill_end c.loop-i.invariant (omega arith) ∙ covers_within c.args.layer_id c.args.part.now

@@ -57,7 +57,7 @@ area_of-requires c =
 pub overflow_add-areas : goal.overflow_add-areas
 overflow_add-areas c =
     rw (
-      kept w16 (get_or c.loop-i.areas c.cell-k.result (pos 0)) c.areas-1.given,
+      kept w16 (get_or c.loop-i.areas c.cell-k.result (pos 0)) (omega arith),
       kept w16 c.area_of.result c.area_of.type_inv,
       c.area_of.ensures,
     )
@@ -69,7 +69,7 @@ overflow_cast-covers c = narrow (goal.at.overflow_cast-covers c).After-magnitude
 pub overflow_add-covers : goal.overflow_add-covers
 overflow_add-covers c =
     rw (
-      kept w8 (get_or c.loop-i.covers c.cell-k.result (pos 0)) c.covers-1.given,
+      kept w8 (get_or c.loop-i.covers c.cell-k.result (pos 0)) (omega arith),
       to_z-of_z (narrow (goal.at.overflow_add-covers c).After-magnitude),
       kept w16 c.cover_of-cover.result c.cover_of-cover.type_inv,
       c.cover_of-cover.ensures,
@@ -83,14 +83,14 @@ loop-i-preserved c =
       sum_next c.loop-i.invariant.1 c.loop-i-test.true (omega arith) (omega arith) (area_weight cpu refl) long c.cell-k.ensures (row (goal.at.loop-i-preserved c).After-magnitude) (load (goal.at.loop-i-preserved c).After-magnitude)
           (rw (
             to_z-of_z (overflow_add-areas (goal.at.loop-i-preserved c).After-area_of),
-            kept w16 (get_or c.loop-i.areas c.cell-k.result (pos 0)) c.areas-1.given,
+            kept w16 (get_or c.loop-i.areas c.cell-k.result (pos 0)) (omega arith),
             kept w16 c.area_of.result c.area_of.type_inv,
             c.area_of.ensures,
           )),
       sum_next c.loop-i.invariant.2 c.loop-i-test.true (omega arith) (omega arith) cover_weight long c.cell-k.ensures (row (goal.at.loop-i-preserved c).After-magnitude) (load (goal.at.loop-i-preserved c).After-magnitude)
           (rw (
             to_z-of_z (overflow_add-covers c),
-            kept w8 (get_or c.loop-i.covers c.cell-k.result (pos 0)) c.covers-1.given,
+            kept w8 (get_or c.loop-i.covers c.cell-k.result (pos 0)) (omega arith),
             to_z-of_z (narrow (goal.at.loop-i-preserved c).After-magnitude),
             kept w16 c.cover_of-cover.result c.cover_of-cover.type_inv,
             c.cover_of-cover.ensures,

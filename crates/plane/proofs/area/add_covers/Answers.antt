@@ -22,8 +22,8 @@ bounds-covers-column c = omega (arith, c.requires.0)
 pub overflow_add-next-in-loop-y : goal.overflow_add-next-in-loop-y
 overflow_add-next-in-loop-y c =
     rw (
-      kept w8 (cover_at c.args.sums c.loop-y.y) c.next-1.given,
-      kept w8 (cover_at c.args.covers.now (c.args.column * 16 + c.loop-y.y)) c.next-in-loop-y-1.given,
+      kept w8 (cover_at c.args.sums c.loop-y.y) (omega arith),
+      kept w8 (cover_at c.args.covers.now (c.args.column * 16 + c.loop-y.y)) (omega arith),
     )
     (small w8 _ (omega (arith, c.requires.1 c.loop-y.y c.loop-y-test.true)))
 
@@ -36,8 +36,8 @@ loop-y-preserved c =
           shade_next c.loop-y.invariant.shaded c.requires.0 c.loop-y-test.true refl refl
           (rw (
             to_z-of_z (overflow_add-next-in-loop-y c),
-            kept w8 (cover_at c.args.sums c.loop-y.y) c.next-1.given,
-            kept w8 (cover_at c.args.covers.now (c.args.column * 16 + c.loop-y.y)) c.next-in-loop-y-1.given,
+            kept w8 (cover_at c.args.sums c.loop-y.y) (omega arith),
+            kept w8 (cover_at c.args.covers.now (c.args.column * 16 + c.loop-y.y)) (omega arith),
           ));
     }
 

@@ -25,12 +25,12 @@ overflow_add-k c = omega (arith, c.requires.low)
 pub overflow_cast-areas : goal.overflow_cast-areas
 overflow_cast-areas c =
     let z = cover_at c.args.sums c.loop-y.y in
-    rw (kept w8 z c.areas-1.given) (wide z c.areas-1.given)
+    rw (kept w8 z (omega arith)) (wide z (omega arith))
 
 pub overflow_mul-areas : goal.overflow_mul-areas
 overflow_mul-areas c =
     let z = cover_at c.args.sums c.loop-y.y in
-    rw (kept w8 z c.areas-1.given, to_z-of_z (wide z c.areas-1.given)) (scaled z c.areas-1.given)
+    rw (kept w8 z (omega arith), to_z-of_z (wide z (omega arith))) (scaled z (omega arith))
 
 pub offset_bounds-areas-k : goal.offset_bounds-areas-k
 offset_bounds-areas-k c = omega (arith, c.requires.low)
@@ -42,10 +42,10 @@ pub overflow_add-areas : goal.overflow_add-areas
 overflow_add-areas c =
     let z = cover_at c.args.sums c.loop-y.y in
     rw (
-      kept w8 z c.areas-1.given,
-      to_z-of_z (wide z c.areas-1.given),
-      to_z-of_z (scaled z c.areas-1.given),
-      kept w16 (cover_at c.loop-y.areas (c.args.column * 16 + c.loop-y.y)) c.areas-in-loop-y-1.given,
+      kept w8 z (omega arith),
+      to_z-of_z (wide z (omega arith)),
+      to_z-of_z (scaled z (omega arith)),
+      kept w16 (cover_at c.loop-y.areas (c.args.column * 16 + c.loop-y.y)) (omega arith),
       shade_area c.loop-y.invariant.shaded c.requires.low c.loop-y-test.true,
     )
     (small w16 _ (omega (arith, c.requires.area_small c.loop-y.y c.loop-y-test.true)))
@@ -66,10 +66,10 @@ loop-y-preserved c =
           shade_next c.loop-y.invariant.shaded c.requires.low c.loop-y-test.true refl
           (rw (
             to_z-of_z (overflow_add-areas c),
-            kept w8 z c.areas-1.given,
-            to_z-of_z (wide z c.areas-1.given),
-            to_z-of_z (scaled z c.areas-1.given),
-            kept w16 (cover_at c.loop-y.areas (c.args.column * 16 + c.loop-y.y)) c.areas-in-loop-y-1.given,
+            kept w8 z (omega arith),
+            to_z-of_z (wide z (omega arith)),
+            to_z-of_z (scaled z (omega arith)),
+            kept w16 (cover_at c.loop-y.areas (c.args.column * 16 + c.loop-y.y)) (omega arith),
           ))
           refl;
     }

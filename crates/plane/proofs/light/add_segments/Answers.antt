@@ -18,7 +18,7 @@ area_of-requires c = rw (kept w16 c.cover_of-cover.result c.cover_of-cover.type_
 pub overflow_add-areas : goal.overflow_add-areas
 overflow_add-areas c =
     rw (
-      kept w16 (get_or c.loop-i.areas c.cell-k.result (pos 0)) c.areas-1.given,
+      kept w16 (get_or c.loop-i.areas c.cell-k.result (pos 0)) (omega arith),
       kept w16 c.area_of.result c.area_of.type_inv,
       c.area_of.ensures,
     )
@@ -30,7 +30,7 @@ overflow_cast-covers c = narrow (goal.at.overflow_cast-covers c).After-cover_of-
 pub overflow_add-covers : goal.overflow_add-covers
 overflow_add-covers c =
     rw (
-      kept w8 (get_or c.loop-i.covers c.cell-k.result (pos 0)) c.covers-1.given,
+      kept w8 (get_or c.loop-i.covers c.cell-k.result (pos 0)) (omega arith),
       to_z-of_z (narrow (goal.at.overflow_add-covers c).After-cover_of-cover),
       kept w16 c.cover_of-cover.result c.cover_of-cover.type_inv,
       c.cover_of-cover.ensures,
@@ -42,13 +42,13 @@ loop-i-preserved c =
     cells_next c.loop-i.invariant c.loop-i-test.true c.cell-k.ensures
     (rw (
       to_z-of_z (overflow_add-areas (goal.at.loop-i-preserved c).After-area_of),
-      kept w16 (get_or c.loop-i.areas c.cell-k.result (pos 0)) c.areas-1.given,
+      kept w16 (get_or c.loop-i.areas c.cell-k.result (pos 0)) (omega arith),
       kept w16 c.area_of.result c.area_of.type_inv,
       c.area_of.ensures,
     ))
     (rw (
       to_z-of_z (overflow_add-covers c),
-      kept w8 (get_or c.loop-i.covers c.cell-k.result (pos 0)) c.covers-1.given,
+      kept w8 (get_or c.loop-i.covers c.cell-k.result (pos 0)) (omega arith),
       to_z-of_z (narrow (goal.at.loop-i-preserved c).After-cover_of-cover),
       kept w16 c.cover_of-cover.result c.cover_of-cover.type_inv,
       c.cover_of-cover.ensures,

@@ -12,7 +12,7 @@ pub loop-k-preserved : goal.loop-k-preserved
 loop-k-preserved c =
     next_area c.loop-k.invariant (omega arith)
     (kept w16 c.area_of.result c.area_of.type_inv
-    ∙ rw (kept w8 (cover_at c.args.covers (c.loop-k.k % 16)) c.area_of-arg-1.given) at c.area_of.ensures)
+    ∙ rw (kept w8 (cover_at c.args.covers (c.loop-k.k % 16)) (omega arith)) at c.area_of.ensures)
 
 pub shape_of-areas : goal.shape_of-areas
 shape_of-areas c = c.loop-k.invariant.long

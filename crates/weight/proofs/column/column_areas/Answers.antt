@@ -19,18 +19,18 @@ loop-y-init c = map_start (omega (arith, c.requires))
 pub overflow_cast-areas : goal.overflow_cast-areas
 overflow_cast-areas c =
     let z = cover_at c.args.covers.now c.loop-y.y in
-    rw (kept w8 z c.areas-1.given) (wide z c.areas-1.given)
+    rw (kept w8 z (omega arith)) (wide z (omega arith))
 
 pub overflow_mul-areas : goal.overflow_mul-areas
 overflow_mul-areas c =
     let z = cover_at c.args.covers.now c.loop-y.y in
-    rw (kept w8 z c.areas-1.given, to_z-of_z (wide z c.areas-1.given)) (scaled z c.areas-1.given)
+    rw (kept w8 z (omega arith), to_z-of_z (wide z (omega arith))) (scaled z (omega arith))
 
 pub loop-y-preserved : goal.loop-y-preserved
 loop-y-preserved c =
     let z = cover_at c.args.covers.now c.loop-y.y in
     map_next c.loop-y.invariant (pos 0) (omega arith)
-    (rw (kept w8 z c.areas-1.given, to_z-of_z (wide z c.areas-1.given), to_z-of_z (scaled z c.areas-1.given)))
+    (rw (kept w8 z (omega arith), to_z-of_z (wide z (omega arith)), to_z-of_z (scaled z (omega arith))))
 
 pub returns : goal.returns
 returns c = map_whole c.loop-y.invariant (omega arith) c.requires

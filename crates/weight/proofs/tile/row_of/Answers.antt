@@ -19,7 +19,7 @@ loop-x-preserved c =
     let f : ℕ → ℤ = λ i. cover_at c.args.weights.now (i * c.args.rows + c.args.y) in
     let x = c.loop-x.x in (
       omega arith,
-      rw (kept w16 (f x) c.row-1.given, c.loop-x.invariant.1, ← (get_d_tabulate 16 f (pos 0) x (omega arith)))
+      rw (kept w16 (f x) (omega arith), c.loop-x.invariant.1, ← (get_d_tabulate 16 f (pos 0) x (omega arith)))
           (filled_more (replicate 16 (pos 0)) (tabulate 16 f) x (pos 0) (omega (arith, length-replicate 16 (pos 0))) (omega (arith, length_tabulate 16 f))),
     )
 

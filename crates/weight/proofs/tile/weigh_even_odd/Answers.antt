@@ -14,7 +14,7 @@ own c = get_or c.args.areas.now c.loop-k.k (pos 0)
 
 is : (c : After-even_odd_in) → c.even_odd_in.result ≡ even_odd_of (own c)
 is c =
-    rw (kept w16 (get_or c.loop-k.areas c.loop-k.k (pos 0)) c.even_odd_in-arg-1.given, map_rest c.loop-k.invariant (pos 0) (omega (arith, c.loop-k.invariant.long))) at c.even_odd_in.ensures
+    rw (kept w16 (get_or c.loop-k.areas c.loop-k.k (pos 0)) (omega arith), map_rest c.loop-k.invariant (pos 0) (omega (arith, c.loop-k.invariant.long))) at c.even_odd_in.ensures
 
 pub loop-k-init : goal.loop-k-init
 loop-k-init c = map_start (omega arith)

@@ -17,7 +17,7 @@ own c =
     get_or c.args.areas.now (c.loop-x.x * 16 + c.args.y) (pos 0)
 
 is : (c : After-even_odd_in) → c.even_odd_in.result ≡ even_odd_of (own c)
-is c = rw (kept w16 (own c) c.even_odd_in-arg-1.given) at c.even_odd_in.ensures
+is c = rw (kept w16 (own c) (omega arith)) at c.even_odd_in.ensures
 
 pub loop-x-init : goal.loop-x-init
 loop-x-init c = row_start c.requires.3

@@ -11,17 +11,17 @@ loop-x-init c = row_start c.requires.2
 pub overflow_cast-row : goal.overflow_cast-row
 overflow_cast-row c =
     let w = get_or c.args.row.now c.loop-x.x (pos 0) in
-    rw (kept w16 w c.coverage-arg-1.given)
+    rw (kept w16 w (omega arith))
     (unsigned w16 w (c.requires.0.low c.loop-x.x (omega (arith, c.requires.1))) (omega (arith, whole w, c.requires.0.high c.loop-x.x (omega (arith, c.requires.1)))))
 
 pub coverage-requires : goal.coverage-requires
 coverage-requires c =
-    rw (kept w16 (get_or c.args.row.now c.loop-x.x (pos 0)) c.coverage-arg-1.given) (c.requires.0.high c.loop-x.x (omega (arith, c.requires.1)))
+    rw (kept w16 (get_or c.args.row.now c.loop-x.x (pos 0)) (omega arith)) (c.requires.0.high c.loop-x.x (omega (arith, c.requires.1)))
 
 pub loop-x-preserved : goal.loop-x-preserved
 loop-x-preserved c =
     row_next c.loop-x.invariant (omega arith) refl
-    ((rw (kept w16 (get_or c.args.row.now c.loop-x.x (pos 0)) c.coverage-arg-1.given) at c.coverage.ensures)
+    ((rw (kept w16 (get_or c.args.row.now c.loop-x.x (pos 0)) (omega arith)) at c.coverage.ensures)
     ∙ sym (map_lt coverage_in c.args.row.now c.loop-x.x nan (pos 0) (omega (arith, c.requires.1))))
 
 pub shape_of-plane : goal.shape_of-plane
