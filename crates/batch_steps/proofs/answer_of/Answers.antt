@@ -2,8 +2,6 @@
 use Rattle.laws.proofs.Prelude.{ap, ◌∙◌, given, rules}
 use Rattle.batch_steps.proofs.Rooms.{ended_given}
 use Rattle.row_statements.specs.State.{state_in}
-use Rattle.batch_steps.proofs.end_of.Reads as end-of-reads
-use Rattle.batch_steps.proofs.refused_at.Reads as refused-at-reads
 use Rattle.batch_steps.proofs.answer_of.Goals as goal
 
 pub enum_known-verdict : goal.enum_known-verdict

@@ -1,7 +1,5 @@
 -- `room_in` meets its contract. Assumes nothing.
 use Rattle.laws.proofs.Prelude.{rules}
-use Rattle.batch_steps.proofs.least.Reads as least-reads
-use Rattle.batch_steps.proofs.tiles_in.Reads as tiles-in-reads
 use Rattle.batch_steps.proofs.room_in.Goals as goal
 
 pub tiles_in-requires : goal.tiles_in-requires

@@ -1,6 +1,5 @@
 -- `tiles_in` meets its contract. Assumes nothing.
 use Rattle.laws.proofs.Prelude.{rules}
-use Rattle.batch_steps.proofs.least.Reads as least-reads
 use Rattle.batch_steps.proofs.tiles_in.Goals as goal
 
 pub least-tiles-requires : goal.least-tiles-requires
