@@ -42,9 +42,9 @@ call_right is_open holds (CallStep.other_decide g) = (g, holds)
 
 pub calls_right : {o : OpenRow} {p : Past} {h h' : HeldAll} {es : List RowCall} → IsOpen o → HoldsAll o p h → RowCalls o h es h' → AllCallsRight o p es
 calls_right is_open holds RowCalls.none = tt
-calls_right is_open holds (RowCalls.next s rest) =
+calls_right {o = o} {p = p} is_open holds (RowCalls.next {e = e} s rest) =
     let u = call_right is_open holds s in
-    (u.0, calls_right is_open u.1 rest)
+    (u.0, calls_right {p = past_call o e p} is_open u.1 rest)
 
 -- demand 3, with listings and decidings
 pub run : ListingClaim

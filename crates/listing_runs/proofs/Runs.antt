@@ -14,7 +14,7 @@ use Rattle.row_statements.specs.Lent.{is_queue_short, layers_of, is_lent_table}
 use Rattle.row_statements.specs.State.{is_wrong_next}
 use Rattle.row_statements.specs.TileWork.{WorkCall, WorkLent, list_verdict, work_verdict}
 use Rattle.row_statements.specs.Painting.{PaintCall, paint_verdict}
-use Rattle.row_statements.specs.Due.{OpenRow, Past, table_on, queue_on, layers_on, state_on, is_not_due, work_due_verdict, paint_due_verdict}
+use Rattle.row_statements.specs.Due.{OpenRow, Past, table_on, queue_on, layers_on, state_on, is_not_due, work_due_verdict, paint_due_verdict, past_work, past_paint}
 use Rattle.row_statements.specs.Run.{Held, Event, Step}
 use Rattle.row_statements.specs.Example.{work_at, paint_at, if_turned_down}
 use Rattle.row_statements.specs.InnerHolding.{IsOpen}
@@ -249,15 +249,15 @@ module _ {o : OpenRow} (is_open : IsOpen o) where
   exists {p} {h} holds [] = record { events = []; after = h; runs = RowCalls.none; dues = refl }
   exists {p} {h} holds (CallChoice.work c ∷ cs) =
       let step = CallStep.row {h = h} (Step.work {c = held_work h.row c} as_held (work_goes is_open holds.row c)) in
-      let rest = exists (call_right is_open holds step).1 cs in
+      let rest = exists {p = past_work (work_due_verdict o p.tiles (held_work h.row c)) p} (call_right is_open holds step).1 cs in
       record { events = _ ∷ rest.events; after = rest.after; runs = RowCalls.next step rest.runs; dues = ap (λ (vs : List Judgement). work_due_verdict o p.tiles c ∷ vs) rest.dues }
   exists {p} {h} holds (CallChoice.paint c ∷ cs) =
       let step = CallStep.row {h = h} (Step.paint {c = held_paint h.row c} as_held (paint_goes is_open holds.row c)) in
-      let rest = exists (call_right is_open holds step).1 cs in
+      let rest = exists {p = past_paint (paint_due_verdict o p.tiles (held_paint h.row c)) o c.layer p} (call_right is_open holds step).1 cs in
       record { events = _ ∷ rest.events; after = rest.after; runs = RowCalls.next step rest.runs; dues = ap (λ (vs : List Judgement). paint_due_verdict o p.tiles c ∷ vs) rest.dues }
   exists {p} {h} holds (CallChoice.list c ∷ cs) =
       let step = CallStep.list {h = h} {c = held_listing h.row c} as_held (list_goes holds c) in
-      let rest = exists (call_right is_open holds step).1 cs in
+      let rest = exists {p = past_work (list_due_verdict o p.tiles (held_listing h.row c)) p} (call_right is_open holds step).1 cs in
       record { events = _ ∷ rest.events; after = rest.after; runs = RowCalls.next step rest.runs; dues = ap (λ (vs : List Judgement). list_due_verdict o p.tiles c ∷ vs) rest.dues }
   exists {p} {h} holds (CallChoice.decide c ∷ cs) = decide_first c cs (is_past o p.tiles c.tile) refl holds (exists holds cs)
   exists {p} {h} holds (CallChoice.other_work row table c ∷ cs) =
