@@ -36,7 +36,13 @@ in_order : (c : After-is_row) → c.is_row.result ≡ true → is_row gpu (suc (
 in_order c h = sym (row_told c) ∙ h
 
 -- whether number 9 does not apply
-light-told : (c : After-is_light) → let a = c.args in Span a.tile_y a.from a.to → is_row gpu (suc (plus a.tile_y)) a.row.now ≡ true → Words a.row.now → c.is_light.result ≡ is_light gpu 4 (no_cover 4) (layer_left a.from a.layer_id a.row.now)
+light-told :
+    (c : After-is_light)
+    → let a = c.args in
+    Span a.tile_y a.from a.to
+    → is_row gpu (suc (plus a.tile_y)) a.row.now ≡ true
+    → Words a.row.now
+    → c.is_light.result ≡ is_light gpu 4 (no_cover 4) (layer_left a.from a.layer_id a.row.now)
 light-told c p e s =
     c.is_light.ensures
     ∙ ap (λ (l : List ℕ). is_light gpu 4 (no_cover 4) (layer_within c.args.layer_id l)) (rw (to_z-of_z c.ranges.from, to_z-of_z (first_fits _ _ _ p)) at c.left_of_tile.ensures)
@@ -62,27 +68,33 @@ overflow_cast-from c =
 pub returns-then-not-is_light : goal.returns-then-not-is_light
 unfolding open_layer_verdict
 returns-then-not-is_light c =
+    let places = goal.at.returns-then-not-is_light c in
+    let good = span places.After-has_bad_span c.if-has_bad_span.false in
+    let sorted = in_order places.After-is_row c.if-not-is_row.false in
     rw (
-      ← span-told (goal.at.returns-then-not-is_light c).After-has_bad_span,
+      ← span-told places.After-has_bad_span,
       c.if-has_bad_span.false,
-      ← row_told (goal.at.returns-then-not-is_light c).After-is_row,
+      ← row_told places.After-is_row,
       c.if-not-is_row.false,
       ← c.is_bad_record.ensures,
       c.if-is_bad_record.false,
-      ← light-told (goal.at.returns-then-not-is_light c).After-is_light (span (goal.at.returns-then-not-is_light c).After-has_bad_span c.if-has_bad_span.false) (in_order (goal.at.returns-then-not-is_light c).After-is_row c.if-not-is_row.false) (record { small = λ i. (c.type_inv.row i).fits }),
+      ← light-told places.After-is_light good sorted (record { small = λ i. (c.type_inv.row i).fits }),
       c.if-not-is_light.true,
     )
 
 pub returns : goal.returns
 unfolding open_layer_verdict
 returns c =
+    let places = goal.at.returns c in
+    let good = span places.After-has_bad_span c.if-has_bad_span.false in
+    let sorted = in_order places.After-is_row c.if-not-is_row.false in
     rw (
-      ← span-told (goal.at.returns c).After-has_bad_span,
+      ← span-told places.After-has_bad_span,
       c.if-has_bad_span.false,
-      ← row_told (goal.at.returns c).After-is_row,
+      ← row_told places.After-is_row,
       c.if-not-is_row.false,
       ← c.is_bad_record.ensures,
       c.if-is_bad_record.false,
-      ← light-told (goal.at.returns c).After-is_light (span (goal.at.returns c).After-has_bad_span c.if-has_bad_span.false) (in_order (goal.at.returns c).After-is_row c.if-not-is_row.false) (record { small = λ i. (c.type_inv.row i).fits }),
+      ← light-told places.After-is_light good sorted (record { small = λ i. (c.type_inv.row i).fits }),
       c.if-not-is_light.false,
     )

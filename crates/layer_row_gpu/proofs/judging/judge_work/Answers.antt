@@ -23,13 +23,23 @@ row_told c =
     c.is_row.ensures ∙ ap (λ (n : ℕ). is_row gpu n a.row.now) (add-one a.state.tile_y)
 
 -- where 2 does not apply
-due-told : (c : After-is_other_tile) → let a = c.args in is_astray (layer_state_in a.state) || c.is_other_tile.result ≡ false → (a.tile ≡ pos a.state.next) × (a.state.next < a.state.to) × (a.state.to ≤ 4095)
+due-told :
+    (c : After-is_other_tile)
+    → let a = c.args in
+    is_astray (layer_state_in a.state) || c.is_other_tile.result ≡ false
+    → (a.tile ≡ pos a.state.next) × (a.state.next < a.state.to) × (a.state.to ≤ 4095)
 due-told c h =
     let a = c.args in
     due (layer_state_in a.state) a.tile (rw (other-told c) at h)
 
 -- whether number 9 does not apply
-light-told : (c : After-is_light) → let a = c.args in a.tile ≡ pos a.state.next → is_row gpu (suc a.state.tile_y) a.row.now ≡ true → Words a.row.now → c.is_light.result ≡ is_light gpu 4 a.state.cover.covers (layer_tile (layer_state_in a.state) a.tile a.row.now)
+light-told :
+    (c : After-is_light)
+    → let a = c.args in
+    a.tile ≡ pos a.state.next
+    → is_row gpu (suc a.state.tile_y) a.row.now ≡ true
+    → Words a.row.now
+    → c.is_light.result ≡ is_light gpu 4 a.state.cover.covers (layer_tile (layer_state_in a.state) a.tile a.row.now)
 light-told c d e s =
     let a = c.args in
     c.is_light.ensures
@@ -67,27 +77,33 @@ layer_part-part-requires c =
 pub returns-then-not-is_light : goal.returns-then-not-is_light
 unfolding work_layer_verdict
 returns-then-not-is_light c =
+    let places = goal.at.returns-then-not-is_light c in
+    let d = due-told places.After-is_other_tile (rw c.is_astray.ensures at c.if-is_astray-is_other_tile.false) in
+    let sorted = sym (row_told places.After-is_row) ∙ c.if-not-is_row.false in
     rw (
       le-ltb (length c.args.plane.now) 64 c.if-plane-lt64.false,
       ← c.is_astray.ensures,
-      ← other-told (goal.at.returns-then-not-is_light c).After-is_other_tile,
+      ← other-told places.After-is_other_tile,
       c.if-is_astray-is_other_tile.false,
-      ← row_told (goal.at.returns-then-not-is_light c).After-is_row,
+      ← row_told places.After-is_row,
       c.if-not-is_row.false,
-      ← light-told (goal.at.returns-then-not-is_light c).After-is_light (due-told (goal.at.returns-then-not-is_light c).After-is_other_tile (rw (c.is_astray.ensures) at c.if-is_astray-is_other_tile.false)).0 (sym (row_told (goal.at.returns-then-not-is_light c).After-is_row) ∙ c.if-not-is_row.false) (record { small = λ i. (c.type_inv.row i).fits }),
+      ← light-told places.After-is_light d.0 sorted (record { small = λ i. (c.type_inv.row i).fits }),
       c.if-not-is_light.true,
     )
 
 pub returns : goal.returns
 unfolding work_layer_verdict
 returns c =
+    let places = goal.at.returns c in
+    let d = due-told places.After-is_other_tile (rw c.is_astray.ensures at c.if-is_astray-is_other_tile.false) in
+    let sorted = sym (row_told places.After-is_row) ∙ c.if-not-is_row.false in
     rw (
       le-ltb (length c.args.plane.now) 64 c.if-plane-lt64.false,
       ← c.is_astray.ensures,
-      ← other-told (goal.at.returns c).After-is_other_tile,
+      ← other-told places.After-is_other_tile,
       c.if-is_astray-is_other_tile.false,
-      ← row_told (goal.at.returns c).After-is_row,
+      ← row_told places.After-is_row,
       c.if-not-is_row.false,
-      ← light-told (goal.at.returns c).After-is_light (due-told (goal.at.returns c).After-is_other_tile (rw (c.is_astray.ensures) at c.if-is_astray-is_other_tile.false)).0 (sym (row_told (goal.at.returns c).After-is_row) ∙ c.if-not-is_row.false) (record { small = λ i. (c.type_inv.row i).fits }),
+      ← light-told places.After-is_light d.0 sorted (record { small = λ i. (c.type_inv.row i).fits }),
       c.if-not-is_light.false,
     )
