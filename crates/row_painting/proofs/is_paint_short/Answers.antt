@@ -1,5 +1,4 @@
 -- `is_paint_short` meets its contract. Assumes nothing.
-use Rattle.laws.proofs.Prelude.{rules}
 use Rattle.row_painting.proofs.is_paint_short.Goals as goal
 
 pub returns : goal.returns

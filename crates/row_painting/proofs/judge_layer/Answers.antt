@@ -1,5 +1,4 @@
 -- `judge_layer` meets its contract. Assumes nothing.
-use Rattle.laws.proofs.Prelude.{rules}
 use Rattle.layer_table.proofs.Looking.{at_place, at_none}
 use Rattle.row_painting.proofs.judge_layer.Goals as goal
 

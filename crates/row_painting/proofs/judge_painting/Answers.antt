@@ -1,58 +1,62 @@
 -- `judge_painting` meets its contract. Assumes nothing.
-use Rattle.std.specs.Prelude.{◌≡◌}
-use Rattle.laws.proofs.Prelude.{sym, ap, ◌∙◌, arith, rules, w16, SFits, to_z-of_z, sfits, whole}
+use Rattle.std.specs.Prelude.{◌≡◌, Float}
+use Rattle.laws.proofs.Prelude.{List, sym, ap, ◌∙◌, arith, w16, SFits, to_z-of_z, sfits, whole}
+use Rattle.refusals.specs.declared.Verdict.{Verdict}
+use Rattle.refusals.specs.declared.Verdict.TheVariants.{Pass}
 use Rattle.refusals.specs.Refusal.{Judgement, pass, judgement_in, and_then}
 use Rattle.layer_table.proofs.Judging as judged
 use Rattle.queue_statements.proofs.Judging.{queued}
 use Rattle.row_statements.specs.Lent.{columns, lent_table}
 use Rattle.row_statements.specs.State.{state_in}
 use Rattle.row_statements.specs.Painting.{PaintCall, paint_call, call_verdict, own_verdict}
-use Rattle.row_statements.proofs.Paintings.{Called, call_passed}
+use Rattle.row_statements.proofs.Paintings.{call_passed}
 use Rattle.row_painting.proofs.judge_painting.Goals as goal
-use Rattle.row_painting.proofs.judge_painting.Goals.{After-judge_call, In-Pass, Start}
+use Rattle.row_painting.proofs.judge_painting.Goals.{After-judge_call, Start}
 
 -- what the function is called with
 called : Start → PaintCall
 called s = let a = s.args in paint_call (state_in a.state) a.tile a.layer a.row.now (lent_table a.layers.now a.colors.now a.count) (columns a.ids.now a.covers.now)
 
 -- the verdict of 1 to 5
-told : (c : After-judge_call) → judgement_in c.judge_call.result ≡ call_verdict (called c) c.args.plane.now
+told : (c : After-judge_call) → judgement_in c.judge_call.result ≡ call_verdict (called c.before.before.before.before.before.before.before) c.args.plane.now
 unfolding called call_verdict
 told c = c.judge_call.ensures ∙ rw (to_z-of_z c.ranges.tile)
 
 -- where they pass
-passes : (c : In-Pass) → call_verdict (called c) c.args.plane.now ≡ pass
-passes c = sym (told c.before.before) ∙ ap judgement_in c.in-Pass.is
-
-known : (c : In-Pass) → Called (called c) c.args.plane.now
-known c = call_passed (called c.before.before.before.before.before.before.before.before) c.args.plane.now (passes c)
+passes : (k : PaintCall) (plane : List Float) {v : Verdict} → judgement_in v ≡ call_verdict k plane → v ≡ Pass → call_verdict k plane ≡ pass
+passes k plane t e = sym t ∙ ap judgement_in e
 
 -- the tile is a number of 16 signed bits
-tile_fits : (c : In-Pass) → SFits w16 c.args.tile
-unfolding called
-tile_fits c =
-    let z = c.args.tile in
-    let k = known c in
-    sfits w16 z (omega (arith, k.worked, k.in_state, whole z))
+tile_fits : (k : PaintCall) (plane : List Float) → call_verdict k plane ≡ pass → SFits w16 k.tile
+tile_fits k plane e =
+    let p = call_passed k plane e in
+    sfits w16 k.tile (omega (arith, p.worked, p.in_state, whole k.tile))
 
 pub overflow_cast-tile : goal.overflow_cast-tile
-overflow_cast-tile c = rw (to_z-of_z c.ranges.tile) (tile_fits c)
+unfolding called
+overflow_cast-tile c =
+    let a = goal.at.overflow_cast-tile c in
+    rw (to_z-of_z c.ranges.tile) (tile_fits (called a.Start) c.args.plane.now (passes (called a.Start) c.args.plane.now (told a.After-judge_call) c.in-Pass.is))
 
 pub judge_layer-requires : goal.judge_layer-requires
 unfolding called
 judge_layer-requires c =
-    let p = known (goal.at.judge_layer-requires c).In-Pass in
+    let a = goal.at.judge_layer-requires c in
+    let p = call_passed (called a.Start) c.args.plane.now (passes (called a.Start) c.args.plane.now (told a.After-judge_call) c.in-Pass.is) in
     (judged.table p.in_table, queued p.queue_room p.in_queue)
 
 pub returns-in-Refuse : goal.returns-in-Refuse
 unfolding called
 returns-in-Refuse c =
+    let a = goal.at.returns-in-Refuse c in
     let e : judgement_in c.judge_call.result ≡ _ = ap judgement_in c.in-Refuse.is in
-    sym (ap (λ (v : Judgement). and_then v (own_verdict (called (goal.at.returns-in-Refuse c).Start))) (sym (told (goal.at.returns-in-Refuse c).After-judge_call) ∙ e))
+    sym (ap (λ (v : Judgement). and_then v (own_verdict (called a.Start))) (sym (told a.After-judge_call) ∙ e))
 
 pub returns-in-Pass : goal.returns-in-Pass
 unfolding called
 returns-in-Pass c =
-    let part = rw (to_z-of_z c.ranges.tile, to_z-of_z (tile_fits (goal.at.returns-in-Pass c).In-Pass)) at c.in_tile-part.ensures in
+    let a = goal.at.returns-in-Pass c in
+    let e = passes (called a.Start) c.args.plane.now (told a.After-judge_call) c.in-Pass.is in
+    let part = rw (to_z-of_z c.ranges.tile, to_z-of_z (tile_fits (called a.Start) c.args.plane.now e)) at c.in_tile-part.ensures in
     let here = rw part at c.judge_layer.ensures in
-    here ∙ sym (ap (λ (v : Judgement). and_then v (own_verdict (called (goal.at.returns-in-Pass c).Start))) (passes (goal.at.returns-in-Pass c).In-Pass))
+    here ∙ sym (ap (λ (v : Judgement). and_then v (own_verdict (called a.Start))) e)

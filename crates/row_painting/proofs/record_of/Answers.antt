@@ -1,5 +1,5 @@
 -- `record_of` meets its contract. Assumes nothing.
-use Rattle.laws.proofs.Prelude.{arith, rules}
+use Rattle.laws.proofs.Prelude.{arith}
 use Rattle.layer_table.proofs.Looking.{at_place, at_none}
 use Rattle.row_painting.proofs.record_of.Goals as goal
 
