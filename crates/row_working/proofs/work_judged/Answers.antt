@@ -1,6 +1,6 @@
 -- `work_judged` meets its contract. Assumes nothing.
 use Rattle.std.specs.Prelude.{◌≡◌}
-use Rattle.laws.proofs.Prelude.{arith, rules, w16, SFits, to_z-of_z, sfits, whole}
+use Rattle.laws.proofs.Prelude.{arith, w16, SFits, to_z-of_z, sfits, whole}
 use Rattle.segment_rows.specs.Search.{tile_part}
 use Rattle.row_working.proofs.PartLaws.{part_judged}
 use Rattle.row_working.proofs.work_judged.Goals as goal
@@ -12,7 +12,7 @@ tile_fits s = let z = s.args.tile in sfits w16 z (omega (arith, s.requires.tile_
 
 -- the part that the search finds
 part_is : (c : After-in_tile-part) → c.in_tile-part.result.now ≡ tile_part c.args.tile c.args.row.now
-part_is c = rw (to_z-of_z c.ranges.tile, to_z-of_z (tile_fits c.before.before.before.before.before.before.before.before.before)) at c.in_tile-part.ensures
+part_is c = rw (to_z-of_z c.ranges.tile, to_z-of_z (tile_fits c.before.before.before.before.before.before.before.before.before.before)) at c.in_tile-part.ensures
 
 pub overflow_cast-tile : goal.overflow_cast-tile
 overflow_cast-tile c = rw (to_z-of_z c.ranges.tile) (tile_fits (goal.at.overflow_cast-tile c).Start)

@@ -1,6 +1,5 @@
 -- `work_part` meets its contract. Assumes nothing.
-use Rattle.std.specs.Prelude.{◌≡◌}
-use Rattle.laws.proofs.Prelude.{refl, sym, ap, ◌∙◌, List, ℕ, arith, rules, ℤ}
+use Rattle.laws.proofs.Prelude.{refl, sym, ap, ◌∙◌, List, ℕ, arith, ℤ}
 use Rattle.refusals.specs.Refusal.{judgement_in}
 use Rattle.row_statements.specs.Lent.{columns, list_columns, lent_table}
 use Rattle.row_statements.specs.State.{state_in}
@@ -15,10 +14,10 @@ called s tile row =
     let a = s.args in
     work_call (state_in a.state) tile row (lent_table a.layers.now a.colors.now a.count) a.kept a.clear a.previous (columns a.ids.now a.covers.now)
 
-lentTo : Start → WorkLent
-lentTo s =
+lent_to : Start → WorkLent
+lent_to s =
     let a = s.args in
-    work_lent (columns a.next-ids.now a.next-covers.now) (list_columns a.list_ids.now a.list_covers.now a.list_flags.now a.list_unmasked.now)
+    work_lent (columns a.next_ids.now a.next_covers.now) (list_columns a.list_ids.now a.list_covers.now a.list_flags.now a.list_unmasked.now)
 
 pub judge_list-judged-requires : goal.judge_list-judged-requires
 judge_list-judged-requires c = let p = c.requires in (p.walks, p.covers_long, p.in_table)
@@ -28,26 +27,26 @@ work-requires c =
     let p = c.requires in
     let told = c.judge_list-judged.ensures in
     let passed = ap judgement_in c.in-Pass.is in
-    let l = list_passed _ _ (sym told.0.verdict ∙ passed) in
-    (p.walks, p.covers_long, p.in_table, p.rooms, told.1 passed, told.0.listed, omega (arith, told.0.listed, l.few))
+    let l = list_passed _ _ (sym told.judged.verdict ∙ passed) in
+    (p.walks, p.covers_long, p.in_table, p.rooms, told.carries passed, told.judged.listed, omega (arith, told.judged.listed, l.few))
 
 pub done-requires : goal.done-requires
 done-requires c = c.requires.next_low
 
 pub returns-in-Refuse : goal.returns-in-Refuse
-unfolding called lentTo
+unfolding called lent_to
 returns-in-Refuse c =
     let told = c.judge_list-judged.ensures.judged.verdict in
-    record { gives = λ tile row e. refused_by (called (goal.at.returns-in-Refuse c).Start tile row) (lentTo (goal.at.returns-in-Refuse c).Start) (sym (rw e at told) ∙ ap judgement_in c.in-Refuse.is) refl c.refuse.ensures }
+    record { gives = λ tile row e. refused_by (called (goal.at.returns-in-Refuse c).Start tile row) (lent_to (goal.at.returns-in-Refuse c).Start) (sym (rw e at told) ∙ ap judgement_in c.in-Refuse.is) refl c.refuse.ensures }
 
 pub returns-in-Pass : goal.returns-in-Pass
-unfolding called lentTo
+unfolding called lent_to
 returns-in-Pass c =
     let told = c.judge_list-judged.ensures.judged.verdict in
     let w = c.work.ensures in
     record {
       gives =
           λ tile row e.
-          done_by (called (goal.at.returns-in-Pass c).Start tile row) (lentTo (goal.at.returns-in-Pass c).Start) c.args.state c.args.part.now e (sym (rw e at told) ∙ ap judgement_in c.in-Pass.is) refl c.done.ensures
-          w.0 w.1.0 w.1.1;
+          done_by (called (goal.at.returns-in-Pass c).Start tile row) (lent_to (goal.at.returns-in-Pass c).Start) c.args.state c.args.part.now e (sym (rw e at told) ∙ ap judgement_in c.in-Pass.is) refl c.done.ensures
+          w.answer w.list w.queue;
     }

@@ -1,5 +1,4 @@
 -- `judging::is_list_short` meets its contract. Assumes nothing.
-use Rattle.laws.proofs.Prelude.{rules}
 use Rattle.row_working.proofs.judging.is_list_short.Goals as goal
 
 pub returns : goal.returns

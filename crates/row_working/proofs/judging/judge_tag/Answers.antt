@@ -1,5 +1,4 @@
 -- `judging::judge_tag` meets its contract. Assumes nothing.
-use Rattle.laws.proofs.Prelude.{rules}
 use Rattle.row_working.proofs.judging.judge_tag.Goals as goal
 
 pub returns-then-is_tag_out_of_range : goal.returns-then-is_tag_out_of_range

@@ -1,6 +1,6 @@
 -- `judging::judge_work` meets its contract. Assumes nothing.
 use Rattle.std.specs.Prelude.{◌≡◌}
-use Rattle.laws.proofs.Prelude.{rules, to_z-of_z}
+use Rattle.laws.proofs.Prelude.{to_z-of_z}
 use Rattle.refusals.specs.Refusal.{judgement_in}
 use Rattle.row_statements.specs.Lent.{lent_table}
 use Rattle.row_statements.specs.State.{state_in}
