@@ -1,5 +1,5 @@
 -- Two runs over rows that agree on a layer: what their calls say of the layer is the same. Assumes nothing.
-use Rattle.std.specs.Prelude.{◌≡◌, ◌∷◌, ◌+◌, ◌-◌}
+use Rattle.std.specs.Prelude.{◌≡◌, ◌+◌, ◌-◌}
 use Rattle.laws.proofs.Prelude.{refl, ap, ap₂, sym, ◌∙◌, List, map, ℕ, suc, arith, Float, length, take, take_at, given, over}
 use Rattle.refusals.specs.Refusal.{Judgement, pass, refuse}
 use Rattle.pixel_segment.specs.Field.{cpu}
@@ -10,12 +10,12 @@ use Rattle.layer_carrying.specs.Carrying.{rule_in}
 use Rattle.queue_statements.specs.Queue.{Carry}
 use Rattle.pass_statements.specs.Entry.{Entry}
 use Rattle.layer_workbench.specs.Work.{entry_of}
-use Rattle.row_statements.specs.Lent.{Columns, carries_in, entries_in}
+use Rattle.row_statements.specs.Lent.{carries_in, entries_in}
 use Rattle.row_statements.specs.State.{State, state_in}
 use Rattle.row_statements.specs.TileWork.{WorkLent, TileAnswer, tile_answer, work_out, work_answer}
 use Rattle.row_statements.specs.Painting.{paint_out, paint_answer}
 use Rattle.row_statements.specs.Due.{OpenRow, Past, at_first, WorkChoice, PaintChoice, table_on, queue_on, layers_on, plane_on, state_on, says_on, paint_on, work_due_verdict, paint_due_verdict}
-use Rattle.row_statements.specs.Run.{open_row, Held, held_first, Event}
+use Rattle.row_statements.specs.Run.{open_row, Held, Event}
 use Rattle.row_statements.specs.Claim.{RightWork, RightPaint}
 use Rattle.row_statements.specs.InnerHolding.{IsOpen, Holds}
 use Rattle.row_statements.specs.declared.TileWorked.{TileWorked}
@@ -27,7 +27,7 @@ use Rattle.listing_runs.specs.Due.{ListChoice, list_due_verdict}
 use Rattle.listing_runs.specs.Run.{RowCall}
 use Rattle.listing_runs.specs.Claim.{RightListing, RightCall, AllCallsRight}
 use Rattle.listing_runs.proofs.Run.{run}
-use Rattle.two_rows.specs.Apart.{AgreeOn, entry_in, carry_in, MadeCall, TileResult, ResultOf, SameTile, Apart, LayersApart}
+use Rattle.two_rows.specs.Apart.{AgreeOn, entry_in, carry_in, MadeCall, TileResult, ResultOf, SameTile, LayersApart}
 use Rattle.two_rows.proofs.Same.{same_layer}
 
 -- every call of a run is right

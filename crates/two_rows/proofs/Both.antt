@@ -9,7 +9,7 @@ use Rattle.segment_rows.proofs.Opposite.{words_opposite}
 use Rattle.row_statements.specs.Opening.{open_of, OpensRow}
 use Rattle.row_statements.specs.TileWork.{work_verdict}
 use Rattle.row_statements.specs.Painting.{paint_verdict}
-use Rattle.row_statements.specs.Due.{OpenRow, Past, at_first, state_on, work_due_verdict, paint_due_verdict}
+use Rattle.row_statements.specs.Due.{OpenRow, Past, at_first, state_on, work_due_verdict, paint_due_verdict, past_work, past_paint}
 use Rattle.row_statements.specs.Run.{open_row, Step}
 use Rattle.row_statements.specs.Example.{work_at, paint_at, if_turned_down}
 use Rattle.row_statements.specs.InnerHolding.{IsOpen}
@@ -109,19 +109,19 @@ module _ (o : OpenRow) (mild : are_mild cpu o.row ≡ true) (one : IsOpen o) (ot
       (CallStep.row {h = h} (Step.work {c = held_work h.row c} as_held (work_goes one holds.row c)))
       (CallStep.row {h = h'} (Step.work {c = held_work h'.row c} as_held (work_goes other holds'.row c)))
       (AlikeCall.work (record { tile = refl; kept = refl; clear = refl; previous = refl; room = refl }))
-      (λ es. refl) refl (λ x y. both _ x y cs)
+      (λ es. refl) refl (λ x y. both (past_work (work_due_verdict o p.tiles (held_work h.row c)) p) x y cs)
   both p {h} {h'} holds holds' (CallChoice.paint c ∷ cs) =
       onward (CallChoice.paint c) cs (paint_due_verdict o p.tiles c) holds holds'
       (CallStep.row {h = h} (Step.paint {c = held_paint h.row c} as_held (paint_goes one holds.row c)))
       (CallStep.row {h = h'} (Step.paint {c = held_paint h'.row c} as_held (paint_goes other holds'.row c)))
       (AlikeCall.paint (record { tile = refl; layer = refl; room = refl }))
-      (λ es. refl) refl (λ x y. both _ x y cs)
+      (λ es. refl) refl (λ x y. both (past_paint (paint_due_verdict o p.tiles (held_paint h.row c)) o c.layer p) x y cs)
   both p {h} {h'} holds holds' (CallChoice.list c ∷ cs) =
       onward (CallChoice.list c) cs (list_due_verdict o p.tiles c) holds holds'
       (CallStep.list {h = h} {c = held_listing h.row c} as_held (list_goes one holds c))
       (CallStep.list {h = h'} {c = held_listing h'.row c} as_held (list_goes other holds' c))
       (AlikeCall.list (record { tile = refl; room = refl }))
-      (λ es. refl) refl (λ x y. both _ x y cs)
+      (λ es. refl) refl (λ x y. both (past_work (list_due_verdict o p.tiles (held_listing h.row c)) p) x y cs)
   both p holds holds' (CallChoice.decide c ∷ cs) = decide_both c cs (is_past o p.tiles c.tile) refl holds holds' (both p holds holds' cs)
   both p holds holds' (CallChoice.other_work row table c ∷ cs) =
       let a = work_at (state_on o p) row table c in
@@ -143,7 +143,7 @@ module _ (o : OpenRow) (mild : are_mild cpu o.row ≡ true) (one : IsOpen o) (ot
       (both p holds holds' cs) (both p (still_all holds) (still_all holds') cs)
   both p {h} {h'} holds holds' (CallChoice.other_decide a masks ∷ cs) =
       onward (CallChoice.other_decide a masks) cs (deciding_verdict a masks) holds holds' (decide_other o h a masks)
-      (decide_other (opposite_row o) h' a masks) AlikeCall.other_decide (λ es. refl) refl (λ x y. both _ x y cs)
+      (decide_other (opposite_row o) h' a masks) AlikeCall.other_decide (λ es. refl) refl (λ x y. both p x y cs)
 
 pub runs_both : RunsBoth
 runs_both c lent lent' back s cs w m room g =

@@ -1,7 +1,7 @@
 -- What a queue and a list say of one layer: whether they have it, its cover, its segments. Assumes nothing.
-use Rattle.std.specs.Prelude.{◌≡◌, ◌&&◌, ◌||◌, ◌∷◌, ◌+◌, ◌≤◌, ◌<◌}
-use Rattle.laws.proofs.Prelude.{refl, ap, ap₂, sym, ◌∙◌, Bool, true, false, cond, not, and-false, ⊎_elim, List, [], map, Option}
-use Rattle.laws.proofs.Prelude.{some, none, ℕ, suc, arith, eq-eqb, ne_eqb, eqb-true, lt-ltb, eqb, ltb, ℤ, any, filter, sumℕ, eq_or_ne}
+use Rattle.std.specs.Prelude.{◌≡◌, ◌&&◌, ◌||◌, ◌∷◌, ◌+◌}
+use Rattle.laws.proofs.Prelude.{subst, refl, ap, sym, ◌∙◌, Bool, true, false, cond, not, and-false, ⊎_elim, List, [], map}
+use Rattle.laws.proofs.Prelude.{some, none, ℕ, suc, arith, eq-eqb, ne_eqb, eqb-true, lt-ltb, eqb, ltb, any, filter, sumℕ, eq_or_ne}
 use Rattle.pixel_segment.specs.Field.{cpu}
 use Rattle.styling.specs.Ascending.{strictly_ascends_from}
 use Rattle.styling.specs.declared.Layer.{Layer}
@@ -9,13 +9,11 @@ use Rattle.styling.proofs.Ascents.{ascends_tail}
 use Rattle.cover_statements.specs.Carry.{carry_of}
 use Rattle.cover_statements.specs.Cover.{is_empty}
 use Rattle.queue_statements.specs.Queue.{Carry, held_in}
-use Rattle.queue_statements.proofs.Queues.{held_here, held_past}
 use Rattle.tile_layers.specs.Listing.{Listed, is_listed, has_carry, has_any, incoming_of}
 use Rattle.tile_layers.proofs.Ordering.{listed_ids}
 use Rattle.layer_carrying.specs.Carrying.{rule_in, carry_for, is_carried, handed_on}
-use Rattle.pass_statements.specs.Entry.{Entry}
 use Rattle.layer_workbench.specs.Work.{entry_of}
-use Rattle.row_carries.proofs.Merged.{own_in, own_past, low_unlisted, head_held, head_own, unlisted_held, unlisted_own}
+use Rattle.row_carries.proofs.Merged.{own_in, low_unlisted, head_held, head_own}
 use Rattle.row_carries.specs.Carries.{is_unlisted}
 use Rattle.two_rows.specs.Apart.{entry_in, carry_in}
 
@@ -72,7 +70,7 @@ entry_in_lem table low (l ∷ ls) id h = ⊎_elim (here id) (λ (n : l.id ≡ id
     first = rw (head_held l ls, head_own low l ls h, eq-eqb l.id l.id refl)
 
     here : (i : ℕ) → l.id ≡ i → entry_in (map (entry_of table) (l ∷ ls)) i ≡ cond (is_listed (l ∷ ls) i) (some (record { id = i; cover = held_in (incoming_of (l ∷ ls)) i; segments = has_any (own_in (l ∷ ls) i) })) none
-    here i e = rw (← e) first
+    here i e = subst (λ (k : ℕ). entry_in (map (entry_of table) (l ∷ ls)) k ≡ cond (is_listed (l ∷ ls) k) (some (record { id = k; cover = held_in (incoming_of (l ∷ ls)) k; segments = has_any (own_in (l ∷ ls) k) })) none) e first
 
     past : (i : ℕ) → (l.id ≡ i → ⊥) → entry_in (map (entry_of table) ls) i ≡ cond (is_listed ls i) (some (record { id = i; cover = held_in (incoming_of ls) i; segments = has_any (own_in ls i) })) none → entry_in (map (entry_of table) (l ∷ ls)) i ≡ cond (is_listed (l ∷ ls) i) (some (record { id = i; cover = held_in (incoming_of (l ∷ ls)) i; segments = has_any (own_in (l ∷ ls) i) })) none
     past i n r = rw (ne_eqb l.id i n) r
@@ -109,4 +107,4 @@ module _ (table : List Layer) where
           alone false = refl
 
       here : (i : ℕ) → l.id ≡ i → has_carry (handed_on table ls) l.id ≡ (is_listed ls l.id && not (is_empty (rule_in table l.id) (carry_of cpu 16 (held_in (incoming_of ls) l.id) (own_in ls l.id)))) → has_carry (handed_on table (l ∷ ls)) i ≡ (is_listed (l ∷ ls) i && not (is_empty (rule_in table i) (carry_of cpu 16 (held_in (incoming_of (l ∷ ls)) i) (own_in (l ∷ ls) i))))
-      here i e r = rw (← e) (first r)
+      here i e r = subst (λ (k : ℕ). has_carry (handed_on table (l ∷ ls)) k ≡ (is_listed (l ∷ ls) k && not (is_empty (rule_in table k) (carry_of cpu 16 (held_in (incoming_of (l ∷ ls)) k) (own_in (l ∷ ls) k))))) e (first r)

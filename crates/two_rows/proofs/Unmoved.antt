@@ -1,15 +1,15 @@
 -- Where only another layer's segments change, a layer's planes stay. Assumes nothing.
 use Rattle.std.specs.Prelude.{◌≡◌, ◌∷◌, ◌+◌}
-use Rattle.laws.proofs.Prelude.{refl, ap, ap₂, sym, ◌∙◌, Bool, true, false, cond, not, List, [], map, ℕ, suc, arith, eqb-true, ne_eqb}
+use Rattle.laws.proofs.Prelude.{refl, ap, ap₂, sym, ◌∙◌, Bool, true, false, cond, not, List, [], map, ℕ, suc, eqb-true, ne_eqb}
 use Rattle.laws.proofs.Prelude.{eqb, filter, count_by}
 use Rattle.pixel_segment.specs.Field.{cpu, layer_id_of}
 use Rattle.styling.specs.declared.FillRule.{FillRule}
 use Rattle.cover_statements.specs.WholeRow.{row_plane}
 use Rattle.layer_carrying.specs.Carrying.{rule_in}
 use Rattle.row_statements.specs.Lent.{LentTable, layers_of}
-use Rattle.row_statements.specs.Due.{OpenRow, table_on, plane_on}
-use Rattle.two_rows.specs.Apart.{below_tile_y, layer_segments, AgreeOn}
-use Rattle.two_rows.specs.Unmoved.{without_layer, DifferOnlyIn, Unmoved, OthersUnmoved}
+use Rattle.row_statements.specs.Due.{table_on}
+use Rattle.two_rows.specs.Apart.{below_tile_y, layer_segments}
+use Rattle.two_rows.specs.Unmoved.{without_layer, OthersUnmoved}
 use Rattle.two_rows.proofs.Same.{plane_same}
 
 -- a layer's segments are those of the row without another's

@@ -1,5 +1,5 @@
 -- What is summed over a layer's segments depends on no tile y. Assumes nothing.
-use Rattle.std.specs.Prelude.{◌≡◌, ◌&&◌, ◌∷◌, ◌+◌, ◌%◌, ◌/◌, ◌^◌, ◌*ℤ◌}
+use Rattle.std.specs.Prelude.{◌≡◌, ◌&&◌, ◌∷◌, ◌%◌, ◌/◌, ◌^◌, ◌*ℤ◌}
 use Rattle.laws.proofs.Prelude.{refl, ap, ap₂, sym, ◌∙◌, Bool, true, false, cond, List, [], map, ℕ, arith, eqb, ℤ}
 use Rattle.laws.proofs.Prelude.{pos, filter, sum_by, sum_ext, sum_filter}
 use Rattle.pixel_segment.specs.Field.{cpu, tile_x_of, layer_id_of, local_x_of, local_y_of, multiplier_of, signed_of, cover_of, double_area_of}

@@ -1,7 +1,7 @@
 -- Two rows that agree on layer 5, a clipped draw, and differ in its table's word and in what rests on other layers: whether it is changed, which layers
 -- are masked off, how many are skipped, the decision, and the layer's mark. In the first it stands alone; in the second a clip lies below it and an opaque draw over it. proofs/Example has it.
 use Rattle.std.specs.Prelude.{◌≡◌, ◌∷◌, ◌++◌}
-use Rattle.laws.specs.Prelude.{Bool, true, false, List, [], map, some, none, ℕ, Float, binary32, of_bits, pos, negsuc, length}
+use Rattle.laws.specs.Prelude.{Bool, true, false, List, [], map, some, none, ℕ, Float, binary32, of_bits, pos, negsuc}
 use Rattle.laws.specs.Prelude.{replicate, tabulate}
 use Rattle.pixel_segment.specs.Field.{cpu}
 use Rattle.pixel_segment.specs.Pack.{word_of}
@@ -11,7 +11,6 @@ use Rattle.pass_statements.specs.Decide.{Outcome}
 use Rattle.pass_statements.specs.Decision.{solid}
 use Rattle.layer_workbench.specs.Work.{entry_of}
 use Rattle.layer_workbench.specs.declared.PreviousClear.TheVariants.{Absent}
-use Rattle.row_statements.specs.Lent.{LentTable}
 use Rattle.row_statements.specs.Due.{OpenRow, table_on, layers_on, outcome_on, mark_on}
 use Rattle.two_rows.specs.Apart.{AgreeOn}
 
