@@ -1,7 +1,7 @@
 -- The shown layers of a tile, painted in one walk: each step is a layer that is painted into the next plane or passed over, and what is left of the
 -- walk gives what the whole list gives. Assumes nothing.
 use Rattle.std.specs.Prelude.{◌≡◌, ◌∷◌, ◌+◌, ◌*◌, ◌≤◌, ◌<◌}
-use Rattle.laws.proofs.Prelude.{refl, ap, sym, subst, ◌∙◌, Bool, true, false, cond, List, [], Option, none, ℕ, arith}
+use Rattle.laws.proofs.Prelude.{ap, sym, ◌∙◌, Bool, true, false, cond, List, [], Option, none, ℕ, arith}
 use Rattle.laws.proofs.Prelude.{Float, ℤ, length, take, get_or, sets, over}
 use Rattle.styling.specs.declared.Layer.{Layer}
 use Rattle.queue_statements.specs.Queue.{Carry, queue_of}

@@ -1,13 +1,12 @@
 -- A tile lists at most as many layers as the table has records: the ids of both ascend strictly, and each listed one is in the table. So the layers that
 -- are shown, painted or mixed are at most as many as the planes that must be free before the tile. Assumes nothing.
-use Rattle.std.specs.Prelude.{◌≡◌, ◌&&◌, ◌∷◌, ◌≤◌, ◌<◌}
-use Rattle.laws.proofs.Prelude.{ap, sym, ◌∙◌, Bool, true, false, ⊎_elim, List, [], map, ℕ, suc, min, arith, leb, length}
-use Rattle.laws.proofs.Prelude.{length-map, le-leb, Answer, refused, given, is_given, all, both, left, right, eq_or_ne}
+use Rattle.std.specs.Prelude.{◌≡◌, ◌∷◌, ◌≤◌}
+use Rattle.laws.proofs.Prelude.{ap, sym, ◌∙◌, Bool, true, ⊎_elim, List, [], map, ℕ, suc, min, arith, leb, length}
+use Rattle.laws.proofs.Prelude.{length-map, le-leb, is_given, all, both, left, right, eq_or_ne}
 use Rattle.styling.specs.Ascending.{strictly_ascends_from, strictly_ascends}
 use Rattle.styling.specs.declared.Layer.{Layer}
 use Rattle.styling.proofs.Ascents.{ascends_head, ascends_tail, ascends_weaken}
 use Rattle.layer_table.specs.Lookup.{lookup}
-use Rattle.layer_table.specs.Table.{is_table}
 use Rattle.layer_table.proofs.Judging.{table}
 use Rattle.layer_table.proofs.Listed.{length_table, ids_table}
 use Rattle.layer_table.proofs.Looking.{id_of, lookup_pass}

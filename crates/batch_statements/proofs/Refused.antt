@@ -1,9 +1,9 @@
 -- A batch that worked no tile stands where it began; so a refused one leaves everything as it was, and is refused as its first tile is. Assumes nothing.
-use Rattle.std.specs.Prelude.{◌≡◌, ◌+◌, ◌≤◌, ◌<◌}
-use Rattle.laws.proofs.Prelude.{refl, ap, sym, ◌∙◌, Bool, true, false, cond, ℕ, zero, suc, arith, leb, Answer, refused, given}
+use Rattle.std.specs.Prelude.{◌≡◌, ◌≤◌}
+use Rattle.laws.proofs.Prelude.{refl, ap, ◌∙◌, Bool, true, false, cond, ℕ, zero, suc, arith, leb, Answer, refused, given}
 use Rattle.row_statements.specs.TileWork.{TileAnswer}
 use Rattle.batch_statements.specs.BatchLent.{BatchLent, has_room}
-use Rattle.batch_statements.specs.Batch.{BatchRow, BatchAt, BatchEnd, BatchGiven, BatchCall, ended_at, work_at, tile_past, TurnGiven, turn_by, turn_of, next_by, tiles_from, batch_start, batch_of, answer_of, batch_answer, BatchRefused}
+use Rattle.batch_statements.specs.Batch.{BatchRow, BatchAt, BatchEnd, BatchGiven, BatchCall, ended_at, work_at, tile_past, turn_by, turn_of, next_by, tiles_from, batch_start, batch_of, answer_of, BatchRefused}
 use Rattle.batch_statements.specs.declared.Room as room
 
 -- it stands where it was or works a tile more; and where it stands, a number that it ends with is the next tile's

@@ -20,8 +20,8 @@ use Rattle.layer_row_gpu.proofs.Dues.{layer_facts, start, work_given, inside_aft
 use Rattle.layer_row_gpu.proofs.Ranges.{tiles_given, tiles_inside, tiles_state}
 use Rattle.layer_row_gpu.proofs.Runs.{turned_down, range_turned_down}
 use Rattle.ffi_numbers.specs.Numbers.{judged_number}
-use Rattle.ffi_four_high.specs.FourHighRows.{LayerNumbers, layer_state_from, layer_row_words, layer_numbers_by, TilesNumbers, tiles_numbers_by, OpenLayerTold, WorkLayerTold, TilesTold}
-use Rattle.ffi_four_high.specs.FourHighCalls.{state_held, LayerTold, NumberCall, NumberCalls, AllTold, LendsRow, choice_told, CalledSo, NumbersClaim, NumbersExist}
+use Rattle.ffi_four_high.specs.FourHighRows.{LayerNumbers, layer_state_from, layer_row_words, layer_numbers_by, TilesNumbers, tiles_numbers_by, WorkLayerTold, TilesTold}
+use Rattle.ffi_four_high.specs.FourHighCalls.{state_held, LayerTold, NumberCall, NumberCalls, AllTold, NumbersClaim, NumbersExist}
 
 -- ---- an opening that tells 0 is accepted
 

@@ -2,9 +2,6 @@
 use Rattle.laws.proofs.Prelude.{rules}
 use Rattle.batch_noting.proofs.put_bottom.Goals as goal
 
-pub enum_told-1 : goal.enum_told-1
-enum_told-1 c = search rules
-
 pub enum_known-decision : goal.enum_known-decision
 enum_known-decision c = search rules
 
@@ -13,9 +10,6 @@ overflow_mul-i c = search rules
 
 pub put_four-requires : goal.put_four-requires
 put_four-requires c = search rules
-
-pub enum_told-in-Paint : goal.enum_told-in-Paint
-enum_told-in-Paint c = search rules
 
 pub returns-in-None : goal.returns-in-None
 returns-in-None c = search rules

@@ -21,7 +21,7 @@ bounds-kept-at-2 c =
     let at = c.args.at in
     let l0 = c.args.kept.now in
     let h : at + 1 < length l0 = omega (arith, c.requires) in
-    below l0 at (at + 1) (get_or c.args.t3 0 0) h
+    below l0 at (at + 1) (get_or c.args.bytes 0 0) h
 
 pub bounds-bytes-2 : goal.bounds-bytes-2
 bounds-bytes-2 c = search rules
@@ -33,9 +33,9 @@ pub bounds-kept-at-3 : goal.bounds-kept-at-3
 bounds-kept-at-3 c =
     let at = c.args.at in
     let l0 = c.args.kept.now in
-    let l1 = set l0 (at) (get_or c.args.t3 0 0) in
+    let l1 = set l0 (at) (get_or c.args.bytes 0 0) in
     let h : at + 2 < length l0 = omega (arith, c.requires) in
-    below l1 (at + 1) (at + 2) (get_or c.args.t3 1 0) (below l0 at (at + 2) (get_or c.args.t3 0 0) h)
+    below l1 (at + 1) (at + 2) (get_or c.args.bytes 1 0) (below l0 at (at + 2) (get_or c.args.bytes 0 0) h)
 
 pub bounds-bytes-3 : goal.bounds-bytes-3
 bounds-bytes-3 c = search rules
@@ -47,10 +47,10 @@ pub bounds-kept-at-4 : goal.bounds-kept-at-4
 bounds-kept-at-4 c =
     let at = c.args.at in
     let l0 = c.args.kept.now in
-    let l1 = set l0 (at) (get_or c.args.t3 0 0) in
-    let l2 = set l1 (at + 1) (get_or c.args.t3 1 0) in
+    let l1 = set l0 (at) (get_or c.args.bytes 0 0) in
+    let l2 = set l1 (at + 1) (get_or c.args.bytes 1 0) in
     let h : at + 3 < length l0 = omega (arith, c.requires) in
-    below l2 (at + 2) (at + 3) (get_or c.args.t3 2 0) (below l1 (at + 1) (at + 3) (get_or c.args.t3 1 0) (below l0 at (at + 3) (get_or c.args.t3 0 0) h))
+    below l2 (at + 2) (at + 3) (get_or c.args.bytes 2 0) (below l1 (at + 1) (at + 3) (get_or c.args.bytes 1 0) (below l0 at (at + 3) (get_or c.args.bytes 0 0) h))
 
 pub bounds-bytes-4 : goal.bounds-bytes-4
 bounds-bytes-4 c = search rules
@@ -62,11 +62,11 @@ pub bounds-kept-at-5 : goal.bounds-kept-at-5
 bounds-kept-at-5 c =
     let at = c.args.at in
     let l0 = c.args.kept.now in
-    let l1 = set l0 (at) (get_or c.args.t3 0 0) in
-    let l2 = set l1 (at + 1) (get_or c.args.t3 1 0) in
-    let l3 = set l2 (at + 2) (get_or c.args.t3 2 0) in
+    let l1 = set l0 (at) (get_or c.args.bytes 0 0) in
+    let l2 = set l1 (at + 1) (get_or c.args.bytes 1 0) in
+    let l3 = set l2 (at + 2) (get_or c.args.bytes 2 0) in
     let h : at + 4 < length l0 = omega (arith, c.requires) in
-    below l3 (at + 3) (at + 4) (get_or c.args.t3 3 0) (below l2 (at + 2) (at + 4) (get_or c.args.t3 2 0) (below l1 (at + 1) (at + 4) (get_or c.args.t3 1 0) (below l0 at (at + 4) (get_or c.args.t3 0 0) h)))
+    below l3 (at + 3) (at + 4) (get_or c.args.bytes 3 0) (below l2 (at + 2) (at + 4) (get_or c.args.bytes 2 0) (below l1 (at + 1) (at + 4) (get_or c.args.bytes 1 0) (below l0 at (at + 4) (get_or c.args.bytes 0 0) h)))
 
 pub bounds-bytes-5 : goal.bounds-bytes-5
 bounds-bytes-5 c = search rules
@@ -78,12 +78,12 @@ pub bounds-kept-at-6 : goal.bounds-kept-at-6
 bounds-kept-at-6 c =
     let at = c.args.at in
     let l0 = c.args.kept.now in
-    let l1 = set l0 (at) (get_or c.args.t3 0 0) in
-    let l2 = set l1 (at + 1) (get_or c.args.t3 1 0) in
-    let l3 = set l2 (at + 2) (get_or c.args.t3 2 0) in
-    let l4 = set l3 (at + 3) (get_or c.args.t3 3 0) in
+    let l1 = set l0 (at) (get_or c.args.bytes 0 0) in
+    let l2 = set l1 (at + 1) (get_or c.args.bytes 1 0) in
+    let l3 = set l2 (at + 2) (get_or c.args.bytes 2 0) in
+    let l4 = set l3 (at + 3) (get_or c.args.bytes 3 0) in
     let h : at + 5 < length l0 = omega (arith, c.requires) in
-    below l4 (at + 4) (at + 5) (get_or c.args.t3 4 0) (below l3 (at + 3) (at + 5) (get_or c.args.t3 3 0) (below l2 (at + 2) (at + 5) (get_or c.args.t3 2 0) (below l1 (at + 1) (at + 5) (get_or c.args.t3 1 0) (below l0 at (at + 5) (get_or c.args.t3 0 0) h))))
+    below l4 (at + 4) (at + 5) (get_or c.args.bytes 4 0) (below l3 (at + 3) (at + 5) (get_or c.args.bytes 3 0) (below l2 (at + 2) (at + 5) (get_or c.args.bytes 2 0) (below l1 (at + 1) (at + 5) (get_or c.args.bytes 1 0) (below l0 at (at + 5) (get_or c.args.bytes 0 0) h))))
 
 pub bounds-bytes-6 : goal.bounds-bytes-6
 bounds-bytes-6 c = search rules
@@ -95,13 +95,13 @@ pub bounds-kept-at-7 : goal.bounds-kept-at-7
 bounds-kept-at-7 c =
     let at = c.args.at in
     let l0 = c.args.kept.now in
-    let l1 = set l0 (at) (get_or c.args.t3 0 0) in
-    let l2 = set l1 (at + 1) (get_or c.args.t3 1 0) in
-    let l3 = set l2 (at + 2) (get_or c.args.t3 2 0) in
-    let l4 = set l3 (at + 3) (get_or c.args.t3 3 0) in
-    let l5 = set l4 (at + 4) (get_or c.args.t3 4 0) in
+    let l1 = set l0 (at) (get_or c.args.bytes 0 0) in
+    let l2 = set l1 (at + 1) (get_or c.args.bytes 1 0) in
+    let l3 = set l2 (at + 2) (get_or c.args.bytes 2 0) in
+    let l4 = set l3 (at + 3) (get_or c.args.bytes 3 0) in
+    let l5 = set l4 (at + 4) (get_or c.args.bytes 4 0) in
     let h : at + 6 < length l0 = omega (arith, c.requires) in
-    below l5 (at + 5) (at + 6) (get_or c.args.t3 5 0) (below l4 (at + 4) (at + 6) (get_or c.args.t3 4 0) (below l3 (at + 3) (at + 6) (get_or c.args.t3 3 0) (below l2 (at + 2) (at + 6) (get_or c.args.t3 2 0) (below l1 (at + 1) (at + 6) (get_or c.args.t3 1 0) (below l0 at (at + 6) (get_or c.args.t3 0 0) h)))))
+    below l5 (at + 5) (at + 6) (get_or c.args.bytes 5 0) (below l4 (at + 4) (at + 6) (get_or c.args.bytes 4 0) (below l3 (at + 3) (at + 6) (get_or c.args.bytes 3 0) (below l2 (at + 2) (at + 6) (get_or c.args.bytes 2 0) (below l1 (at + 1) (at + 6) (get_or c.args.bytes 1 0) (below l0 at (at + 6) (get_or c.args.bytes 0 0) h)))))
 
 pub bounds-bytes-7 : goal.bounds-bytes-7
 bounds-bytes-7 c = search rules
@@ -113,28 +113,28 @@ pub bounds-kept-at-8 : goal.bounds-kept-at-8
 bounds-kept-at-8 c =
     let at = c.args.at in
     let l0 = c.args.kept.now in
-    let l1 = set l0 (at) (get_or c.args.t3 0 0) in
-    let l2 = set l1 (at + 1) (get_or c.args.t3 1 0) in
-    let l3 = set l2 (at + 2) (get_or c.args.t3 2 0) in
-    let l4 = set l3 (at + 3) (get_or c.args.t3 3 0) in
-    let l5 = set l4 (at + 4) (get_or c.args.t3 4 0) in
-    let l6 = set l5 (at + 5) (get_or c.args.t3 5 0) in
+    let l1 = set l0 (at) (get_or c.args.bytes 0 0) in
+    let l2 = set l1 (at + 1) (get_or c.args.bytes 1 0) in
+    let l3 = set l2 (at + 2) (get_or c.args.bytes 2 0) in
+    let l4 = set l3 (at + 3) (get_or c.args.bytes 3 0) in
+    let l5 = set l4 (at + 4) (get_or c.args.bytes 4 0) in
+    let l6 = set l5 (at + 5) (get_or c.args.bytes 5 0) in
     let h : at + 7 < length l0 = omega (arith, c.requires) in
-    below l6 (at + 6) (at + 7) (get_or c.args.t3 6 0) (below l5 (at + 5) (at + 7) (get_or c.args.t3 5 0) (below l4 (at + 4) (at + 7) (get_or c.args.t3 4 0) (below l3 (at + 3) (at + 7) (get_or c.args.t3 3 0) (below l2 (at + 2) (at + 7) (get_or c.args.t3 2 0) (below l1 (at + 1) (at + 7) (get_or c.args.t3 1 0) (below l0 at (at + 7) (get_or c.args.t3 0 0) h))))))
+    below l6 (at + 6) (at + 7) (get_or c.args.bytes 6 0) (below l5 (at + 5) (at + 7) (get_or c.args.bytes 5 0) (below l4 (at + 4) (at + 7) (get_or c.args.bytes 4 0) (below l3 (at + 3) (at + 7) (get_or c.args.bytes 3 0) (below l2 (at + 2) (at + 7) (get_or c.args.bytes 2 0) (below l1 (at + 1) (at + 7) (get_or c.args.bytes 1 0) (below l0 at (at + 7) (get_or c.args.bytes 0 0) h))))))
 
 pub shape_of-kept : goal.shape_of-kept
 shape_of-kept c =
     let at = c.args.at in
     let l0 = c.args.kept.now in
-    let l1 = set l0 (at) (get_or c.args.t3 0 0) in
-    let l2 = set l1 (at + 1) (get_or c.args.t3 1 0) in
-    let l3 = set l2 (at + 2) (get_or c.args.t3 2 0) in
-    let l4 = set l3 (at + 3) (get_or c.args.t3 3 0) in
-    let l5 = set l4 (at + 4) (get_or c.args.t3 4 0) in
-    let l6 = set l5 (at + 5) (get_or c.args.t3 5 0) in
-    let l7 = set l6 (at + 6) (get_or c.args.t3 6 0) in
-    let l8 = set l7 (at + 7) (get_or c.args.t3 7 0) in
-    length-set l7 (at + 7) (get_or c.args.t3 7 0) ∙ length-set l6 (at + 6) (get_or c.args.t3 6 0) ∙ length-set l5 (at + 5) (get_or c.args.t3 5 0) ∙ length-set l4 (at + 4) (get_or c.args.t3 4 0) ∙ length-set l3 (at + 3) (get_or c.args.t3 3 0) ∙ length-set l2 (at + 2) (get_or c.args.t3 2 0) ∙ length-set l1 (at + 1) (get_or c.args.t3 1 0) ∙ length-set l0 (at) (get_or c.args.t3 0 0)
+    let l1 = set l0 (at) (get_or c.args.bytes 0 0) in
+    let l2 = set l1 (at + 1) (get_or c.args.bytes 1 0) in
+    let l3 = set l2 (at + 2) (get_or c.args.bytes 2 0) in
+    let l4 = set l3 (at + 3) (get_or c.args.bytes 3 0) in
+    let l5 = set l4 (at + 4) (get_or c.args.bytes 4 0) in
+    let l6 = set l5 (at + 5) (get_or c.args.bytes 5 0) in
+    let l7 = set l6 (at + 6) (get_or c.args.bytes 6 0) in
+    let l8 = set l7 (at + 7) (get_or c.args.bytes 7 0) in
+    length-set l7 (at + 7) (get_or c.args.bytes 7 0) ∙ length-set l6 (at + 6) (get_or c.args.bytes 6 0) ∙ length-set l5 (at + 5) (get_or c.args.bytes 5 0) ∙ length-set l4 (at + 4) (get_or c.args.bytes 4 0) ∙ length-set l3 (at + 3) (get_or c.args.bytes 3 0) ∙ length-set l2 (at + 2) (get_or c.args.bytes 2 0) ∙ length-set l1 (at + 1) (get_or c.args.bytes 1 0) ∙ length-set l0 (at) (get_or c.args.bytes 0 0)
 
 pub returns : goal.returns
 returns c =

@@ -18,4 +18,4 @@ pub shape_of-told : goal.shape_of-told
 shape_of-told c = search rules
 
 pub returns : goal.returns
-returns c = rw (c.Before-of.ensures, c.code_of.ensures) at c.put_six.ensures
+returns c = rw (c.before_of.ensures, c.code_of.ensures) at c.put_six.ensures

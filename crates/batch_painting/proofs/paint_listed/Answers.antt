@@ -1,8 +1,7 @@
 -- `paint_listed` meets its contract: the invariant and its steps are those of `Walking`. Assumes nothing.
-use Rattle.std.specs.Prelude.{◌≡◌, ◌-◌}
-use Rattle.laws.proofs.Prelude.{refl, ◌∙◌, arith, rules, length}
+use Rattle.laws.proofs.Prelude.{refl, ◌∙◌, arith}
 use Rattle.layer_table.specs.Table.{table_of}
-use Rattle.batch_painting.proofs.Walking.{Walked, walked_start, walked_next, walked_end}
+use Rattle.batch_painting.proofs.Walking.{walked_start, walked_next, walked_end}
 use Rattle.batch_painting.proofs.paint_listed.Goals as goal
 
 pub start_past-walk-requires : goal.start_past-walk-requires
@@ -41,8 +40,8 @@ loop-i-preserved c =
     let e = c.paint_entry-at in
     let v = c.loop-i.invariant in (
       walked_next (table_of a.layers.now a.colors.now a.count) a.n a.ids.now a.covers.now a.part.now a.list_unmasked.now a.skipped a.listed a.used a.planes.now a.painted.now c.requires.1 e.result v.0 c.loop-i-test.true e.ensures,
-      e.auto.1.1.1.1.1.1.1.1.1.0 ∙ v.1,
-      e.auto.1.1.1.1.1.1.1.1.1.1.0 ∙ v.2,
+      e.auto.planes ∙ v.1,
+      e.auto.painted ∙ v.2,
     )
 
 pub shape_of-planes : goal.shape_of-planes

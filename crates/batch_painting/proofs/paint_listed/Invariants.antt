@@ -1,7 +1,7 @@
 use Rattle.std.specs.Prelude.{◌≡◌, ◌-◌}
-use Rattle.laws.proofs.Prelude.{refl, ◌∙◌, arith, rules, length}
+use Rattle.laws.proofs.Prelude.{length}
 use Rattle.layer_table.specs.Table.{table_of}
-use Rattle.batch_painting.proofs.Walking.{Walked, walked_start, walked_next, walked_end}
+use Rattle.batch_painting.proofs.Walking.{Walked}
 use Rattle.batch_painting.proofs.paint_listed.Given as goal
 
 abbrev pub invariant-loop-i : goal.invariant-loop-i

@@ -1,5 +1,5 @@
 -- `put_done` meets its contract. Assumes nothing.
-use Rattle.laws.proofs.Prelude.{refl, rules}
+use Rattle.laws.proofs.Prelude.{refl}
 use Rattle.ffi_four_high.proofs.put_done.Goals as goal
 
 pub returns-in-Pass : goal.returns-in-Pass

@@ -1,5 +1,5 @@
 -- `to_layer_row` meets its contract. Assumes nothing.
-use Rattle.laws.proofs.Prelude.{refl, rules}
+use Rattle.laws.proofs.Prelude.{refl}
 use Rattle.ffi_four_high.proofs.to_layer_row.Goals as goal
 
 pub returns : goal.returns

@@ -1,7 +1,6 @@
 -- `count_shown` meets its contract: the invariant and its steps are those of `Counting`. Assumes nothing.
-use Rattle.std.specs.Prelude.{◌-◌}
-use Rattle.laws.proofs.Prelude.{arith, rules}
-use Rattle.shown_layers.proofs.Tallying.{Counting, count_start, count_next, count_end}
+use Rattle.laws.proofs.Prelude.{arith}
+use Rattle.shown_layers.proofs.Tallying.{count_start, count_next, count_end}
 use Rattle.shown_layers.proofs.count_shown.Goals as goal
 
 pub loop-i-init : goal.loop-i-init

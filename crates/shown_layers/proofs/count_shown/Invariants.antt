@@ -1,6 +1,5 @@
 use Rattle.std.specs.Prelude.{◌-◌}
-use Rattle.laws.proofs.Prelude.{arith, rules}
-use Rattle.shown_layers.proofs.Tallying.{Counting, count_start, count_next, count_end}
+use Rattle.shown_layers.proofs.Tallying.{Counting}
 use Rattle.shown_layers.proofs.count_shown.Given as goal
 
 abbrev pub invariant-loop-i : goal.invariant-loop-i

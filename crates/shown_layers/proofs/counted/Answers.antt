@@ -1,5 +1,4 @@
 -- `counted` meets its contract. Assumes nothing.
-use Rattle.laws.proofs.Prelude.{rules}
 use Rattle.shown_layers.proofs.counted.Goals as goal
 
 pub returns-then-is_shown : goal.returns-then-is_shown

@@ -1,8 +1,7 @@
 -- `paint_shown` meets its contract: the invariant and its steps are those of `Painting`. Assumes nothing.
-use Rattle.std.specs.Prelude.{◌≡◌, ◌-◌}
-use Rattle.laws.proofs.Prelude.{refl, ◌∙◌, arith, rules, length}
+use Rattle.laws.proofs.Prelude.{refl, ◌∙◌, arith}
 use Rattle.layer_table.specs.Table.{table_of}
-use Rattle.shown_layers.proofs.Painting.{Shown, shown_start, shown_next, shown_end}
+use Rattle.shown_layers.proofs.Painting.{shown_start, shown_next, shown_end}
 use Rattle.shown_layers.proofs.paint_shown.Goals as goal
 
 pub start_past-walk-requires : goal.start_past-walk-requires
@@ -33,7 +32,7 @@ loop-i-preserved c =
     let a = c.args in
     let v = c.loop-i.invariant in
     let e = c.tally_entry-tally in
-    (shown_next (table_of a.layers.now a.colors.now a.count) a.n a.ids.now a.covers.now a.part.now a.list_unmasked.now a.skipped a.listed c.requires.1 e.result v.0 c.loop-i-test.true e.ensures, e.auto.1.1.1.1.1.1.1.1.1.0 ∙ v.1)
+    (shown_next (table_of a.layers.now a.colors.now a.count) a.n a.ids.now a.covers.now a.part.now a.list_unmasked.now a.skipped a.listed c.requires.1 e.result v.0 c.loop-i-test.true e.ensures, e.auto.plane ∙ v.1)
 
 pub returns : goal.returns
 returns c =

@@ -1,7 +1,7 @@
 use Rattle.std.specs.Prelude.{◌≡◌, ◌-◌}
-use Rattle.laws.proofs.Prelude.{refl, ◌∙◌, arith, rules, length}
+use Rattle.laws.proofs.Prelude.{length}
 use Rattle.layer_table.specs.Table.{table_of}
-use Rattle.shown_layers.proofs.Painting.{Shown, shown_start, shown_next, shown_end}
+use Rattle.shown_layers.proofs.Painting.{Shown}
 use Rattle.shown_layers.proofs.paint_shown.Given as goal
 
 abbrev pub invariant-loop-i : goal.invariant-loop-i

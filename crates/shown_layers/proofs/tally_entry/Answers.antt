@@ -1,5 +1,4 @@
 -- `tally_entry` meets its contract. Assumes nothing.
-use Rattle.laws.proofs.Prelude.{rules}
 use Rattle.shown_layers.proofs.Painting.{entry_painted, entry_passed}
 use Rattle.shown_layers.proofs.tally_entry.Goals as goal
 

@@ -1,5 +1,4 @@
 -- `tally_shown` meets its contract. Assumes nothing.
-use Rattle.laws.proofs.Prelude.{rules}
 use Rattle.layer_table.specs.Table.{table_of}
 use Rattle.shown_layers.proofs.Painting.{not_painted}
 use Rattle.shown_layers.proofs.tally_shown.Goals as goal

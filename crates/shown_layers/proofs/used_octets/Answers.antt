@@ -1,5 +1,5 @@
 -- `used_octets` meets its contract. Assumes nothing.
-use Rattle.laws.proofs.Prelude.{arith, rules}
+use Rattle.laws.proofs.Prelude.{arith}
 use lib.Count.{ones-le}
 use Rattle.shown_layers.proofs.used_octets.Goals as goal
 
