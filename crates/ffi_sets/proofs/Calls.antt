@@ -1,6 +1,6 @@
 -- Any list of calls by numbers is that of edits. Assumes nothing.
 use Rattle.std.specs.Prelude.{◌≡◌, ◌∷◌, ◌+◌}
-use Rattle.laws.proofs.Prelude.{refl, sym, ap, subst, ◌∙◌, Bool, true, false, not, List, [], ℕ, zero, suc, arith, leb, ltb, ℤ, length}
+use Rattle.laws.proofs.Prelude.{refl, sym, ap, subst, ◌∙◌, Bool, true, false, not, List, ℕ, zero, suc, arith, leb, ltb, ℤ, length}
 use Rattle.laws.proofs.Prelude.{get_or, le-ltb, all}
 use Rattle.refusals.specs.Refusal.{Judgement, pass, refuse, unless, number_of, judgement_in}
 use Rattle.refusals.specs.declared.Refusal.{Refusal}
@@ -9,16 +9,16 @@ use Rattle.refusals.specs.declared.Verdict.{Verdict}
 use Rattle.refusals.specs.declared.Verdict.TheVariants.{Pass, Refuse}
 use Rattle.pixel_segment.specs.Field.{cpu, local_y_of}
 use Rattle.cover_statements.specs.Carry.{abs_cover, is_light}
-use Rattle.segment_set_statements.specs.Set.{SetState, state, held_of, is_of, is_here, is_word_held, Beginning, nothing, beginning, begin_verdict, begin_of, fresh_state}
-use Rattle.segment_set_statements.specs.Set.{take_verdict, take_of, taken_in, let_verdict, let_of, let_out, settled}
+use Rattle.segment_set_statements.specs.Set.{SetState, state, held_of, is_of, is_here, is_word_held, Beginning, nothing, beginning, begin_verdict, fresh_state}
+use Rattle.segment_set_statements.specs.Set.{take_verdict, taken_in, let_verdict, let_out, settled}
 use Rattle.segment_set_statements.specs.Kept.{Holds}
 use Rattle.segment_set_statements.specs.Edits as e
 use Rattle.segment_set_statements.specs.Edits.{Edits, accepted}
 use Rattle.segment_set_statements.proofs.Keeping.{kept}
 use Rattle.segment_set_statements.proofs.Alikes.{taken_as_begun}
 use Rattle.ffi_numbers.specs.Numbers.{judged_number}
-use Rattle.ffi_sets.specs.Sets.{SetLent, set_lent, state_from, edited_numbers, begun_lent, BeginTold, TakeTold, LetTold}
-use Rattle.ffi_sets.specs.SetCalls.{accepted_by, SetCalls, place_of, take_due, let_due, RightSet, SetCallsClaim}
+use Rattle.ffi_sets.specs.Sets.{SetLent, set_lent, state_from, edited_numbers, begun_lent}
+use Rattle.ffi_sets.specs.SetCalls.{accepted_by, SetCalls, place_of, take_due, let_due, SetCallsClaim}
 use Rattle.ffi_sets.specs.SetCalls.SetCalls.{begun, taken, let_out_step, relent}
 
 -- ---- judgements that the code can say, and what their numbers tell

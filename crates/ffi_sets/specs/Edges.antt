@@ -1,8 +1,8 @@
 -- Worked cases of the layer and the tile in lent memory: a set begun with nothing in one slot, the incoming cover 16 in each row. Stands for W-207.
 use Rattle.std.specs.Prelude.{◌≡◌, ◌∷◌}
-use Rattle.laws.specs.Prelude.{List, [], ℕ, ℤ, pos, negsuc, replicate}
+use Rattle.laws.specs.Prelude.{[], ℕ, ℤ, pos, negsuc, replicate}
 use Rattle.refusals.specs.Refusal.{Judgement, pass, refuse}
-use Rattle.segment_set_statements.specs.Set.{Beginning, beginning, begin_verdict, begin_of, take_verdict}
+use Rattle.segment_set_statements.specs.Set.{beginning, begin_verdict, begin_of, take_verdict}
 use Rattle.ffi_sets.specs.Sets.{SetLent, set_place, set_numbers, set_lent, state_from, begun_lent}
 
 -- layer 5, tile 2 of row 0; in layer 6; in tile 3; in row 1

@@ -1,5 +1,4 @@
 -- `mix_entry` meets its contract. Assumes nothing.
-use Rattle.laws.proofs.Prelude.{rules, not-true, not-false}
 use Rattle.batch_statements.specs.BatchLent.{words_at}
 use Rattle.batch_mixing.proofs.Mixed.{passed_over, is_noted}
 use Rattle.batch_mixing.proofs.mix_entry.Goals as goal
@@ -10,9 +9,9 @@ returns-then-not-unmasked c = rw (c.if-not-unmasked.true)
 pub returns-then-at-gt0 : goal.returns-then-at-gt0
 returns-then-at-gt0 c =
     let a = c.args in
-    rw (c.if-not-unmasked.false) (passed_over a.at (words_at a.at.used a.painted.now) a.id c.if-at-gt0.true)
+    rw (c.if-not-unmasked.false) (passed_over a.at.before (words_at a.at.used a.painted.now) a.id c.if-at-gt0.true)
 
 pub returns : goal.returns
 returns c =
     let a = c.args in
-    rw (c.if-not-unmasked.false, c.put_words.ensures) (is_noted a.at (words_at a.at.used a.painted.now) a.id c.if-at-gt0.false)
+    rw (c.if-not-unmasked.false, c.put_words.ensures) (is_noted a.at.before (words_at a.at.used a.painted.now) a.id c.if-at-gt0.false)

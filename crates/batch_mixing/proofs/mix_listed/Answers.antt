@@ -1,14 +1,13 @@
 -- `mix_listed` meets its contract: the invariant and its steps are those of `Walking`. Assumes nothing.
-use Rattle.std.specs.Prelude.{◌≡◌, ◌-◌}
-use Rattle.laws.proofs.Prelude.{refl, ◌∙◌, arith, rules, length}
+use Rattle.laws.proofs.Prelude.{refl, ◌∙◌, arith}
 use Rattle.batch_mixing.specs.InnerMixing.{MixAt, mix_at}
-use Rattle.batch_mixing.proofs.Mixed.{Walking, start, next, end}
+use Rattle.batch_mixing.proofs.Mixed.{start, next, end}
 use Rattle.batch_mixing.proofs.mix_listed.Goals as goal
 use Rattle.batch_mixing.proofs.mix_listed.Goals.{Start}
 
 -- before the first layer
 abbrev begun : Start → MixAt
-begun s = let a = s.args in mix_at (record { before = a; used = a.used }) a.painted.now
+begun s = let a = s.args in mix_at (record { before = a.before; used = a.used }) a.painted.now
 
 pub loop-i-init : goal.loop-i-init
 loop-i-init c =
@@ -34,7 +33,7 @@ loop-i-preserved c =
     let a = c.args in
     let v = c.loop-i.invariant in (
       next a.list_ids.now a.list_unmasked.now a.skipped a.listed (begun (goal.at.loop-i-preserved c).Start) c.requires.ids_long c.requires.unmasked_long v.0 c.loop-i-test.true c.mix_entry-at.ensures,
-      c.mix_entry-at.auto.1.1.1.0 ∙ v.1,
+      c.mix_entry-at.auto.painted ∙ v.1,
     )
 
 pub shape_of-painted : goal.shape_of-painted

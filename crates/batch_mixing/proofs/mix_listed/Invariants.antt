@@ -1,7 +1,7 @@
 use Rattle.std.specs.Prelude.{◌≡◌, ◌-◌}
-use Rattle.laws.proofs.Prelude.{refl, ◌∙◌, arith, rules, length}
-use Rattle.batch_mixing.specs.InnerMixing.{MixAt, mix_at}
-use Rattle.batch_mixing.proofs.Mixed.{Walking, start, next, end}
+use Rattle.laws.proofs.Prelude.{length}
+use Rattle.batch_mixing.specs.InnerMixing.{mix_at}
+use Rattle.batch_mixing.proofs.Mixed.{Walking}
 use Rattle.batch_mixing.proofs.mix_listed.Given as goal
 
 abbrev pub invariant-loop-i : goal.invariant-loop-i

@@ -1,5 +1,5 @@
 -- `put_mixed` meets its contract. Assumes nothing.
-use Rattle.laws.proofs.Prelude.{refl, rules}
+use Rattle.laws.proofs.Prelude.{refl}
 use Rattle.batch_statements.specs.BatchLent.{words_at}
 use Rattle.batch_mixing.proofs.Mixed.{none_mixed}
 use Rattle.batch_mixing.proofs.put_mixed.Goals as goal

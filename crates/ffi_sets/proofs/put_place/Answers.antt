@@ -1,5 +1,5 @@
 -- `put_place` meets its contract. Assumes nothing.
-use Rattle.laws.proofs.Prelude.{refl, rules, w16, kept}
+use Rattle.laws.proofs.Prelude.{SFits, refl, rules, to_z-of_z, w16}
 use Rattle.ffi_sets.proofs.put_place.Goals as goal
 
 pub returns-in-Refuse : goal.returns-in-Refuse
@@ -7,6 +7,7 @@ returns-in-Refuse c = rw c.in-Refuse.is refl
 
 pub returns-in-Pass : goal.returns-in-Pass
 returns-in-Pass c =
-    let told = c.type_inv.set in
     let s = c.args.set in
-    rw (c.in-Pass.is, kept w16 s.tile_x told.1.0.1, kept w16 s.tile_y told.1.1.0.1) refl
+    let x : SFits w16 s.tile_x = search rules in
+    let y : SFits w16 s.tile_y = search rules in
+    rw (c.in-Pass.is, to_z-of_z x, to_z-of_z y) refl
