@@ -13,6 +13,7 @@ use Rattle.row_statements.specs.Lent.{Columns, LentTable, is_queue_short, is_lis
 use Rattle.row_statements.specs.State.{State, is_stray, is_not_next}
 use Rattle.row_statements.specs.TileWork.{work_lent, args_verdict}
 use Rattle.row_statements.specs.Due.{OpenRow, Past}
+use Rattle.row_statements.specs.Claim.{past_after}
 use Rattle.row_statements.specs.Run.{open_row, Held, Event, Run}
 use Rattle.row_statements.specs.InnerHolding.{IsOpen, Holds}
 use Rattle.row_statements.proofs.WorkSteps.{not_stray}
@@ -32,7 +33,7 @@ pub record HeldBy (o : OpenRow) (h : Held) : Type 0 where
 
 run_held : {o : OpenRow} {p : Past} {h h' : Held} {es : List Event} → IsOpen o → Holds o p h → Run o h es h' → HeldBy o h'
 run_held {p = p} is_open holds Run.none = record { past = p; holds = holds }
-run_held is_open holds (Run.next s rest) = run_held is_open (step_right is_open holds s).1 rest
+run_held {o = o} {p = p} is_open holds (Run.next {e = e} s rest) = run_held {p = past_after o e p} is_open (step_right is_open holds s).1 rest
 
 module _ (o : OpenRow) (is_open : IsOpen o) (h : Held) (c : BatchCall) (m : BatchLent) (by : HeldBy o h) (called : CalledIn o h c m) where
   over_is : c.over ≡ batch_row o.row o.table c.over.keeps c.over.clear c.over.previous

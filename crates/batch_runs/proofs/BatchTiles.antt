@@ -34,7 +34,6 @@ use Rattle.row_statements.proofs.PaintSteps.{paint_due_lem, right_paint}
 use Rattle.row_statements.proofs.WorkSteps.{work_due_lem, right_work}
 use Rattle.row_statements.proofs.Runs.{work_result, work_gives, work_named, paint_result, paint_gives, paint_named, as_held}
 use Rattle.row_statements.proofs.Works.{Listable, list_passed, is_next}
-use Rattle.row_statements.proofs.Run.{accepted, is_open}
 use Rattle.row_lines.specs.Shown.{shown_in}
 use Rattle.row_lines.specs.Lines.{is_paint}
 use Rattle.row_lines.specs.Calls.{shown_by, painted_by}
@@ -335,7 +334,7 @@ module _ (o : OpenRow) (is_open : IsOpen o) (keeps : Bool) (clear : Color) (prev
             events = Event.work (works n clip h s holds es eq) w back ∷ [];
             after = held_after w.answer (state_in w.state) h s.lent.queue back;
             runs = Run.next (Step.work {c = works n clip h s holds es eq} (same n clip h s holds es eq) (work_given n clip h s holds es eq)) Run.none;
-            calls = TileCalls.Turned-down left room ea;
+            calls = TileCalls.turned_down left room ea;
             state = ap (λ (x : Held). x.state) held ∙ refused_state n clip h s holds es eq ea;
             queue = ap (λ (x : Held). x.queue) held ∙ sym eq;
             more = omega arith;
