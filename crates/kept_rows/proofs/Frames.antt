@@ -1,6 +1,6 @@
 -- Frames of a row with nothing told are frames by the protocol. Assumes nothing.
 use Rattle.std.specs.Prelude.{◌≡◌, ◌&&◌, ◌∷◌, ◌⊎◌, ◌+◌, ◌-◌, ◌<◌}
-use Rattle.laws.proofs.Prelude.{refl, sym, ap, subst, ◌∙◌, Bool, true, false, cond, false≢true, List, [], inl, inr, ⊎_elim, ℕ}
+use Rattle.laws.proofs.Prelude.{refl, sym, ap, subst, ◌∙◌, Bool, true, false, false≢true, List, [], inl, inr, ⊎_elim, ℕ}
 use Rattle.laws.proofs.Prelude.{zero, suc, arith, eqb-true, leb-true, ltb-true, eqb, leb, ltb, get_or, both, left, right, clash}
 use Rattle.laws.proofs.Bools.{not-true}
 use Rattle.cached_tile.specs.Tile.{empty_tile}

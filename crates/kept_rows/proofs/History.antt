@@ -1,7 +1,6 @@
 -- The theorem over frames: what stands of a tile is right after each of them. Assumes nothing.
 use Rattle.std.specs.Prelude.{◌≡◌, ◌+◌, ◌%◌, ◌^◌, ◌≤◌}
-use Rattle.laws.proofs.Prelude.{refl, sym, ap, ◌∙◌, Bool, true, false, cond, List, ⊎_elim, some, ℕ, arith, length, either}
-use mathlib.Core.Option as option
+use Rattle.laws.proofs.Prelude.{refl, sym, ap, ◌∙◌, Bool, true, false, List, ⊎_elim, some, ℕ, arith, length, either}
 use Rattle.cached_tile.specs.Tile.{empty_tile, layer_count_of, keep_count, drop_count, drop_color}
 use Rattle.cached_tile.specs.Kept.{previous_count, counted}
 use Rattle.cached_tile.specs.declared.CachedTile.{CachedTile}
@@ -11,7 +10,6 @@ use Rattle.pass_statements.specs.Decide.{Outcome, outcome_of}
 use Rattle.pass_statements.specs.Decision.{TileDecision, none, solid, paint}
 use Rattle.pass_statements.specs.declared.item.Item.{Item}
 use Rattle.pass_statements.specs.declared.unchanged.PreviousCount.{PreviousCount}
-use Rattle.pass_statements.specs.declared.unchanged.PreviousCount.TheVariants as counts
 use Rattle.pass_statements.specs.Unchanged.{is_kept}
 use Rattle.pass_statements.proofs.Outcomes.{outcome_kept}
 use Rattle.layer_workbench.specs.Work.{clear_unchanged, count_from, outcome_by_entries, kept_by}

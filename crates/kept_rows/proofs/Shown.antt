@@ -1,7 +1,6 @@
 -- A tile that is decided *none* would be drawn afresh as it was, by styles, revisions, coverages, cuts and marks. Assumes nothing.
 use Rattle.std.specs.Prelude.{◌≡◌, ◌∷◌}
 use Rattle.laws.proofs.Prelude.{refl, sym, ap, ◌∙◌, List, [], map, Option, some, none, ℕ, Float}
-use Rattle.tile_layers.specs.Listing.{is_changed}
 use Rattle.row_statements.specs.Due.{table_on, layers_on, plane_on}
 use Rattle.kept_frames.specs.Picture.{Stroke, picture_of, Drawn}
 use Rattle.kept_frames.specs.Right.{MaskUnchanged, StrokesUnchanged, ShowsSame}

@@ -1,8 +1,8 @@
 -- Flags that are worked out from two rows and two tables are truthful. Assumes nothing.
 use Rattle.std.specs.Prelude.{◌≡◌, ◌&&◌, ◌||◌, ◌∷◌, ◌+◌, ◌*◌, ◌/◌, ◌%◌, ◌≤◌, ◌<◌}
 use Rattle.laws.proofs.Prelude.{refl, sym, ap, ap₂, ◌∙◌, Bool, true, false, cond, not, false≢true, List, [], map, ℕ, zero, suc}
-use Rattle.laws.proofs.Prelude.{min, arith, eqb-true, eq-eqb, ne_eqb, lt-ltb, leb-true, le-leb, eqb, ltb, leb, Float}
-use Rattle.laws.proofs.Prelude.{length, get_or, Answer, refused, given, tabulate, all, count_by, both, left, right, length_tabulate, get_d_tabulate}
+use Rattle.laws.proofs.Prelude.{min, arith, eqb-true, ne_eqb, lt-ltb, le-leb, eqb, ltb, leb, Float}
+use Rattle.laws.proofs.Prelude.{length, get_or, Answer, given, tabulate, all, count_by, both, left, right, length_tabulate, get_d_tabulate}
 use Rattle.laws.proofs.Prelude.{is_tabulate}
 use Rattle.laws.proofs.Maps.{map_tabulate}
 use Rattle.styling.specs.Ascending.{strictly_ascends}
@@ -24,7 +24,6 @@ use Rattle.layer_table.proofs.Ranges.{in_range_lem}
 use Rattle.layer_table.proofs.Places.{Sought, held, missed, sought}
 use Rattle.layer_carrying.specs.Carrying.{rule_from}
 use Rattle.tile_layers.specs.Listing.{is_changed_by, is_changed}
-use Rattle.row_statements.specs.Lent.{LentTable, is_lent_table}
 use Rattle.row_statements.specs.Due.{OpenRow, table_on}
 use Rattle.two_rows.specs.Apart.{below_tile_y}
 use Rattle.kept_frames.specs.Alike.{same_float}

@@ -1,8 +1,8 @@
 -- The walk over both rows meets the layers whose words differ, and no other. Assumes nothing.
-use Rattle.std.specs.Prelude.{◌≡◌, ◌&&◌, ◌||◌, ◌∷◌, ◌%◌, ◌^◌, ◌≤◌, ◌<◌}
-use Rattle.laws.proofs.Prelude.{refl, sym, ap, ◌∙◌, Bool, true, false, cond, false≢true, List, [], map, ⊎_elim, ℕ, suc}
+use Rattle.std.specs.Prelude.{◌≡◌, ◌||◌, ◌∷◌, ◌%◌, ◌^◌, ◌≤◌, ◌<◌}
+use Rattle.laws.proofs.Prelude.{refl, sym, ap, ◌∙◌, Bool, true, false, cond, false≢true, List, [], map, ⊎_elim, ℕ}
 use Rattle.laws.proofs.Prelude.{arith, eqb-true, eqb-false, eq-eqb, ne_eqb, ltb-true, ltb-false, leb-true, le-leb, eqb, ltb, leb, get_or}
-use Rattle.laws.proofs.Prelude.{drop, any, filter, both, left, right, either, clash}
+use Rattle.laws.proofs.Prelude.{drop, any, both, left, right, either}
 use Rattle.pixel_segment.specs.Field.{cpu, layer_id_of}
 use Rattle.pixel_segment.specs.Order.{order_key}
 use Rattle.segment_rows.specs.Rows.{ascends_from}

@@ -4,7 +4,6 @@ use Rattle.laws.proofs.Prelude.{refl, sym, ap, ◌∙◌, not, Bool, List, map, 
 use Rattle.refusals.specs.Refusal.{Judgement, pass, refuse, unless}
 use Rattle.refusals.proofs.Judging.{passed}
 use Rattle.cached_tile.specs.Kept.{tag_out_of_range, previous_count, counted}
-use Rattle.cached_tile.specs.declared.kept.Kept as kept
 use Rattle.tile_layers.specs.Listing.{is_too_many, are_known, are_light}
 use Rattle.pass_statements.specs.Decide.{outcome_of}
 use Rattle.pass_statements.specs.Item.{item_of}

@@ -2,7 +2,7 @@
 -- counts as unchanged where last frame's table has it with the same record, colours bit by bit, and with the same revision of what it holds, and both rows have
 -- the same words of it, in the same order. Every other flag becomes 0, and the caller's own plays no part. So the flags are truthful along the two rows
 -- (`MarkedTold`).
-use Rattle.std.specs.Prelude.{◌≡◌, ◌&&◌, ◌||◌, ◌∷◌, ◌+◌, ◌*◌, ◌/◌, ◌%◌}
+use Rattle.std.specs.Prelude.{◌≡◌, ◌&&◌, ◌||◌, ◌∷◌, ◌/◌, ◌%◌}
 use Rattle.laws.specs.Prelude.{Bool, true, false, cond, not, List, [], ℕ, eqb, ltb, Float, nan, inf, fin}
 use Rattle.laws.specs.Prelude.{length, get_or, Answer, refused, given, tabulate, filter}
 use Rattle.pixel_segment.specs.Field.{cpu, layer_id_of}

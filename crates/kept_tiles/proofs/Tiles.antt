@@ -1,22 +1,20 @@
 -- The keep rule for tiles is what the theorem over frames asks for. Assumes nothing.
 use Rattle.std.specs.Prelude.{◌≡◌, ◌&&◌, ◌||◌, ◌∷◌, ◌+◌, ◌-◌, ◌*◌, ◌/◌, ◌%◌, ◌≤◌, ◌<◌}
-use Rattle.laws.proofs.Prelude.{refl, sym, ap, ap₂, ◌∙◌, Bool, true, false, cond, not, false≢true, List, [], ℕ, suc}
-use Rattle.laws.proofs.Prelude.{arith, eqb-true, eq-eqb, ne_eqb, lt-ltb, ltb-false, bit_and, eqb, leb, ltb, length, get_or}
+use Rattle.laws.proofs.Prelude.{refl, sym, ap, ◌∙◌, Bool, true, false, cond, not, false≢true, List, [], ℕ, suc}
+use Rattle.laws.proofs.Prelude.{arith, eqb-true, ne_eqb, lt-ltb, ltb-false, bit_and, eqb, ltb, length, get_or}
 use Rattle.laws.proofs.Prelude.{take, drop, get_or-take, get_or-drop, every, both, left, right, get_d_tabulate}
-use Rattle.refusals.specs.Refusal.{Judgement, pass, refuse, unless}
+use Rattle.refusals.specs.Refusal.{Judgement, pass, unless}
 use Rattle.refusals.proofs.Judging.{passed}
 use Rattle.pixel_segment.specs.Field.{cpu}
 use Rattle.segment_rows.specs.Rows.{is_row}
-use Rattle.cached_tile.specs.Tile.{drop_count}
 use Rattle.cached_tile.specs.declared.CachedTile.{CachedTile}
 use Rattle.row_statements.specs.Lent.{is_lent_short, is_lent_table}
 use Rattle.row_statements.specs.TileWork.{list_verdict}
 use Rattle.row_statements.specs.Due.{OpenRow, table_on, layers_on}
-use Rattle.ffi_numbers.specs.Cached.{tile_from}
 use Rattle.kept_frames.specs.Alike.{may_keep_count}
 use Rattle.kept_rows.specs.Along.{items_on}
-use Rattle.kept_rows.specs.History.{AcceptedWork, open_on, tile_number, kept_if}
-use Rattle.kept_rows.specs.Frames.{LastRow, is_within, may_stay}
+use Rattle.kept_rows.specs.History.{open_on, kept_if}
+use Rattle.kept_rows.specs.Frames.{is_within}
 use Rattle.kept_tiles.specs.Tiles.{KeepCall, is_pass, is_opened, are_listed, may_keep, are_tagged, tiles_verdict, ruled_bytes, bytes_by, tile_at, TilesRuled}
 use Rattle.kept_tiles.specs.Tiles.{RuleStays, KeptOpened}
 

@@ -3,7 +3,7 @@
 -- the row's first. Judged by 1 to 4 and 6, the lowest that applies; a refusal leaves every byte as it was. Else the tag byte of a tile loses the count's bit
 -- where its count may not stay, and no other byte is written. Where either row would be turned down at its opening, or its list of the tile or of one before
 -- it, the count may not stay.
-use Rattle.std.specs.Prelude.{◌≡◌, ◌&&◌, ◌||◌, ◌+◌, ◌*◌, ◌/◌, ◌%◌, ◌≤◌, ◌<◌}
+use Rattle.std.specs.Prelude.{◌≡◌, ◌&&◌, ◌||◌, ◌+◌, ◌*◌, ◌/◌, ◌%◌, ◌<◌}
 use Rattle.laws.specs.Prelude.{Bool, true, false, cond, not, List, ℕ, suc, bit_and, eqb, leb, ltb, pos}
 use Rattle.laws.specs.Prelude.{length, get_or, take, drop, Answer, refused, given, tabulate, every}
 use Rattle.refusals.specs.Refusal.{Judgement, pass, refuse, unless}
