@@ -1,7 +1,7 @@
 -- `opening::judge_opening` meets its contract: a line for each condition, the lowest first. Assumes nothing.
 -- whether the row is in order, as the definition asks it
 use Rattle.std.specs.Prelude.{◌≡◌}
-use Rattle.laws.proofs.Prelude.{ap, ◌∙◌, ℕ, suc, add-one, rules, to_z-of_z, plus}
+use Rattle.laws.proofs.Prelude.{ap, ◌∙◌, ℕ, suc, add-one, to_z-of_z, plus}
 use Rattle.pixel_segment.specs.Field.{cpu}
 use Rattle.segment_rows.specs.Rows.{is_row}
 use Rattle.row_statements.specs.Opening.{open_verdict, has_bad_ends}

@@ -1,58 +1,50 @@
 -- `open_tile_row` meets its contract. Assumes nothing.
 use Rattle.std.specs.Prelude.{◌≡◌}
-use Rattle.laws.proofs.Prelude.{sym, ap, ◌∙◌, arith, rules, w16, SFits, to_z-of_z, sfits, whole}
+use Rattle.laws.proofs.Prelude.{sym, ap, ◌∙◌, arith, w16, SFits, to_z-of_z, sfits, whole}
 use Rattle.refusals.specs.Refusal.{judgement_in, pass}
 use Rattle.queue_statements.proofs.Judging.{room}
 use Rattle.row_statements.specs.Lent.{Columns, columns, lent_table}
 use Rattle.row_statements.specs.Opening.{OpenCall, open_call, open_verdict}
 use Rattle.row_statements.proofs.Openings.{Passed, opening_passed, refused_row, opened_row}
 use Rattle.row_opening.proofs.open_tile_row.Goals as goal
-use Rattle.row_opening.proofs.open_tile_row.Goals.{After-judge_opening, In-Pass, Start}
+use Rattle.row_opening.proofs.open_tile_row.Goals.{Start}
 
 -- what the function is called with, and what it is lent
-called : Start → OpenCall
+abbrev called : Start → OpenCall
 called s = let a = s.args in open_call a.tile_y a.from a.to a.row.now (lent_table a.layers.now a.colors.now a.count)
 
-lentTo : Start → Columns
+abbrev lentTo : Start → Columns
 lentTo s = columns s.args.ids.now s.args.covers.now
 
--- the judge's verdict
-told : (c : After-judge_opening) → judgement_in c.judge_opening.result ≡ open_verdict (called c) (lentTo c)
-unfolding called lentTo
-told c =
-    c.judge_opening.ensures ∙ rw (to_z-of_z c.ranges.tile_y, to_z-of_z c.ranges.from, to_z-of_z c.ranges.to)
-
--- where it passes
-passes : (c : In-Pass) → open_verdict (called c) (lentTo c) ≡ pass
-passes c = sym (told c.before.before) ∙ ap judgement_in c.in-Pass.is
-
-known : (c : In-Pass) → Passed (called c) (lentTo c)
-known c = opening_passed (called c.before.before.before.before.before.before.before) (lentTo c.before.before.before.before.before.before.before) (passes c)
-
--- the first tile is a number of 16 signed bits
-first_fits : (c : In-Pass) → SFits w16 c.args.from
-unfolding called lentTo
-first_fits c =
-    let z = c.args.from in
-    let e = (known c).ends in
-    sfits w16 z (omega (arith, e.first, e.last, whole z))
+-- where the judge passes, the first tile is a number of 16 signed bits
+first_fits : (c : OpenCall) (lent : Columns) → Passed c lent → SFits w16 c.from
+first_fits c lent p = sfits w16 c.from (omega (arith, p.ends.first, p.ends.last, whole c.from))
 
 pub overflow_cast-from : goal.overflow_cast-from
-overflow_cast-from c = rw (to_z-of_z c.ranges.from) (first_fits c)
+overflow_cast-from c =
+    let s = (goal.at.overflow_cast-from c).Start in
+    let told : judgement_in c.judge_opening.result ≡ open_verdict (called s) (lentTo s) = c.judge_opening.ensures ∙ rw (to_z-of_z c.ranges.tile_y, to_z-of_z c.ranges.from, to_z-of_z c.ranges.to) in
+    rw (to_z-of_z c.ranges.from) (first_fits (called s) (lentTo s) (opening_passed (called s) (lentTo s) (sym told ∙ ap judgement_in c.in-Pass.is)))
 
 pub open_queue-requires : goal.open_queue-requires
-unfolding lentTo
-open_queue-requires c = room (known (goal.at.open_queue-requires c).In-Pass).room
+open_queue-requires c =
+    let s = (goal.at.open_queue-requires c).Start in
+    let told : judgement_in c.judge_opening.result ≡ open_verdict (called s) (lentTo s) = c.judge_opening.ensures ∙ rw (to_z-of_z c.ranges.tile_y, to_z-of_z c.ranges.from, to_z-of_z c.ranges.to) in
+    room (opening_passed (called s) (lentTo s) (sym told ∙ ap judgement_in c.in-Pass.is)).room
 
 pub returns-in-Refuse : goal.returns-in-Refuse
-unfolding called lentTo
 returns-in-Refuse c =
-    refused_row (called (goal.at.returns-in-Refuse c).Start) (lentTo (goal.at.returns-in-Refuse c).Start) (sym (told (goal.at.returns-in-Refuse c).After-judge_opening) ∙ ap judgement_in c.in-Refuse.is)
+    let s = (goal.at.returns-in-Refuse c).Start in
+    let told : judgement_in c.judge_opening.result ≡ open_verdict (called s) (lentTo s) = c.judge_opening.ensures ∙ rw (to_z-of_z c.ranges.tile_y, to_z-of_z c.ranges.from, to_z-of_z c.ranges.to) in
+    refused_row (called s) (lentTo s) (sym told ∙ ap judgement_in c.in-Refuse.is)
 
 pub returns-in-Pass : goal.returns-in-Pass
-unfolding called lentTo
 returns-in-Pass c =
-    let left = rw (to_z-of_z c.ranges.from, to_z-of_z (first_fits (goal.at.returns-in-Pass c).In-Pass)) at c.left_of_tile-left.ensures in
-    opened_row (called (goal.at.returns-in-Pass c).Start) (lentTo (goal.at.returns-in-Pass c).Start) (passes (goal.at.returns-in-Pass c).In-Pass)
+    let s = (goal.at.returns-in-Pass c).Start in
+    let told : judgement_in c.judge_opening.result ≡ open_verdict (called s) (lentTo s) = c.judge_opening.ensures ∙ rw (to_z-of_z c.ranges.tile_y, to_z-of_z c.ranges.from, to_z-of_z c.ranges.to) in
+    let passes : open_verdict (called s) (lentTo s) ≡ pass = sym told ∙ ap judgement_in c.in-Pass.is in
+    let fits = first_fits (called s) (lentTo s) (opening_passed (called s) (lentTo s) passes) in
+    let left = rw (to_z-of_z c.ranges.from, to_z-of_z fits) at c.left_of_tile-left.ensures in
+    opened_row (called s) (lentTo s) passes
     (rw left at c.open_queue.ensures)
     (c.opened.ensures ∙ rw (to_z-of_z c.ranges.tile_y, to_z-of_z c.ranges.from, to_z-of_z c.ranges.to))

@@ -1,5 +1,5 @@
 -- `opening::opened` meets its contract. Assumes nothing.
-use Rattle.laws.proofs.Prelude.{rules, to_z-of_z}
+use Rattle.laws.proofs.Prelude.{to_z-of_z}
 use Rattle.row_opening.proofs.opened.Goals as goal
 
 pub returns-in-Count : goal.returns-in-Count
