@@ -1,5 +1,4 @@
 -- Laws of columns that were read of carry records.
-pub mod Wide
 pub mod Lending
 pub mod SameQueue
 pub mod SameAnswers

@@ -1,32 +1,12 @@
 -- `painting::paint_columns` meets its contract: the columns are lent as far as they count.
 -- Assumes nothing.
-use Rattle.std.specs.Prelude.{◌*◌}
-use Rattle.laws.proofs.Prelude.{sym, arith, rules, length-take-le, to_z-of_z}
+use Rattle.laws.proofs.Prelude.{to_z-of_z}
 use Rattle.row_statements.specs.Lent.{lent_table}
 use Rattle.row_statements.specs.State.{state_in}
 use Rattle.row_statements.specs.Painting.{paint_call}
 use Rattle.tile_row_columns.specs.Lent.{lent_columns}
 use Rattle.tile_row_columns.proofs.Lending.{painted_lent}
-use Rattle.tile_row_columns.proofs.Wide.{ids_wide, covers_wide}
 use Rattle.tile_row_columns.proofs.painting.paint_columns.Goals as goal
-
-pub slice_bounds-ids-end : goal.slice_bounds-ids-end
-slice_bounds-ids-end c =
-    omega (arith, c.lesser-n.ensures, ids_wide c.args.columns _ c.well_formed.1.1.1.1.1.1.1.0)
-
-pub slice_bounds-paint_layer-end : goal.slice_bounds-paint_layer-end
-slice_bounds-paint_layer-end c =
-    let n = c.lesser-n in
-    sym (length-take-le n.result c.args.columns.ids (omega (arith, n.ensures, ids_wide c.args.columns _ c.well_formed.1.1.1.1.1.1.1.0)))
-
-pub slice_bounds-covers-end : goal.slice_bounds-covers-end
-slice_bounds-covers-end c =
-    omega (arith, c.lesser-n.ensures, covers_wide c.args.columns _ c.well_formed.1.1.1.1.1.1.1.0)
-
-pub slice_bounds-paint_layer-end-2 : goal.slice_bounds-paint_layer-end-2
-slice_bounds-paint_layer-end-2 c =
-    let n = c.lesser-n in
-    sym (length-take-le (n.result * 16) c.args.columns.covers (omega (arith, n.ensures, covers_wide c.args.columns _ c.well_formed.1.1.1.1.1.1.1.0)))
 
 pub returns : goal.returns
 returns c =
