@@ -1,7 +1,7 @@
 -- The lines of a driven row, as the loop over its tiles goes: with the lines that are left, the lent array is as all lines leave it. Assumes
 -- nothing.
 use Rattle.std.specs.Prelude.{◌≡◌, ◌∷◌, ◌++◌, ◌+◌, ◌-◌, ◌*◌, ◌≤◌, ◌<◌}
-use Rattle.laws.proofs.Prelude.{refl, ap, ap₂, sym, ◌∙◌, List, [], flatten, some, none, ℕ, zero, suc}
+use Rattle.laws.proofs.Prelude.{refl, ap, ap₂, sym, ◌∙◌, List, [], flatten, some, ℕ, zero, suc}
 use Rattle.laws.proofs.Prelude.{zero-add, add-one, arith, length, drop, sets, sets-eq, length-sets, over}
 use Rattle.refusals.specs.Refusal.{Judgement, pass, refuse, number_of}
 use Rattle.refusals.specs.declared.Refusal.{Refusal}

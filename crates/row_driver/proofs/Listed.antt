@@ -1,7 +1,7 @@
 -- An accepted work's list: each of its layers can be painted, since the table has it and number 9 does not apply; and the tally of the lent list is
 -- the tile's. Assumes nothing.
 use Rattle.std.specs.Prelude.{◌≡◌, ◌≤◌, ◌<◌}
-use Rattle.laws.proofs.Prelude.{refl, ap, sym, ◌∙◌, true, not, List, map, ⊎_elim, none, ℕ, arith, length, take, drop, length-map}
+use Rattle.laws.proofs.Prelude.{refl, ap, sym, ◌∙◌, true, List, map, ⊎_elim, none, ℕ, arith, length, take, drop, length-map}
 use Rattle.laws.proofs.Prelude.{refused, given, is_given, over, all_at, length_over}
 use lib.Seq.{take-append_seam}
 use Rattle.pixel_segment.specs.Field.{cpu, layer_id_of}

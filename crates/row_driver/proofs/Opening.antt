@@ -1,7 +1,7 @@
 -- A row that the driver opens: what an accepted opening leaves lets its tiles be driven, and a refused one ends the row. Assumes nothing.
 use Rattle.std.specs.Prelude.{◌≡◌, ◌+◌, ◌*◌, ◌≤◌}
 use Rattle.laws.proofs.Prelude.{refl, ap, sym, subst, false, List, [], flatten, some, ℕ, arith, ℤ, pos, length, replicate, Answer}
-use Rattle.laws.proofs.Prelude.{refused, plus, over}
+use Rattle.laws.proofs.Prelude.{plus, over}
 use Rattle.refusals.specs.Refusal.{number_of}
 use Rattle.refusals.specs.declared.Refusal.{Refusal}
 use Rattle.segment_rows.specs.Rows.{Words}

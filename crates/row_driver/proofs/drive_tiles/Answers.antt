@@ -1,15 +1,13 @@
 -- `drive_tiles` meets its contract: each turn is a tile of `Turning`, and the lines that are written go by `Driving`. Assumes nothing.
-use Rattle.std.specs.Prelude.{◌≡◌, ◌+◌, ◌*◌, ◌-◌, ◌≤◌, ◌<◌}
-use Rattle.laws.proofs.Prelude.{refl, ap, ◌∙◌, none, add-one, arith, rules, pos, length, sets, w16, to_z_pos, small}
-use Rattle.segment_rows.specs.Search.{left_part, tile_part}
-use Rattle.row_statements.specs.InnerHolding.{Holds}
+use Rattle.std.specs.Prelude.{◌≡◌, ◌+◌, ◌*◌, ◌≤◌, ◌<◌}
+use Rattle.laws.proofs.Prelude.{refl, ap, ◌∙◌, add-one, arith, rules, pos, length, sets, w16, to_z_pos, small}
+use Rattle.segment_rows.specs.Search.{tile_part}
 use Rattle.row_statements.specs.Lent.{Columns, ListColumns}
 use Rattle.row_lines.specs.Lines.{line_words}
-use Rattle.row_driver.specs.InnerSteps.{held_by, row_by}
 use Rattle.row_lines.specs.declared.Line.{Line}
 use Rattle.row_driver.proofs.Cuts.{within_row, own_part, next_start, end_within, sum_fits}
 use Rattle.row_driver.proofs.Turning as turning
-use Rattle.row_driver.proofs.Driving.{Driving, start, next, done, refused}
+use Rattle.row_driver.proofs.Driving.{start, next, done, refused}
 use Rattle.row_driver.proofs.drive_tiles.Goals as goal
 use Rattle.row_driver.proofs.drive_tiles.Goals.{After-up_to_tile-part, In-loop-i}
 
@@ -39,13 +37,13 @@ loop-i-init c =
     (start p.room, p.holds, refl, refl, refl, refl, refl, refl, refl, refl, ap length left)
 
 pub offset_bounds-row-start : goal.offset_bounds-row-start
-offset_bounds-row-start c = omega (arith, inside-row c)
+offset_bounds-row-start c = omega (arith, inside-row (goal.at.offset_bounds-row-start c).In-loop-i)
 
 pub slice_bounds-up_to_tile-count : goal.slice_bounds-up_to_tile-count
-slice_bounds-up_to_tile-count c = omega (arith, inside-row c)
+slice_bounds-up_to_tile-count c = omega (arith, inside-row (goal.at.slice_bounds-up_to_tile-count c).In-loop-i)
 
 pub slice_bounds-up_to_tile-start : goal.slice_bounds-up_to_tile-start
-slice_bounds-up_to_tile-start c = omega (arith, inside-row c)
+slice_bounds-up_to_tile-start c = omega (arith, inside-row (goal.at.slice_bounds-up_to_tile-start c).In-loop-i)
 
 pub slice_bounds-up_to_tile-end : goal.slice_bounds-up_to_tile-end
 slice_bounds-up_to_tile-end c = search rules
@@ -58,7 +56,7 @@ overflow_add-start c =
     let order = c.requires.is_open.in_order in
     let l = c.loop-i in
     let row = c.args.row.now in
-    sum_fits _ _ (length row) (end_within _ l.at.next row order.words order.is_row_lem l.invariant.10 (own_is c)) (omega (arith, c.well_formed))
+    sum_fits _ _ (length row) (end_within _ l.at.next row order.words order.is_row_lem l.invariant.10 (own_is (goal.at.overflow_add-start c).After-up_to_tile-part)) (omega (arith, c.well_formed))
 
 pub turn-step-requires : goal.turn-step-requires
 turn-step-requires c =
@@ -66,8 +64,8 @@ turn-step-requires c =
     let p = c.requires in
     let l = c.loop-i in
     let h = c.loop-i-test.true in
-    let left : Columns = record { ids = l.a-ids; covers = l.a-covers } in
-    let right : Columns = record { ids = l.b-ids; covers = l.b-covers } in
+    let left : Columns = record { ids = l.a_ids; covers = l.a_covers } in
+    let right : Columns = record { ids = l.b_ids; covers = l.b_covers } in
     let list₀ : ListColumns = record { ids = a.list_ids.now; covers = a.list_covers.now; flags = a.list_flags.now; unmasked = a.list_unmasked.now } in
     let list : ListColumns = record { ids = l.list_ids; covers = l.list_covers; flags = l.list_flags; unmasked = l.list_unmasked } in
     let inside : a.state.from + l.i < a.state.to = omega (arith, h, p.inside) in
@@ -80,35 +78,35 @@ enum_known-answer c =
 
 pub shape_of-a_ids-in-Refused : goal.shape_of-a_ids-in-Refused
 shape_of-a_ids-in-Refused c =
-    c.turn-step.auto.1.1.1.1.1.1.0 ∙ c.loop-i.invariant.2
+    c.turn-step.auto.a_ids ∙ c.loop-i.invariant.2
 
 pub shape_of-a_covers-in-Refused : goal.shape_of-a_covers-in-Refused
 shape_of-a_covers-in-Refused c =
-    c.turn-step.auto.1.1.1.1.1.1.1.0 ∙ c.loop-i.invariant.3
+    c.turn-step.auto.a_covers ∙ c.loop-i.invariant.3
 
 pub shape_of-b_ids-in-Refused : goal.shape_of-b_ids-in-Refused
 shape_of-b_ids-in-Refused c =
-    c.turn-step.auto.1.1.1.1.1.1.1.1.0 ∙ c.loop-i.invariant.4
+    c.turn-step.auto.b_ids ∙ c.loop-i.invariant.4
 
 pub shape_of-b_covers-in-Refused : goal.shape_of-b_covers-in-Refused
 shape_of-b_covers-in-Refused c =
-    c.turn-step.auto.1.1.1.1.1.1.1.1.1.0 ∙ c.loop-i.invariant.5
+    c.turn-step.auto.b_covers ∙ c.loop-i.invariant.5
 
 pub shape_of-list_ids-in-Refused : goal.shape_of-list_ids-in-Refused
 shape_of-list_ids-in-Refused c =
-    c.turn-step.auto.1.1.1.1.1.1.1.1.1.1.0 ∙ c.loop-i.invariant.6
+    c.turn-step.auto.list_ids ∙ c.loop-i.invariant.6
 
 pub shape_of-list_covers-in-Refused : goal.shape_of-list_covers-in-Refused
 shape_of-list_covers-in-Refused c =
-    c.turn-step.auto.1.1.1.1.1.1.1.1.1.1.1.0 ∙ c.loop-i.invariant.7
+    c.turn-step.auto.list_covers ∙ c.loop-i.invariant.7
 
 pub shape_of-list_flags-in-Refused : goal.shape_of-list_flags-in-Refused
 shape_of-list_flags-in-Refused c =
-    c.turn-step.auto.1.1.1.1.1.1.1.1.1.1.1.1.0 ∙ c.loop-i.invariant.8
+    c.turn-step.auto.list_flags ∙ c.loop-i.invariant.8
 
 pub shape_of-list_unmasked-in-Refused : goal.shape_of-list_unmasked-in-Refused
 shape_of-list_unmasked-in-Refused c =
-    c.turn-step.auto.1.1.1.1.1.1.1.1.1.1.1.1.1.0 ∙ c.loop-i.invariant.9
+    c.turn-step.auto.list_unmasked ∙ c.loop-i.invariant.9
 
 pub shape_of-lines-in-Refused : goal.shape_of-lines-in-Refused
 shape_of-lines-in-Refused c =
@@ -120,18 +118,14 @@ returns-in-Refused c =
     let p = c.requires in
     let l = c.loop-i in
     let h = c.loop-i-test.true in
-    let left : Columns = record { ids = l.a-ids; covers = l.a-covers } in
-    let right : Columns = record { ids = l.b-ids; covers = l.b-covers } in
+    let left : Columns = record { ids = l.a_ids; covers = l.a_covers } in
+    let right : Columns = record { ids = l.b_ids; covers = l.b_covers } in
     let list₀ : ListColumns = record { ids = a.list_ids.now; covers = a.list_covers.now; flags = a.list_flags.now; unmasked = a.list_unmasked.now } in
     let list : ListColumns = record { ids = l.list_ids; covers = l.list_covers; flags = l.list_flags; unmasked = l.list_unmasked } in
     let inside : a.state.from + l.i < a.state.to = omega (arith, h, p.inside) in
     let long = turning.list_kept list₀ list l.invariant.6 l.invariant.7 l.invariant.8 l.invariant.9 p.list_long in
     let t = c.turn-step.ensures in
     refused l.invariant.0 h (turning.refused_is l.in_a l.at left right p.is_open l.invariant.1 inside list long (own_is (goal.at.returns-in-Refused c).After-up_to_tile-part) _ _ _ t c.in-Refused.is)
-
-pub enum_told-1 : goal.enum_told-1
-enum_told-1 c =
-    search rules
 
 pub overflow_mul-i : goal.overflow_mul-i
 overflow_mul-i c =
@@ -155,8 +149,8 @@ loop-i-preserved c =
     let p = c.requires in
     let l = c.loop-i in
     let h = c.loop-i-test.true in
-    let left : Columns = record { ids = l.a-ids; covers = l.a-covers } in
-    let right : Columns = record { ids = l.b-ids; covers = l.b-covers } in
+    let left : Columns = record { ids = l.a_ids; covers = l.a_covers } in
+    let right : Columns = record { ids = l.b_ids; covers = l.b_covers } in
     let list₀ : ListColumns = record { ids = a.list_ids.now; covers = a.list_covers.now; flags = a.list_flags.now; unmasked = a.list_unmasked.now } in
     let list : ListColumns = record { ids = l.list_ids; covers = l.list_covers; flags = l.list_flags; unmasked = l.list_unmasked } in
     let inside : a.state.from + l.i < a.state.to = omega (arith, h, p.inside) in
@@ -172,14 +166,14 @@ loop-i-preserved c =
     let k = c.turn-step.auto in (
       next l.invariant.0 h (turning.accepted l.in_a l.at left right p.is_open l.invariant.1 inside list long own _ _ _ t e) told,
       rw (add-one l.i) after,
-      k.1.1.1.1.1.1.0 ∙ l.invariant.2,
-      k.1.1.1.1.1.1.1.0 ∙ l.invariant.3,
-      k.1.1.1.1.1.1.1.1.0 ∙ l.invariant.4,
-      k.1.1.1.1.1.1.1.1.1.0 ∙ l.invariant.5,
-      k.1.1.1.1.1.1.1.1.1.1.0 ∙ l.invariant.6,
-      k.1.1.1.1.1.1.1.1.1.1.1.0 ∙ l.invariant.7,
-      k.1.1.1.1.1.1.1.1.1.1.1.1.0 ∙ l.invariant.8,
-      k.1.1.1.1.1.1.1.1.1.1.1.1.1.0 ∙ l.invariant.9,
+      k.a_ids ∙ l.invariant.2,
+      k.a_covers ∙ l.invariant.3,
+      k.b_ids ∙ l.invariant.4,
+      k.b_covers ∙ l.invariant.5,
+      k.list_ids ∙ l.invariant.6,
+      k.list_covers ∙ l.invariant.7,
+      k.list_flags ∙ l.invariant.8,
+      k.list_unmasked ∙ l.invariant.9,
       rw one_more cut_next,
     )
 

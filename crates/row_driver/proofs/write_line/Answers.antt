@@ -1,6 +1,6 @@
 -- `write_line` meets its contract. Assumes nothing.
 use Rattle.std.specs.Prelude.{◌≡◌, ◌+◌, ◌<◌}
-use Rattle.laws.proofs.Prelude.{List, ℕ, suc, arith, rules, length, set, length-set}
+use Rattle.laws.proofs.Prelude.{List, ℕ, suc, arith, length, set, length-set}
 use Rattle.row_driver.proofs.write_line.Goals as goal
 
 -- a store keeps the length

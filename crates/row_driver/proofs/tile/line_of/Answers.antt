@@ -1,5 +1,4 @@
 -- `tile::line_of` meets its contract. Assumes nothing.
-use Rattle.laws.proofs.Prelude.{rules}
 use Rattle.row_driver.proofs.tile.line_of.Goals as goal
 
 pub returns : goal.returns

@@ -1,5 +1,5 @@
 -- `tile::turn` meets its contract: the side whose turn it is is lent as `&`, so it is kept. Assumes nothing.
-use Rattle.laws.proofs.Prelude.{refl, rules}
+use Rattle.laws.proofs.Prelude.{refl}
 use Rattle.row_driver.proofs.tile.turn.Goals as goal
 
 pub work_line-requires : goal.work_line-requires
