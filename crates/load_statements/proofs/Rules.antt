@@ -1,6 +1,6 @@
 -- The lines of a load keep the rules of document 01 on a job's values.
 -- Assumes nothing.
-use Rattle.std.specs.Prelude.{◌≡◌, ◌+◌, ◌/◌, ◌%◌, ◌≤◌, ◌<◌, ◌-ℤ◌}
+use Rattle.std.specs.Prelude.{◌≡◌, ◌/◌, ◌%◌, ◌<◌, ◌-ℤ◌}
 use Rattle.laws.proofs.Prelude.{refl, true, ℕ, arith, pos, is_within, both, taken, added, is_within_lem}
 use Rattle.pixel_segment.specs.Field.{cpu}
 use Rattle.pixel_segment.specs.Pack.{is_packable}

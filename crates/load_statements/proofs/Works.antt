@@ -2,7 +2,7 @@
 -- Assumes nothing.
 use Rattle.std.specs.Prelude.{◌≡◌, ◌||◌, ◌⊎◌, ◌∷◌, ◌+◌, ◌-◌, ◌≤◌, ◌<◌}
 use Rattle.laws.proofs.Prelude.{refl, ap, ◌∙◌, Bool, true, false, not, inl, inr, ⊎_elim, [], flatten, ℕ, zero, suc}
-use Rattle.laws.proofs.Prelude.{min, add-zero, arith, le-ltb, lt-ltb, ltb, pos, length, is_given, tabulate}
+use Rattle.laws.proofs.Prelude.{min, add-zero, arith, le-ltb, lt-ltb, ltb, pos, length, is_given}
 use Rattle.refusals.specs.Refusal.{pass, refuse, unless}
 use Rattle.pixel_segment.specs.Field.{cpu, layer_id_of}
 use Rattle.layer_table.specs.Lookup.{lookup}

@@ -1,6 +1,6 @@
 -- `read_blocks` meets its contract: each answer is a law of `Answers`.
 -- Assumes nothing.
-use Rattle.laws.proofs.Prelude.{arith, rules}
+use Rattle.laws.proofs.Prelude.{arith}
 use Rattle.job_text_statements.proofs.Forms.{too_long}
 use Rattle.job_text_statements.proofs.Answers.{cut-head, not-one, cut-layers, cut-segments, left_over, done}
 use Rattle.job_blocks.proofs.read_blocks.Goals as goal

@@ -1,6 +1,6 @@
 -- `color_at` meets its contract. Assumes nothing.
 use Rattle.std.specs.Prelude.{◌+◌, ◌*◌, ◌/◌}
-use Rattle.laws.proofs.Prelude.{eq-eqb, ne_eqb, rules, w32, kept}
+use Rattle.laws.proofs.Prelude.{eq-eqb, ne_eqb, w32, kept}
 use Rattle.job_text_statements.specs.Numbers.{number_at}
 use Rattle.job_statements.specs.Entries.{job_color_at}
 use Rattle.job_table.proofs.color_at.Goals as goal

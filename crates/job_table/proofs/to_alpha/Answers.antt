@@ -1,6 +1,6 @@
 -- `to_alpha` meets its contract: that the product with 1/256 is exact is one test over all 257 numbers. Assumes nothing.
 use Rattle.std.specs.Prelude.{◌≡◌}
-use Rattle.laws.proofs.Prelude.{arith, rules, nat_abs, w16, to_z-of_z, plus, unsigned, whole}
+use Rattle.laws.proofs.Prelude.{arith, nat_abs, w16, to_z-of_z, plus, unsigned, whole}
 use Rattle.job_statements.proofs.Alphas.{alpha_product}
 use Rattle.job_table.proofs.to_alpha.Goals as goal
 

@@ -1,6 +1,6 @@
 -- `to_word` meets its contract. 2^32 more is not negative, and has the same low 32 bits. Assumes nothing.
 use Rattle.std.specs.Prelude.{◌%◌, ◌+ℤ◌}
-use Rattle.laws.proofs.Prelude.{ap, ℕ, arith, rules, lit<, pos, w32, w64, SFits, to_z-of_z, sfits_widen, Sum, added, lifted, Within, within}
+use Rattle.laws.proofs.Prelude.{ap, ℕ, arith, lit<, pos, w32, w64, SFits, to_z-of_z, sfits_widen, Sum, added, lifted, Within, within}
 use Rattle.laws.proofs.Prelude.{sfits, unsigned}
 use Rattle.job_table.proofs.to_word.Goals as goal
 use Rattle.job_table.proofs.to_word.Goals.{Start}

@@ -1,5 +1,5 @@
 -- `word_at` meets its contract. Assumes nothing.
-use Rattle.laws.proofs.Prelude.{eq-eqb, ne_eqb, rules, w32, kept}
+use Rattle.laws.proofs.Prelude.{eq-eqb, ne_eqb, w32, kept}
 use Rattle.job_text_statements.specs.Numbers.{number_at}
 use Rattle.job_statements.specs.Entries.{word_at}
 use Rattle.job_table.proofs.word_at.Goals as goal

@@ -1,8 +1,6 @@
 use Rattle.std.specs.Prelude.{◌*◌, ◌-◌}
-use Rattle.laws.proofs.Prelude.{ap, ◌∙◌, List, arith, Float, over}
 use Rattle.job_statements.specs.Entries.{job_color_at}
-use Rattle.job_statements.proofs.Filling.{Filling, start, long, next, end}
-use Rattle.job_statements.proofs.Tables.{colors_are, alpha_at}
+use Rattle.job_statements.proofs.Filling.{Filling}
 use Rattle.job_table.proofs.write_colors.Given as goal
 
 abbrev pub invariant-loop-k : goal.invariant-loop-k

@@ -1,8 +1,8 @@
 -- `write_words` meets its contract: the invariant and its steps are those of `Filling`. Assumes nothing.
-use Rattle.std.specs.Prelude.{◌*◌, ◌-◌}
+use Rattle.std.specs.Prelude.{◌*◌}
 use Rattle.laws.proofs.Prelude.{ap, ◌∙◌, List, ℕ, arith, over}
 use Rattle.job_statements.specs.Entries.{word_at}
-use Rattle.job_statements.proofs.Filling.{Filling, start, long, next, end}
+use Rattle.job_statements.proofs.Filling.{start, long, next, end}
 use Rattle.job_statements.proofs.Tables.{words_are}
 use Rattle.job_table.proofs.write_words.Goals as goal
 

@@ -1,8 +1,6 @@
 use Rattle.std.specs.Prelude.{◌*◌, ◌-◌}
-use Rattle.laws.proofs.Prelude.{ap, ◌∙◌, List, ℕ, arith, over}
 use Rattle.job_statements.specs.Entries.{word_at}
-use Rattle.job_statements.proofs.Filling.{Filling, start, long, next, end}
-use Rattle.job_statements.proofs.Tables.{words_are}
+use Rattle.job_statements.proofs.Filling.{Filling}
 use Rattle.job_table.proofs.write_words.Given as goal
 
 abbrev pub invariant-loop-k : goal.invariant-loop-k

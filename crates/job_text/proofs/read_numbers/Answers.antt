@@ -1,5 +1,4 @@
 -- `read_numbers` meets its contract: each answer is a law of `Verdicts`. Assumes nothing.
-use Rattle.laws.proofs.Prelude.{rules}
 use Rattle.decimal.proofs.Steps.{is_true, is_false}
 use Rattle.job_text_statements.proofs.Verdicts.{broken, few_lines, layers_long, segments_long, bad_layers, bad_segments, too_many, good}
 use Rattle.job_text.proofs.read_numbers.Goals as goal

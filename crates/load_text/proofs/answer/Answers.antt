@@ -1,5 +1,4 @@
 -- `answer` meets its contract: the two answers, by what is read of the text. Assumes nothing.
-use Rattle.laws.proofs.Prelude.{rules}
 use Rattle.load_text.proofs.Printing.{in_range_lem, answered}
 use Rattle.load_text.proofs.answer.Goals as goal
 

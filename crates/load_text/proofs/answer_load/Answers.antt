@@ -1,6 +1,6 @@
 -- `answer_load` meets its contract: the text is written to an array of its own, and copied from there: no text is longer than `out`.
 -- Assumes nothing.
-use Rattle.laws.proofs.Prelude.{refl, sym, ap, arith, rules, length, length-take-le}
+use Rattle.laws.proofs.Prelude.{refl, sym, ap, arith, length, length-take-le}
 use Rattle.report.proofs.Putting.{front, copied}
 use Rattle.load_statements.proofs.Forming.{text_long}
 use Rattle.load_text.proofs.answer_load.Goals as goal

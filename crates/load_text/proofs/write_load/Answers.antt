@@ -1,5 +1,5 @@
 -- `write_load` meets its contract: the three blocks, one after another. Assumes nothing.
-use Rattle.laws.proofs.Prelude.{arith, rules}
+use Rattle.laws.proofs.Prelude.{arith}
 use Rattle.load_text.proofs.Printing.{text_printed}
 use Rattle.load_text.proofs.write_load.Goals as goal
 

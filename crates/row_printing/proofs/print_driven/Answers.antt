@@ -1,5 +1,5 @@
 -- `print_driven` meets its contract: names, lines and refusal one after another. Assumes nothing.
-use Rattle.laws.proofs.Prelude.{ap, arith, rules}
+use Rattle.laws.proofs.Prelude.{ap, arith}
 use Rattle.row_lines.specs.Driven.{lines_written}
 use Rattle.row_printing.proofs.Lining.{asks, last_room, done, refused}
 use Rattle.row_printing.proofs.print_driven.Goals as goal

@@ -1,7 +1,6 @@
 -- `print_lines` meets its contract: the invariant and its steps are those of `Lining`; the measure is the lines left. Assumes nothing.
-use Rattle.std.specs.Prelude.{◌-◌}
 use Rattle.laws.proofs.Prelude.{arith}
-use Rattle.row_printing.proofs.Lining.{Lining, start, words_there, line_room, next, end_of}
+use Rattle.row_printing.proofs.Lining.{start, words_there, line_room, next, end_of}
 use Rattle.row_printing.proofs.print_lines.Goals as goal
 
 pub loop-i-init : goal.loop-i-init

@@ -1,6 +1,5 @@
 use Rattle.std.specs.Prelude.{◌-◌}
-use Rattle.laws.proofs.Prelude.{arith}
-use Rattle.row_printing.proofs.Lining.{Lining, start, words_there, line_room, next, end_of}
+use Rattle.row_printing.proofs.Lining.{Lining}
 use Rattle.row_printing.proofs.print_lines.Given as goal
 
 abbrev pub invariant-loop-i : goal.invariant-loop-i

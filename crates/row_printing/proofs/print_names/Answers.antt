@@ -1,6 +1,6 @@
 -- `print_names` meets its contract: there is room. Assumes nothing.
 use Rattle.std.specs.Prelude.{◌+◌, ◌≤◌}
-use Rattle.laws.proofs.Prelude.{arith, rules, length}
+use Rattle.laws.proofs.Prelude.{arith, length}
 use Rattle.report.specs.Text.{tile_names}
 use Rattle.row_printing.proofs.Placing.{placed}
 use Rattle.row_printing.proofs.print_names.Goals as goal

@@ -1,5 +1,4 @@
 -- `print_refusal` meets its contract: there is room. Assumes nothing.
-use Rattle.laws.proofs.Prelude.{rules}
 use Rattle.row_printing.proofs.Placing.{refusal_long, placed_in}
 use Rattle.row_printing.proofs.print_refusal.Goals as goal
 

@@ -1,5 +1,4 @@
 -- `print_tile` meets its contract: there is room for the longest line. Assumes nothing.
-use Rattle.laws.proofs.Prelude.{rules}
 use Rattle.row_printing.proofs.Placing.{tile_placed}
 use Rattle.row_printing.proofs.print_tile.Goals as goal
 

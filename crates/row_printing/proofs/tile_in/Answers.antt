@@ -1,5 +1,4 @@
 -- `tile_in` meets its contract. Assumes nothing.
-use Rattle.laws.proofs.Prelude.{rules}
 use Rattle.row_printing.proofs.tile_in.Goals as goal
 
 pub returns : goal.returns

@@ -1,8 +1,7 @@
 use Rattle.std.specs.Prelude.{◌-◌}
-use Rattle.laws.proofs.Prelude.{ap, ◌∙◌, arith, rules}
 use Rattle.job_lines.specs.Rules.{layer_rule}
 use Rattle.job_text_statements.specs.Numbers.{layer_line_at}
-use Rattle.job_numbers.proofs.Judging.{Judging, start, next, end}
+use Rattle.job_numbers.proofs.Judging.{Judging}
 use Rattle.job_numbers.proofs.layer.are_layers.Given as goal
 
 abbrev pub invariant-loop-i : goal.invariant-loop-i

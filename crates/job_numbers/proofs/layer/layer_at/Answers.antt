@@ -1,6 +1,6 @@
 -- `layer_at` meets its contract. Assumes nothing.
 use Rattle.std.specs.Prelude.{◌+◌, ◌*◌}
-use Rattle.laws.proofs.Prelude.{rules, w32, kept}
+use Rattle.laws.proofs.Prelude.{w32, kept}
 use Rattle.job_text_statements.specs.Numbers.{number_at, layer_line_at}
 use Rattle.job_numbers.proofs.layer.layer_at.Goals as goal
 

@@ -1,9 +1,8 @@
 -- `are_segments` meets its contract: the invariant and its steps are those of `Judging`. Assumes nothing.
-use Rattle.std.specs.Prelude.{◌-◌}
-use Rattle.laws.proofs.Prelude.{ap, ◌∙◌, arith, rules}
+use Rattle.laws.proofs.Prelude.{ap, ◌∙◌, arith}
 use Rattle.job_lines.specs.Rules.{segment_rule}
 use Rattle.job_text_statements.specs.Numbers.{segment_at}
-use Rattle.job_numbers.proofs.Judging.{Judging, start, next, end}
+use Rattle.job_numbers.proofs.Judging.{start, next, end}
 use Rattle.job_numbers.proofs.segment.are_segments.Goals as goal
 
 pub loop-i-init : goal.loop-i-init

@@ -1,8 +1,7 @@
 use Rattle.std.specs.Prelude.{◌-◌}
-use Rattle.laws.proofs.Prelude.{ap, ◌∙◌, arith, rules}
 use Rattle.job_lines.specs.Rules.{segment_rule}
 use Rattle.job_text_statements.specs.Numbers.{segment_at}
-use Rattle.job_numbers.proofs.Judging.{Judging, start, next, end}
+use Rattle.job_numbers.proofs.Judging.{Judging}
 use Rattle.job_numbers.proofs.segment.are_segments.Given as goal
 
 abbrev pub invariant-loop-i : goal.invariant-loop-i

@@ -1,8 +1,7 @@
 -- `count_segments` meets its contract: the invariant and its steps are those of `Counting`. Assumes nothing.
-use Rattle.std.specs.Prelude.{◌-◌}
 use Rattle.laws.proofs.Prelude.{ap, ◌∙◌, arith, plus}
 use Rattle.job_lines.specs.declared.segment.SegmentLine.{SegmentLine}
-use Rattle.job_text_statements.proofs.Counting.{Counting, start, rule_at, next, end}
+use Rattle.job_text_statements.proofs.Counting.{start, rule_at, next, end}
 use Rattle.job_numbers.proofs.segment.count_segments.Goals as goal
 
 pub loop-i-init : goal.loop-i-init

@@ -1,7 +1,5 @@
 use Rattle.std.specs.Prelude.{◌-◌}
-use Rattle.laws.proofs.Prelude.{ap, ◌∙◌, arith, plus}
-use Rattle.job_lines.specs.declared.segment.SegmentLine.{SegmentLine}
-use Rattle.job_text_statements.proofs.Counting.{Counting, start, rule_at, next, end}
+use Rattle.job_text_statements.proofs.Counting.{Counting}
 use Rattle.job_numbers.proofs.segment.count_segments.Given as goal
 
 abbrev pub invariant-loop-i : goal.invariant-loop-i

@@ -1,6 +1,6 @@
 -- `segment_at` meets its contract. Assumes nothing.
 use Rattle.std.specs.Prelude.{◌+◌, ◌*◌}
-use Rattle.laws.proofs.Prelude.{rules, w32, kept}
+use Rattle.laws.proofs.Prelude.{w32, kept}
 use Rattle.job_text_statements.specs.Numbers.{number_at, segment_at}
 use Rattle.job_numbers.proofs.segment.segment_at.Goals as goal
 

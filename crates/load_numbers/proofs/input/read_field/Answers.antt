@@ -1,5 +1,5 @@
 -- `read_field` meets its contract: each answer is a law of `Reading`. Assumes nothing.
-use Rattle.laws.proofs.Prelude.{arith, rules}
+use Rattle.laws.proofs.Prelude.{arith}
 use Rattle.load_numbers.proofs.Reading.{missing, no_end, other_end, number}
 use Rattle.load_numbers.proofs.input.read_field.Goals as goal
 

@@ -1,5 +1,5 @@
 -- `read_input` meets its contract: each answer is a law of `Reading`. Assumes nothing.
-use Rattle.laws.proofs.Prelude.{arith, rules}
+use Rattle.laws.proofs.Prelude.{arith}
 use Rattle.load_numbers.proofs.Reading.{no_seed, no_tiles, no_count, more_behind, numbers, nothing}
 use Rattle.load_numbers.proofs.input.read_input.Goals as goal
 

@@ -1,5 +1,4 @@
 -- `draw_segment` meets its contract: the laws are those of `Drawing`. Assumes nothing.
-use Rattle.laws.proofs.Prelude.{rules}
 use Rattle.load_numbers.proofs.Drawing.{cover_fits, drawn, line_is, state_after_lem}
 use Rattle.load_numbers.proofs.segment.draw_segment.Goals as goal
 

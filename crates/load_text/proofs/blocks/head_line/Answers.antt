@@ -1,5 +1,5 @@
 -- `head_line` meets its contract: the number of tiles is small enough for both widths. Assumes nothing.
-use Rattle.laws.proofs.Prelude.{arith, rules, w32}
+use Rattle.laws.proofs.Prelude.{arith, w32}
 use mir.ValLaws.{to_z_pos}
 use Rattle.load_text.proofs.blocks.head_line.Goals as goal
 

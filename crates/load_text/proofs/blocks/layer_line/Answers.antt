@@ -1,5 +1,5 @@
 -- `layer_line` meets its contract: the id is small enough for both widths. Assumes nothing.
-use Rattle.laws.proofs.Prelude.{arith, rules, w32}
+use Rattle.laws.proofs.Prelude.{arith, w32}
 use mir.ValLaws.{to_z_pos}
 use Rattle.load_statements.specs.Load.{load_layer}
 use Rattle.load_text.proofs.blocks.layer_line.Goals as goal

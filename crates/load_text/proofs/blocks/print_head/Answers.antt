@@ -1,5 +1,4 @@
 -- `print_head` meets its contract: the names, and then the line. Assumes nothing.
-use Rattle.laws.proofs.Prelude.{rules}
 use Rattle.load_text.proofs.Printing.{head_printed}
 use Rattle.load_text.proofs.blocks.print_head.Goals as goal
 

@@ -1,10 +1,7 @@
 -- `print_layers` meets its contract. The invariant is that of lines printed one after another; the measure is the lines left.
 -- Assumes nothing.
-use Rattle.std.specs.Prelude.{◌-◌}
-use Rattle.laws.proofs.Prelude.{◌∙◌, arith, rules}
-use Rattle.lines.proofs.LinesPrinting.{LinesPrinting, start, line_room, next}
-use Rattle.job_text_statements.specs.Job.{layer_values}
-use Rattle.load_statements.specs.Load.{load_layer}
+use Rattle.laws.proofs.Prelude.{◌∙◌, arith}
+use Rattle.lines.proofs.LinesPrinting.{start, line_room, next}
 use Rattle.load_statements.proofs.Fields.{layer_long}
 use Rattle.load_text.proofs.Printing.{eight, layers_printed}
 use Rattle.load_text.proofs.blocks.print_layers.Goals as goal

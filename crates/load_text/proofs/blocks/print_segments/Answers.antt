@@ -1,12 +1,10 @@
 -- `print_segments` meets its contract. The invariant is `Making`: the lines so far, and the generator after their draws; the measure is the
 -- lines left.
 -- Assumes nothing.
-use Rattle.std.specs.Prelude.{◌-◌}
-use Rattle.laws.proofs.Prelude.{◌∙◌, arith, rules}
+use Rattle.laws.proofs.Prelude.{◌∙◌, arith}
 use Rattle.lines.proofs.LinesPrinting.{line_room}
-use Rattle.load_statements.specs.Load.{asked}
 use Rattle.load_statements.proofs.Fields.{slot_small}
-use Rattle.load_text.proofs.Printing.{seven, Making, make, make_next, segments_printed}
+use Rattle.load_text.proofs.Printing.{seven, make, make_next, segments_printed}
 use Rattle.load_text.proofs.blocks.print_segments.Goals as goal
 
 pub loop-k-init : goal.loop-k-init

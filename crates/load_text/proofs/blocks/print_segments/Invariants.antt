@@ -1,9 +1,6 @@
 use Rattle.std.specs.Prelude.{◌-◌}
-use Rattle.laws.proofs.Prelude.{◌∙◌, arith, rules}
-use Rattle.lines.proofs.LinesPrinting.{line_room}
 use Rattle.load_statements.specs.Load.{asked}
-use Rattle.load_statements.proofs.Fields.{slot_small}
-use Rattle.load_text.proofs.Printing.{seven, Making, make, make_next, segments_printed}
+use Rattle.load_text.proofs.Printing.{Making}
 use Rattle.load_text.proofs.blocks.print_segments.Given as goal
 
 abbrev pub invariant-loop-k : goal.invariant-loop-k
