@@ -2,10 +2,9 @@
 -- Assumes nothing.
 use Rattle.std.specs.Prelude.{◌≡◌, ◌&&◌, ◌+◌, ◌≤◌, ◌<◌}
 use Rattle.laws.proofs.Prelude.{refl, sym, ap, subst, ◌∙◌, Bool, true, false, cond, List, ⊎_elim, ℕ, eq-or-lt_of_le, arith}
-use Rattle.laws.proofs.Prelude.{ltb-true, lt-ltb, eqb-true, eq-eqb, ne_eqb, eqb, ltb, Float, length, get_or, take, length-take, get_or-take, Answer}
-use Rattle.laws.proofs.Prelude.{is_given, all, both, left, right, clash, all_at, all_intro}
+use Rattle.laws.proofs.Prelude.{ltb-true, lt-ltb, eqb-true, eq-eqb, ne_eqb, eqb, ltb, Float, length, get_or, take, length-take, get_or-take}
+use Rattle.laws.proofs.Prelude.{is_given, both, left, right, clash, all_at, all_intro}
 use Rattle.laws.proofs.Bools.{not-true}
-use Rattle.styling.specs.declared.Layer.{Layer}
 use Rattle.styling.specs.Ascending.{strictly_ascends}
 use Rattle.styling.proofs.Ascents.{ascends_lt}
 use Rattle.layer_table.specs.Lookup.{lookup}

@@ -1,7 +1,6 @@
 -- `judging::are_known` meets its contract. Assumes nothing.
-use Rattle.std.specs.Prelude.{◌-◌}
-use Rattle.laws.proofs.Prelude.{arith, rules}
-use Rattle.tile_deciding.proofs.Meeting.{Meeting, meet_start, meet_next, meet_end}
+use Rattle.laws.proofs.Prelude.{arith}
+use Rattle.tile_deciding.proofs.Meeting.{meet_start, meet_next, meet_end}
 use Rattle.tile_deciding.proofs.judging.are_known.Goals as goal
 
 pub loop-p-init : goal.loop-p-init

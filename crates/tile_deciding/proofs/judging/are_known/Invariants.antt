@@ -1,6 +1,5 @@
 use Rattle.std.specs.Prelude.{◌-◌}
-use Rattle.laws.proofs.Prelude.{arith, rules}
-use Rattle.tile_deciding.proofs.Meeting.{Meeting, meet_start, meet_next, meet_end}
+use Rattle.tile_deciding.proofs.Meeting.{Meeting}
 use Rattle.tile_deciding.proofs.judging.are_known.Given as goal
 
 abbrev pub invariant-loop-p : goal.invariant-loop-p

@@ -1,7 +1,6 @@
 -- `judging::do_ascend` meets its contract. What holds while the ids are passed is `Judging` of a queue. Assumes nothing.
-use Rattle.std.specs.Prelude.{◌-◌}
-use Rattle.laws.proofs.Prelude.{arith, rules}
-use Rattle.queue_statements.proofs.Judging.{Judging, begin, next}
+use Rattle.laws.proofs.Prelude.{arith}
+use Rattle.queue_statements.proofs.Judging.{begin, next}
 use Rattle.listing_statements.proofs.Decidings.{ascended}
 use Rattle.tile_deciding.proofs.judging.do_ascend.Goals as goal
 

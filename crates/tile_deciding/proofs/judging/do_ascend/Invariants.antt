@@ -1,7 +1,5 @@
 use Rattle.std.specs.Prelude.{◌-◌}
-use Rattle.laws.proofs.Prelude.{arith, rules}
-use Rattle.queue_statements.proofs.Judging.{Judging, begin, next}
-use Rattle.listing_statements.proofs.Decidings.{ascended}
+use Rattle.queue_statements.proofs.Judging.{Judging}
 use Rattle.tile_deciding.proofs.judging.do_ascend.Given as goal
 
 abbrev pub invariant-loop-i : goal.invariant-loop-i

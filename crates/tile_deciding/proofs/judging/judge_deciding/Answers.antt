@@ -1,5 +1,5 @@
 -- `judging::judge_deciding` meets its contract: a line for each condition, the lowest first. Assumes nothing.
-use Rattle.laws.proofs.Prelude.{sym, ◌∙◌, arith, not-false, lt-ltb, le-ltb, rules}
+use Rattle.laws.proofs.Prelude.{sym, ◌∙◌, arith, lt-ltb, le-ltb}
 use Rattle.layer_table.proofs.Judging.{table}
 use Rattle.listing_statements.specs.Deciding.{lines_for}
 use Rattle.tile_deciding.proofs.judging.judge_deciding.Goals as goal

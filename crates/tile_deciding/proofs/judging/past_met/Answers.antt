@@ -1,5 +1,5 @@
 -- `judging::past_met` meets its contract. Assumes nothing.
-use Rattle.laws.proofs.Prelude.{arith, rules, lt-ltb, le-ltb, eq-eqb, ne_eqb}
+use Rattle.laws.proofs.Prelude.{lt-ltb, le-ltb, eq-eqb, ne_eqb}
 use Rattle.tile_deciding.proofs.judging.past_met.Goals as goal
 
 pub returns-then-ids-i : goal.returns-then-ids-i
