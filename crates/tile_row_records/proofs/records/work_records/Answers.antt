@@ -1,5 +1,5 @@
 -- `records::work_records` meets its contract: the records have the columns. Assumes nothing.
-use Rattle.laws.proofs.Prelude.{rules, to_z-of_z}
+use Rattle.laws.proofs.Prelude.{to_z-of_z}
 use Rattle.tile_row_records.proofs.records.work_records.Goals as goal
 
 pub returns : goal.returns
