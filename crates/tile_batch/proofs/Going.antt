@@ -11,7 +11,7 @@ use Rattle.batch_statements.specs.BatchLent.{BatchLent, sided, has_room}
 use Rattle.batch_statements.specs.Batch.{BatchRow, BatchAt, BatchGiven, TurnGiven, next_refused, no_room, row_end, asked, ended_at, turn_of, next_by, tiles_from, GivesBatch}
 use Rattle.batch_statements.specs.declared.Batch.{Batch}
 use Rattle.batch_statements.specs.declared.Room.{Room}
-use Rattle.batch_steps.specs.InnerStanding.{is_pass, goes_on, end_at, end_by, Ends}
+use Rattle.batch_steps.specs.InnerStanding.{is_pass, end_at, end_by, Ends}
 use Rattle.batch_steps.specs.declared.Standing.{Standing}
 use Rattle.tile_batch.specs.InnerTurns.{batch_in, BatchStands, in_row, Turnable, GivesStanding, BatchRoom}
 use Rattle.tile_batch.proofs.Turning.{SameRoom, verdict_of, stands_next, refused_by_turn}

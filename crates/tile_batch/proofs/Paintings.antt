@@ -5,7 +5,6 @@ use Rattle.laws.proofs.Prelude.{refl, ap, sym, ◌∙◌, Bool, true, false, con
 use Rattle.laws.proofs.Prelude.{eq-eqb, Float, length, drop, length-drop, sets, length-sets, length-take-le, over}
 use Rattle.refusals.specs.Refusal.{Judgement, pass, and_then}
 use Rattle.segment_rows.specs.Search.{tile_part}
-use Rattle.styling.specs.declared.Layer.{Layer}
 use Rattle.queue_statements.specs.Queue.{Carry}
 use Rattle.row_statements.specs.Lent.{carries_in, layers_of}
 use Rattle.row_statements.specs.State.{State, next_state, with_clip, is_wrong_worked}

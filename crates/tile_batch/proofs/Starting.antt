@@ -1,7 +1,7 @@
 -- A batch before its first tile: what 1 to 5 leave lets the tiles be worked, and where none is worked, or the first is refused, everything is as it was.
 -- Assumes nothing.
-use Rattle.std.specs.Prelude.{◌≡◌, ◌&&◌, ◌||◌, ◌+◌, ◌-◌, ◌*◌, ◌/◌, ◌≤◌, ◌<◌}
-use Rattle.laws.proofs.Prelude.{refl, ap, sym, subst, ◌∙◌, Bool, true, false, not, cond, List, ℕ, suc}
+use Rattle.std.specs.Prelude.{◌≡◌, ◌&&◌, ◌||◌, ◌-◌, ◌/◌}
+use Rattle.laws.proofs.Prelude.{refl, ap, sym, subst, ◌∙◌, Bool, true, false, not, cond, ℕ, suc}
 use Rattle.laws.proofs.Prelude.{min, arith, not-false, ltb, ℤ, pos, length}
 use Rattle.refusals.specs.Refusal.{Judgement, pass, refuse, unless, and_then, judgement_in}
 use Rattle.refusals.specs.declared.Verdict.{Verdict}

@@ -1,5 +1,4 @@
 -- `is_short` meets its contract. Assumes nothing.
-use Rattle.laws.proofs.Prelude.{rules}
 use Rattle.tile_batch.proofs.is_short.Goals as goal
 
 pub returns : goal.returns

@@ -1,5 +1,5 @@
 -- `judge_first` meets its contract. Assumes nothing.
-use Rattle.laws.proofs.Prelude.{rules, to_z-of_z}
+use Rattle.laws.proofs.Prelude.{to_z-of_z}
 use Rattle.tile_batch.proofs.judge_first.Goals as goal
 
 pub returns-then-goes : goal.returns-then-goes

@@ -1,28 +1,24 @@
-use Rattle.std.specs.Prelude.{◌≡◌, ◌+◌, ◌-◌, ◌≤◌}
-use Rattle.laws.proofs.Prelude.{refl, ap, ap₂, sym, subst, ◌∙◌, false, ℕ, arith, rules, pos, length, w16, to_z_pos, small}
-use Rattle.refusals.specs.Refusal.{Judgement, pass, judgement_in}
-use Rattle.segment_rows.specs.Search.{left_part, tile_part}
-use Rattle.row_statements.specs.State.{State}
-use Rattle.row_statements.specs.Lent.{columns, list_columns, is_list_short, lent_table}
-use Rattle.row_driver.proofs.Cuts.{within_row, own_part, next_start, end_within, sum_fits}
-use Rattle.batch_statements.specs.BatchLent.{BatchLent, batch_lent, sided}
-use Rattle.batch_statements.specs.Batch.{BatchRow, BatchAt, BatchGiven, batch_row, turn_of, tiles_from, GivesBatch}
-use Rattle.batch_steps.specs.InnerStanding.{starting}
-use Rattle.batch_steps.specs.declared.Standing.{Standing}
-use Rattle.tile_batch.specs.InnerTurns.{batch_in, GivesStanding}
-use Rattle.tile_batch.proofs.Going.{Goes, goes, Going, left_of, start, narrow, turnable, Past, past, at_is, rest_ended, ends_batch}
+use Rattle.std.specs.Prelude.{◌≡◌, ◌-◌}
+use Rattle.laws.proofs.Prelude.{pos, length}
+use Rattle.refusals.specs.Refusal.{pass, judgement_in}
+use Rattle.segment_rows.specs.Search.{left_part}
+use Rattle.row_statements.specs.Lent.{columns, lent_table}
+use Rattle.batch_statements.specs.BatchLent.{batch_lent, sided}
+use Rattle.batch_statements.specs.Batch.{batch_row}
+use Rattle.tile_batch.specs.InnerTurns.{batch_in}
+use Rattle.tile_batch.proofs.Going.{Going, left_of}
 use Rattle.tile_batch.proofs.work_many.Given as goal
 
 abbrev pub invariant-loop-room : goal.invariant-loop-room
 invariant-loop-room l =
     Going (batch_row l.row (lent_table l.layers l.colors l.count) l.keeps l.clear l.previous) l.room l.tiles
-    (batch_in l.initial.at (batch_lent (columns l.initial.a-ids l.initial.a-covers) (columns l.initial.b-ids l.initial.b-covers) l.initial.kept l.initial.told l.initial.bottoms l.initial.planes l.initial.painted))
-    (batch_in l.at (sided l.at.first (batch_lent (columns l.a-ids l.a-covers) (columns l.b-ids l.b-covers) l.kept l.told l.bottoms l.planes l.painted)))
+    (batch_in l.initial.at (batch_lent (columns l.initial.a_ids l.initial.a_covers) (columns l.initial.b_ids l.initial.b_covers) l.initial.kept l.initial.told l.initial.bottoms l.initial.planes l.initial.painted))
+    (batch_in l.at (sided l.at.first (batch_lent (columns l.a_ids l.a_covers) (columns l.b_ids l.b_covers) l.kept l.told l.bottoms l.planes l.painted)))
     (judgement_in l.at.verdict)
-    × (length l.a-ids ≡ length l.initial.a-ids)
-    × (length l.a-covers ≡ length l.initial.a-covers)
-    × (length l.b-ids ≡ length l.initial.b-ids)
-    × (length l.b-covers ≡ length l.initial.b-covers)
+    × (length l.a_ids ≡ length l.initial.a_ids)
+    × (length l.a_covers ≡ length l.initial.a_covers)
+    × (length l.b_ids ≡ length l.initial.b_ids)
+    × (length l.b_covers ≡ length l.initial.b_covers)
     × (length l.kept ≡ length l.initial.kept)
     × (length l.told ≡ length l.initial.told)
     × (length l.bottoms ≡ length l.initial.bottoms)

@@ -1,6 +1,6 @@
 -- `tile::note_tile` meets its contract. Assumes nothing.
 use Rattle.std.specs.Prelude.{◌*◌}
-use Rattle.laws.proofs.Prelude.{refl, ap, ◌∙◌, arith, rules, take, sets}
+use Rattle.laws.proofs.Prelude.{refl, ap, ◌∙◌, arith, take, sets}
 use Rattle.layer_table.specs.Table.{table_of}
 use Rattle.queue_statements.specs.Queue.{queue_of}
 use Rattle.pass_statements.specs.Decision.{decision_in}
@@ -42,9 +42,9 @@ returns c =
       used = ap (λ (y : WordsAt). y.used) mixed;
       first = refl;
       verdict = refl;
-      kept_is = noted.0;
-      told_is = noted.1.0 ∙ ap (λ (x : WalkAt). sets a.told.now (a.at.worked * 6) (tile_numbers (tile_answer_in a.done) x.shown a.worked.state.left)) p;
-      bottoms_are = noted.1.1;
+      kept_is = noted.kept_after;
+      told_is = noted.told_after ∙ ap (λ (x : WalkAt). sets a.told.now (a.at.worked * 6) (tile_numbers (tile_answer_in a.done) x.shown a.worked.state.left)) p;
+      bottoms_are = noted.bottoms_after;
       planes_are = ap (λ (x : WalkAt). x.at.planes) p;
       painted_are = ap (λ (y : WordsAt). y.painted) mixed;
     })

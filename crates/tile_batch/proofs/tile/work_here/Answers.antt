@@ -1,9 +1,12 @@
 -- `tile::work_here` meets its contract. Assumes nothing.
 use Rattle.std.specs.Prelude.{◌≡◌}
-use Rattle.laws.proofs.Prelude.{refl, ap, sym, ◌∙◌, Bool, false, List, ℕ, arith, rules}
+use Rattle.laws.proofs.Prelude.{refl, ap, sym, ◌∙◌, Bool, false, List, ℕ, arith}
 use Rattle.refusals.specs.Refusal.{Judgement, pass, unless, and_then}
 use Rattle.cached_tile.specs.Kept.{tag_out_of_range}
 use Rattle.row_statements.specs.Lent.{ListColumns, columns, list_columns, lent_table}
+use Rattle.row_working.specs.InnerPart.{WorksPart}
+use Rattle.row_statements.specs.declared.TileWorked.{TileWorked}
+use Rattle.cached_tile.specs.declared.kept.Kept.{Kept}
 use Rattle.row_statements.specs.TileWork.{WorkLent, work_lent, layers_verdict, GivesWork}
 use Rattle.row_statements.specs.InnerWork.{worked_by}
 use Rattle.row_driver.specs.InnerSteps as driver
@@ -14,7 +17,7 @@ use Rattle.batch_statements.specs.Batch.{BatchRow, BatchAt, batch_row, call_at}
 use Rattle.tile_batch.specs.InnerTurns.{batch_in, PartOf}
 use Rattle.tile_batch.proofs.Turning.{own_judged, own_tag, workable, all_few, turn_done, turn_refused, turn_left, turn_told_refused, both_pass}
 use Rattle.tile_batch.proofs.tile.work_here.Goals as goal
-use Rattle.tile_batch.proofs.tile.work_here.Goals.{After-work_part-worked, Start}
+use Rattle.tile_batch.proofs.tile.work_here.Goals.{Start}
 
 -- what the function is called with where the part is a row's, where the batch stands, and the list
 abbrev row_of : Start → List ℕ → BatchRow
@@ -23,7 +26,7 @@ row_of s row = let a = s.args in batch_row row (lent_table a.layers.now a.colors
 abbrev standOf : Start → BatchAt
 standOf s =
     let a = s.args in
-    batch_in a.at (batch_lent (columns a.ids.now a.covers.now) (columns a.next-ids.now a.next-covers.now) a.kept.now a.told.now a.bottoms.now a.planes.now a.painted.now)
+    batch_in a.at (batch_lent (columns a.ids.now a.covers.now) (columns a.next_ids.now a.next_covers.now) a.kept.now a.told.now a.bottoms.now a.planes.now a.painted.now)
 
 abbrev list_of : Start → ListColumns
 list_of s = let a = s.args in list_columns a.list_ids.now a.list_covers.now a.list_flags.now a.list_unmasked.now
@@ -42,19 +45,11 @@ own s row p h = sym (own_tag (row_of s row) (standOf s) p.stands s.requires.insi
 ready : (s : Start) (row : List ℕ) → Own s row → NoTag s → driver.Workable (call_at (row_of s row) (standOf s)) (work_lent (standOf s).lent.other (list_of s))
 ready s row p h = workable (row_of s row) (standOf s) p.stands (own s row p h) (list_of s) s.requires.list_long
 
--- what the work leaves in the lent memory
-abbrev backOf : After-work_part-worked → WorkLent
-backOf c =
-    let l = c.work_part-worked.new.1.1.1.1.1.1.1.1.1.1 in
-    work_lent (columns l.0 l.1.0) (list_columns l.1.1.0 l.1.1.1.0 l.1.1.1.1.0 l.1.1.1.1.1.0)
-
 -- what the work says, once
-given_is : (c : After-work_part-worked) (row : List ℕ) → Own c row → GivesWork (worked_by (call_at (row_of c row) (standOf c)) (work_lent (standOf c).lent.other (list_of c))) c.work_part-worked.result (backOf c)
-given_is c row p =
-    rw c.kept_at-held.ensures at (c.work_part-worked.ensures.gives (standOf c.before.before.before.before.before.before.before.before.before.before.before.before.before.before.before.before.before.before.before.before.before.before.before.before.before).tile row p.part_is)
-
-no-tag : (c : After-work_part-worked) → NoTag c
-no-tag c = ap tag_out_of_range (sym c.kept_at-held.ensures) ∙ sym c.is_tag_out_of_range.ensures ∙ c.if-is_tag_out_of_range.false
+given_is : (s : Start) (row : List ℕ) → Own s row → {held : Kept} {r : TileWorked} {back : WorkLent} → held ≡ kept_at s.args.keeps s.args.kept.now s.args.at.worked
+    → WorksPart s.args.at.state s.args.part.now (row_of s row).table held s.args.clear s.args.previous (standOf s).lent.queue (work_lent (standOf s).lent.other (list_of s)) r back
+    → GivesWork (worked_by (call_at (row_of s row) (standOf s)) (work_lent (standOf s).lent.other (list_of s))) r back
+given_is s row p e g = rw e at (g.gives (standOf s).tile row p.part_is)
 
 pub kept_at-held-requires : goal.kept_at-held-requires
 kept_at-held-requires c = c.requires.notes.kept_long
@@ -83,10 +78,10 @@ pub note_tile-requires : goal.note_tile-requires
 note_tile-requires c =
     let row = c.requires.row in
     let p = c.requires.of_row in
-    let tag = no-tag (goal.at.note_tile-requires c).After-work_part-worked in
+    let tag = ap tag_out_of_range (sym c.kept_at-held.ensures) ∙ sym c.is_tag_out_of_range.ensures ∙ c.if-is_tag_out_of_range.false in
     let call = call_at (row_of (goal.at.note_tile-requires c).Start row) (standOf (goal.at.note_tile-requires c).Start) in
     let lent = work_lent (standOf (goal.at.note_tile-requires c).Start).lent.other (list_of (goal.at.note_tile-requires c).Start) in
-    let g = given_is (goal.at.note_tile-requires c).After-work_part-worked row p in
+    let g = given_is (goal.at.note_tile-requires c).Start row p c.kept_at-held.ensures c.work_part-worked.ensures in
     let e = c.in-Done.is in
     let t = accepted call lent (ready (goal.at.note_tile-requires c).Start row p tag) e g in
     let many = count call lent (ready (goal.at.note_tile-requires c).Start row p tag) t in
@@ -97,7 +92,7 @@ note_tile-requires c =
     rw p.part_is (
       painter call lent (ready (goal.at.note_tile-requires c).Start row p tag),
       walkable call lent (ready (goal.at.note_tile-requires c).Start row p tag) t,
-      omega (arith, many, few, r.list_ids, c.work_part-worked.auto.1.1.1.1.1.1.1.1.1.1.1.1.0),
+      omega (arith, many, few, r.list_ids, c.work_part-worked.auto.list_ids),
       c.requires.notes,
       record { planes_long = omega (arith, planes.planes_long, many, few); painted_long = omega (arith, planes.painted_long, many, few) },
       t.no_clip,
@@ -105,37 +100,39 @@ note_tile-requires c =
 
 pub returns-in-Refused : goal.returns-in-Refused
 returns-in-Refused c =
+    let tag = ap tag_out_of_range (sym c.kept_at-held.ensures) ∙ sym c.is_tag_out_of_range.ensures ∙ c.if-is_tag_out_of_range.false in
     record {
       gives =
           λ row p.
-          turn_told_refused (row_of (goal.at.returns-in-Refused c).Start row) c.args.at (standOf (goal.at.returns-in-Refused c).Start).lent p.stands (own (goal.at.returns-in-Refused c).Start row p (no-tag (goal.at.returns-in-Refused c).After-work_part-worked)) (list_of (goal.at.returns-in-Refused c).Start) c.requires.list_long (given_is (goal.at.returns-in-Refused c).After-work_part-worked row p) c.in-Refused.is
+          turn_told_refused (row_of (goal.at.returns-in-Refused c).Start row) c.args.at (standOf (goal.at.returns-in-Refused c).Start).lent p.stands (own (goal.at.returns-in-Refused c).Start row p tag) (list_of (goal.at.returns-in-Refused c).Start) c.requires.list_long (given_is (goal.at.returns-in-Refused c).Start row p c.kept_at-held.ensures c.work_part-worked.ensures) c.in-Refused.is
           c.refused-in-Refused.ensures;
     }
 
 pub shape_of-next_ids-in-Done : goal.shape_of-next_ids-in-Done
-shape_of-next_ids-in-Done c = c.work_part-worked.auto.1.1.1.1.1.1.1.1.1.1.0
+shape_of-next_ids-in-Done c = c.work_part-worked.auto.next_ids
 
 pub shape_of-next_covers-in-Done : goal.shape_of-next_covers-in-Done
-shape_of-next_covers-in-Done c = c.work_part-worked.auto.1.1.1.1.1.1.1.1.1.1.1.0
+shape_of-next_covers-in-Done c = c.work_part-worked.auto.next_covers
 
 pub shape_of-list_ids-in-Done : goal.shape_of-list_ids-in-Done
-shape_of-list_ids-in-Done c = c.work_part-worked.auto.1.1.1.1.1.1.1.1.1.1.1.1.0
+shape_of-list_ids-in-Done c = c.work_part-worked.auto.list_ids
 
 pub shape_of-list_covers-in-Done : goal.shape_of-list_covers-in-Done
-shape_of-list_covers-in-Done c = c.work_part-worked.auto.1.1.1.1.1.1.1.1.1.1.1.1.1.0
+shape_of-list_covers-in-Done c = c.work_part-worked.auto.list_covers
 
 pub shape_of-list_flags-in-Done : goal.shape_of-list_flags-in-Done
-shape_of-list_flags-in-Done c = c.work_part-worked.auto.1.1.1.1.1.1.1.1.1.1.1.1.1.1.0
+shape_of-list_flags-in-Done c = c.work_part-worked.auto.list_flags
 
 pub returns-in-Done : goal.returns-in-Done
 returns-in-Done c =
+    let tag = ap tag_out_of_range (sym c.kept_at-held.ensures) ∙ sym c.is_tag_out_of_range.ensures ∙ c.if-is_tag_out_of_range.false in
     let t = c.requires in
     let e = c.in-Done.is in
     record {
       gives =
           λ row p.
-          let g = given_is (goal.at.returns-in-Done c).After-work_part-worked row p in
-          let v = both_pass (row_of (goal.at.returns-in-Done c).Start row) c.args.at (standOf (goal.at.returns-in-Done c).Start).lent p.stands (own (goal.at.returns-in-Done c).Start row p (no-tag (goal.at.returns-in-Done c).After-work_part-worked)) (list_of (goal.at.returns-in-Done c).Start) t.list_long g e in
+          let g = given_is (goal.at.returns-in-Done c).Start row p c.kept_at-held.ensures c.work_part-worked.ensures in
+          let v = both_pass (row_of (goal.at.returns-in-Done c).Start row) c.args.at (standOf (goal.at.returns-in-Done c).Start).lent p.stands (own (goal.at.returns-in-Done c).Start row p tag) (list_of (goal.at.returns-in-Done c).Start) t.list_long g e in
           turn_done (row_of (goal.at.returns-in-Done c).Start row) (standOf (goal.at.returns-in-Done c).Start) p.stands v t.planes c.args.at (standOf (goal.at.returns-in-Done c).Start).lent refl (list_of (goal.at.returns-in-Done c).Start) t.list_long g e
           (rw p.part_is at c.note_tile.ensures);
     }
