@@ -1,5 +1,5 @@
 use Rattle.std.specs.Prelude.{◌-◌}
-use Rattle.laws.proofs.Prelude.{rules, arith, length}
+use Rattle.laws.proofs.Prelude.{length}
 use Rattle.trace.proofs.choice.is_word.Given as goal
 
 abbrev pub invariant-loop-i : goal.invariant-loop-i

@@ -1,5 +1,5 @@
 -- `front` is safe and ends. Assumes nothing.
-use Rattle.laws.proofs.Prelude.{sym, arith, rules, length-take-le}
+use Rattle.laws.proofs.Prelude.{sym, arith, length-take-le}
 use Rattle.trace.proofs.frame.front.Goals as goal
 
 pub slice_bounds-result-end : goal.slice_bounds-result-end

@@ -1,5 +1,5 @@
 -- `wide` is safe and ends. Assumes nothing.
-use Rattle.laws.proofs.Prelude.{rules, to_z-of_z, sfits_widen}
+use Rattle.laws.proofs.Prelude.{to_z-of_z, sfits_widen}
 use Rattle.trace.proofs.text.wide.Goals as goal
 
 pub overflow_cast-result : goal.overflow_cast-result

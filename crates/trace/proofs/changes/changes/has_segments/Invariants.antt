@@ -1,5 +1,5 @@
 use Rattle.std.specs.Prelude.{◌-◌}
-use Rattle.laws.proofs.Prelude.{rules, arith, length}
+use Rattle.laws.proofs.Prelude.{length}
 use Rattle.trace.proofs.changes.changes.has_segments.Given as goal
 
 abbrev pub invariant-loop-i : goal.invariant-loop-i

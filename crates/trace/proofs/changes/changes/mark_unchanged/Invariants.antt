@@ -1,5 +1,4 @@
 use Rattle.std.specs.Prelude.{◌-◌}
-use Rattle.laws.proofs.Prelude.{rules, arith, length}
 use Rattle.trace.proofs.changes.changes.mark_unchanged.Given as goal
 
 abbrev pub invariant-loop-i : goal.invariant-loop-i

@@ -1,5 +1,4 @@
 use Rattle.std.specs.Prelude.{◌-◌}
-use Rattle.laws.proofs.Prelude.{rules, arith}
 use Rattle.trace.proofs.text.lists.place_of.Given as goal
 
 abbrev pub invariant-loop-i : goal.invariant-loop-i

@@ -1,5 +1,4 @@
 use Rattle.std.specs.Prelude.{◌-◌}
-use Rattle.laws.proofs.Prelude.{rules, arith}
 use Rattle.trace.proofs.text.planes.are_alike.Given as goal
 
 abbrev pub invariant-loop-column : goal.invariant-loop-column

@@ -1,9 +1,8 @@
 use Rattle.std.specs.Prelude.{◌-◌}
-use Rattle.laws.proofs.Prelude.{rules, arith}
 use Rattle.trace.proofs.text.planes.print_plane.Given as goal
 
 abbrev pub invariant-loop-row : goal.invariant-loop-row
-invariant-loop-row l = Unit {0}
+invariant-loop-row g l = Unit {0}
 
 abbrev pub decreases-loop-row : goal.decreases-loop-row
-decreases-loop-row l = 16 - l.row
+decreases-loop-row g l = 16 - l.row

@@ -1,5 +1,4 @@
 use Rattle.std.specs.Prelude.{◌-◌}
-use Rattle.laws.proofs.Prelude.{rules, arith}
 use Rattle.trace.proofs.tiles.deciding.in_256ths.Given as goal
 
 abbrev pub invariant-loop-k : goal.invariant-loop-k
