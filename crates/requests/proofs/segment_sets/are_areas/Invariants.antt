@@ -1,5 +1,4 @@
 use Rattle.std.specs.Prelude.{◌-◌}
-use Rattle.laws.proofs.Prelude.{arith}
 use Rattle.requests.proofs.segment_sets.are_areas.Given as goal
 
 abbrev pub invariant-loop-k : goal.invariant-loop-k

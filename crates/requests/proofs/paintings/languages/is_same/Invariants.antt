@@ -1,5 +1,5 @@
 use Rattle.std.specs.Prelude.{◌≡◌, ◌-◌}
-use Rattle.laws.proofs.Prelude.{arith, length}
+use Rattle.laws.proofs.Prelude.{length}
 use Rattle.requests.proofs.paintings.languages.is_same.Given as goal
 
 -- the second slice is as long as the first

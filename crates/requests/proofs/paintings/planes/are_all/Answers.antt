@@ -1,5 +1,4 @@
 -- `planes::are_all` is safe and ends. Assumes nothing.
-use Rattle.std.specs.Prelude.{◌-◌, ◌≤◌}
 use Rattle.laws.proofs.Prelude.{arith}
 use Rattle.requests.proofs.paintings.planes.are_all.Goals as goal
 

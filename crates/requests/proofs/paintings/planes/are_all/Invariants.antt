@@ -1,5 +1,4 @@
 use Rattle.std.specs.Prelude.{◌-◌, ◌≤◌}
-use Rattle.laws.proofs.Prelude.{arith}
 use Rattle.requests.proofs.paintings.planes.are_all.Given as goal
 
 abbrev pub invariant-loop-k : goal.invariant-loop-k
