@@ -4,10 +4,12 @@
 
 pub mod blocks;
 
-ghost use Rattle.std.specs.Prelude.{◌≡◌, List, ℕ, ◌≤◌, length};
+ghost use Rattle.std.specs.Prelude.{◌≡◌, List, ℕ, ◌≤◌, length, OnOk, IfSome};
+ghost use Rattle.std.specs.Io.KnownBytes.{Appends};
 ghost use Rattle.job_text_statements.specs.Job.{render};
 ghost use Rattle.load_statements.specs.Load.{asked, load_of};
 ghost use Rattle.load_statements.specs.Input.{AskedInRange};
+ghost use Rattle.load_statements.specs.Answer.{load_answer_text};
 ghost use Rattle.report.specs.Put.{LineWritten};
 ghost use Rattle.input_front.specs.Front.{HoldsFront};
 ghost use Rattle.load_text.specs.Print.{LoadAnswered};
@@ -15,6 +17,8 @@ ghost use Rattle.load_text.specs.Print.{LoadAnswered};
 use load_numbers::input;
 use load_numbers::input::Input;
 use report::fields;
+use std::io;
+use std::io::{Read, Write};
 
 // Writes the text of a load at the front of `out`, and answers its length. A text has at most 11,518 bytes; printing a
 // line asks for 84 past the lines that may come.
@@ -54,4 +58,16 @@ pub fn answer_front(buffer: &[u8; 21], n: usize, out: &mut [u8; 11518]) -> usize
         → LoadAnswered whole out.old result out.new }
 {
     answer(input_front::front(buffer, n), out)
+}
+
+// Reads an input, and hands the answer to it to a writer.
+pub fn answer_input<R: Read, W: Write>(reader: &mut R, writer: &mut W) -> io::Result<()>
+    ensures { OnOk result (IfSome (R.remaining reader.old)
+        (λ whole. Appends (W.contents writer.old) (W.contents writer.new) (load_answer_text whole))) }
+{
+    let mut text = [0u8; 21];
+    let n = input_front::read_front(reader, &mut text)?;
+    let mut out = [0u8; 11518];
+    let end = answer_front(&text, n, &mut out);
+    writer.write_all(&out[..end])
 }

@@ -1,7 +1,8 @@
 // The answer of the row program to a job text, as the bytes that it prints.
 #![tactic(auto)]
 
-ghost use Rattle.std.specs.Prelude.{List, ℕ, ◌≤◌, length};
+ghost use Rattle.std.specs.Prelude.{List, ℕ, ◌≤◌, length, OnOk, IfSome};
+ghost use Rattle.std.specs.Io.KnownBytes.{Appends};
 ghost use Rattle.laws.specs.Integer.{plus};
 ghost use Rattle.input_front.specs.Front.{HoldsFront};
 ghost use Rattle.report.specs.Put.{LineWritten};
@@ -9,6 +10,8 @@ ghost use Rattle.row_answer.specs.Answer.{driving_text, head_driving, answer_tex
 
 use job_statements::Reading;
 use job_text_statements::Head;
+use std::io;
+use std::io::{Read, Write};
 
 // Drives a row, with room for the lines of every row, and prints what it tells.
 fn drive(
@@ -65,4 +68,16 @@ pub fn answer_front(buffer: &[u8; 65537], n: usize, out: &mut [u8; 249850]) -> u
         → LineWritten (answer_text whole) out.old result out.new }
 {
     answer(input_front::front(buffer, n), out)
+}
+
+// Reads an input, and hands the answer to it to a writer.
+pub fn answer_input<R: Read, W: Write>(reader: &mut R, writer: &mut W) -> io::Result<()>
+    ensures { OnOk result (IfSome (R.remaining reader.old)
+        (λ whole. Appends (W.contents writer.old) (W.contents writer.new) (answer_text whole))) }
+{
+    let mut text = [0u8; 65537];
+    let n = input_front::read_front(reader, &mut text)?;
+    let mut out = [0u8; 249850];
+    let end = answer_front(&text, n, &mut out);
+    writer.write_all(&out[..end])
 }

@@ -1,5 +1,4 @@
 use Rattle.std.specs.Prelude.{◌-◌}
-use Rattle.laws.proofs.Prelude.{arith}
 use Rattle.loads.proofs.main.Given as goal
 
 abbrev pub invariant-loop-i : goal.invariant-loop-i

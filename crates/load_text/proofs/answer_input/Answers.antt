@@ -1,0 +1,20 @@
+-- `answer_input` meets its contract: what is written is the front of the buffer that the answer fills. Assumes nothing.
+use Rattle.laws.proofs.Prelude.{ap, sym, arith, length, length-sets, length-take-le}
+use Rattle.input_front.proofs.Held.{own, handed_on}
+use Rattle.report.proofs.Putting.{front}
+use Rattle.load_statements.specs.Answer.{load_answer_text}
+use Rattle.load_text.proofs.answer_input.Goals as goal
+
+pub slice_bounds-out-end : goal.slice_bounds-out-end
+slice_bounds-out-end g c =
+    let w = (c.answer_front-end.ensures _ (own _ _)).written in
+    omega (arith, w.answer, w.fits, simp length-sets at (ap length w.written))
+
+pub slice_bounds-write_all-end : goal.slice_bounds-write_all-end
+slice_bounds-write_all-end g c =
+    let w = (c.answer_front-end.ensures _ (own _ _)).written in
+    sym (length-take-le _ _ (omega (arith, w.answer, w.fits, simp length-sets at (ap length w.written))))
+
+pub returns : goal.returns
+returns g c =
+    handed_on _ _ _ _ load_answer_text c.in_ok-n.ensures.holds (λ whole h. front (c.answer_front-end.ensures whole h).written) c.write_all.ensures.bytes
