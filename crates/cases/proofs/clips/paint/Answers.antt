@@ -8,7 +8,7 @@ use Rattle.cases.proofs.clips.paint.Goals as goal
 
 pub paint-requires : goal.paint-requires
 unfolding table_of layer_at queue_of cover_entry
-paint-requires c =    (ready _ _ (leb-true 12 12 refl) c.requires.0, c.requires.1.0, c.requires.1.1)
+paint-requires c = (ready _ _ (leb-true 12 12 refl) c.requires.0, c.requires.1.0, c.requires.1.1)
 
 pub returns : goal.returns
 returns c = painted _ c.paint.ensures

@@ -3,4 +3,4 @@ use Rattle.laws.proofs.Prelude.{rules}
 use Rattle.cases.proofs.covers.p11_low.Goals as goal
 
 pub returns : goal.returns
-returns c =    rw (c.p11_carried-carried.ensures.0, c.p11_carried-carried.ensures.1)
+returns c = rw (c.p11_carried-carried.ensures.0, c.p11_carried-carried.ensures.1)

@@ -4,4 +4,4 @@ use Rattle.cases.proofs.Table.{cases}
 use Rattle.cases.proofs.words.p1.Goals as goal
 
 pub returns : goal.returns
-returns c = rw (c.is_IsWord.ensures, c.new.ensures.answer ∙ cases.p1)
+returns c = rw (c.is_word.ensures, c.new.ensures.answer ∙ cases.p1)

@@ -6,4 +6,4 @@ use Rattle.cases.proofs.words.p2.Goals as goal
 
 pub returns : goal.returns
 unfolding double_area_of cover_of
-returns c = rw (c.is_IsWord.ensures, c.new.ensures.answer ∙ cases.p2_word, c.double_area.ensures)
+returns c = rw (c.is_word-packs.ensures, c.new.ensures.answer ∙ cases.p2_word, c.double_area.ensures)

@@ -4,13 +4,12 @@ use Rattle.pixel_segment.specs.Field.{tile_of}
 use Rattle.cases.proofs.Table.{cases}
 use Rattle.cases.proofs.words.p4_tile_y.Goals as goal
 
-)
-
 pub returns : goal.returns
 unfolding tile_of
 returns c = rw (
   c.tile_y-last_y.ensures,
   c.is_refused-past.ensures,
   c.new-2.ensures.answer ∙ cases.p4_past_y (pos 5) (pos 2) (pos 3) (pos 4) (pos 32) (pos 16),
-  c.is_IsWord.ensures,
+  c.is_word-last.ensures,
   c.new.ensures.answer ∙ cases.p4_last_y_word,
+)
