@@ -1,5 +1,4 @@
 use Rattle.std.specs.Prelude.{◌-◌}
-use Rattle.laws.proofs.Prelude.{arith, rules}
 use Rattle.compare.proofs.kept.all_of.Given as goal
 
 abbrev pub invariant-loop-i : goal.invariant-loop-i

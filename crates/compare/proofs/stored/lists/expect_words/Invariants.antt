@@ -1,5 +1,5 @@
 use Rattle.std.specs.Prelude.{◌-◌}
-use Rattle.laws.proofs.Prelude.{arith, rules, length}
+use Rattle.laws.proofs.Prelude.{length}
 use Rattle.compare.proofs.stored.lists.expect_words.Given as goal
 
 abbrev pub invariant-loop-i : goal.invariant-loop-i

@@ -1,5 +1,5 @@
 use Rattle.std.specs.Prelude.{◌≡◌, ◌-◌}
-use Rattle.laws.proofs.Prelude.{refl, ◌∙◌, arith, rules, length, length-set}
+use Rattle.laws.proofs.Prelude.{length}
 use Rattle.compare.proofs.stored.lists.fill_words.Given as goal
 
 abbrev pub invariant-loop-i : goal.invariant-loop-i
