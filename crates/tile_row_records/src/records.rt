@@ -1,5 +1,5 @@
-// The two operations with the columns of a queue as an array of carry records. Nothing here is walked: a caller that
-// the checker covers has the records' form by these functions.
+// The two operations with the columns of a queue as an array of carry records: a caller that holds columns has the
+// records' form by these functions.
 ghost use Rattle.std.specs.Prelude.{◌≡◌};
 ghost use Rattle.row_statements.specs.Lent.{columns, list_columns, lent_table};
 ghost use Rattle.row_statements.specs.State.{state_in};
