@@ -1,6 +1,6 @@
 -- `answer` meets its contract: what is lent to be driven is the job that was read, and arrays of these lengths hold every job. Assumes nothing.
 use Rattle.std.specs.Prelude.{◌*◌}
-use Rattle.laws.proofs.Prelude.{refl, sym, arith, rules, length-take-le}
+use Rattle.laws.proofs.Prelude.{refl, sym, arith, length-take-le}
 use Rattle.report.proofs.Lines.{at_front}
 use Rattle.row_answer.proofs.Reading.{accepts, has_room_lem, refuses, same_text}
 use Rattle.row_text.proofs.answer.Goals as goal

@@ -1,5 +1,5 @@
 -- `answer_front` meets its contract: the first 65,537 bytes of an input decide its answer. Assumes nothing.
-use Rattle.laws.proofs.Prelude.{arith, rules}
+use Rattle.laws.proofs.Prelude.{arith}
 use Rattle.input_front.proofs.Held.{held}
 use Rattle.job_front.specs.Front.{input_room}
 use Rattle.row_answer.proofs.Reading.{same_text}
