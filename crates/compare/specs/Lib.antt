@@ -1,1 +1,0 @@
--- Nothing is cited here: each function is proved safe and ending.
