@@ -1,0 +1,19 @@
+-- Claims that are laws about the definitions of other crates, stated here for a reader. The other claims stand in the specs/ of their crates.
+pub mod Words
+pub mod Opposite
+pub mod Rows
+pub mod Layers
+pub mod Weights
+pub mod Planes
+pub mod WholeRow
+pub mod Passes
+pub mod Repainting
+pub mod Runs
+pub mod Texts
+pub mod Loads
+pub mod Sets
+pub mod Bounds
+pub mod Revisions
+pub mod RevisionEdges
+pub mod FourHigh
+pub mod Batches

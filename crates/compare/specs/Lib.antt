@@ -1,0 +1,1 @@
+-- Nothing is cited here: each function is proved safe and ending.

@@ -1,0 +1,6 @@
+-- `covers::ffi_is_full` meets its contract: the rule of the number. Assumes nothing.
+use Rattle.laws.proofs.Prelude.{rules}
+use Rattle.ffi.proofs.covers.ffi_is_full.Goals as goal
+
+pub returns : goal.returns
+returns c = rw (c.is_full.ensures, c.fill_rule.ensures)

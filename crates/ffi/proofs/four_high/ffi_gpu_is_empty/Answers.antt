@@ -1,0 +1,6 @@
+-- `four_high::ffi_gpu_is_empty` meets its contract: the rule of the number. Assumes nothing.
+use Rattle.laws.proofs.Prelude.{rules}
+use Rattle.ffi.proofs.four_high.ffi_gpu_is_empty.Goals as goal
+
+pub returns : goal.returns
+returns c = rw (c.is_empty.ensures, c.fill_rule.ensures)

@@ -1,0 +1,6 @@
+-- `words::ffi_cmp` meets its contract: the rank of the order that `cmp` gives. Assumes nothing.
+use Rattle.laws.proofs.Prelude.{◌∙◌, rules}
+use Rattle.ffi.proofs.words.ffi_cmp.Goals as goal
+
+pub returns : goal.returns
+returns c = c.rank_of.ensures ∙ c.cmp.ensures

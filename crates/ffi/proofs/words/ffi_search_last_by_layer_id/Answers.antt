@@ -1,0 +1,9 @@
+-- `words::ffi_search_last_by_layer_id` meets its contract: it tells what the search found. Assumes nothing.
+use Rattle.laws.proofs.Prelude.{rules}
+use Rattle.ffi.proofs.Told.{searched}
+use Rattle.ffi.proofs.words.ffi_search_last_by_layer_id.Goals as goal
+
+pub returns : goal.returns
+returns c =
+    let told = searched c.search_last_by_layer_id.ensures (c.put_found.ensures.value, c.put_found.ensures.place_after) in
+    record { value = told.0; place_after = told.1 }

@@ -1,0 +1,46 @@
+// Colours and the layer table, as it is lent.
+ghost use Rattle.std.specs.Prelude.{◌≡◌};
+ghost use Rattle.styling.specs.Codes.{mode_code, mode_of};
+ghost use Rattle.styling.specs.Color.{same_color};
+ghost use Rattle.styling.specs.Style.{is_opaque};
+ghost use Rattle.layer_table.specs.Table.{is_table_short, is_table};
+ghost use Rattle.ffi.specs.Layers.{color_from, draw_of};
+
+#[unsafe(no_mangle)]
+pub extern "C" fn ffi_color_eq(color: &[f32; 4], other: &[f32; 4]) -> bool
+    ensures { result ≡ same_color (color_from color.now) (color_from other.now) }
+{
+    ffi::layers::ffi_color_eq(color, other)
+}
+
+// Whether a draw with this fill, blend mode and colour hides what is below it.
+#[unsafe(no_mangle)]
+pub extern "C" fn ffi_is_opaque(fill: u32, blend_mode: u32, color: &[f32; 4]) -> bool
+    ensures { result ≡ is_opaque (draw_of fill blend_mode color.now) }
+{
+    ffi::layers::ffi_is_opaque(fill, blend_mode, color)
+}
+
+// The number of the blend mode of a number.
+#[unsafe(no_mangle)]
+pub extern "C" fn ffi_blend_mode(code: u32) -> u32
+    ensures { result ≡ mode_code (mode_of code) }
+{
+    ffi::layers::ffi_blend_mode(code)
+}
+
+// Whether the table is shorter than its count.
+#[unsafe(no_mangle)]
+pub extern "C" fn ffi_is_short(layers: &[u32], colors: &[f32], count: usize) -> bool
+    ensures { result ≡ is_table_short layers.now colors.now count }
+{
+    ffi::layers::ffi_is_short(layers, colors, count)
+}
+
+// Whether no refusal applies to the table.
+#[unsafe(no_mangle)]
+pub extern "C" fn ffi_is_table(layers: &[u32], colors: &[f32], count: usize) -> bool
+    ensures { result ≡ is_table layers.now colors.now count }
+{
+    ffi::layers::ffi_is_table(layers, colors, count)
+}
