@@ -26,7 +26,8 @@ fn mix_entry(unmasked: bool, id: u32, at: Mixing, painted: &mut [u32]) -> Mixing
     if !unmasked {
         return at;
     }
-    if 0 < at.before {
+    let lies_before = 0 < at.before;
+    if lies_before {
         return Mixing {
             before: at.before - 1,
             used: at.used,

@@ -42,7 +42,8 @@ pub fn read_blocks(s: &[u8], head: &mut [i32], layers: &mut [i32], segments: &mu
     ) else {
         return Blocks::Broken;
     };
-    if end < s.len() {
+    let is_more = end < s.len();
+    if is_more {
         return Blocks::Broken;
     }
     Blocks::Lines(n, m)

@@ -31,16 +31,16 @@ returns-in_default-read_block-2 c =
     (rw c.in-Lines-read_block.is at c.read_block-2.ensures)
     (rw c.in_default-read_block-2.is at c.read_block-3.ensures)
 
-pub returns-then-end-s : goal.returns-then-end-s
-returns-then-end-s c =
+pub returns-then-is_more : goal.returns-then-is_more
+returns-then-is_more c =
     left_over c.if-s-gt65536.false (rw c.in-Lines.is at c.read_block.ensures) c.if-count-ne1.false
     (rw c.in-Lines-read_block.is at c.read_block-2.ensures)
     (rw c.in-Lines-read_block-2.is at c.read_block-3.ensures)
-    c.if-end-s.true
+    c.if-is_more.true
 
 pub returns : goal.returns
 returns c =
     done c.if-s-gt65536.false (rw c.in-Lines.is at c.read_block.ensures) c.if-count-ne1.false
     (rw c.in-Lines-read_block.is at c.read_block-2.ensures)
     (rw c.in-Lines-read_block-2.is at c.read_block-3.ensures)
-    c.if-end-s.false
+    c.if-is_more.false
