@@ -1,4 +1,4 @@
-// The public operations for programs in other languages: each function is exported under its own name, takes numbers
+// The public operations for programs in other languages: ffi_c exports each function under its own name. It takes numbers
 // and slices, and gives numbers and lent slices. An answer is told by its number in the table of refusals, 0 where it
 // is none (ffi_numbers/specs/Numbers.antt). Nothing is decided here: each function refuses what the operation below it
 // refuses, and nothing else.

@@ -92,7 +92,7 @@ record HoldsSo (o : OpenRow) (p : Past) (h : Held) : Type 0 where
   lists : List HeldList
   holds : HoldsAll o p (held_with h lists)
 
-run_holds : {o : OpenRow} {p : Past} {h h' : Held} {es : List Event} → IsOpen o → HoldsSo o p h → Run o h es h' → HoldsSo o (past_events o es p) h'
+run_holds : {o : OpenRow} {h h' : Held} {p : Past} {es : List Event} → IsOpen o → HoldsSo o p h → Run o h es h' → HoldsSo o (past_events o es p) h'
 run_holds is_open here Run.none = here
 run_holds {h = h} is_open here (Run.next {e = e} s rest) =
     run_holds is_open (record { lists = lists_past e here.lists; holds = (call_right is_open here.holds (CallStep.row {h = held_with h here.lists} s)).1 }) rest
@@ -113,9 +113,9 @@ module _ {o : OpenRow} (is_open : IsOpen o) (p : Past) (k : HeldNumbers) (here :
         after = subst (HoldsSo o (past_events o r.events p)) held (run_holds is_open here r.runs);
       }
 
-all_right : {o : OpenRow} {p : Past} {k k' : HeldNumbers} {ts : List RowTold} → IsOpen o → HoldsSo o p (held_from k) → Batches o k ts k' → AllBatches o p ts
+all_right : {o : OpenRow} {k k' : HeldNumbers} {p : Past} {ts : List RowTold} → IsOpen o → HoldsSo o p (held_from k) → Batches o k ts k' → AllBatches o p ts
 all_right is_open here Batches.none = AllBatches.none
-all_right {p = p} {k = k} is_open here (Batches.batch {b = b} made rest) =
+all_right {k = k} {p = p} is_open here (Batches.batch {b = b} made rest) =
     let u = goes is_open p k here b made in
     AllBatches.batch u.right (all_right is_open u.after rest)
 all_right {k = k} is_open here (Batches.call {t = t} c rest) =

@@ -147,41 +147,41 @@ module _ {o : OpenRow} (is_open : IsOpen o) where
         dues = t.due more.told ∙ ap (λ (vs : List Judgement). v ∷ vs) more.dues ∙ turned (call_choices_due o p cs) is ∙ sym q;
       }
 
-  exists : {p : Past} (k : HeldByNumbers) → HoldsAll o p (all_from k) → (cs : List CallChoice) → CalledSo o p k cs
+  exists : (cs : List CallChoice) {p : Past} (k : HeldByNumbers) → HoldsAll o p (all_from k) → CalledSo o p k cs
   unfolding dues_told call_choices_due
-  exists k holds [] = record { told = []; after = k; calls = ListingCalls.none; dues = refl }
-  exists {p} k holds (CallChoice.work c ∷ cs) =
+  exists [] k holds = record { told = []; after = k; calls = ListingCalls.none; dues = refl }
+  exists (CallChoice.work c ∷ cs) {p} k holds =
       let held = held_work (held_from k.row) c in
       let call = ListingCall.row {k = k} (rows.Call.work {k = k.row} {c = held} {bytes = lent_bytes c.kept} {told = replicate 4 0} {bottom = lent_color} as_held (record { number = refl; numbers = refl; lent_is = refl })) in
-      let rest = exists _ (told_right is_open holds call).1 cs in
+      let rest = exists cs _ (told_right is_open holds call).1 in
       record { told = _ ∷ rest.told; after = rest.after; calls = ListingCalls.next call rest.calls; dues = ap (λ (vs : List Judgement). work_due_verdict o p.tiles c ∷ vs) rest.dues }
-  exists {p} k holds (CallChoice.paint c ∷ cs) =
+  exists (CallChoice.paint c ∷ cs) {p} k holds =
       let held = held_paint (held_from k.row) c in
       let call = ListingCall.row {k = k} (rows.Call.paint {k = k.row} {c = held} {mark = 0} as_held (record { number = refl; numbers = refl; plane_is = refl })) in
-      let rest = exists _ (told_right is_open holds call).1 cs in
+      let rest = exists cs _ (told_right is_open holds call).1 in
       record { told = _ ∷ rest.told; after = rest.after; calls = ListingCalls.next call rest.calls; dues = ap (λ (vs : List Judgement). paint_due_verdict o p.tiles c ∷ vs) rest.dues }
-  exists {p} k holds (CallChoice.list c ∷ cs) =
+  exists (CallChoice.list c ∷ cs) {p} k holds =
       let held = held_listing (held_from k.row) c in
       let call = ListingCall.list {k = k} {c = held} {listed = 0} as_held (record { number = refl; numbers = refl; lent_is = refl }) in
-      let rest = exists _ (told_right is_open holds call).1 cs in
+      let rest = exists cs _ (told_right is_open holds call).1 in
       record { told = _ ∷ rest.told; after = rest.after; calls = ListingCalls.next call rest.calls; dues = ap (λ (vs : List Judgement). list_due_verdict o p.tiles c ∷ vs) rest.dues }
-  exists {p} k holds (CallChoice.decide c ∷ cs) = decide_first k c cs (is_past o p.tiles c.tile) refl holds (exists k holds cs)
-  exists {p} k holds (CallChoice.other_work row table c ∷ cs) =
+  exists (CallChoice.decide c ∷ cs) {p} k holds = decide_first k c cs (is_past o p.tiles c.tile) refl holds (exists cs k holds)
+  exists (CallChoice.other_work row table c ∷ cs) {p} k holds =
       let a = work_at (state_on o p) row table c in
       let v = work_verdict a c.lent in
-      other_first (CallChoice.other_work row table c) cs v v refl (work_other p k a c.lent) refl holds (exists k holds cs) (λ still. exists _ still cs)
-  exists {p} k holds (CallChoice.other_paint row table c ∷ cs) =
+      other_first (CallChoice.other_work row table c) cs v v refl (work_other p k a c.lent) refl holds (exists cs k holds) (λ still. exists cs _ still)
+  exists (CallChoice.other_paint row table c ∷ cs) {p} k holds =
       let a = paint_at (state_on o p) row table c in
       let v = paint_verdict a c.plane in
-      other_first (CallChoice.other_paint row table c) cs v v refl (paint_other p k a c.plane) refl holds (exists k holds cs) (λ still. exists _ still cs)
-  exists {p} k holds (CallChoice.other_list row table c ∷ cs) =
+      other_first (CallChoice.other_paint row table c) cs v v refl (paint_other p k a c.plane) refl holds (exists cs k holds) (λ still. exists cs _ still)
+  exists (CallChoice.other_list row table c ∷ cs) {p} k holds =
       let a = list_at (state_on o p) row table c in
       let v = listing_verdict a c.lent in
-      other_first (CallChoice.other_list row table c) cs v v refl (list_other p k a c.lent) refl holds (exists k holds cs) (λ still. exists _ still cs)
-  exists {p} k holds (CallChoice.other_decide a masks ∷ cs) =
+      other_first (CallChoice.other_list row table c) cs v v refl (list_other p k a c.lent) refl holds (exists cs k holds) (λ still. exists cs _ still)
+  exists (CallChoice.other_decide a masks ∷ cs) {p} k holds =
       let call =
       ListingCall.other_decide {k = k} {a = a} {unmasked = masks} {old = lent_decide a.kept} (record { number = refl; numbers = refl; unmasked_is = refl }) in
-      let rest = exists k holds cs in
+      let rest = exists cs k holds in
       let due = ap (λ (vs : List Judgement). deciding_verdict a masks ∷ vs) rest.dues in
       record { told = _ ∷ rest.told; after = rest.after; calls = ListingCalls.next call rest.calls; dues = due }
 
@@ -189,4 +189,4 @@ module _ {o : OpenRow} (is_open : IsOpen o) where
 pub calls_exist : CallsExist
 calls_exist c lent back old new cs w t =
     let u = opened_held c lent w t in
-    exists u.0 _ (record { row = u.1; lists = tt }) cs
+    exists u.0 cs _ (record { row = u.1; lists = tt })

@@ -69,7 +69,7 @@ told_right {o} {p} {k} is_open holds (ListingCall.other_list {a = a} {lent = len
     (right, still k holds lends (ap (λ (m : ListNumbers). m.words) (right n e).numbers) (ap (λ (m : ListNumbers). m.counts) (right n e).numbers))
 told_right is_open holds (ListingCall.other_decide t) = (t, holds)
 
-all_right : {o : OpenRow} {p : Past} {k k' : HeldByNumbers} {ts : List ListingTold} → IsOpen o → HoldsAll o p (all_from k) → ListingCalls o k ts k' → AllListingTold o p ts
+all_right : {o : OpenRow} {k k' : HeldByNumbers} {p : Past} {ts : List ListingTold} → IsOpen o → HoldsAll o p (all_from k) → ListingCalls o k ts k' → AllListingTold o p ts
 all_right is_open holds ListingCalls.none = tt
 all_right is_open holds (ListingCalls.next c rest) =
     let u = told_right is_open holds c in
