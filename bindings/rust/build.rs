@@ -11,8 +11,8 @@ use std::{
 };
 
 /// What to run, and how long it takes.
-const MAKE: &str = "to prove and build it, run `bindings/build` in the repository: with the Rattle kit (`rt`), some 15 minutes of one core from \
-                    nothing, seconds where little changed";
+const MAKE: &str = "to prove and build it, run `bindings/build` in the repository: with the Rattle kit (`rt`), long from \
+                    nothing, a few minutes where little changed";
 const COPY: &str = "without the kit: copy the folder that `bindings/build` leaves (target/tile_rows) from a machine that has it, and set \
                     TILE_ROWS_LIB to that folder";
 
@@ -92,7 +92,7 @@ fn own() -> PathBuf {
         fail(&[&format!("the library is missing: {}", file.display()), MAKE, COPY]);
     };
     println!("cargo::rerun-if-changed={}", repository.join("crates.txt").display());
-    for name in rests_on(&repository, "ffi") {
+    for name in rests_on(&repository, "ffi_c") {
         for part in ["src", "specs", "proofs"].map(|part| repository.join("crates").join(&name).join(part)) {
             if !part.is_dir() {
                 continue;
@@ -112,11 +112,11 @@ fn changed(file: &Path) -> Option<SystemTime> {
     fs::metadata(file).and_then(|data| data.modified()).ok()
 }
 
-/// A crate and those below it, by crates.txt: a line each, `NAME: what it uses`.
+/// A crate and those below it, by crates.txt: a line each, `NAME: what it uses`, where `staticlib` may follow the name.
 fn rests_on(repository: &Path, name: &str) -> BTreeSet<String> {
     let text = fs::read_to_string(repository.join("crates.txt")).unwrap_or_default();
     let lines = text.lines().filter_map(|line| line.split_once(':'));
-    let uses: BTreeMap<&str, Vec<&str>> = lines.map(|(name, rest)| (name, rest.split_whitespace().collect())).collect();
+    let uses: BTreeMap<&str, Vec<&str>> = lines.map(|(name, rest)| (first_word(name), rest.split_whitespace().collect())).collect();
     let (mut found, mut due) = (BTreeSet::new(), vec![name]);
     while let Some(name) = due.pop() {
         if let Some(below) = uses.get(name).filter(|_| found.insert(name.to_string())) {
@@ -124,6 +124,10 @@ fn rests_on(repository: &Path, name: &str) -> BTreeSet<String> {
         }
     }
     found
+}
+
+fn first_word(text: &str) -> &str {
+    text.split_whitespace().next().unwrap_or_default()
 }
 
 /// A file that was changed after that time.

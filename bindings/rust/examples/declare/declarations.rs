@@ -49,7 +49,7 @@ fn read() -> Vec<Export> {
 }
 
 fn exports_of(text: &str) -> Vec<Export> {
-    const START: &str = "#[no_mangle]\npub extern \"C\" fn ";
+    const START: &str = "#[unsafe(no_mangle)]\npub extern \"C\" fn ";
     let starts = text.match_indices(START);
     starts.map(|(at, start)| export(&text[..at], &text[at + start.len()..])).collect()
 }
