@@ -1,1 +1,2 @@
--- No laws of its own.
+-- Laws of the buffer that holds the text.
+pub mod Front

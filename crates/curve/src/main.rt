@@ -9,6 +9,7 @@ use std::io;
 use std::io::Write;
 
 // Hands the text to a writer. The contract of `print_curve` holds the length.
+#[tactic(auto, using(crate::proofs::Front::within, crate::proofs::Front::as_long))]
 fn write_curve<W: Write>(writer: &mut W) -> io::Result<()>
     ensures { OnOk result (Appends (W.contents writer.old) (W.contents writer.new) curve_text) }
 {
