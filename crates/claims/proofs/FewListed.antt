@@ -1,6 +1,6 @@
 -- The claims of specs/Batches: what 1 to 9 leave of a tile's list. Assumes nothing.
 use Rattle.std.specs.Prelude.{◌≡◌, ◌≤◌}
-use Rattle.laws.proofs.Prelude.{refl, ap, ◌∙◌, true, ℕ, min, arith, length, given}
+use Rattle.laws.proofs.Prelude.{refl, ap, ◌∙◌, true, ℕ, min, arith, given}
 use Rattle.refusals.specs.Refusal.{Judgement, pass, refuse}
 use Rattle.refusals.proofs.Judging.{both_passed}
 use Rattle.segment_rows.specs.Search.{tile_part}

@@ -1,7 +1,6 @@
 -- What is told of an answer by numbers is told of an equal one. Assumes nothing.
 use Rattle.std.specs.Prelude.{◌≡◌}
-use Rattle.laws.proofs.Prelude.{ap, subst, ◌∙◌, Bool, List, Option, ℕ, Float, ℤ, Answer}
-use Rattle.refusals.specs.Refusal.{Judgement, judgement_in}
+use Rattle.laws.proofs.Prelude.{ap, subst, ◌∙◌, Bool, List, Option, ℕ, Float, Answer}
 use Rattle.cached_tile.specs.declared.SolidColor.{SolidColor}
 use Rattle.cached_tile.specs.declared.kept.Kept.{Kept}
 use Rattle.cached_tile.specs.Kept.{Writing}
@@ -22,7 +21,7 @@ use Rattle.kept_count.specs.declared.CountKept.{CountKept}
 use Rattle.batch_statements.specs.BatchLent.{BatchLent}
 use Rattle.batch_statements.specs.Batch.{BatchCall, batch_of, GivesBatch, answer_in}
 use Rattle.batch_statements.specs.declared.Batch.{Batch}
-use Rattle.ffi_numbers.specs.Numbers.{refusal_number, judged_number, value_or, is_found, place_number}
+use Rattle.ffi_numbers.specs.Numbers.{refusal_number, value_or, is_found, place_number}
 use Rattle.ffi_numbers.specs.Cached.{is_some, given_or, color_or, written_or, settled_bytes}
 use Rattle.ffi_numbers.specs.Rows.{StateNumbers, open_numbers, OpenTold}
 use Rattle.ffi_numbers.specs.Counts.{CountNumbers, counted_numbers, CountTold}

@@ -1,10 +1,9 @@
 -- One call by numbers: it tells what is due of it, and what the caller then holds by numbers is what it holds after the step of a run with the answer
 -- that these numbers are of. Assumes nothing.
 use Rattle.std.specs.Prelude.{◌≡◌, ◌∷◌, ◌-◌, ◌<◌}
-use Rattle.laws.proofs.Prelude.{refl, ap, ap₂, sym, subst, ◌∙◌, Bool, List, ℕ, zero, suc, arith, Float, length}
+use Rattle.laws.proofs.Prelude.{ap, ap₂, sym, subst, ◌∙◌, Bool, List, ℕ, zero, suc, arith, Float}
 use Rattle.refusals.specs.Refusal.{Judgement, pass, refuse}
 use Rattle.refusals.proofs.Naming.{Named}
-use Rattle.row_statements.specs.Lent.{Columns}
 use Rattle.row_statements.specs.State.{State, state_in}
 use Rattle.row_statements.specs.TileWork.{WorkLent, WorkGiven, work_out, work_of, GivesWork}
 use Rattle.row_statements.specs.Painting.{PaintGiven, paint_out, paint_of, PaintsLayer}
@@ -30,7 +29,7 @@ use Rattle.ffi.specs.Work.{WorkNumbers, worked_numbers, WorkTold}
 use Rattle.ffi.specs.Painting.{PaintNumbers, painted_numbers, PaintTold}
 use Rattle.ffi.specs.Listing.{ListNumbers, listed_numbers, ListTold}
 use Rattle.ffi.specs.Deciding.{DecideNumbers, DecideTold}
-use Rattle.ffi_calls.specs.Calls.{HeldNumbers, held_from, held_worked}
+use Rattle.ffi_calls.specs.Calls.{held_from, held_worked}
 use Rattle.ffi_calls.specs.ListingCalls.{HeldByNumbers, held_both, all_from, held_listed, lists_left, list_left}
 use Rattle.ffi_calls.proofs.Numbers.{state_again, positive}
 

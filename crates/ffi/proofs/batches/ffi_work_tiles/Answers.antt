@@ -1,5 +1,5 @@
 -- `batches::ffi_work_tiles` meets its contract. It tells what the batch answers. Assumes nothing.
-use Rattle.laws.proofs.Prelude.{rules, to_z-of_z}
+use Rattle.laws.proofs.Prelude.{to_z-of_z}
 use Rattle.row_statements.specs.Lent.{columns, lent_table}
 use Rattle.row_statements.specs.State.{State}
 use Rattle.batch_statements.specs.BatchLent.{batch_lent}

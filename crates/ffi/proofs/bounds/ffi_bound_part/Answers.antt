@@ -1,6 +1,5 @@
 -- `bounds::ffi_bound_part` meets its contract. It tells what `bound_part` answers. Assumes nothing.
-use Rattle.std.specs.Prelude.{◌≡◌}
-use Rattle.laws.proofs.Prelude.{ap, ◌∙◌, rules, to_z-of_z}
+use Rattle.laws.proofs.Prelude.{ap, ◌∙◌, to_z-of_z}
 use Rattle.ffi.specs.Bounds.{bounds_number}
 use Rattle.ffi.proofs.bounds.ffi_bound_part.Goals as goal
 

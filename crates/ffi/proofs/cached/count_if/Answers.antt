@@ -1,5 +1,4 @@
 -- `cached::count_if` meets its contract. Assumes nothing.
-use Rattle.laws.proofs.Prelude.{rules}
 use Rattle.ffi.proofs.cached.count_if.Goals as goal
 
 pub returns-then-given : goal.returns-then-given

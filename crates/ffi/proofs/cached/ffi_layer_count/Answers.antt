@@ -1,5 +1,5 @@
 -- `cached::ffi_layer_count` meets its contract: it tells what the tile keeps. Assumes nothing.
-use Rattle.laws.proofs.Prelude.{ap, ◌∙◌, rules}
+use Rattle.laws.proofs.Prelude.{ap, ◌∙◌}
 use Rattle.cached_tile.specs.Tile.{layer_count_of}
 use Rattle.ffi.proofs.Told.{optional}
 use Rattle.ffi.proofs.cached.ffi_layer_count.Goals as goal

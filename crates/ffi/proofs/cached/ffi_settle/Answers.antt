@@ -1,5 +1,4 @@
 -- `cached::ffi_settle` meets its contract: it tells what settling answers, and what the tile keeps now. Assumes nothing.
-use Rattle.laws.proofs.Prelude.{rules}
 use Rattle.ffi.proofs.Told.{settled}
 use Rattle.ffi.proofs.cached.ffi_settle.Goals as goal
 

@@ -1,5 +1,5 @@
 -- `cached::ffi_solid_color` meets its contract: it tells what the tile keeps. Assumes nothing.
-use Rattle.laws.proofs.Prelude.{ap, ◌∙◌, rules}
+use Rattle.laws.proofs.Prelude.{ap, ◌∙◌}
 use Rattle.cached_tile.specs.Tile.{solid_color_of}
 use Rattle.ffi.proofs.Told.{colored}
 use Rattle.ffi.proofs.cached.ffi_solid_color.Goals as goal

@@ -1,5 +1,5 @@
 -- `cached::ffi_update_layer_count` meets its contract: it tells what the tile kept, and what it keeps now. Assumes nothing.
-use Rattle.laws.proofs.Prelude.{ap, ◌∙◌, rules}
+use Rattle.laws.proofs.Prelude.{ap, ◌∙◌}
 use Rattle.cached_tile.specs.Tile.{layer_count_of}
 use Rattle.ffi_numbers.specs.Cached.{tile_bytes}
 use Rattle.ffi.proofs.Told.{optional}

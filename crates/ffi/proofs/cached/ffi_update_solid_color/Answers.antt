@@ -1,5 +1,5 @@
 -- `cached::ffi_update_solid_color` meets its contract: it tells what the tile kept, and what it keeps now. Assumes nothing.
-use Rattle.laws.proofs.Prelude.{ap, ◌∙◌, rules}
+use Rattle.laws.proofs.Prelude.{ap, ◌∙◌}
 use Rattle.cached_tile.specs.Tile.{solid_color_of}
 use Rattle.ffi_numbers.specs.Cached.{tile_bytes}
 use Rattle.ffi.proofs.Told.{colored}

@@ -1,6 +1,5 @@
 -- `counts::ffi_keep_count` meets its contract. It tells what `keep_count` answers. Assumes nothing.
 use Rattle.ffi.proofs.Told.{counted}
-use Rattle.laws.proofs.Prelude.{rules}
 use Rattle.ffi.proofs.counts.ffi_keep_count.Goals as goal
 
 pub returns : goal.returns

@@ -1,5 +1,4 @@
 -- `covers::ffi_carry` meets its contract: it tells what adding answers. Assumes nothing.
-use Rattle.laws.proofs.Prelude.{rules}
 use Rattle.ffi.proofs.Told.{answered}
 use Rattle.ffi.proofs.covers.ffi_carry.Goals as goal
 

@@ -1,5 +1,5 @@
 -- `covers::ffi_doubled_area_to_coverage` meets its contract. Assumes nothing.
-use Rattle.laws.proofs.Prelude.{rules, to_z-of_z}
+use Rattle.laws.proofs.Prelude.{to_z-of_z}
 use Rattle.ffi.proofs.covers.ffi_doubled_area_to_coverage.Goals as goal
 
 pub returns : goal.returns

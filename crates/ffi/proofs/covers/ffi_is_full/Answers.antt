@@ -1,5 +1,4 @@
 -- `covers::ffi_is_full` meets its contract: the rule of the number. Assumes nothing.
-use Rattle.laws.proofs.Prelude.{rules}
 use Rattle.ffi.proofs.covers.ffi_is_full.Goals as goal
 
 pub returns : goal.returns

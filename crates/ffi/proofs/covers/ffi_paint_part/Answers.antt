@@ -1,5 +1,4 @@
 -- `covers::ffi_paint_part` meets its contract: it tells what painting answers, and what the plane holds. Assumes nothing.
-use Rattle.laws.proofs.Prelude.{rules}
 use Rattle.ffi.proofs.Told.{answered}
 use Rattle.ffi.proofs.covers.ffi_paint_part.Goals as goal
 

@@ -1,6 +1,5 @@
 -- `deciding::ffi_decide_tile` meets its contract. It tells what the deciding answers. Assumes nothing.
 use Rattle.ffi.proofs.Told.{decided}
-use Rattle.laws.proofs.Prelude.{rules}
 use Rattle.ffi.proofs.deciding.ffi_decide_tile.Goals as goal
 
 pub returns : goal.returns

@@ -1,6 +1,6 @@
 -- `deciding::put_decided` meets its contract. Assumes nothing.
 use Rattle.std.specs.Prelude.{◌∷◌}
-use Rattle.laws.proofs.Prelude.{refl, [], rules}
+use Rattle.laws.proofs.Prelude.{refl, []}
 use Rattle.ffi.proofs.deciding.put_decided.Goals as goal
 
 pub returns-in-Refused : goal.returns-in-Refused

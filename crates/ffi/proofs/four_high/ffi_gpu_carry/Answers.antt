@@ -1,5 +1,4 @@
 -- `four_high::ffi_gpu_carry` meets its contract: it tells what adding answers. Assumes nothing.
-use Rattle.laws.proofs.Prelude.{rules}
 use Rattle.ffi.proofs.Told.{answered}
 use Rattle.ffi.proofs.four_high.ffi_gpu_carry.Goals as goal
 

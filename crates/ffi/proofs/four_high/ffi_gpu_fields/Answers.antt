@@ -1,5 +1,5 @@
 -- `four_high::ffi_gpu_fields` meets its contract: each number is that of its reader. Assumes nothing.
-use Rattle.laws.proofs.Prelude.{◌∙◌, rules, w8, w16, kept}
+use Rattle.laws.proofs.Prelude.{◌∙◌, w8, w16, kept}
 use Rattle.ffi.proofs.four_high.ffi_gpu_fields.Goals as goal
 
 pub returns : goal.returns

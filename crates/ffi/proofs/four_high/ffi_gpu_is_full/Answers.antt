@@ -1,5 +1,4 @@
 -- `four_high::ffi_gpu_is_full` meets its contract: the rule of the number. Assumes nothing.
-use Rattle.laws.proofs.Prelude.{rules}
 use Rattle.ffi.proofs.four_high.ffi_gpu_is_full.Goals as goal
 
 pub returns : goal.returns

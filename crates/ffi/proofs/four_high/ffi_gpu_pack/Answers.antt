@@ -1,5 +1,5 @@
 -- `four_high::ffi_gpu_pack` meets its contract: it tells what packing answers. Assumes nothing.
-use Rattle.laws.proofs.Prelude.{rules, to_z-of_z}
+use Rattle.laws.proofs.Prelude.{to_z-of_z}
 use Rattle.ffi.proofs.Told.{answered}
 use Rattle.ffi.proofs.four_high.ffi_gpu_pack.Goals as goal
 

@@ -1,5 +1,5 @@
 -- `four_high::ffi_gpu_paint_part` meets its contract: it tells what painting answers, and what the plane holds. Assumes nothing.
-use Rattle.laws.proofs.Prelude.{ap, ◌∙◌, rules}
+use Rattle.laws.proofs.Prelude.{ap, ◌∙◌}
 use Rattle.ffi_numbers.specs.Numbers.{refusal_number}
 use Rattle.ffi.proofs.four_high.ffi_gpu_paint_part.Goals as goal
 

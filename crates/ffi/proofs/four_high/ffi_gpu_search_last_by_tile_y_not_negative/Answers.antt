@@ -1,5 +1,4 @@
 -- `four_high::ffi_gpu_search_last_by_tile_y_not_negative` meets its contract: it tells what the search found. Assumes nothing.
-use Rattle.laws.proofs.Prelude.{rules}
 use Rattle.ffi.proofs.Told.{searched}
 use Rattle.ffi.proofs.four_high.ffi_gpu_search_last_by_tile_y_not_negative.Goals as goal
 

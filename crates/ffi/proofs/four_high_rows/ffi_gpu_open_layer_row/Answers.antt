@@ -1,5 +1,5 @@
 -- `four_high_rows::ffi_gpu_open_layer_row` meets its contract: it tells what opening answers. Assumes nothing.
-use Rattle.laws.proofs.Prelude.{rules, to_z-of_z}
+use Rattle.laws.proofs.Prelude.{to_z-of_z}
 use Rattle.ffi_four_high.proofs.FourHighTold.{layer_opened}
 use Rattle.ffi.proofs.four_high_rows.ffi_gpu_open_layer_row.Goals as goal
 

@@ -1,5 +1,5 @@
 -- `four_high_rows::ffi_gpu_work_tile` meets its contract: it tells what the work answers. Assumes nothing.
-use Rattle.laws.proofs.Prelude.{rules, to_z-of_z}
+use Rattle.laws.proofs.Prelude.{to_z-of_z}
 use Rattle.ffi_four_high.proofs.FourHighTold.{layer_worked}
 use Rattle.ffi.proofs.four_high_rows.ffi_gpu_work_tile.Goals as goal
 

@@ -1,5 +1,5 @@
 -- `four_high_rows::ffi_gpu_work_tiles` meets its contract: it tells what the range answers. Assumes nothing.
-use Rattle.laws.proofs.Prelude.{rules, to_z-of_z}
+use Rattle.laws.proofs.Prelude.{to_z-of_z}
 use Rattle.layer_row_gpu.specs.WorkTiles.{tiles_choice}
 use Rattle.ffi_four_high.proofs.FourHighTold.{tiles_worked}
 use Rattle.ffi.proofs.four_high_rows.ffi_gpu_work_tiles.Goals as goal

@@ -1,5 +1,4 @@
 -- `layers::ffi_color_eq` meets its contract: the two colours are those of the numbers. Assumes nothing.
-use Rattle.laws.proofs.Prelude.{rules}
 use Rattle.ffi.proofs.layers.ffi_color_eq.Goals as goal
 
 pub returns : goal.returns

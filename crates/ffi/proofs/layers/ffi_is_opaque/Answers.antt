@@ -1,5 +1,5 @@
 -- `layers::ffi_is_opaque` meets its contract: the draw is the one of the numbers. Assumes nothing.
-use Rattle.laws.proofs.Prelude.{ap, ◌∙◌, rules}
+use Rattle.laws.proofs.Prelude.{ap, ◌∙◌}
 use Rattle.styling.specs.Codes.{fill_of}
 use Rattle.ffi.proofs.layers.ffi_is_opaque.Goals as goal
 

@@ -1,5 +1,5 @@
 -- `layers::to_previous` meets its contract. Assumes nothing.
-use Rattle.laws.proofs.Prelude.{ap, rules}
+use Rattle.laws.proofs.Prelude.{ap}
 use Rattle.layer_workbench.specs.declared.PreviousClear.TheVariants.{Given}
 use Rattle.ffi.proofs.layers.to_previous.Goals as goal
 

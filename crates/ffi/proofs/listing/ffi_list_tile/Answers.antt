@@ -1,5 +1,5 @@
 -- `listing::ffi_list_tile` meets its contract. It tells what the listing answers. Assumes nothing.
-use Rattle.laws.proofs.Prelude.{rules, to_z-of_z}
+use Rattle.laws.proofs.Prelude.{to_z-of_z}
 use Rattle.row_statements.specs.Lent.{columns, lent_table}
 use Rattle.row_statements.specs.State.{State}
 use Rattle.listing_statements.specs.Listing.{tile_list, list_call, list_lent}

@@ -1,5 +1,5 @@
 -- `listing::put_listed` meets its contract. Assumes nothing.
-use Rattle.laws.proofs.Prelude.{refl, rules}
+use Rattle.laws.proofs.Prelude.{refl}
 use Rattle.ffi.proofs.listing.put_listed.Goals as goal
 
 pub returns-in-Refused : goal.returns-in-Refused

@@ -1,5 +1,5 @@
 -- `painting::ffi_paint_layer` meets its contract. It tells what painting answers. Assumes nothing.
-use Rattle.laws.proofs.Prelude.{rules, to_z-of_z}
+use Rattle.laws.proofs.Prelude.{to_z-of_z}
 use Rattle.row_statements.specs.Lent.{columns, lent_table}
 use Rattle.row_statements.specs.State.{State}
 use Rattle.row_statements.specs.Painting.{paint_call}

@@ -1,5 +1,5 @@
 -- `painting::put_painted` meets its contract. Assumes nothing.
-use Rattle.laws.proofs.Prelude.{refl, rules}
+use Rattle.laws.proofs.Prelude.{refl}
 use Rattle.ffi.proofs.painting.put_painted.Goals as goal
 
 pub returns-in-Refused : goal.returns-in-Refused

@@ -1,5 +1,5 @@
 -- `plates::ffi_find_row` meets its contract: it tells the place that was found. Assumes nothing.
-use Rattle.laws.proofs.Prelude.{ap, ◌∙◌, rules}
+use Rattle.laws.proofs.Prelude.{ap, ◌∙◌}
 use Rattle.plate.specs.declared.Part.{Part}
 use Rattle.ffi.proofs.plates.ffi_find_row.Goals as goal
 

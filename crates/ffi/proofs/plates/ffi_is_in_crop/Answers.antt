@@ -1,5 +1,4 @@
 -- `plates::ffi_is_in_crop` meets its contract: the crop is the one of the numbers. Assumes nothing.
-use Rattle.laws.proofs.Prelude.{rules}
 use Rattle.ffi.proofs.plates.ffi_is_in_crop.Goals as goal
 
 pub returns : goal.returns

@@ -1,5 +1,5 @@
 -- `rows::ffi_open_tile_row` meets its contract. It tells what opening answers. Assumes nothing.
-use Rattle.laws.proofs.Prelude.{rules, to_z-of_z}
+use Rattle.laws.proofs.Prelude.{to_z-of_z}
 use Rattle.ffi.proofs.Told.{opened}
 use Rattle.ffi.proofs.rows.ffi_open_tile_row.Goals as goal
 

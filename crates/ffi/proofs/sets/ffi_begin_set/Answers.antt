@@ -1,5 +1,5 @@
 -- `sets::ffi_begin_set` meets its contract: it tells what beginning answers, and what it leaves. Assumes nothing.
-use Rattle.laws.proofs.Prelude.{rules, to_z-of_z}
+use Rattle.laws.proofs.Prelude.{to_z-of_z}
 use Rattle.ffi_sets.proofs.Told.{begun}
 use Rattle.ffi.proofs.sets.ffi_begin_set.Goals as goal
 

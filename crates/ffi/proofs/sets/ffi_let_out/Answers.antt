@@ -1,5 +1,4 @@
 -- `sets::ffi_let_out` meets its contract: it tells what letting out answers, and what it leaves. Assumes nothing.
-use Rattle.laws.proofs.Prelude.{rules}
 use Rattle.ffi_sets.proofs.Told.{edited}
 use Rattle.ffi.proofs.sets.ffi_let_out.Goals as goal
 

@@ -1,5 +1,4 @@
 -- `sets::ffi_take_in` meets its contract: it tells what taking in answers, and what it leaves. Assumes nothing.
-use Rattle.laws.proofs.Prelude.{rules}
 use Rattle.ffi_sets.proofs.Told.{edited}
 use Rattle.ffi.proofs.sets.ffi_take_in.Goals as goal
 

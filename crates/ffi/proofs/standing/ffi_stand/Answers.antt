@@ -1,5 +1,4 @@
 -- `standing::ffi_stand` meets its contract. It tells what `stand` answers. Assumes nothing.
-use Rattle.std.specs.Prelude.{◌≡◌}
 use Rattle.laws.proofs.Prelude.{ap, ◌∙◌, rules}
 use Rattle.ffi_numbers.specs.Numbers.{refusal_number}
 use Rattle.ffi.proofs.standing.ffi_stand.Goals as goal

@@ -1,5 +1,5 @@
 -- `words::ffi_cmp` meets its contract: the rank of the order that `cmp` gives. Assumes nothing.
-use Rattle.laws.proofs.Prelude.{◌∙◌, rules}
+use Rattle.laws.proofs.Prelude.{◌∙◌}
 use Rattle.ffi.proofs.words.ffi_cmp.Goals as goal
 
 pub returns : goal.returns

@@ -1,5 +1,5 @@
 -- `words::ffi_search_last_by_tile_x_at_least` meets its contract: it tells what the search found. Assumes nothing.
-use Rattle.laws.proofs.Prelude.{rules, to_z-of_z}
+use Rattle.laws.proofs.Prelude.{to_z-of_z}
 use Rattle.ffi.proofs.Told.{searched}
 use Rattle.ffi.proofs.words.ffi_search_last_by_tile_x_at_least.Goals as goal
 

@@ -1,5 +1,5 @@
 -- `working::ffi_work_tile` meets its contract. It tells what the work answers. Assumes nothing.
-use Rattle.laws.proofs.Prelude.{rules, to_z-of_z}
+use Rattle.laws.proofs.Prelude.{to_z-of_z}
 use Rattle.row_statements.specs.Lent.{columns, list_columns, lent_table}
 use Rattle.row_statements.specs.State.{State}
 use Rattle.row_statements.specs.TileWork.{work_call, work_lent}

@@ -1,5 +1,5 @@
 -- `working::put_worked` meets its contract. Assumes nothing.
-use Rattle.laws.proofs.Prelude.{refl, rules}
+use Rattle.laws.proofs.Prelude.{refl}
 use Rattle.ffi.proofs.working.put_worked.Goals as goal
 
 pub returns-in-Refused : goal.returns-in-Refused
