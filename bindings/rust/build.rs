@@ -11,7 +11,8 @@ use std::{
 };
 
 /// What to run, and how long it takes.
-const MAKE: &str = "to prove and build it, run `bindings/build` in the repository: with the Rattle kit (`rt`), long from \
+const MAKE: &str =
+    "to prove and build it, run `bindings/build` in the repository: with the Rattle kit (`rt`), long from \
                     nothing, a few minutes where little changed";
 const COPY: &str = "without the kit: copy the folder that `bindings/build` leaves (target/tile_rows) from a machine that has it, and set \
                     TILE_ROWS_LIB to that folder";
@@ -116,7 +117,8 @@ fn changed(file: &Path) -> Option<SystemTime> {
 fn rests_on(repository: &Path, name: &str) -> BTreeSet<String> {
     let text = fs::read_to_string(repository.join("crates.txt")).unwrap_or_default();
     let lines = text.lines().filter_map(|line| line.split_once(':'));
-    let uses: BTreeMap<&str, Vec<&str>> = lines.map(|(name, rest)| (first_word(name), rest.split_whitespace().collect())).collect();
+    let uses: BTreeMap<&str, Vec<&str>> =
+        lines.map(|(name, rest)| (first_word(name), rest.split_whitespace().collect())).collect();
     let (mut found, mut due) = (BTreeSet::new(), vec![name]);
     while let Some(name) = due.pop() {
         if let Some(below) = uses.get(name).filter(|_| found.insert(name.to_string())) {
