@@ -12,8 +12,8 @@ use std::{
 
 /// What to run, and how long it takes.
 const MAKE: &str =
-    "to prove and build it, run `bindings/build` in the repository: with the Rattle kit (`rt`), long from \
-                    nothing, a few minutes where little changed";
+    "to prove and build it, run `bindings/build` in the repository: with the Rattle kit (`rt`), which takes \
+                    long from nothing, a few minutes where little changed";
 const COPY: &str = "without the kit: copy the folder that `bindings/build` leaves (target/tile_rows) from a machine that has it, and set \
                     TILE_ROWS_LIB to that folder";
 

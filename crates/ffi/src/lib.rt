@@ -1,6 +1,6 @@
-// The public operations for programs in other languages: ffi_c exports each function under its own name. It takes numbers
-// and slices, and gives numbers and lent slices. An answer is told by its number in the table of refusals, 0 where it
-// is none (ffi_numbers/specs/Numbers.antt). Nothing is decided here: each function refuses what the operation below it
+// The public operations for programs in other languages, which ffi_c exports under the same names: each function takes
+// numbers and slices, and gives numbers and lent slices. An answer is told by its number in the table of refusals, 0 where
+// it is none (ffi_numbers/specs/Numbers.antt). Nothing is decided here: each function refuses what the operation below it
 // refuses, and nothing else.
 #![tactic(auto)]
 
