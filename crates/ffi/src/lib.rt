@@ -1,7 +1,7 @@
-// The public operations for programs in other languages, which ffi_c exports under the same names: each function takes
-// numbers and slices, and gives numbers and lent slices. An answer is told by its number in the table of refusals, 0 where
-// it is none (ffi_numbers/specs/Numbers.antt). Nothing is decided here: each function refuses what the operation below it
-// refuses, and nothing else.
+// The public operations for programs in other languages, which ffi_c exports under the same names: each function
+// takes numbers and slices, and gives numbers and lent slices. An answer is told by its number in the table of
+// refusals, 0 where it is none (ffi_numbers/specs/Numbers.antt). Nothing is decided here: each function refuses what
+// the operation below it refuses, and nothing else.
 #![tactic(auto)]
 
 pub mod batches;
