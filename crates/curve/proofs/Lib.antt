@@ -1,2 +1,1 @@
--- Laws of the buffer that holds the text.
-pub mod Front
+-- No laws of its own.

@@ -9,7 +9,7 @@ use std::io;
 use std::io::Write;
 
 // Hands the text to a writer. The contract of `print_curve` holds the length.
-#[tactic(auto, using(crate::proofs::Front::within, crate::proofs::Front::as_long))]
+#[tactic(auto, using(report::proofs::Putting::line_within, report::proofs::Putting::line_length))]
 fn write_curve<W: Write>(writer: &mut W) -> io::Result<()>
     ensures { OnOk result (Appends (W.contents writer.old) (W.contents writer.new) curve_text) }
 {

@@ -3,8 +3,8 @@ ghost use Rattle.std.specs.Prelude.{◌≡◌};
 ghost use Rattle.cached_tile.specs.Tile.{layer_count_of, solid_color_of, update_count, update_color};
 ghost use Rattle.cached_tile.specs.Kept.{settle_of, settled_kept};
 ghost use Rattle.ffi_numbers.specs.Numbers.{refusal_number};
-ghost use Rattle.ffi_numbers.specs.Cached.{tile_from, tile_bytes, kept_of, is_some, given_or, count_if, color_if, color_or};
-ghost use Rattle.ffi_numbers.specs.Cached.{written_or, settled_bytes};
+ghost use Rattle.ffi_numbers.specs.Cached.{tile_from, tile_bytes, kept_of, is_some, given_or, count_if};
+ghost use Rattle.ffi_numbers.specs.Cached.{color_if, color_or, written_or, settled_bytes};
 
 // Whether the tile keeps a layer count; where it does, the count in `count`.
 #[unsafe(no_mangle)]

@@ -1,4 +1,5 @@
-// The exports of ffi as a static library for C: each calls the function of ffi that has its name, and promises what that promises.
+// The exports of ffi as a static library for C: each calls the function of ffi that has its name, and promises what that
+// promises.
 #![tactic(auto)]
 
 pub mod batches;

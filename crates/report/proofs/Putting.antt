@@ -2,7 +2,7 @@
 -- Assumes nothing.
 use Rattle.std.specs.Prelude.{◌≡◌, ◌+◌, ◌<◌, ◌≤◌}
 use Rattle.laws.proofs.Prelude.{sym, ap, subst, ◌∙◌, List, some, ℕ, arith, le-leb, lt-leb, leb-true, length, take, drop, sets-eq}
-use Rattle.laws.proofs.Prelude.{take_at}
+use Rattle.laws.proofs.Prelude.{take_at, length-sets, length-take-le}
 use Rattle.decimal.specs.Print.{Printing}
 use Rattle.decimal.proofs.Steps.{cases}
 use Rattle.report.specs.declared.Printed.{Printed}
@@ -24,6 +24,13 @@ within {text} {out} {at = at} {i = i} p =
     cases (has_room_at text out at)
     (λ e. let q : i ≡ at + length text = let a = rw e at p.answer in cc in omega (arith, leb-true (at + length text) (length out) e))
     (λ e. let a = rw e at p.answer in let z : ◌≡◌ {A = ℕ} 0 1 = cc in absurd (omega arith))
+
+-- the line lies in its buffer
+pub line_within : {text out out' : List ℕ} {r : ℕ} → LineWritten text out r out' → r ≤ length out'
+line_within w = omega (arith, w.answer, w.fits, simp length-sets at (ap length w.written))
+
+pub line_length : {text out out' : List ℕ} {r : ℕ} → LineWritten text out r out' → r ≡ length (take r out')
+line_length w = sym (length-take-le _ _ (line_within w))
 
 -- the line is the front of its buffer
 pub front : {text out out' : List ℕ} {r : ℕ} → LineWritten text out r out' → take r out' ≡ text

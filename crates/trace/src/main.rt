@@ -143,10 +143,12 @@ fn chosen_by(env: &impl Env, count: usize) -> Choice {
 fn print_use(to: &impl Print) -> io::Result<()> {
     to.write_all(b"usage: trace [FILE [then FILE]..].. [tile N] [layer N] [PART]..\n")?;
     to.write_all(
-        b"Traces each tile of each job; `then` makes a file the next frame of the one before; without a file one job is\n",
+        b"Traces each tile of each job; `then` makes a file the next frame of the one before; \
+          without a file one job is\n",
     )?;
     to.write_all(
-        b"read from standard input. `tile N` tells one tile only, `layer N` the paintings of one layer only. Parts of a\n",
+        b"read from standard input. `tile N` tells one tile only, `layer N` the paintings of one layer only. \
+          Parts of a\n",
     )?;
     to.write_all(
         b"tile, all where none is named: segments taken list decision cached painted areas planes handed line.\n",
